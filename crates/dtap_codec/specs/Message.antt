@@ -1,0 +1,18 @@
+-- Layer 3 messages as lists of octets (TS 24.007 clause 11.2.3).
+use Rattle.std.specs.Prelude.{ℕ, ◌%◌, Bool, false, ◌||◌, ◌==◌, Option, Some, None, List, [], ◌∷◌}
+use Rattle.dtap_codec.specs.declared.message.TheConstants.{CALL_CONTROL, MOBILITY_MANAGEMENT, SUPPLEMENTARY_SERVICES}
+
+-- the protocol discriminator: the low four bits of the first octet
+abbrev pub discriminator : List ℕ → Option ℕ
+discriminator [] = None
+discriminator (first ∷ rest) = Some (first % 16)
+
+-- call control, mobility management and supplementary services share one flow
+abbrev pub is_flow_protocol : ℕ → Bool
+is_flow_protocol protocol =
+    (protocol == CALL_CONTROL) || (protocol == MOBILITY_MANAGEMENT) || (protocol == SUPPLEMENTARY_SERVICES)
+
+-- a message of the flow has at least the two octets of its header
+abbrev pub is_flow_message : List ℕ → Bool
+is_flow_message (first ∷ second ∷ rest) = is_flow_protocol (first % 16)
+is_flow_message _ = false

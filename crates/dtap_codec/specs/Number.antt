@@ -1,0 +1,23 @@
+-- The send sequence number N(SD) of a message of the flow, for any number m of numbers (TS 24.007 clause 11.2.3.2.3).
+use Rattle.std.specs.Prelude.{ℕ, ◌+◌, ◌*◌, ◌/◌, ◌%◌, Option, Some, None, List, [], ◌∷◌, if◌then◌else◌}
+use Rattle.dtap_codec.specs.Message.{is_flow_protocol}
+use Rattle.dtap_codec.specs.declared.number.Modulus.{Modulus}
+use Rattle.dtap_codec.specs.declared.number.Modulus.TheVariants.{Four}
+
+-- how many numbers there are
+abbrev pub count_of : Modulus → ℕ
+count_of Four = 4
+
+-- bits 8 and 7 of the second octet, modulo m; none where the message isn't of the flow
+abbrev pub number_in : ℕ → List ℕ → Option ℕ
+number_in m (first ∷ second ∷ rest) = if is_flow_protocol (first % 16) then Some ((second / 64) % m) else None
+number_in m _ = None
+
+-- the message with this number: bits 6 to 1 of the second octet and all other octets stay
+abbrev pub numbered : ℕ → List ℕ → List ℕ
+numbered number (first ∷ second ∷ rest) = first ∷ (second % 64 + 64 * number) ∷ rest
+numbered number message = message
+
+-- the message with the bits of the number cleared
+abbrev pub unnumbered : List ℕ → List ℕ
+unnumbered message = numbered 0 message

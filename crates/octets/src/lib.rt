@@ -1,0 +1,8 @@
+//! What every crate of the relay stands on: the octets of a message, and the fault of calls that can only want memory.
+#![tactic(auto)]
+
+pub use memory::Memory;
+pub use octets::Octets;
+
+mod memory;
+mod octets;
