@@ -1,0 +1,45 @@
+-- What the network gives up to its upper layers of the messages of a connection, in the order in which they came.
+use Rattle.std.specs.Prelude.{ℕ, Option, Some, None, option_map, List, [], ◌∷◌, ◌++◌, filter, not}
+use Rattle.dtap_codec.specs.Message.{is_flow_message}
+use Rattle.dtap_codec.specs.Number.{number_in, unnumbered}
+use Rattle.nsd_filter.specs.Judgement.{judgement, progress_by}
+use Rattle.nsd_filter.specs.declared.verdict.Verdict.{Verdict}
+use Rattle.nsd_filter.specs.declared.verdict.Verdict.TheVariants.{Accept}
+
+-- the verdict on a message; None for one that isn't of the flow
+abbrev pub verdict_on : ℕ → Option ℕ → List ℕ → Option Verdict
+verdict_on m progress message = option_map (judgement m progress) (number_in m message)
+
+-- what is given up of a message: one that was accepted, its number cleared
+abbrev pub given_up : Option Verdict → List ℕ → List (List ℕ)
+given_up (Some Accept) message = unnumbered message ∷ []
+given_up _ message = []
+
+abbrev pub progress_past : Option Verdict → Option ℕ → Option ℕ
+progress_past (Some verdict) progress = progress_by verdict progress
+progress_past None progress = progress
+
+-- what is accepted of these messages, when the flow has come so far
+abbrev pub accepted_from : ℕ → Option ℕ → List (List ℕ) → List (List ℕ)
+accepted_from m progress [] = []
+accepted_from m progress (message ∷ messages) =
+    given_up (verdict_on m progress message) message
+    ++ accepted_from m (progress_past (verdict_on m progress message) progress) messages
+
+-- how far the flow has come after these messages
+abbrev pub progress_from : ℕ → Option ℕ → List (List ℕ) → Option ℕ
+progress_from m progress [] = progress
+progress_from m progress (message ∷ messages) =
+    progress_from m (progress_past (verdict_on m progress message) progress) messages
+
+-- the accepted list: what is accepted of all messages of a connection
+abbrev pub accepted : ℕ → List (List ℕ) → List (List ℕ)
+accepted m messages = accepted_from m (Some 0) messages
+
+-- how far the flow has come after all messages of a connection; None where a gap was found
+abbrev pub progress : ℕ → List (List ℕ) → Option ℕ
+progress m messages = progress_from m (Some 0) messages
+
+-- the messages that carry no number
+abbrev pub not_of_the_flow : List (List ℕ) → List (List ℕ)
+not_of_the_flow messages = filter (λ message. not (is_flow_message message)) messages

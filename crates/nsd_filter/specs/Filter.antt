@@ -1,0 +1,11 @@
+-- What a filter keeps, and which counts of accepted messages it stands for.
+use Rattle.std.specs.Prelude.{◌≡◌, ℕ, ◌%◌, Option, option_map}
+
+-- how many numbers there are, and the number of the next message, or None after a gap
+pub record FilterState : Type 0 where
+  pub modulus : ℕ
+  pub expected : Option ℕ
+
+-- The state is that of a flow which has come so far.
+abbrev pub StandsFor : FilterState → Option ℕ → Type 0
+StandsFor state progress = state.expected ≡ option_map (λ accepted. accepted % state.modulus) progress

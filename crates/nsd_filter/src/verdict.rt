@@ -1,0 +1,10 @@
+/// What the number of a message says of it.
+#[derive(Clone, Copy, Debug, PartialEq, Eq)]
+pub enum Verdict {
+    /// It is the next message.
+    Accept,
+    /// It is the last accepted message once more, and is discarded.
+    Duplicate,
+    /// A message before it is missing: nothing more of the flow is accepted.
+    Gap,
+}
