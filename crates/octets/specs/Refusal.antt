@@ -5,3 +5,8 @@ use Rattle.std.specs.Prelude.{◌≡◌, ◌⊎◌, Option, Some, None, Result, 
 abbrev pub RefusesBy : {X F : Type 0} → F → Result X F → Option F → Type 0
 RefusesBy memory (Ok x) first = first ≡ None
 RefusesBy memory (Err fault) first = (first ≡ Some fault) ⊎ ((fault ≡ memory) × (first ≡ None))
+
+-- the first of two causes, in the order in which they are looked for
+abbrev pub first_refusal : {F : Type 0} → Option F → Option F → Option F
+first_refusal (Some fault) later = Some fault
+first_refusal None later = later

@@ -1,0 +1,9 @@
+pub mod AirLink
+pub mod RestsReached
+pub mod DataLinkState
+pub mod DataLink
+pub mod Lawful
+pub mod MobileState
+pub mod Mobile
+pub mod RestsFramed
+pub mod RestsLent

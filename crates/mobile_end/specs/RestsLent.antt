@@ -1,0 +1,11 @@
+-- What a data link is once the message that it lends comes back.
+use Rattle.std.specs.Prelude.{◌≡◌}
+use Rattle.std.specs.Borrow.{MutBor, Fml}
+use Rattle.std.specs.Io.BufRead.{Rests}
+use Rattle.mobile_end.specs.DataLinkState.{DataLinkState}
+use Rattle.mobile_end.specs.DataLink.{after_lending}
+use Rattle.mobile_end.specs.contracts.data_link.DataLink.{the_row}
+
+-- the station has taken the message
+abbrev pub RestsLent : MutBor DataLinkState → Fml
+RestsLent link = Rests the_row link (λ new. new ≡ after_lending link.now)

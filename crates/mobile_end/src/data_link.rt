@@ -1,0 +1,76 @@
+ghost use Rattle.std.specs.Prelude.{◌≡◌, [], option_map, OnOk, OnErr};
+ghost use Rattle.std.specs.Borrow.{sem};
+ghost use Rattle.mobile_end.specs.declared.air_link.Air.TheVariants.{Empty};
+ghost use Rattle.mobile_end.specs.AirLink.{is_reached};
+ghost use Rattle.mobile_end.specs.DataLink.{waits, loaded, lent, after_lending, after_acknowledgement};
+ghost use Rattle.mobile_end.specs.RestsLent.{RestsLent};
+
+use crate::air_link::AirLink;
+use octets::{Memory, Octets};
+use std::alloc::Global;
+use std::collections::VecDeque;
+use std::marker::Model;
+
+/// The data link of one SAPI (TS 44.006): what stands in the air, and what waits behind it.
+#[derive(Debug, Drop)]
+pub(crate) struct DataLink {
+    waiting: VecDeque<Octets>,
+    air: AirLink,
+}
+
+impl Model for DataLink {
+    ghost use Rattle.mobile_end.specs.DataLinkState.{DataLinkState};
+
+    ghost Value = { DataLinkState };
+
+    ghost view = { λ link. record { waiting = link.waiting.items; air = link.air } };
+}
+
+impl DataLink {
+    /// A link with nothing to send.
+    pub(crate) fn new(alloc: Global) -> DataLink
+        ensures { result ≡ record { waiting = []; air = Empty } }
+    {
+        DataLink {
+            waiting: VecDeque::new(alloc),
+            air: AirLink::new(),
+        }
+    }
+
+    /// Lets a message wait behind all others.
+    pub(crate) fn push(&mut self, message: Octets) -> Result<(), Memory>
+        ensures ok { OnOk result (self.new ≡ waits self.old message) }
+        ensures err { OnErr result (self.new ≡ self.old) }
+    {
+        self.waiting.push_back(message)?;
+        Ok(())
+    }
+
+    /// The message in the air, once, for the station to take. An empty air first takes the next message that waits.
+    pub(crate) fn lend(&mut self) -> Option<&[u8]>
+        ensures* after { sem 𝓛 (RestsLent self.entry) }
+        ensures message { option_map (λ message. message.now) result ≡ lent self.old }
+    {
+        self.load();
+        self.air.reach()
+    }
+
+    /// Gives the next message that waits to the air, where that is empty.
+    fn load(&mut self)
+        ensures { self.new ≡ loaded self.old }
+    {
+        if self.air.is_empty() {
+            if let Some(message) = self.waiting.pop_front() {
+                self.air.give(message);
+            }
+        }
+    }
+
+    /// The station's acknowledgement, which counts where it took the message in the air.
+    pub(crate) fn ack(&mut self) -> bool
+        ensures acknowledged { result ≡ is_reached self.old.air }
+        ensures after { self.new ≡ after_acknowledgement self.old }
+    {
+        self.air.ack()
+    }
+}
