@@ -6,4 +6,5 @@ pub mod Lawful
 pub mod MobileState
 pub mod Mobile
 pub mod RestsFramed
+pub mod Calls
 pub mod RestsLent

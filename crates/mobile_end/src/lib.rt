@@ -3,6 +3,7 @@
 
 pub use fault::MobileFault;
 pub use lawful::INITIAL_LIMIT;
+pub use laws::numbers_run_on;
 pub use mobile_end::{MobileEnd, Stage};
 
 
@@ -12,6 +13,7 @@ mod data_link;
 
 mod fault;
 mod lawful;
+mod laws;
 mod mobile_end;
 
 
