@@ -80,3 +80,16 @@ progress_from-rise two (over n) = refl
 progress_from-rise {m} {n} two (other {x} {xs} flow rise) = progress_from-by m n x xs None (verdict_on-other m (Some n) x flow) ∙ progress_from-rise two rise
 progress_from-rise {m} {n} two (next {x} {xs} c rise) = progress_from-by m n x xs (Some Accept) (verdict_on-next two c) ∙ progress_from-rise two rise
 progress_from-rise {m} {n} two (again {x} {xs} e c rise) = progress_from-by m n x xs (Some Duplicate) (verdict_on-again two e c) ∙ progress_from-rise two rise
+
+-- what is accepted of a list that goes on
+pub accepted_from-append : (m : ℕ) (p : Option ℕ) (xs ys : List (List ℕ)) → accepted_from m p (xs ++ ys) ≡ accepted_from m p xs ++ accepted_from m (progress_from m p xs) ys
+accepted_from-append m p [] ys = refl
+accepted_from-append m p (x ∷ xs) ys =
+    let verdict : Option Verdict = verdict_on m p x in
+    ap (λ (more : List (List ℕ)). given_up verdict x ++ more) (accepted_from-append m (progress_past verdict p) xs ys)
+    ∙ sym (append_assoc (given_up verdict x) (accepted_from m (progress_past verdict p) xs) (accepted_from m (progress_from m (progress_past verdict p) xs) ys))
+
+-- how far the flow has come after a list that goes on
+pub progress_from-append : (m : ℕ) (p : Option ℕ) (xs ys : List (List ℕ)) → progress_from m p (xs ++ ys) ≡ progress_from m (progress_from m p xs) ys
+progress_from-append m p [] ys = refl
+progress_from-append m p (x ∷ xs) ys = progress_from-append m (progress_past (verdict_on m p x) p) xs ys

@@ -4,16 +4,22 @@ use Rattle.dtap_codec.specs.Message.{is_flow_message}
 use Rattle.dtap_codec.specs.Number.{number_in, unnumbered}
 use Rattle.nsd_filter.specs.Judgement.{judgement, progress_by}
 use Rattle.nsd_filter.specs.declared.verdict.Verdict.{Verdict}
-use Rattle.nsd_filter.specs.declared.verdict.Verdict.TheVariants.{Accept}
+use Rattle.nsd_filter.specs.declared.verdict.Verdict.TheVariants.{Accept, Duplicate, Gap}
 
 -- the verdict on a message; None for one that isn't of the flow
 abbrev pub verdict_on : ℕ → Option ℕ → List ℕ → Option Verdict
 verdict_on m progress message = option_map (judgement m progress) (number_in m message)
 
+-- a message, where it is accepted
+abbrev pub where_accepted : Verdict → List ℕ → List (List ℕ)
+where_accepted Accept message = message ∷ []
+where_accepted Duplicate message = []
+where_accepted Gap message = []
+
 -- what is given up of a message: one that was accepted, its number cleared
 abbrev pub given_up : Option Verdict → List ℕ → List (List ℕ)
-given_up (Some Accept) message = unnumbered message ∷ []
-given_up _ message = []
+given_up (Some verdict) message = where_accepted verdict (unnumbered message)
+given_up None message = []
 
 abbrev pub progress_past : Option Verdict → Option ℕ → Option ℕ
 progress_past (Some verdict) progress = progress_by verdict progress

@@ -1,3 +1,4 @@
 pub mod Judgement
 pub mod Filter
 pub mod Accepted
+pub mod Reception

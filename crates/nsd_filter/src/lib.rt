@@ -3,8 +3,10 @@
 
 pub use filter::Filter;
 pub use laws::accepts_in_order;
+pub use reception::Reception;
 pub use verdict::Verdict;
 
 mod filter;
 mod laws;
+mod reception;
 mod verdict;
