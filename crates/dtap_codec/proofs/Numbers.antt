@@ -1,9 +1,11 @@
 -- Laws of the send sequence number, over plain lists.
-use Rattle.std.proofs.Common.{◌≡◌, ℕ, ◌+◌, ◌*◌, ◌/◌, ◌%◌, ◌<◌, true, false, Some, None, List, [], ◌∷◌, ◌++◌, length, refl, ap, ◌∙◌, arith}
+use Rattle.std.proofs.Common.{◌≡◌, ℕ, ◌+◌, ◌*◌, ◌/◌, ◌%◌, ◌<◌, ◌≤◌, true, false, Some, None, List, [], ◌∷◌, ◌++◌, length, refl, ap, ◌∙◌, arith}
 use Rattle.std.proofs.Math.Nat.{mod-eq_of_lt}
 use Rattle.std.proofs.lemmas.Bool.{cond-true, cond-false}
 use Rattle.dtap_codec.specs.Message.{is_flow_message, is_flow_protocol}
-use Rattle.dtap_codec.specs.Number.{number_in, numbered, unnumbered}
+use Rattle.dtap_codec.specs.Number.{count_of, number_in, numbered, unnumbered}
+use Rattle.dtap_codec.specs.declared.number.Modulus.{Modulus}
+use Rattle.dtap_codec.specs.declared.number.Modulus.TheVariants.{Four}
 use Rattle.dtap_codec.specs.Places.{numbered_from, IsClear, AreClear}
 
 -- the number has no part in what a message is
@@ -51,3 +53,7 @@ numbered_from-push m xs y =
 pub AreClear-push : (xs : List (List ℕ)) (y : List ℕ) → AreClear xs → IsClear y → AreClear (xs ++ y ∷ [])
 AreClear-push [] y clear one = (one, tt)
 AreClear-push (x ∷ xs) y clear one = (clear.0, AreClear-push xs y clear.1 one)
+
+-- there are at least two numbers
+pub count_of-two : (modulus : Modulus) → 2 ≤ count_of modulus
+count_of-two Four = omega arith

@@ -1,4 +1,4 @@
-ghost use Rattle.std.specs.Prelude.{◌≡◌, true, OnOk, OnErr, option_map};
+ghost use Rattle.std.specs.Prelude.{◌≡◌, true, None, OnOk, OnErr, IsOk, option_map};
 ghost use Rattle.std.specs.Result.{result_map_both};
 ghost use Rattle.std.specs.Borrow.{sem};
 ghost use Rattle.octets.specs.Refusal.{RefusesBy};
@@ -71,10 +71,12 @@ impl MobileEnd {
     }
 
     /// Connects the mobile, which comes once. An initial message goes first; it has 1 to 113 octets and is of mobility
-    /// management, and then the first of the flow, or of radio resource management. Any other is `BadMessage`.
+    /// management, and then the first of the flow, or of radio resource management. Any other is `BadMessage`. Without one
+    /// it takes no memory.
     pub fn connect(&mut self, initial: Option<Vec<u8>>) -> Result<(), MobileFault>
         requires { self.old.stage ≡ Stage.New }
         ensures ok { OnOk result (self.new ≡ after_connect self.old (option_map (λ message. message.items) initial)) }
+        ensures without_initial { initial ≡ None → IsOk result }
         ensures refused { RefusesBy MobileFault.Memory result (refusal_of_connect (option_map (λ message. message.items) initial)) }
         ensures err { OnErr result (self.new ≡ self.old) }
     {

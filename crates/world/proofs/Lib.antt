@@ -1,0 +1,3 @@
+pub mod FixedKept
+pub mod FixedSteps
+pub mod Order

@@ -1,0 +1,5 @@
+use Rattle.world.proofs.Order.{IsInOrder-reached}
+use Rattle.world.proofs.laws.keeps_order.Goals as goal
+
+pub returns : goal.returns
+returns c begin events begins = IsInOrder-reached begin events begins

@@ -1,0 +1,9 @@
+use Rattle.std.proofs.Common.{sym, subst, rules}
+use Rattle.dtap_codec.specs.Number.{count_of}
+use Rattle.dtap_codec.proofs.Numbers.{count_of-two}
+use Rattle.world.specs.Headline.{Begins}
+use Rattle.world.specs.Headline.Begins.{fixed}
+use Rattle.world.proofs.world.World.fixed.Goals as goal
+
+pub returns-clause-begins : goal.returns-clause-begins
+returns-clause-begins c = rw c.new.ensures (fixed (count_of c.args.modulus) (count_of-two c.args.modulus))

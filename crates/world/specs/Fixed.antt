@@ -1,0 +1,72 @@
+-- What each event makes of the fixed world. None: its actor can't take it.
+use Rattle.std.specs.Prelude.{ℕ, ◌==◌, Option, Some, None, Result, Ok, Err, Bool, true, false, List, [], ◌∷◌, ◌++◌, if◌then◌else◌}
+use Rattle.dtap_codec.specs.declared.sapi.Sapi.{Sapi}
+use Rattle.dtap_codec.specs.declared.sapi.Sapi.TheVariants.{Zero, Three}
+use Rattle.mobile_end.specs.declared.fault.MobileFault.{MobileFault}
+use Rattle.mobile_end.specs.MobileState.{MobileState}
+use Rattle.mobile_end.specs.Mobile.{new_mobile, connected, queueing, refusal_of_send, framed, after_frame, is_acknowledged, after_acked}
+use Rattle.world.specs.declared.event.Event.{Event}
+use Rattle.world.specs.declared.event.Event.TheVariants.{Upper, AirUp, AirAck, SwitchTakes}
+use Rattle.world.specs.declared.fixed.TheConstants.{FIXED_MOBILE}
+use Rattle.world.specs.FixedState.{FixedState}
+
+-- one mobile, connected without an initial message
+abbrev pub fixed_beginning : ℕ → FixedState
+fixed_beginning m = record { mobile = connected (new_mobile m); outbox = []; switch = record { modulus = m; taken = [] } }
+
+abbrev pub with_mobile : FixedState → MobileState → FixedState
+with_mobile world mobile = record { mobile = mobile; outbox = world.outbox; switch = world.switch }
+
+-- the upper layers send what the mobile doesn't refuse
+abbrev pub sent_unless : Option MobileFault → FixedState → FixedState → Option FixedState
+sent_unless (Some fault) old new = None
+sent_unless None old new = Some new
+
+abbrev pub after_upper : FixedState → Sapi → List ℕ → Option FixedState
+after_upper world sapi message =
+    sent_unless (refusal_of_send world.mobile sapi message) world (with_mobile world (queueing world.mobile sapi message))
+
+-- the frame that the station can take, if there is one
+abbrev pub frame_in : Result (Option (List ℕ)) MobileFault → Option (List ℕ)
+frame_in (Ok frame) = frame
+frame_in (Err fault) = None
+
+abbrev pub frame_up : FixedState → Option (List ℕ)
+frame_up world = frame_in (framed world.mobile Zero)
+
+-- a frame that the station takes goes to the end of the switch's outbox
+abbrev pub air_up_with : Option (List ℕ) → FixedState → Option FixedState
+air_up_with None world = None
+air_up_with (Some frame) world =
+    Some (record { mobile = after_frame world.mobile Zero; outbox = world.outbox ++ frame ∷ []; switch = world.switch })
+
+abbrev pub after_air_up : FixedState → Option FixedState
+after_air_up world = air_up_with (frame_up world) world
+
+abbrev pub after_air_ack : FixedState → Option FixedState
+after_air_ack world =
+    if is_acknowledged world.mobile Zero then Some (with_mobile world (after_acked world.mobile Zero)) else None
+
+-- the switch takes the first message of its outbox
+abbrev pub taking_from : List (List ℕ) → FixedState → Option FixedState
+taking_from [] world = None
+taking_from (first ∷ others) world =
+    Some (record {
+      mobile = world.mobile;
+      outbox = others;
+      switch = record { modulus = world.switch.modulus; taken = world.switch.taken ++ first ∷ [] }
+    })
+
+abbrev pub after_switch_takes : FixedState → Option FixedState
+after_switch_takes world = taking_from world.outbox world
+
+abbrev pub where_fixed : {X : Type 0} → ℕ → Option X → Option X
+where_fixed mobile next = if mobile == FIXED_MOBILE then next else None
+
+-- these four kinds of event are the only ones that are ever taken, each of mobile 1 alone
+abbrev pub fixed_after : FixedState → Event → Option FixedState
+fixed_after world (Upper mobile sapi message) = where_fixed mobile (after_upper world sapi message)
+fixed_after world (AirUp mobile Zero) = where_fixed mobile (after_air_up world)
+fixed_after world (AirAck mobile Zero) = where_fixed mobile (after_air_ack world)
+fixed_after world SwitchTakes = after_switch_takes world
+fixed_after world _ = None

@@ -1,0 +1,10 @@
+-- The fixed world in plain lists.
+use Rattle.std.specs.Prelude.{ℕ, List}
+use Rattle.mobile_end.specs.MobileState.{MobileState}
+use Rattle.nsd_filter.specs.Reception.{ReceptionState}
+
+-- the mobile, the switch's outbox, and what the switch took
+pub record FixedState : Type 0 where
+  pub mobile : MobileState
+  pub outbox : List (List ℕ)
+  pub switch : ReceptionState

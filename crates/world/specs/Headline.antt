@@ -1,0 +1,33 @@
+-- The order of messages, end to end: for every list of events, what the switch accepts of the flow of a connection is the
+-- beginning of what its mobile sent, once and in order; and each relay queue gives what was put there, in order.
+use Rattle.std.specs.Prelude.{◌≡◌, ℕ, ◌≤◌, Option, Some, IsSome, List, ◌++◌}
+use Rattle.octets.specs.Lists.{IsPrefix}
+use Rattle.world.specs.declared.event.Event.{Event}
+use Rattle.world.specs.declared.world.Scene.{Scene}
+use Rattle.world.specs.Queues.{Queue, Queued, outbox, put_by_all, taken_by_all, left_in, IsTakenBySwitch}
+use Rattle.world.specs.Views.{sent_in, accepted_in, progress_in, opener_in}
+use Rattle.world.specs.World.{fixed_world}
+use Rattle.world.specs.WorldState.{WorldState}
+
+-- the worlds in which nothing has happened
+pub data Begins : WorldState → Type 0 where
+  fixed : (m : ℕ) → 2 ≤ m → Begins (fixed_world m)
+
+-- the list is the beginning of what the mobile sent whose connection this is
+pub record IsBeginningOfSent (scene : Scene) (connection : ℕ) (list : List (List ℕ)) : Type 0 where
+  pub mobile : ℕ
+  pub opened : opener_in scene connection ≡ Some mobile
+  pub sent : List (List ℕ)
+  pub is_sent : sent_in scene mobile ≡ Some sent
+  pub is_prefix : IsPrefix list sent
+
+-- what holds of the actors whom these events have made from a beginning
+pub record IsInOrder (begin : Scene) (events : List Event) (scene : Scene) : Type 0 where
+  -- what the switch accepts is a prefix of what the mobile sent
+  pub accepted : (connection : ℕ) (list : List (List ℕ)) → accepted_in scene connection ≡ Some list → IsBeginningOfSent scene connection list
+  -- no gap is ever judged
+  pub no_gap : (connection : ℕ) (progress : Option ℕ) → progress_in scene connection ≡ Some progress → IsSome progress
+  -- of each queue, what was put is what was taken, followed by what stands there
+  pub queues : (queue : Queue) → put_by_all begin events queue ≡ taken_by_all begin events queue ++ left_in scene queue
+  -- and the switch has what was taken out of its outbox
+  pub switch : IsTakenBySwitch scene (taken_by_all begin events (outbox 0))

@@ -1,0 +1,32 @@
+-- What events make of a world.
+use Rattle.std.specs.Prelude.{◌≡◌, ℕ, ◌+◌, ◌-◌, ◌^◌, min, Bool, false, Option, option_map, unwrap_or, is_some, List, [], ◌∷◌, if◌then◌else◌}
+use Rattle.world.specs.declared.event.Event.{Event}
+use Rattle.world.specs.declared.world.Scene.{Scene}
+use Rattle.world.specs.declared.world.Scene.TheVariants.{Fixed}
+use Rattle.world.specs.Fixed.{fixed_beginning, fixed_after}
+use Rattle.world.specs.WorldState.{WorldState}
+
+-- the fixed world, in which nothing has happened
+abbrev pub fixed_world : ℕ → WorldState
+fixed_world m = record { scene = Fixed (fixed_beginning m); not_taken = 0; failed = false }
+
+-- the actors after an event; None where its actor can't take it
+abbrev pub scene_after : Scene → Event → Option Scene
+scene_after (Fixed world) event = option_map Fixed (fixed_after world event)
+
+abbrev pub actors_after : Scene → Event → Scene
+actors_after scene event = unwrap_or (scene_after scene event) scene
+
+-- an event that is not taken is counted, and changes nothing else
+abbrev pub after : WorldState → Event → WorldState
+after world event =
+    record {
+      scene = actors_after world.scene event;
+      not_taken = if is_some (scene_after world.scene event) then world.not_taken else min (world.not_taken + 1) (2 ^ 64 - 1);
+      failed = world.failed
+    }
+
+-- the world after these events, one after the other
+abbrev pub after_all : WorldState → List Event → WorldState
+after_all world [] = world
+after_all world (event ∷ events) = after_all (after world event) events

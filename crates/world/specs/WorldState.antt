@@ -1,0 +1,8 @@
+-- A world: its actors, the number of events that none could take, and whether memory was wanted.
+use Rattle.std.specs.Prelude.{ℕ, Bool}
+use Rattle.world.specs.declared.world.Scene.{Scene}
+
+pub record WorldState : Type 0 where
+  pub scene : Scene
+  pub not_taken : ℕ
+  pub failed : Bool

@@ -1,0 +1,161 @@
+ghost use Rattle.std.specs.Prelude.{◌≡◌, [], IfOk};
+ghost use Rattle.dtap_codec.specs.Number.{count_of};
+ghost use Rattle.nsd_filter.specs.Accepted.{accepted, not_of_the_flow};
+ghost use Rattle.world.specs.Takes.{Takes};
+ghost use Rattle.world.specs.Fixed.{fixed_beginning, after_upper, after_air_up, after_air_ack, after_switch_takes, fixed_after};
+
+use crate::Event;
+use dtap_codec::{Modulus, Sapi};
+use mobile_end::{MobileEnd, MobileFault};
+use nsd_filter::Reception;
+use octets::{Memory, Octets};
+use std::alloc::Global;
+use std::collections::VecDeque;
+use std::marker::Model;
+
+/// The mobile of the fixed world.
+pub(crate) const FIXED_MOBILE: u8 = 1;
+
+/// The switch's connection of the fixed world.
+pub(crate) const FIXED_CONNECTION: u32 = 1;
+
+/// One mobile on one channel that never changes: what the station takes of SAPI 0 goes into the switch's outbox, and from
+/// there to the switch.
+#[derive(Drop)]
+pub(crate) struct FixedWorld {
+    alloc: Global,
+    mobile: MobileEnd,
+    outbox: VecDeque<Octets>,
+    switch: Reception,
+    /// What the mobile received, which is nothing.
+    received: Vec<Octets>,
+}
+
+impl Model for FixedWorld {
+    ghost use Rattle.std.specs.Prelude.{◌≡◌, []};
+    ghost use Rattle.world.specs.FixedState.{FixedState};
+
+    ghost Value = { FixedState };
+
+    ghost view = { λ world. record { mobile = world.mobile; outbox = world.outbox.items; switch = world.switch } };
+
+    ghost invariant = { λ world. world.received.items ≡ [] };
+}
+
+impl FixedWorld {
+    /// The mobile is connected without an initial message. It takes no memory.
+    pub(crate) fn new(alloc: Global, modulus: Modulus) -> FixedWorld
+        ensures { result ≡ fixed_beginning (count_of modulus) }
+    {
+        let mut mobile = MobileEnd::new(alloc, modulus);
+        mobile.connect(None).unwrap();
+        FixedWorld {
+            alloc,
+            mobile,
+            outbox: VecDeque::new(alloc),
+            switch: Reception::new(alloc, modulus),
+            received: Vec::new(alloc),
+        }
+    }
+
+    /// Lets the event's actor act, and says whether it could.
+    pub(crate) fn take(&mut self, event: &Event) -> Result<bool, Memory>
+        ensures { IfOk result (λ taken. Takes self.old (fixed_after self.old event.now) taken self.new) }
+    {
+        match event {
+            Event::Upper {
+                mobile: FIXED_MOBILE,
+                sapi,
+                message,
+            } => self.upper(*sapi, message),
+            Event::AirUp {
+                mobile: FIXED_MOBILE,
+                sapi: Sapi::Zero,
+            } => self.air_up(),
+            Event::AirAck {
+                mobile: FIXED_MOBILE,
+                sapi: Sapi::Zero,
+            } => Ok(self.air_ack()),
+            Event::SwitchTakes => self.switch_takes(),
+            _ => Ok(false),
+        }
+    }
+
+    /// The upper layers send a message, which the mobile may refuse.
+    fn upper(&mut self, sapi: Sapi, message: &Octets) -> Result<bool, Memory>
+        ensures { IfOk result (λ taken. Takes self.old (after_upper self.old sapi message.now) taken self.new) }
+    {
+        let copy = Octets::copy(self.alloc, message.as_slice())?;
+        match self.mobile.send(sapi, copy.into_vec()) {
+            Ok(()) => Ok(true),
+            Err(MobileFault::Memory) => Err(Memory),
+            Err(MobileFault::NotConnected) => Ok(false),
+            Err(MobileFault::BadMessage) => Ok(false),
+        }
+    }
+
+    /// The station takes the frame in the air, and it goes into the switch's outbox.
+    fn air_up(&mut self) -> Result<bool, Memory>
+        ensures { IfOk result (λ taken. Takes self.old (after_air_up self.old) taken self.new) }
+    {
+        match self.mobile.frame(Sapi::Zero) {
+            Ok(Some(frame)) => {
+                let frame = Octets::copy(self.alloc, frame)?;
+                self.outbox.push_back(frame)?;
+                Ok(true)
+            }
+            Ok(None) => Ok(false),
+            Err(_) => Ok(false),
+        }
+    }
+
+    /// The station acknowledges the frame that it took.
+    fn air_ack(&mut self) -> bool
+        ensures { Takes self.old (after_air_ack self.old) result self.new }
+    {
+        self.mobile.acked(Sapi::Zero)
+    }
+
+    /// The switch takes the first message of its outbox.
+    fn switch_takes(&mut self) -> Result<bool, Memory>
+        ensures { IfOk result (λ taken. Takes self.old (after_switch_takes self.old) taken self.new) }
+    {
+        match self.outbox.pop_front() {
+            Some(message) => {
+                self.switch.take(message)?;
+                Ok(true)
+            }
+            None => Ok(false),
+        }
+    }
+
+    pub(crate) fn sent(&self) -> &[Octets]
+        ensures { result.now ≡ self.now.mobile.sent }
+    {
+        self.mobile.sent()
+    }
+
+    pub(crate) fn received(&self) -> &[Octets]
+        ensures { result.now ≡ [] }
+    {
+        self.received.as_slice()
+    }
+
+    pub(crate) fn taken(&self) -> &[Octets]
+        ensures { result.now ≡ self.now.switch.taken }
+    {
+        self.switch.taken()
+    }
+
+    pub(crate) fn accepted(&self) -> &[Octets]
+        ensures { result.now ≡ accepted self.now.switch.modulus self.now.switch.taken }
+    {
+        self.switch.accepted()
+    }
+
+    pub(crate) fn unnumbered(&self) -> &[Octets]
+        ensures { result.now ≡ not_of_the_flow self.now.switch.taken }
+    {
+        self.switch.unnumbered()
+    }
+}

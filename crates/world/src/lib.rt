@@ -1,0 +1,12 @@
+//! The world round the controller, as one machine: each event is one step of one actor, and what the switch accepts
+//! stays the beginning of what the mobile sent.
+#![tactic(auto)]
+
+pub use event::{Event, SwitchAction};
+pub use laws::keeps_order;
+pub use world::World;
+
+mod event;
+mod fixed;
+mod laws;
+mod world;

@@ -1,0 +1,176 @@
+ghost use Rattle.std.specs.Prelude.{◌≡◌, ℕ, ◌++◌, List, false, true, IfOk, OnOk, OnErr, is_some, option_map};
+ghost use Rattle.dtap_codec.specs.Number.{count_of};
+ghost use Rattle.world.specs.declared.event.Event.{Event as WorldEvent};
+ghost use Rattle.world.specs.Takes.{Takes};
+ghost use Rattle.world.specs.WorldState.{WorldState};
+ghost use Rattle.world.specs.World.{fixed_world, scene_after, after, after_all};
+ghost use Rattle.world.specs.Views.{sent_in, received_in, taken_in, accepted_in, unnumbered_in};
+ghost use Rattle.world.specs.Headline.{Begins, IsInOrder};
+
+use crate::Event;
+use crate::fixed::{FIXED_CONNECTION, FIXED_MOBILE, FixedWorld};
+use dtap_codec::Modulus;
+use octets::{Memory, Octets};
+use std::alloc::Global;
+use std::marker::Model;
+
+/// The actors of a world.
+#[derive(Drop)]
+pub(crate) enum Scene {
+    /// One mobile on one fixed channel, without a controller.
+    Fixed(FixedWorld),
+}
+
+/// A world: its actors, and how many events no actor could take.
+#[derive(Drop)]
+pub struct World {
+    scene: Scene,
+    not_taken: u64,
+    /// Whether an event wanted memory: nothing is said of the actors from then on.
+    failed: bool,
+}
+
+impl Model for World {
+    ghost use Rattle.world.specs.WorldState.{WorldState};
+
+    ghost Value = { WorldState };
+
+    ghost view = { λ world. record { scene = world.scene; not_taken = world.not_taken; failed = world.failed } };
+}
+
+impl World {
+    /// The fixed world: mobile 1 is connected without an initial message, and what the station takes from it on SAPI 0
+    /// goes through the switch's outbox to connection 1 of the switch. It takes no memory.
+    pub fn fixed(alloc: Global, modulus: Modulus) -> World
+        ensures world { result ≡ fixed_world (count_of modulus) }
+        ensures begins { Begins result }
+    {
+        World {
+            scene: Scene::Fixed(FixedWorld::new(alloc, modulus)),
+            not_taken: 0,
+            failed: false,
+        }
+    }
+
+    /// Lets the event's actor act, and says whether it could. An event that its actor can't take is counted, and changes
+    /// nothing else. Once a call has wanted memory, the world has failed, and every later event is refused so.
+    pub fn step(&mut self, event: Event) -> Result<bool, Memory>
+        ensures ok { OnOk result (self.new ≡ after self.old event) }
+        ensures taken { IfOk result (λ taken. taken ≡ is_some (scene_after self.old.scene event)) }
+        ensures stands { OnOk result (self.old.failed ≡ false) }
+        ensures failed { OnErr result (self.new.failed ≡ true) }
+    {
+        self.act(&event)
+    }
+
+    /// Lets the actors of these events act, in order. Memory is wanted as by `step`.
+    pub fn run(&mut self, events: &[Event]) -> Result<(), Memory>
+        ensures ok { OnOk result (self.new ≡ after_all self.old events.now) }
+
+        // Whatever events made the world from a beginning, what the switch accepts in a connection is the beginning of what
+        // its mobile sent, no filter ever finds a gap, and each queue gives what was put there, in order.
+        ensures in_order { OnOk result ((begin : WorldState) (before : List WorldEvent) → Begins begin → self.old ≡ after_all begin before
+            → IsInOrder begin.scene (before ++ events.now) self.new.scene) }
+        ensures stands { OnOk result (self.old.failed ≡ false) }
+        ensures failed { OnErr result (self.new.failed ≡ true) }
+    {
+        if self.failed {
+            return Err(Memory);
+        }
+        for event in events {
+            self.act(event)?;
+        }
+        Ok(())
+    }
+
+    fn act(&mut self, event: &Event) -> Result<bool, Memory>
+        ensures ok { OnOk result (self.new ≡ after self.old event.now) }
+        ensures taken { IfOk result (λ taken. taken ≡ is_some (scene_after self.old.scene event.now)) }
+        ensures stands { OnOk result (self.old.failed ≡ false) }
+        ensures failed { OnErr result (self.new.failed ≡ true) }
+    {
+        if self.failed {
+            return Err(Memory);
+        }
+        match self.scene.take(event) {
+            Ok(true) => Ok(true),
+            Ok(false) => {
+                self.not_taken = self.not_taken.saturating_add(1);
+                Ok(false)
+            }
+            Err(memory) => {
+                self.failed = true;
+                Err(memory)
+            }
+        }
+    }
+
+    /// The messages of the flow that the upper layers of a mobile sent, in order, without numbers; none where there is no
+    /// such mobile.
+    pub fn sent(&self, mobile: u8) -> Option<&[Octets]>
+        ensures { option_map (λ list. list.now) result ≡ sent_in self.now.scene mobile }
+    {
+        match &self.scene {
+            Scene::Fixed(fixed) if mobile == FIXED_MOBILE => Some(fixed.sent()),
+            Scene::Fixed(_) => None,
+        }
+    }
+
+    /// The messages that a mobile received, in order; none where there is no such mobile.
+    pub fn received(&self, mobile: u8) -> Option<&[Octets]>
+        ensures { option_map (λ list. list.now) result ≡ received_in self.now.scene mobile }
+    {
+        match &self.scene {
+            Scene::Fixed(fixed) if mobile == FIXED_MOBILE => Some(fixed.received()),
+            Scene::Fixed(_) => None,
+        }
+    }
+
+    /// All messages that the switch took on a connection, in order; none where there is no such connection.
+    pub fn taken(&self, connection: u32) -> Option<&[Octets]>
+        ensures { option_map (λ list. list.now) result ≡ taken_in self.now.scene connection }
+    {
+        match &self.scene {
+            Scene::Fixed(fixed) if connection == FIXED_CONNECTION => Some(fixed.taken()),
+            Scene::Fixed(_) => None,
+        }
+    }
+
+    /// The messages of the flow that the switch accepted on a connection, in order, with numbers cleared; none where there
+    /// is no such connection.
+    pub fn accepted(&self, connection: u32) -> Option<&[Octets]>
+        ensures { option_map (λ list. list.now) result ≡ accepted_in self.now.scene connection }
+    {
+        match &self.scene {
+            Scene::Fixed(fixed) if connection == FIXED_CONNECTION => Some(fixed.accepted()),
+            Scene::Fixed(_) => None,
+        }
+    }
+
+    /// The messages without numbers that the switch took on a connection, in order; none where there is no such connection.
+    pub fn unnumbered(&self, connection: u32) -> Option<&[Octets]>
+        ensures { option_map (λ list. list.now) result ≡ unnumbered_in self.now.scene connection }
+    {
+        match &self.scene {
+            Scene::Fixed(fixed) if connection == FIXED_CONNECTION => Some(fixed.unnumbered()),
+            Scene::Fixed(_) => None,
+        }
+    }
+
+    /// How many events no actor could take, up to the greatest `u64`.
+    pub fn not_taken(&self) -> u64
+        ensures { result ≡ self.now.not_taken }
+    {
+        self.not_taken
+    }
+}
+
+impl Scene {
+    fn take(&mut self, event: &Event) -> Result<bool, Memory>
+        ensures { IfOk result (λ taken. Takes self.old (scene_after self.old event.now) taken self.new) }
+    {
+        match self {
+            Scene::Fixed(fixed) => fixed.take(event),
+        }
+    }
+}
