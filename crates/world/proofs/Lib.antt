@@ -1,3 +1,5 @@
 pub mod FixedKept
 pub mod FixedSteps
 pub mod Order
+pub mod Splitting
+pub mod Hexadecimal

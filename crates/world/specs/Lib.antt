@@ -6,3 +6,5 @@ pub mod World
 pub mod Views
 pub mod Queues
 pub mod Headline
+pub mod WordsLeft
+pub mod Words

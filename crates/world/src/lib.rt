@@ -4,9 +4,13 @@
 
 pub use event::{Event, SwitchAction};
 pub use laws::keeps_order;
+pub use script_fault::LineFault;
 pub use world::World;
 
 mod event;
 mod fixed;
 mod laws;
+mod script_fault;
+mod word;
+mod words;
 mod world;

@@ -1,0 +1,58 @@
+-- Reading the words of a script line, one after the other.
+use Rattle.std.specs.Prelude.{◌≡◌, ℕ, ◌+◌, ◌-◌, ◌*◌, ◌&&◌, ◌==◌, nat_le, not, length, Bool, true, false, Option, Some, None, IsSome, Result, Ok, Err, MatchResult, List, [], ◌∷◌, if◌then◌else◌}
+use Rattle.std.specs.Char.{is_ascii_digit}
+use Rattle.std.specs.List.{list_all}
+use Rattle.std.specs.Result.{result_ok}
+use Rattle.hex.specs.Hex.{decode_of}
+use Rattle.dtap_codec.specs.declared.sapi.Sapi.{Sapi}
+use Rattle.dtap_codec.specs.declared.sapi.Sapi.TheVariants.{Zero, Three}
+
+-- the number that decimal digits write behind those of n
+abbrev pub decimal_after : ℕ → List ℕ → ℕ
+decimal_after n [] = n
+decimal_after n (digit ∷ digits) = decimal_after (10 * n + (digit - 48)) digits
+
+abbrev pub is_decimal : List ℕ → Bool
+is_decimal word = not (length word == 0) && list_all is_ascii_digit word
+
+-- a decimal number from low to high: digits alone, of which the first may be zeros
+abbrev pub number_in : ℕ → ℕ → List ℕ → Option ℕ
+number_in low high word =
+    if is_decimal word && nat_le low (decimal_after 0 word) && nat_le (decimal_after 0 word) high
+    then Some (decimal_after 0 word) else None
+
+-- a SAPI is the word `0` or `3`
+abbrev pub sapi_in : List ℕ → Option Sapi
+sapi_in (digit ∷ []) = if digit == 48 then Some Zero else (if digit == 51 then Some Three else None)
+sapi_in _ = None
+
+-- yes or no is the word `y` or `n`
+abbrev pub answer_in : List ℕ → Option Bool
+answer_in (letter ∷ []) = if letter == 121 then Some true else (if letter == 110 then Some false else None)
+answer_in _ = None
+
+-- octets are pairs of hexadecimal digits of either case, at least one pair
+abbrev pub octets_in : List ℕ → Option (List ℕ)
+octets_in word = if length word == 0 then None else result_ok (decode_of word)
+
+-- what a reader of one word answers is what the word says
+abbrev pub Reads : {X Y E : Type 0} → (X → Y) → Result X E → Option Y → Type 0
+Reads view result said = MatchResult result (λ x. said ≡ Some (view x)) (λ _. said ≡ None)
+
+-- the first word, and those behind it
+abbrev pub word_at : List (List ℕ) → Option (List ℕ × List (List ℕ))
+word_at [] = None
+word_at (word ∷ words) = Some (word, words)
+
+abbrev pub and_rest : {X : Type 0} → List (List ℕ) → Option X → Option (X × List (List ℕ))
+and_rest words None = None
+and_rest words (Some x) = Some (x, words)
+
+-- what the first word says, and the words behind it
+abbrev pub said_at : {X : Type 0} → (List ℕ → Option X) → List (List ℕ) → Option (X × List (List ℕ))
+said_at says [] = None
+said_at says (word ∷ words) = and_rest words (says word)
+
+-- what a reader answers, seen by view, and the words that it leaves
+abbrev pub ReadsNext : {X Y E : Type 0} → (X → Y) → Result X E → Option (Y × List (List ℕ)) → List (List ℕ) → Type 0
+ReadsNext view result said left = MatchResult result (λ x. said ≡ Some (view x, left)) (λ _. said ≡ None)
