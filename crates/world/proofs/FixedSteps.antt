@@ -49,11 +49,11 @@ fixed_taken_by_all world (event ∷ events) = fixed_taken_by world event ++ fixe
 -- two steps in a row
 FixedStep-then : {old mid new : FixedState} {put taken puts takens : List (List ℕ)} → FixedStep old mid put taken → FixedStep mid new puts takens → FixedStep old new (put ++ puts) (taken ++ takens)
 FixedStep-then {old} {mid} {new} {put} {taken} {puts} {takens} one two = record {
-    kept = λ kept. two.kept (one.kept kept);
-    first_out =
-        sym (append_assoc old.outbox put puts) ∙ ap (λ (xs : List (List ℕ)). xs ++ puts) one.first_out ∙ append_assoc taken mid.outbox puts
-        ∙ ap (λ (xs : List (List ℕ)). taken ++ xs) two.first_out ∙ sym (append_assoc taken takens new.outbox);
-    switch = two.switch ∙ ap (λ (xs : List (List ℕ)). xs ++ takens) one.switch ∙ append_assoc old.switch.taken taken takens
+  kept = λ kept. two.kept (one.kept kept);
+  first_out =
+      sym (append_assoc old.outbox put puts) ∙ ap (λ (xs : List (List ℕ)). xs ++ puts) one.first_out ∙ append_assoc taken mid.outbox puts
+      ∙ ap (λ (xs : List (List ℕ)). taken ++ xs) two.first_out ∙ sym (append_assoc taken takens new.outbox);
+  switch = two.switch ∙ ap (λ (xs : List (List ℕ)). xs ++ takens) one.switch ∙ append_assoc old.switch.taken taken takens;
 }
 
 -- what all the events do

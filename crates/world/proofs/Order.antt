@@ -49,14 +49,14 @@ accepted-is_prefix : (world : FixedState) → IsFixedKept world → IsPrefix (ac
 accepted-is_prefix world kept =
     let rise = taken-rise world kept in
     let front : accepted world.switch.modulus world.switch.taken ≡ take rise.0 world.mobile.sent =
-        ap (λ (m : ℕ). accepted m world.switch.taken) kept.modulus ∙ accepted_from-rise kept.two rise.1 in
+    ap (λ (m : ℕ). accepted m world.switch.taken) kept.modulus ∙ accepted_from-rise kept.two rise.1 in
     (drop rise.0 world.mobile.sent, ap (λ (xs : List (List ℕ)). xs ++ drop rise.0 world.mobile.sent) front ∙ take-append-drop rise.0 world.mobile.sent)
 
 progress-is_some : (world : FixedState) → IsFixedKept world → (p : Option ℕ) → progress world.switch.modulus world.switch.taken ≡ p → IsSome p
 progress-is_some world kept p is =
     let rise = taken-rise world kept in
     let whole : progress world.switch.modulus world.switch.taken ≡ Some rise.0 =
-        ap (λ (m : ℕ). progress m world.switch.taken) kept.modulus ∙ progress_from-rise kept.two rise.1 in
+    ap (λ (m : ℕ). progress m world.switch.taken) kept.modulus ∙ progress_from-rise kept.two rise.1 in
     subst IsSome (sym whole ∙ is) refl
 
 pub IsInOrder-fixed : (m : ℕ) → 2 ≤ m → (events : List Event) → IsInOrder (Fixed (fixed_beginning m)) events (Fixed (fixed_all (fixed_beginning m) events))
@@ -73,14 +73,14 @@ IsInOrder-fixed m two events =
             opened = cond-true (nat_eq connection FIXED_CONNECTION) _ _ found.0;
             sent = world.mobile.sent;
             is_sent = refl;
-            is_prefix = subst (λ (list : List (List ℕ)). IsPrefix list world.mobile.sent) found.1 (accepted-is_prefix world kept)
+            is_prefix = subst (λ (list : List (List ℕ)). IsPrefix list world.mobile.sent) found.1 (accepted-is_prefix world kept);
           };
       no_gap = λ connection p is. progress-is_some world kept p (cond_some (nat_eq connection FIXED_CONNECTION) _ _ is).1;
       queues = λ queue.
           put_by_all-fixed begin events queue ∙ ap (in_switch_outbox queue) steps.first_out
           ∙ in_switch_outbox-append queue (fixed_taken_by_all begin events) world.outbox
           ∙ ap (λ (xs : _). xs ++ in_switch_outbox queue world.outbox) (sym (taken_by_all-fixed begin events queue));
-      switch = taken_by_all-fixed begin events (outbox 0) ∙ ap (in_switch_outbox (outbox 0)) (sym steps.switch)
+      switch = taken_by_all-fixed begin events (outbox 0) ∙ ap (in_switch_outbox (outbox 0)) (sym steps.switch);
     }
 
 -- whatever events made a world from a beginning

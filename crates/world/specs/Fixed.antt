@@ -54,7 +54,7 @@ taking_from (first ∷ others) world =
     Some (record {
       mobile = world.mobile;
       outbox = others;
-      switch = record { modulus = world.switch.modulus; taken = world.switch.taken ++ first ∷ [] }
+      switch = record { modulus = world.switch.modulus; taken = world.switch.taken ++ first ∷ [] };
     })
 
 abbrev pub after_switch_takes : FixedState → Option FixedState

@@ -8,3 +8,5 @@ pub mod Queues
 pub mod Headline
 pub mod WordsLeft
 pub mod Words
+pub mod Script
+pub mod ScriptReading

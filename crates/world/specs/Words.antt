@@ -1,5 +1,5 @@
 -- Reading the words of a script line, one after the other.
-use Rattle.std.specs.Prelude.{◌≡◌, ℕ, ◌+◌, ◌-◌, ◌*◌, ◌&&◌, ◌==◌, nat_le, not, length, Bool, true, false, Option, Some, None, IsSome, Result, Ok, Err, MatchResult, List, [], ◌∷◌, if◌then◌else◌}
+use Rattle.std.specs.Prelude.{◌≡◌, ℕ, ◌+◌, ◌-◌, ◌*◌, ◌^◌, ◌&&◌, ◌==◌, nat_le, not, length, Bool, true, false, Option, Some, None, IsSome, Result, Ok, Err, MatchResult, List, [], ◌∷◌, if◌then◌else◌}
 use Rattle.std.specs.Char.{is_ascii_digit}
 use Rattle.std.specs.List.{list_all}
 use Rattle.std.specs.Result.{result_ok}
@@ -21,6 +21,22 @@ number_in low high word =
     if is_decimal word && nat_le low (decimal_after 0 word) && nat_le (decimal_after 0 word) high
     then Some (decimal_after 0 word) else None
 
+-- the number of a mobile
+abbrev pub mobile_in : List ℕ → Option ℕ
+mobile_in word = number_in 1 255 word
+
+-- the number of a station, of so many cells
+abbrev pub station_in : ℕ → List ℕ → Option ℕ
+station_in cells word = number_in 1 cells word
+
+-- the number of a source, which is the switch or a station
+abbrev pub source_in : ℕ → List ℕ → Option ℕ
+source_in cells word = number_in 0 cells word
+
+-- the number of a connection, or of milliseconds
+abbrev pub any_number_in : List ℕ → Option ℕ
+any_number_in word = number_in 0 (2 ^ 32 - 1) word
+
 -- a SAPI is the word `0` or `3`
 abbrev pub sapi_in : List ℕ → Option Sapi
 sapi_in (digit ∷ []) = if digit == 48 then Some Zero else (if digit == 51 then Some Three else None)
@@ -34,6 +50,11 @@ answer_in _ = None
 -- octets are pairs of hexadecimal digits of either case, at least one pair
 abbrev pub octets_in : List ℕ → Option (List ℕ)
 octets_in word = if length word == 0 then None else result_ok (decode_of word)
+
+-- no word is left
+abbrev pub end_of : List (List ℕ) → Option (Unit {0})
+end_of [] = Some tt
+end_of (word ∷ words) = None
 
 -- what a reader of one word answers is what the word says
 abbrev pub Reads : {X Y E : Type 0} → (X → Y) → Result X E → Option Y → Type 0

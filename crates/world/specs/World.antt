@@ -23,7 +23,7 @@ after world event =
     record {
       scene = actors_after world.scene event;
       not_taken = if is_some (scene_after world.scene event) then world.not_taken else min (world.not_taken + 1) (2 ^ 64 - 1);
-      failed = world.failed
+      failed = world.failed;
     }
 
 -- the world after these events, one after the other

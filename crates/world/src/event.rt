@@ -20,48 +20,56 @@ pub enum Event {
         accepts_sapi_three: bool,
     },
     /// The station takes the frame in the air from the mobile.
-    AirUp { mobile: u8, sapi: Sapi },
+    AirUp {
+        mobile: u8,
+        sapi: Sapi,
+    },
     /// The station acknowledges the frame that it took.
-    AirAck { mobile: u8, sapi: Sapi },
+    AirAck {
+        mobile: u8,
+        sapi: Sapi,
+    },
     /// The mobile takes the first message for the air.
-    AirDown { mobile: u8 },
+    AirDown(u8),
     /// The first message for the air is lost.
-    AirDownLost { mobile: u8 },
+    AirDownLost(u8),
     /// The mobile leaves its channel as a command told it.
-    Move { mobile: u8 },
+    Move(u8),
     /// The mobile is heard on the channel of a handover.
-    Touch { mobile: u8 },
+    Touch(u8),
     /// The mobile arrives on its new channel.
-    Arrive { mobile: u8 },
+    Arrive(u8),
     /// The mobile returns to its old channel.
-    Return { mobile: u8 },
+    Return(u8),
     /// The station takes the first line of its outbox.
-    BaseTakes { station: u16 },
+    BaseTakes(u16),
     /// The first item that the source made goes to the inbox.
-    BasePush { source: u16 },
+    BasePush(u16),
     /// The controller handles the first item of the inbox.
     Handle,
     /// The switch takes the first line of its outbox.
     SwitchTakes,
     /// The switch acts of its own.
     SwitchDoes(SwitchAction),
-    /// Time passes.
-    Tick { milliseconds: u32 },
+    /// Time passes, in milliseconds.
+    Tick(u32),
     /// The link of the source breaks.
-    BaseDown { source: u16 },
+    BaseDown(u16),
     /// The mobile's measurement report reaches the station.
-    Report { mobile: u8, report: Octets },
+    Report {
+        mobile: u8,
+        report: Octets,
+    },
 }
 
 /// What the switch does of its own on one of its connections.
 #[derive(Debug, Drop)]
 pub enum SwitchAction {
-    Assign {
-        connection: u32,
-    },
-    Clear {
-        connection: u32,
-    },
+    /// It asks for an assignment.
+    Assign(u32),
+    /// It clears the connection.
+    Clear(u32),
+    /// It sends a message.
     Dtap {
         connection: u32,
         sapi: Sapi,

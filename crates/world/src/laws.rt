@@ -9,5 +9,4 @@ ghost use Rattle.world.specs.Headline.{Begins, IsInOrder};
 /// what was put there, in order. It is a law on the definitions that `World::run` cites: it does nothing.
 pub fn keeps_order()
     ensures { (begin : WorldState) (events : List Event) → Begins begin → IsInOrder begin.scene events (after_all begin events).scene }
-{
-}
+{}

@@ -4,12 +4,14 @@
 
 pub use event::{Event, SwitchAction};
 pub use laws::keeps_order;
+pub use script::read_line;
 pub use script_fault::LineFault;
 pub use world::World;
 
 mod event;
 mod fixed;
 mod laws;
+mod script;
 mod script_fault;
 mod word;
 mod words;

@@ -8,6 +8,7 @@ use crate::script_fault::BadEvent;
 use dtap_codec::Sapi;
 use octets::{Memory, Octets};
 use std::alloc::Global;
+use std::marker::Model;
 
 /// A decimal number from low to high, in digits alone, of which the first may be zeros.
 pub(crate) fn number_in(word: &str, low: u32, high: u32) -> Result<u32, BadEvent>
@@ -68,8 +69,47 @@ pub(crate) fn answer_in(word: &str) -> Result<bool, BadEvent>
     }
 }
 
+/// Octets, at least one, as a script line has them: in pairs of hexadecimal digits of either case.
+#[derive(Drop)]
+pub(crate) struct Hexadecimal<'a> {
+    digits: &'a str,
+}
+
+impl<'a> Model for Hexadecimal<'a> {
+    ghost use Rattle.std.specs.Prelude.{◌≡◌, List, [], ℕ, true, is_some, unwrap_or};
+    ghost use Rattle.world.specs.Words.{octets_in};
+
+    ghost Value = { List ℕ };
+
+    ghost view = { λ octets. unwrap_or (octets_in octets.digits.now) [] };
+
+    ghost invariant = { λ octets. is_some (octets_in octets.digits.now) ≡ true };
+}
+
+impl<'a> Hexadecimal<'a> {
+    /// The octets whose hexadecimal digits the word has.
+    pub(crate) fn read(word: &'a str) -> Result<Hexadecimal<'a>, BadEvent>
+        ensures { Reads (λ octets. octets) result (octets_in word.now) }
+    {
+        if !is_hexadecimal(word) {
+            return Err(BadEvent);
+        }
+        Ok(Hexadecimal { digits: word })
+    }
+
+    /// The octets themselves.
+    pub(crate) fn decode(self, alloc: Global) -> Result<Octets, Memory>
+        ensures { IfOk result (λ octets. octets ≡ self.entry) }
+    {
+        match hex::decode(alloc, self.digits) {
+            Ok(octets) => Ok(Octets::new(octets)),
+            Err(_) => Err(Memory),
+        }
+    }
+}
+
 /// Whether the word is pairs of hexadecimal digits, and at least one.
-pub(crate) fn is_hexadecimal(word: &str) -> bool
+fn is_hexadecimal(word: &str) -> bool
     ensures { result ≡ is_some (octets_in word.now) }
 {
     !word.is_empty() && word.len() % 2 == 0 && all_hexadecimal(word.as_bytes())
@@ -85,15 +125,4 @@ fn is_hex_digit(octet: u8) -> bool
     ensures { result ≡ is_hex_digit octet }
 {
     matches!(octet, b'A'..=b'F' | b'a'..=b'f' | b'0'..=b'9')
-}
-
-/// The octets whose hexadecimal digits the word has.
-pub(crate) fn octets_in(alloc: Global, word: &str) -> Result<Octets, Memory>
-    requires { is_some (octets_in word.now) ≡ true }
-    ensures { IfOk result (λ octets. octets_in word.now ≡ Some octets) }
-{
-    match hex::decode(alloc, word) {
-        Ok(octets) => Ok(Octets::new(octets)),
-        Err(_) => Err(Memory),
-    }
 }

@@ -11,8 +11,8 @@ returns-then-word-eq0 c =
     let digits : c.all_hexadecimal.result ≡ list_all is_hex_digit word = search rules in
     elim c.if-not-is_empty.branch [
       | then-not-is_empty w ↦
-        let some : nat_eq (length word) 0 ≡ false = cc in
-        let even : nat_eq (length word % 2) 0 ≡ true = cc in
-        digits ∙ sym (is_some-octets_in word some even)
+          let some : nat_eq (length word) 0 ≡ false = cc in
+          let even : nat_eq (length word % 2) 0 ≡ true = cc in
+          digits ∙ sym (is_some-octets_in word some even)
       | else-not-is_empty w ↦ absurd cc
     ]

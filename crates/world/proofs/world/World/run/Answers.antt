@@ -11,5 +11,5 @@ pub returns-clause-in_order : goal.returns-clause-in_order
 returns-clause-in_order c begin before begins reached =
     let ran : c.loop-event.self ≡ after_all c.args.self.now c.args.events.now = grind (arith, common_steps) in
     let whole : after_all begin (before ++ c.args.events.now) ≡ c.loop-event.self =
-        after_all-append begin before c.args.events.now ∙ ap (λ (world : WorldState). after_all world c.args.events.now) (sym reached) ∙ sym ran in
+    after_all-append begin before c.args.events.now ∙ ap (λ (world : WorldState). after_all world c.args.events.now) (sym reached) ∙ sym ran in
     subst (λ (world : WorldState). IsInOrder begin.scene (before ++ c.args.events.now) world.scene) whole (IsInOrder-reached begin (before ++ c.args.events.now) begins)
