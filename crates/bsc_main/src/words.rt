@@ -1,0 +1,23 @@
+use std::alloc::{AllocError, AllocFailed};
+use thiserror::Error;
+
+/// What the program is asked to do.
+#[derive(Debug, Drop)]
+pub enum Task {
+    /// `run --config FILE`: to relay between the switch and the stations of these settings.
+    Run(String),
+    /// `replay [--config FILE] [--break N]`: to replay a script.
+    Replay(Option<String>, Option<String>),
+    /// `decode`: to name the frames of a stream.
+    Decode,
+}
+
+/// Why the words weren't read.
+#[derive(Clone, Copy, Debug, PartialEq, Eq, Error)]
+pub enum TaskFault {
+    /// They are no command of the program, or ask for help.
+    #[error("these words are no command")]
+    Words,
+    #[error("out of memory")]
+    Memory,
+}
