@@ -1,16 +1,62 @@
-//! The program `bsc`.
+//! The program `bsc`: a relay of the signalling between the stations and the switch of a GSM network.
 #![tactic(auto)]
 
-use crate::failure::Failure;
+use crate::command_line::task;
 use crate::replay::replay;
+use crate::words::{Task, TaskFault};
+use std::alloc::AllocError;
+use std::io::ErrorKind;
 use std::process::ExitCode;
+use std::env;
 
+mod command_line;
 mod failure;
 mod replay;
 mod report;
 mod script;
 mod words;
 
+const USAGE: &str = "usage: bsc run --config FILE | bsc replay [--config FILE] [--break N] | bsc decode";
+
 fn main(rt: HostRuntime) -> ExitCode {
-    ExitCode::from(replay(rt.alloc(), None, None, rt.stdin(), rt.stdout(), rt.stderr()))
+    match asked(&rt) {
+        Ok(task) => ExitCode::from(run(&rt, task)),
+        Err(TaskFault::Words) => {
+            let _ = eprintln!(rt; "{USAGE}");
+            ExitCode::from(2)
+        }
+        Err(TaskFault::Memory) => {
+            let _ = eprintln!(rt; "bsc: out of memory");
+            ExitCode::from(3)
+        }
+    }
+}
+
+/// Reads what the words behind the program's name ask for. A word that isn't UTF-8 is a fault of words.
+fn asked(rt: &HostRuntime) -> Result<Task, TaskFault> {
+    let words: Vec<String> = match env::args(rt) {
+        Ok(words) => words.skip(1).collect(rt.alloc())?,
+        Err(error) if error.kind() == ErrorKind::OutOfMemory => return Err(TaskFault::Memory),
+        Err(_) => return Err(TaskFault::Words),
+    };
+    let texts: Vec<&str> = words.iter().map(|word| word.as_str()).collect(rt.alloc())?;
+    task(rt.alloc(), &texts)
+}
+
+/// Does what is asked for, and gives the status that the program ends with.
+fn run(rt: &HostRuntime, task: Task) -> u8 {
+    match task {
+        Task::Replay(settings, breaks) => replay(
+            rt.alloc(),
+            settings.as_deref(),
+            breaks.as_deref(),
+            rt.stdin(),
+            rt.stdout(),
+            rt.stderr(),
+        ),
+        Task::Run(_) | Task::Decode => {
+            let _ = eprintln!(rt; "bsc: not supported");
+            2
+        }
+    }
 }

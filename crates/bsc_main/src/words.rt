@@ -1,4 +1,7 @@
-use std::alloc::{AllocError, AllocFailed};
+ghost use Rattle.std.specs.Prelude.{◌≡◌};
+ghost use Rattle.bsc_main.specs.declared.words.TaskFault.TheVariants.{Memory as OutOfMemory};
+
+use std::alloc::AllocError;
 use thiserror::Error;
 
 /// What the program is asked to do.
@@ -20,4 +23,12 @@ pub enum TaskFault {
     Words,
     #[error("out of memory")]
     Memory,
+}
+
+impl From<AllocError> for TaskFault {
+    ghost from_gives = { λ _ fault. fault ≡ OutOfMemory };
+
+    fn from(_error: AllocError) -> TaskFault {
+        TaskFault::Memory
+    }
 }

@@ -1,0 +1,114 @@
+ghost use Rattle.std.specs.Prelude.{◌≡◌, ◌≢◌, false, IfOk, IfErr, map, option_map, string_bytes};
+ghost use Rattle.clap.specs.Words.{app_of, kind_of, subcommand_of, subcommand_rows_of};
+ghost use Rattle.clap.specs.declared.error.kind.ErrorKind.TheVariants.{OutOfMemory};
+ghost use Rattle.clap.specs.declared.builder.command.Command.TheViews.{out-Command as fields_of};
+
+ghost use Rattle.bsc_main.specs.CommandLine.{bsc, bare, run_command, replay_command, decode_command, AreTaken, AreRefused, IsTask};
+
+
+
+use crate::words::{Task, TaskFault};
+use clap::error::ErrorKind;
+use clap::{Arg, ArgMatches, Command, Error};
+use std::alloc::{AllocError, Global};
+
+/// The command line of the program.
+fn command<'a>(alloc: Global) -> Result<Command<'a>, AllocError>
+    ensures { IfOk result (λ command. app_of command ≡ bsc) }
+{
+    let command = bare(alloc).subcommand(run(alloc)?)?;
+    let command = command.subcommand(replay(alloc)?)?;
+    command.subcommand(decode(alloc))
+}
+
+/// The program without its subcommands, of which it wants one.
+fn bare<'a>(alloc: Global) -> Command<'a>
+    ensures app { app_of result ≡ bare }
+    ensures local { (fields_of result).has_globals ≡ false }
+{
+    Command::new(alloc, "bsc")
+        .no_binary_name(true)
+        .subcommand_required(true)
+}
+
+/// `decode`.
+fn decode<'a>(alloc: Global) -> Command<'a>
+    ensures app { app_of result ≡ decode_command }
+    ensures local { (fields_of result).has_globals ≡ false }
+{
+    Command::new(alloc, "decode")
+}
+
+/// `run --config FILE`.
+fn run<'a>(alloc: Global) -> Result<Command<'a>, AllocError>
+    ensures app { IfOk result (λ command. app_of command ≡ run_command) }
+    ensures local { IfOk result (λ command. (fields_of command).has_globals ≡ false) }
+{
+    Command::new(alloc, "run").arg(Arg::new(alloc, "config").long("config").required(true))
+}
+
+/// `replay [--config FILE] [--break N]`.
+fn replay<'a>(alloc: Global) -> Result<Command<'a>, AllocError>
+    ensures app { IfOk result (λ command. app_of command ≡ replay_command) }
+    ensures local { IfOk result (λ command. (fields_of command).has_globals ≡ false) }
+{
+    Command::new(alloc, "replay")
+        .arg(Arg::new(alloc, "config").long("config"))?
+        .arg(Arg::new(alloc, "break").long("break"))
+}
+
+/// The matches of the words, where `clap` takes them.
+fn matches_of<'a>(alloc: Global, words: &'a [&'a str]) -> Result<ArgMatches<'a>, TaskFault>
+    ensures ok { IfOk result (λ matches. AreTaken (map (λ word. word.now) words.entry.now) × (subcommand_rows_of matches ≡ subcommand_of bsc (map (λ word. word.now) words.entry.now))) }
+    ensures words { result ≡ Err TaskFault.Words → AreRefused (map (λ word. word.now) words.entry.now) }
+{
+    let command = command(alloc)?;
+    match command.try_get_matches_from(words) {
+        Ok(matches) => Ok(matches),
+        Err(error) => Err(fault_of(&error)),
+    }
+}
+
+/// Want of memory is told apart from words that `clap` doesn't take.
+fn fault_of(error: &Error) -> TaskFault
+    ensures { result ≡ TaskFault.Words → kind_of error.now ≢ OutOfMemory }
+{
+    if error.kind() == ErrorKind::OutOfMemory {
+        TaskFault::Memory
+    } else {
+        TaskFault::Words
+    }
+}
+
+/// Reads the words behind the program's name. They are `Words` only where `clap` refuses them; else the task is the
+/// subcommand that `clap` finds, with the values of its options.
+pub fn task<'a>(alloc: Global, words: &'a [&'a str]) -> Result<Task, TaskFault>
+    ensures ok { IfOk result (λ task. AreTaken (map (λ word. word.now) words.entry.now) × IsTask task (subcommand_of bsc (map (λ word. word.now) words.entry.now))) }
+    ensures words { result ≡ Err TaskFault.Words → AreRefused (map (λ word. word.now) words.entry.now) }
+{
+    let matches = matches_of(alloc, words)?;
+    match matches.subcommand() {
+        Some(("run", options)) => {
+            let settings = options.get_str("config").unwrap_or("");
+            Ok(Task::Run(String::from_str(alloc, settings)?))
+        }
+        Some(("replay", options)) => {
+            let settings = owned(alloc, options.get_str("config"))?;
+            let breaks = owned(alloc, options.get_str("break"))?;
+            Ok(Task::Replay(settings, breaks))
+        }
+        Some(("decode", _)) => Ok(Task::Decode),
+        _ => Err(TaskFault::Memory),
+    }
+}
+
+/// A copy of a text, if there is one.
+fn owned(alloc: Global, text: Option<&str>) -> Result<Option<String>, TaskFault>
+    ensures ok { IfOk result (λ copy. option_map (λ copy. string_bytes copy) copy ≡ option_map (λ text. text.now) text.entry) }
+    ensures err { IfErr result (λ fault. fault ≡ TaskFault.Memory) }
+{
+    match text {
+        Some(text) => Ok(Some(String::from_str(alloc, text)?)),
+        None => Ok(None),
+    }
+}
