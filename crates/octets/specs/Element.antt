@@ -33,6 +33,12 @@ HasSize (Tv n) size = size ≡ n
 HasSize Tlv size = size < 256
 HasSize TlvE size = size < 65536
 
+-- the length of a value of this size has octets in the format
+abbrev pub HasLength : Format → ℕ → Type 0
+HasLength (Tv n) size = Unit {0}
+HasLength Tlv size = size < 256
+HasLength TlvE size = size < 65536
+
 -- the octets of an element
 abbrev pub element_text : Format → Element → List ℕ
 element_text format e = e.id ∷ (length_octets format (length e.value) ++ e.value)

@@ -1,5 +1,5 @@
 ghost use Rattle.std.specs.Prelude.{◌≡◌, ◌++◌, ℕ, Bool, true, false, List, length, option_map, OnErr, OnOk};
-ghost use Rattle.octets.specs.Element.{AreElements, AreOctets, Element, HasSize, Stops, element, element_text, format_in};
+ghost use Rattle.octets.specs.Element.{AreElements, AreOctets, Element, HasLength, Stops, element, element_text, format_in};
 ghost use Rattle.octets.specs.Field.{AllFit, Carries, Field, IsSized, are_distinct, fields_text};
 ghost use Rattle.octets.specs.Walk.{width_of, size_by, split_at, front_of, seen, walk, walked, first_of};
 
@@ -60,8 +60,8 @@ impl Format {
     }
 }
 
-/// The format in which the table has this identifier.
-fn format_of(table: &[Entry], id: u8) -> Option<Format>
+/// The format in which the table has this identifier; none where it doesn't know it.
+pub fn format_of(table: &[Entry], id: u8) -> Option<Format>
     ensures { result ≡ format_in table.now id }
 {
     table
@@ -132,9 +132,10 @@ pub fn first_value<'a>(table: &[Entry], octets: &'a [u8], id: u8) -> Option<&'a 
     }
 }
 
-/// Appends an element of this format; an `Err` changes nothing.
+/// Appends an element of this format; an `Err` changes nothing. In the format TV the value stands as it is, whatever
+/// its size.
 pub fn append(text: &mut Vec<u8>, format: Format, id: u8, value: &[u8]) -> Result<(), Memory>
-    requires { HasSize format (length value.now) }
+    requires { HasLength format (length value.now) }
     ensures ok { OnOk result (text.new.items ≡ text.old.items ++ element_text format (element id value.now)) }
     ensures err { OnErr result (text.new.items ≡ text.old.items) }
 {
