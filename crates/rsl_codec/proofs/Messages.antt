@@ -125,7 +125,7 @@ unfolding reading
 text_is_read octets v t =
     let only = elements_only t.body t.es t.are in
     let again : message_of (row_of v).kind (elements_of t.body) ≡ Ok v =
-      ap (message_of (row_of v).kind) only.0 ∙ message_again v t.es (record { carries = t.carries; on_channel = t.lawful.0; has_l3 = t.lawful.1 }) in
+    ap (message_of (row_of v).kind) only.0 ∙ message_again v t.es (record { carries = t.carries; on_channel = t.lawful.0; has_l3 = t.lawful.1 }) in
     ap reading t.is ∙ ap (λ (k : Option Kind). reading_by k t.body) t.names
     ∙ ap (λ (b : Bool). cond b (Err faults.Short) (message_of (row_of v).kind (elements_of t.body))) only.1 ∙ again
 
@@ -261,7 +261,7 @@ written_is_text v more lawful fault stops = record {
   is = refl;
   names = named v;
   are = subst (λ (xs : List ℕ). AreElements ELEMENTS (xs ++ more) (elements_made (fields v)) false) (sym (text_of_fields (fields v)))
-    (fields_are ELEMENTS (fields v) more (all_fit v lawful.1 (value_short v fault)) stops);
+      (fields_are ELEMENTS (fields v) more (all_fit v lawful.1 (value_short v fault)) stops);
   carries = fields_carried (fields v) (distinct v);
   lawful = lawful;
 }

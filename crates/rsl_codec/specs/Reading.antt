@@ -156,8 +156,12 @@ activation_at es = do
   activation ← needed_at 0x03 es
   mode ← needed_at 0x06 es
   channel ← channel_at number
-  Ok (record { channel = channel; activation = record { 0 = octet_of activation }; mode = record { 0 = mode };
-    reference = option_map (λ v. record { 0 = octet_of v }) (first_of 0x09 es) })
+  Ok (record {
+    channel = channel;
+    activation = record { 0 = octet_of activation };
+    mode = record { 0 = mode };
+    reference = option_map (λ v. record { 0 = octet_of v }) (first_of 0x09 es);
+  })
 
 unfoldable pub ack_at : List Element → Result ActivationAck RslFault
 ack_at es = do
@@ -183,10 +187,14 @@ result_at es = do
   result_number ← needed_at 0x1b es
   channel ← channel_at number
   l3 ← optional_l3_at (first_of 0x0b es)
-  Ok (record { channel = channel; number = record { 0 = octet_of result_number };
+  Ok (record {
+    channel = channel;
+    number = record { 0 = octet_of result_number };
     uplink = option_map (λ v. record { 0 = v }) (first_of 0x19 es);
     bs_power = option_map (λ v. record { 0 = octet_of v }) (first_of 0x04 es);
-    l1 = option_map (λ v. record { 0 = number_of v }) (first_of 0x0a es); l3 = l3 })
+    l1 = option_map (λ v. record { 0 = number_of v }) (first_of 0x0a es);
+    l3 = l3;
+  })
 
 -- ---- any message
 

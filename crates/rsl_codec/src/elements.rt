@@ -5,7 +5,7 @@ ghost use Rattle.rsl_codec.specs.Reading.{Gives, breaks_off, channel_at, element
 
 use crate::table::ELEMENTS;
 use crate::{ChanNo, RequestReference, RslFault};
-use octets::{element, Memory, Octets};
+use octets::{Memory, Octets, element};
 use std::alloc::Global;
 
 /// The most octets that L3 information has.
@@ -160,9 +160,17 @@ pub(crate) fn put_octets(text: &mut Vec<u8>, id: u8, octets: Option<&Octets>) ->
 }
 
 /// Appends a request reference: the access information, then the frame, its high octet first.
-pub(crate) fn put_reference(text: &mut Vec<u8>, id: u8, reference: RequestReference) -> Result<(), Memory>
+pub(crate) fn put_reference(
+    text: &mut Vec<u8>,
+    id: u8,
+    reference: RequestReference,
+) -> Result<(), Memory>
     ensures { OnOk result (text.new.items ≡ text.old.items ++ element_of id (reference_value reference)) }
 {
     let frame = reference.frame;
-    put(text, id, &[reference.access, (frame / 256) as u8, (frame % 256) as u8])
+    put(
+        text,
+        id,
+        &[reference.access, (frame / 256) as u8, (frame % 256) as u8],
+    )
 }

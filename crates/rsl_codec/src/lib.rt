@@ -8,7 +8,7 @@ pub use dedicated::{Activation, ActivationAck, Detection, Failure, MeasurementRe
 pub use fault::RslFault;
 pub use link::LinkId;
 pub use radio_link::{Data, ErrorReport, Establishment, Link, Release};
-pub use rsl::{written_is_read, Rsl};
+pub use rsl::{Rsl, written_is_read};
 pub use values::{
     AccessDelay, ActivationType, BsPower, Cause, ChannelMode, FrameNumber, HandoverReference,
     L1Information, MeasurementNumber, ReleaseMode, RequestReference, RlmCause, UplinkMeasurements,
@@ -23,7 +23,6 @@ mod link;
 mod radio_link;
 mod rsl;
 mod table;
+#[cfg(test)]
+mod tests;
 mod values;
-
-
-

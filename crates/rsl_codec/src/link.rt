@@ -38,6 +38,6 @@ impl LinkId {
     pub fn sapi(self) -> u8
         ensures { result ≡ self % 8 }
     {
-        self.octet & 0x07
+        0x07 & self.octet
     }
 }

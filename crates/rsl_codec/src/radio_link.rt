@@ -3,7 +3,9 @@ ghost use Rattle.std.specs.Option.{ForSome};
 ghost use Rattle.rsl_codec.specs.Fields.{written_fields, data_fields, link_fields, error_fields, establishment_fields, release_fields};
 ghost use Rattle.rsl_codec.specs.Reading.{Gives, elements_of, data_at, link_at, error_at, establishment_at, release_at};
 
-use crate::elements::{channel, l3, needed, octet, optional_l3, optional_octets, put, put_octets, value};
+use crate::elements::{
+    channel, l3, needed, octet, optional_l3, optional_octets, put, put_octets, value,
+};
 use crate::{ChanNo, LinkId, ReleaseMode, RlmCause, RslFault};
 use octets::{Memory, Octets};
 use std::alloc::Global;

@@ -7,7 +7,7 @@ ghost use Rattle.rsl_codec.specs.Fields.{channel_fields, written_fields};
 ghost use Rattle.rsl_codec.specs.Reading.{Gives, channel_only_at, elements_of, first_fault, message_of, reading};
 ghost use Rattle.rsl_codec.specs.Text.{IsLawful, IsText, fields, l3_of, row_of, value_of, write_fault, written};
 
-use crate::elements::{channel, is_cut, needed, put, MAX_L3};
+use crate::elements::{MAX_L3, channel, is_cut, needed, put};
 use crate::table::{self, Kind, Row};
 use crate::{
     Activation, ActivationAck, ChanNo, ChannelRequired, Data, Detection, ErrorReport,
@@ -179,7 +179,9 @@ impl Rsl {
         if self.l3().is_some_and(|l3| l3.len() == 0) {
             return Some(RslFault::Short);
         }
-        if self.l3().is_some_and(|l3| l3.len() > MAX_L3) || self.value().is_some_and(|value| value.len() > 255) {
+        if self.l3().is_some_and(|l3| l3.len() > MAX_L3)
+            || self.value().is_some_and(|value| value.len() > 255)
+        {
             return Some(RslFault::TooLong);
         }
         None
@@ -238,5 +240,4 @@ pub fn written_is_read()
     ensures text { (v : RslValue) (more : List ℕ) → IsLawful v → write_fault v ≡ None → Stops ELEMENTS more →
         IsText (written v ++ more) v }
     ensures read { (v : RslValue) (octets : List ℕ) → IsText octets v → reading octets ≡ Ok v }
-{
-}
+{}

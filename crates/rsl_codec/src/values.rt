@@ -6,7 +6,9 @@ pub struct ActivationType(pub u8);
 
 impl ActivationType {
     pub const IMMEDIATE_ASSIGNMENT: ActivationType = ActivationType(0x00);
+
     pub const NORMAL_ASSIGNMENT: ActivationType = ActivationType(0x01);
+
     pub const ASYNCHRONOUS_HANDOVER: ActivationType = ActivationType(0x02);
 }
 
