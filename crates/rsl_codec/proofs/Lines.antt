@@ -1,12 +1,12 @@
 -- The lines of the table: what is read has the fields of the line, and elements that have them are read.
-use Rattle.std.proofs.Common.{◌≡◌, ℕ, true, List, [], ◌∷◌, Option, Some, None, Result, Ok, option_map, refl, ap, subst, ◌∙◌}
+use Rattle.std.proofs.Common.{◌≡◌, ℕ, true, List, Option, Some, None, Ok, refl, ap, subst, ◌∙◌}
 use Rattle.octets.specs.Element.{Element}
 use Rattle.octets.specs.Field.{Field, Carries}
 use Rattle.rsl_codec.specs.Channel.{is_channel}
 use Rattle.rsl_codec.specs.Fields.{octet_value, number_value, reference_value, channel_fields, link_fields, data_fields, error_fields, establishment_fields, release_fields, required_fields, assignment_fields, activation_fields, ack_fields, failure_fields, detection_fields, result_fields}
 use Rattle.rsl_codec.specs.Reading.{channel_at, first_of, l3_at, needed_at, number_of, octet_of, optional_l3_at, reference_of, channel_only_at, link_at, data_at, error_at, establishment_at, release_at, required_at, assignment_at, activation_at, ack_at, failure_at, detection_at, result_at}
 use Rattle.rsl_codec.specs.Text.{IsL3}
-use Rattle.rsl_codec.proofs.Steps.{AreSized, bind_ok, channel_again, channel_is, field_is, l3_again, l3_ok, needed_ok, number_again, number_is, octet_is, ok_is, optional_again, optional_is, optional_l3_again, optional_l3_ok, reference_is}
+use Rattle.rsl_codec.proofs.Steps.{AreSized, bind_ok, channel_is, field_is, l3_again, l3_ok, needed_ok, number_again, number_is, octet_is, ok_is, optional_again, optional_is, optional_l3_again, optional_l3_ok, reference_is}
 use Rattle.rsl_codec.specs.declared.radio_link.Link.{Link}
 use Rattle.rsl_codec.specs.declared.radio_link.Data.{Data}
 use Rattle.rsl_codec.specs.declared.radio_link.ErrorReport.{ErrorReport}

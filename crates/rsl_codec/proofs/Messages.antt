@@ -1,10 +1,10 @@
 -- What is read is a message that the octets are a text of, such a text is read, and what is written is such a text.
-use Rattle.std.proofs.Common.{◌≡◌, ℕ, suc, ◌<◌, ◌≤◌, Bool, true, false, cond, ◌||◌, ltb, eqb, List, [], ◌∷◌, ◌++◌, length, Option, Some, None, Result, Ok, Err, option_map, refl, sym, ap, subst, ◌∙◌, arith, ◌⊎◌, inl, inr}
+use Rattle.std.proofs.Common.{◌≡◌, ℕ, suc, ◌≤◌, Bool, true, false, cond, ◌||◌, List, [], ◌∷◌, ◌++◌, length, Option, Some, None, Result, Ok, Err, option_map, refl, sym, ap, subst, ◌∙◌, arith, ◌⊎◌, inl, inr}
 use Rattle.std.specs.Prelude.{IfOk}
-use Rattle.std.proofs.lemmas.Bool.{ltb-false, or_parts, eqb-false}
+use Rattle.std.proofs.lemmas.Bool.{ltb-false}
 use Rattle.octets.specs.declared.element.Format.TheVariants.{Tv, Tlv, TlvE}
 use Rattle.octets.specs.Element.{Element, AreElements, AreOctets, Stops, format_in}
-use Rattle.octets.specs.Field.{AllFit, Carries, Field, Fits, FitsIfPresent, are_distinct, field_text, fields_text}
+use Rattle.octets.specs.Field.{AllFit, Field, FitsIfPresent, are_distinct, field_text, fields_text}
 use Rattle.octets.specs.Walk.{Walked, walk}
 use Rattle.octets.proofs.Fields.{elements_of as elements_made, fields_are, fields_carried, found_sized}
 use Rattle.octets.proofs.Grammar.{walk_found, walk_only}
@@ -16,12 +16,11 @@ use Rattle.rsl_codec.specs.declared.table.TheConstants.{ELEMENTS}
 use Rattle.rsl_codec.specs.declared.elements.TheConstants.{MAX_L3}
 use Rattle.rsl_codec.specs.declared.rsl.Rsl.{Rsl}
 use Rattle.rsl_codec.specs.declared.rsl.Rsl.TheVariants as messages
-use Rattle.rsl_codec.specs.Channel.{is_channel}
-use Rattle.rsl_codec.specs.Fields.{element_of, optional_of, octet_value, number_value, reference_value, written_fields, channel_fields, link_fields, data_fields, error_fields, establishment_fields, release_fields, required_fields, assignment_fields, activation_fields, ack_fields, failure_fields, detection_fields, result_fields}
+use Rattle.rsl_codec.specs.Fields.{element_of, optional_of, octet_value, number_value, written_fields}
 use Rattle.rsl_codec.specs.Message.{kind_in}
-use Rattle.rsl_codec.specs.Reading.{Gives, breaks_off, elements_of, fault_of, message_of, reading, reading_by, seen, link_at, data_at, error_at, establishment_at, release_at, required_at, assignment_at, activation_at, ack_at, failure_at, detection_at, result_at, channel_only_at}
+use Rattle.rsl_codec.specs.Reading.{Gives, breaks_off, elements_of, message_of, reading, reading_by, seen, link_at, data_at, error_at, establishment_at, release_at, required_at, assignment_at, activation_at, ack_at, failure_at, detection_at, result_at, channel_only_at}
 use Rattle.rsl_codec.specs.Text.{IsL3, IsLawful, IsText, channel_of, fields, is_empty, is_over, l3_of, row_of, value_of, write_fault, written}
-use Rattle.rsl_codec.proofs.Steps.{AreSized, ok_is, seen_ok}
+use Rattle.rsl_codec.proofs.Steps.{AreSized, seen_ok}
 use Rattle.rsl_codec.proofs.Lines.{Reads, channel_only_ok, channel_only_again, link_ok, link_again, data_ok, data_again, error_ok, error_again, establishment_ok, establishment_again, release_ok, release_again, required_ok, required_again, assignment_ok, assignment_again, activation_ok, activation_again, ack_ok, ack_again, failure_ok, failure_again, detection_ok, detection_again, result_ok, result_again}
 
 -- ---- a message of each kind

@@ -7,10 +7,9 @@ use Rattle.octets.specs.Element.{Element, AreOctets, HasSize, format_in}
 use Rattle.octets.specs.Field.{IsSized}
 use Rattle.rsl_codec.specs.declared.fault.RslFault.{RslFault}
 use Rattle.rsl_codec.specs.declared.fault.RslFault.TheVariants as faults
-use Rattle.rsl_codec.specs.declared.values.RequestReference.{RequestReference}
 use Rattle.rsl_codec.specs.declared.table.TheConstants.{ELEMENTS}
 use Rattle.rsl_codec.specs.declared.elements.TheConstants.{MAX_L3}
-use Rattle.rsl_codec.specs.Channel.{channel_by, is_channel}
+use Rattle.rsl_codec.specs.Channel.{is_channel}
 use Rattle.rsl_codec.specs.Fields.{number_value, octet_value, reference_value}
 use Rattle.rsl_codec.specs.Reading.{◌>>=◌, channel_at, first_of, found_or, l3_at, needed_at, number_of, octet_of, optional_l3_at, reference_of, seen}
 use Rattle.rsl_codec.specs.Text.{IsL3}

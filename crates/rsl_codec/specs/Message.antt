@@ -2,7 +2,6 @@
 use Rattle.std.specs.Prelude.{ℕ, ◌/◌, ◌==◌, ◌&&◌, Option, option_map}
 use Rattle.std.specs.List.{find}
 use Rattle.rsl_codec.specs.declared.table.Kind.{Kind}
-use Rattle.rsl_codec.specs.declared.table.Row.{Row}
 use Rattle.rsl_codec.specs.declared.table.TheConstants.{MESSAGES}
 
 -- the message with this discriminator, whatever its bit 1, and this type

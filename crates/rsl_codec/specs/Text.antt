@@ -1,5 +1,5 @@
 -- When octets are a text of a message, and the text that is written of it.
-use Rattle.std.specs.Prelude.{◌≡◌, ℕ, ◌<◌, ◌≤◌, Bool, true, false, ◌||◌, ◌==◌, nat_lt, List, [], ◌∷◌, ◌++◌, length, Option, Some, None, option_map, if◌then◌else◌}
+use Rattle.std.specs.Prelude.{◌≡◌, ℕ, ◌<◌, ◌≤◌, Bool, true, false, ◌||◌, ◌==◌, nat_lt, List, ◌∷◌, length, Option, Some, None, option_map, if◌then◌else◌}
 use Rattle.octets.specs.Element.{Element, AreElements}
 use Rattle.octets.specs.Field.{Field, Carries}
 use Rattle.rsl_codec.specs.declared.fault.RslFault.{RslFault}
