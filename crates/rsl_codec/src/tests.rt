@@ -1,0 +1,118 @@
+use crate::{ChanNo, LinkId, Rsl, RslFault};
+use std::alloc::Global;
+use std::test::Fail;
+
+/// The written text of the message that the octets are a text of.
+fn again(alloc: Global, octets: &[u8]) -> Result<Vec<u8>, RslFault> {
+    let message = Rsl::read(alloc, octets)?;
+    let mut text = Vec::new(alloc);
+    message.write(alloc, &mut text)?;
+    Ok(text)
+}
+
+/// Why the octets aren't read.
+fn fault(alloc: Global, octets: &[u8]) -> Option<RslFault> {
+    Rsl::read(alloc, octets).err()
+}
+
+#[test]
+fn messages_are_read_and_written_back(rt: HostRuntime) -> Result<(), Fail> {
+    let h = [
+        0x14, 0x14, 0x00, 0x57, 0x02, 0x40, 0, 0, 0, 0, 0, 0, 0, 0, 0, 0,
+    ];
+    let mut assignment = [0x2b; 29];
+    let head = [
+        0x0c, 0x16, 0x01, 0x90, 0x2b, 0x17, 0x2d, 0x06, 0x3f, 0x00, 0x41, 0x20, 0x14, 0x7f, 0x01,
+        0x02, 0x05, 0x00,
+    ];
+    assignment[..18].copy_from_slice(&head);
+    let mut report = [0; 34];
+    let front = [
+        0x08, 0x28, 0x01, 0x41, 0x1b, 0x05, 0x19, 0x03, 0x14, 0x14, 0x00, 0x04, 0x00, 0x0b, 0x00,
+        0x12, 0x06, 0x15,
+    ];
+    report[..18].copy_from_slice(&front);
+    report[18..].copy_from_slice(&h);
+    let texts = [
+        [0x0c, 0x13, 0x01, 0x88, 0x13, 0x7f, 0x01, 0x02, 0x11, 0x05].as_slice(),
+        [
+            0x08, 0x21, 0x01, 0x41, 0x03, 0x00, 0x06, 0x04, 0x00, 0x03, 0x01, 0x00,
+        ]
+        .as_slice(),
+        [0x08, 0x22, 0x01, 0x41, 0x08, 0x00, 0x00].as_slice(),
+        assignment.as_slice(),
+        [
+            0x02, 0x06, 0x01, 0x41, 0x02, 0x00, 0x0b, 0x00, 0x03, 0x05, 0x24, 0x71,
+        ]
+        .as_slice(),
+        [
+            0x03, 0x01, 0x01, 0x41, 0x02, 0x00, 0x0b, 0x00, 0x06, 0x06, 0x2e, 0x0a, 0x20, 0x14,
+            0x00,
+        ]
+        .as_slice(),
+        [
+            0x08, 0x21, 0x01, 0x41, 0x03, 0x02, 0x06, 0x04, 0x00, 0x03, 0x01, 0x00, 0x09, 0x00,
+        ]
+        .as_slice(),
+        [
+            0x03, 0x01, 0x01, 0x41, 0x02, 0x00, 0x0b, 0x00, 0x09, 0x06, 0x2b, 0x12, 0x1e, 0x41,
+            0x40, 0x1e, 0x00, 0x00,
+        ]
+        .as_slice(),
+        [
+            0x03, 0x02, 0x01, 0x41, 0x02, 0x00, 0x0b, 0x00, 0x03, 0x06, 0x2c, 0x00,
+        ]
+        .as_slice(),
+        report.as_slice(),
+    ];
+    for text in texts {
+        let written = again(rt.alloc(), text)?;
+        assert!(rt; written.as_slice() == text, "{text:?}");
+    }
+    Ok(())
+}
+
+#[test]
+fn what_is_no_message_is_refused_by_its_first_fault(rt: HostRuntime) -> Result<(), Fail> {
+    let mut long = [0x33; 261];
+    let head = [0x03, 0x02, 0x01, 0x41, 0x02, 0x00, 0x0b, 0x00, 0xfc];
+    long[..9].copy_from_slice(&head);
+    let refused = [
+        ([0x02, 0x04, 0x01, 0x41, 0x02].as_slice(), RslFault::Short),
+        (
+            [0x02, 0x04, 0x01, 0x41].as_slice(),
+            RslFault::MissingElement(0x02),
+        ),
+        (
+            [0x02, 0x04, 0x02, 0x00].as_slice(),
+            RslFault::MissingElement(0x01),
+        ),
+        (
+            [0x02, 0x04, 0x01, 0xff, 0x02, 0x00].as_slice(),
+            RslFault::BadChannel,
+        ),
+        ([0x0c, 0x99].as_slice(), RslFault::UnknownType),
+        (
+            [0x03, 0x02, 0x01, 0x41, 0x02, 0x00, 0x0b, 0x00, 0x00].as_slice(),
+            RslFault::Short,
+        ),
+        (long.as_slice(), RslFault::TooLong),
+        (
+            [0x03, 0x02, 0x01, 0x41, 0x02, 0x00, 0x0b, 0x00, 0x02, 0x03].as_slice(),
+            RslFault::Short,
+        ),
+    ];
+    for (octets, first) in refused {
+        assert!(rt; fault(rt.alloc(), octets) == Some(first), "{octets:?}");
+    }
+    Ok(())
+}
+
+#[test]
+fn a_link_identifier_keeps_its_octet_and_shows_its_sapi(rt: HostRuntime) -> Result<(), Fail> {
+    assert_eq!(rt; LinkId::read(0x43).octet(), 0x43);
+    assert_eq!(rt; LinkId::read(0x43).sapi(), 3);
+    assert_eq!(rt; ChanNo::read(0x0a)?.octet(), 0x0a);
+    assert!(rt; ChanNo::read(0x80) == Err(RslFault::BadChannel));
+    Ok(())
+}
