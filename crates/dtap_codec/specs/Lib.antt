@@ -1,2 +1,4 @@
+pub mod Bits
 pub mod Message
 pub mod Number
+pub mod Report
