@@ -1,5 +1,6 @@
 ghost use Rattle.std.specs.Prelude.{◌≡◌, ◌+◌, ◌*◌, ◌^◌, ◌<◌, ◌≤◌, length, IfOk, IfErr, Ok};
 ghost use Rattle.dtap_codec.specs.declared.report.Report.{Report as ReportValue};
+ghost use Rattle.std.specs.Int.{from_be_bytes, w128};
 ghost use Rattle.dtap_codec.specs.Bits.{Begin};
 ghost use Rattle.dtap_codec.specs.Report.{IsReport, Writes, entry_fields, entries_fields, neighbours_of};
 
@@ -68,7 +69,7 @@ impl Report {
         ensures refused { IfErr result (λ fault. (fault ≡ RrFault.Short) × (length octets.now < 16)) }
     {
         let value = octets.first_chunk::<16>().ok_or(RrFault::Short)?;
-        Ok(take_report(Bits::of_octets(*value)))
+        Ok(report_of(*value))
     }
 
     /// The neighbours that the report names: its first NO-NCELL entries, and none where that is 7.
@@ -80,6 +81,13 @@ impl Report {
             _ => &[],
         }
     }
+}
+
+// The report that 16 octets write.
+fn report_of(value: [u8; 16]) -> Report
+    ensures { Writes (from_be_bytes w128 value) result }
+{
+    take_report(Bits::of_octets(value))
 }
 
 // Reads the 128 bits of a report, in the order of the standard.

@@ -8,5 +8,5 @@ use Rattle.dtap_codec.proofs.report.Report.read.Goals as goal
 pub returns-clause-only : goal.returns-clause-only
 returns-clause-only c =
     λ report is.
-    let found : IsReport c.args.octets.now c.take_report.result = search rules in
-    ap Ok (same_report (from_be_bytes w128 (take 16 c.args.octets.now)) c.take_report.result report found.value is.value)
+    let found : IsReport c.args.octets.now c.report_of.result = search rules in
+    ap Ok (same_report (from_be_bytes w128 (take 16 c.args.octets.now)) c.report_of.result report found.value is.value)
