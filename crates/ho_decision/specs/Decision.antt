@@ -2,8 +2,8 @@
 use Rattle.std.specs.Prelude.{◌≡◌, ◌≢◌, ℕ, ◌+◌, ◌-◌, ◌%◌, ◌<◌, ◌≤◌, ◌==◌, nat_le, Bool, true, false, ◌||◌, List, [], length, count_by, slice_index_or}
 use Rattle.dtap_codec.specs.declared.report.Report.{Report}
 use Rattle.ho_decision.specs.declared.settings.Cell.{Cell}
-use Rattle.ho_decision.specs.declared.averages.Decision.{Decision}
-use Rattle.ho_decision.specs.declared.averages.Decision.TheVariants.{Stay, Move}
+use Rattle.ho_decision.specs.declared.decision.Decision.{Decision}
+use Rattle.ho_decision.specs.declared.decision.Decision.TheVariants.{Stay, Move}
 use Rattle.ho_decision.specs.Settings.{Settings}
 use Rattle.ho_decision.specs.Average.{last, serving_average, neighbour_average}
 

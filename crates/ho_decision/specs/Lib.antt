@@ -2,3 +2,4 @@ pub mod Average
 pub mod Decision
 pub mod Measure
 pub mod Settings
+pub mod State

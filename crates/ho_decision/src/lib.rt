@@ -1,9 +1,11 @@
 //! When a connection is handed over, and to which cell: averages of measurement reports, and the decision over them.
 #![tactic(auto)]
 
-pub use averages::{Averages, Decision};
+pub use averages::Averages;
+pub use decision::Decision;
 pub use settings::{Cell, HoParameters, HoSettings};
 
 mod averages;
+mod decision;
 mod measure;
 mod settings;
