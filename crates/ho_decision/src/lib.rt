@@ -3,9 +3,11 @@
 
 pub use averages::Averages;
 pub use decision::Decision;
+pub use law::ten_reports_are_enough;
 pub use settings::{Cell, HoParameters, HoSettings};
 
 mod averages;
 mod decision;
+mod law;
 mod measure;
 mod settings;
