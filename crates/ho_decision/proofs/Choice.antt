@@ -24,8 +24,8 @@ none_yet s reports = (λ place other. absurd (omega (arith, other.there)), refl)
 before_or_last : (s : Settings) (many place : ℕ) → IsOther s (many + 1) place → IsOther s many place ⊎ (place ≡ many)
 before_or_last s many place h =
     elim (cases_lt place many) [
-      inl below ↦ inl (record { there = below; other = h.other })
-    | inr above ↦ inr (omega (arith, h.there))
+      | inl below ↦ inl (record { there = below; other = h.other })
+      | inr above ↦ inr (omega (arith, h.there))
     ]
 
 more : (s : Settings) (many place : ℕ) → IsOther s many place → IsOther s (many + 1) place
@@ -35,15 +35,15 @@ more s many place h = record { there = omega (arith, h.there); other = h.other }
 pub Wants-keeps : (s : Settings) (reports : List Report) (many : ℕ) (d : Decision) (wanted : ℕ) → (many + 1 ≢ s.serving → average_at s reports many < wanted) → Wants s reports many d wanted → Wants s reports (many + 1) d wanted
 Wants-keeps s reports many Stay wanted low h = (
   λ place other.
-  elim (before_or_last s many place other) [
-    inl before ↦ h.0 place before
-  | inr last ↦
-      let P : ℕ → Type 0 = λ n. average_at s reports n < bound s reports in
-      let Q : ℕ → Type 0 = λ n. n + 1 ≢ s.serving in
-      let here : average_at s reports many < bound s reports = omega (arith, low (subst Q last other.other), h.1) in
-      subst P (sym last) here
-  ],
-  h.1
+      elim (before_or_last s many place other) [
+        | inl before ↦ h.0 place before
+        | inr last ↦
+            let P : ℕ → Type 0 = λ n. average_at s reports n < bound s reports in
+            let Q : ℕ → Type 0 = λ n. n + 1 ≢ s.serving in
+            let here : average_at s reports many < bound s reports = omega (arith, low (subst Q last other.other), h.1) in
+            subst P (sym last) here
+      ],
+  h.1,
 )
 Wants-keeps s reports many (Move number) wanted low h = (
   h.0,
@@ -52,18 +52,18 @@ Wants-keeps s reports many (Move number) wanted low h = (
     cell = more s many h.0 h.2.cell;
     reaches = h.2.reaches;
     greatest = λ j other.
-      elim (before_or_last s many j other) [
-        inl before ↦ h.2.greatest j before
-      | inr last ↦
-          let P : ℕ → Type 0 = λ n. average_at s reports n ≤ average_at s reports h.0 in
-          let Q : ℕ → Type 0 = λ n. n + 1 ≢ s.serving in
-          let here : average_at s reports many ≤ average_at s reports h.0 = omega (arith, low (subst Q last other.other), h.3) in
-          subst P (sym last) here
-      ];
+        elim (before_or_last s many j other) [
+          | inl before ↦ h.2.greatest j before
+          | inr last ↦
+              let P : ℕ → Type 0 = λ n. average_at s reports n ≤ average_at s reports h.0 in
+              let Q : ℕ → Type 0 = λ n. n + 1 ≢ s.serving in
+              let here : average_at s reports many ≤ average_at s reports h.0 = omega (arith, low (subst Q last other.other), h.3) in
+              subst P (sym last) here
+        ];
     first = λ j other before.
-      h.2.first j (record { there = omega (arith, before, h.2.cell.there); other = other.other }) before;
+        h.2.first j (record { there = omega (arith, before, h.2.cell.there); other = other.other }) before;
   },
-  h.3
+  h.3,
 )
 
 -- every other cell before is below what is wanted
@@ -84,15 +84,15 @@ Wants-takes s reports many d wanted number next other high is next_is h = (
     cell = record { there = omega arith; other = other };
     reaches = omega (arith, bound_wanted s reports many d wanted h);
     greatest = λ j o.
-      elim (before_or_last s many j o) [
-        inl before ↦ omega (arith, below_wanted s reports many d wanted h j before)
-      | inr last ↦
-          let P : ℕ → Type 0 = λ n. average_at s reports n ≤ average_at s reports many in
-          let here : average_at s reports many ≤ average_at s reports many = omega arith in
-          subst P (sym last) here
-      ];
+        elim (before_or_last s many j o) [
+          | inl before ↦ omega (arith, below_wanted s reports many d wanted h j before)
+          | inr last ↦
+              let P : ℕ → Type 0 = λ n. average_at s reports n ≤ average_at s reports many in
+              let here : average_at s reports many ≤ average_at s reports many = omega arith in
+              subst P (sym last) here
+        ];
     first = λ j o before.
-      omega (arith, below_wanted s reports many d wanted h j (record { there = before; other = o.other }));
+        omega (arith, below_wanted s reports many d wanted h j (record { there = before; other = o.other }));
   },
-  next_is
+  next_is,
 )

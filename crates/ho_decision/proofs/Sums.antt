@@ -21,9 +21,10 @@ back_is_there xs back within e =
     let none = from_back xs back None within e in
     let there : length xs - back - 1 < length xs = omega arith in
     elim ((slice_get_cases xs (length xs - back - 1)).1) [
-      inl some ↦ absurd (some-none (slice_get xs (length xs - back - 1)) some.0 some.2 none)
-    | inr past ↦ absurd (omega (arith, past.0))
+      | inl some ↦ absurd (some-none (slice_get xs (length xs - back - 1)) some.0 some.2 none)
+      | inr past ↦ absurd (omega (arith, past.0))
     ]
+
 -- one element more, from the back
 pub sum_by-last_more : {X : Type 0} (f : X → ℕ) (xs : List X) (back : ℕ) (x : X) → back < length xs → Some x ≡ cond (ltb back (length xs)) (slice_get xs (length xs - back - 1)) None → sum_by f (last (back + 1) xs) ≡ sum_by f (last back xs) + f x
 sum_by-last_more f xs back x within e =

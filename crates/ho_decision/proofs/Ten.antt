@@ -81,7 +81,7 @@ Chooses-alike s number these those many (Move to) alike h = (
     reaches = omega (arith, h.2.reaches, alike.level h.0, alike.serving);
     greatest = λ j other. omega (arith, h.2.greatest j other, alike.level h.0, alike.level j);
     first = λ j other before. omega (arith, h.2.first j other before, alike.level h.0, alike.level j);
-  }
+  },
 )
 
 Decides-alike : (s : Settings) (number : ℕ) (these those : List Report) (d : Decision) → Alike s number these those → Decides s these number d → Decides s those number d
@@ -89,8 +89,8 @@ Decides-alike s number these those d alike h = record {
   none = λ e. h.none (alike.none e);
   not_due = λ e. h.not_due (alike.due ∙ e);
   due = λ some due.
-    Chooses-alike s number these those (length s.cells) d alike
-    (h.due (λ e. some (alike.some e)) (alike.due ∙ due));
+      Chooses-alike s number these those (length s.cells) d alike
+      (h.due (λ e. some (alike.some e)) (alike.due ∙ due));
 }
 
 pub Decides-of_last : (s : Settings) (reports : List Report) (number : ℕ) (d : Decision) → IsAllowed s → Decides s (last 10 reports) number d → Decides s reports number d

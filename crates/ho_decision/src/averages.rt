@@ -4,7 +4,7 @@ ghost use Rattle.ho_decision.specs.Average.{quality, last};
 ghost use Rattle.ho_decision.specs.Decision.{Decides};
 
 use crate::decision::decide;
-use crate::measure::{average, Measure};
+use crate::measure::{Measure, average};
 use crate::{Decision, HoSettings};
 use circular_buffer::HeapCircularBuffer;
 use dtap_codec::Report;

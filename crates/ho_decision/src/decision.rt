@@ -2,7 +2,7 @@ ghost use Rattle.std.specs.Prelude.{◌≡◌, ◌<◌, length};
 ghost use Rattle.ho_decision.specs.Average.{serving_average, neighbour_average};
 ghost use Rattle.ho_decision.specs.Decision.{Decides, Chooses, is_due};
 
-use crate::measure::{average, sum_of_last, Measure};
+use crate::measure::{Measure, average, sum_of_last};
 use crate::{Cell, HoSettings};
 use circular_buffer::HeapCircularBuffer;
 use dtap_codec::Report;
@@ -47,8 +47,8 @@ fn best(settings: &HoSettings, reports: &HeapCircularBuffer<Report>) -> Decision
     ensures { Chooses settings.now reports.now.items (length settings.now.cells) result }
 {
     let mut decision = Decision::Stay;
-    let mut wanted =
-        u16::from(serving_level(settings, reports)) + u16::from(settings.parameters.hysteresis);
+    let mut wanted = u16::from(serving_level(settings, reports))
+        + u16::from(settings.parameters.hysteresis);
     for (place, cell) in settings.cells.iter().enumerate() {
         let number = place as u8 + 1;
         if number != settings.serving {
@@ -67,15 +67,15 @@ fn serving_level(settings: &HoSettings, reports: &HeapCircularBuffer<Report>) ->
     requires { 0 < length reports.now.items }
     ensures { result ≡ serving_average settings.now reports.now.items }
 {
-    average(reports, settings.parameters.rxlev_window, Measure::ServingLevel)
+    average(
+        reports,
+        settings.parameters.rxlev_window,
+        Measure::ServingLevel,
+    )
 }
 
 // The average level of another cell.
-fn neighbour_level(
-    settings: &HoSettings,
-    reports: &HeapCircularBuffer<Report>,
-    cell: Cell,
-) -> u8
+fn neighbour_level(settings: &HoSettings, reports: &HeapCircularBuffer<Report>, cell: Cell) -> u8
     requires { 0 < length reports.now.items }
     ensures { result ≡ neighbour_average settings.now reports.now.items cell }
 {

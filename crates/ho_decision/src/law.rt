@@ -19,5 +19,4 @@ pub fn ten_reports_are_enough()
     // One report more of the last ten is one more of all.
     ensures one_more { (all : List Report) (report : Report)
         → last 10 (last 10 all ++ report ∷ []) ≡ last 10 (all ++ report ∷ []) }
-{
-}
+{}

@@ -11,3 +11,5 @@ mod decision;
 mod law;
 mod measure;
 mod settings;
+#[cfg(test)]
+mod tests;

@@ -75,11 +75,7 @@ pub(crate) fn sum_of_last(
 }
 
 /// The average of a measure over the last `window` reports, of which there is one at least.
-pub(crate) fn average(
-    reports: &HeapCircularBuffer<Report>,
-    window: u8,
-    measure: Measure,
-) -> u8
+pub(crate) fn average(reports: &HeapCircularBuffer<Report>, window: u8, measure: Measure) -> u8
     requires window { (1 ≤ window) × (window ≤ 10) }
     requires some { 0 < length reports.now.items }
     ensures { result ≡ average (measured measure.entry) window reports.now.items }

@@ -30,19 +30,19 @@ loop-place-preserved c =
     let serving : c.settings.inside.serving ≡ s.serving = ap (λ (t : Settings). t.serving) c.settings.view_is in
     let here = level_at s reports c.deref-cell-items.result.now place cells in
     elim c.if-number-settings.branch [
-      then-number-settings+then-level-wanted w ↦
-        let average : w.from-level.result ≡ average_at s reports place = w.from-level.ensures ∙ w.neighbour_level.ensures ∙ here in
-        let next : c.if-number-settings.wanted ≡ average_at s reports place + 1 = w.wanted-is ∙ ap (λ n. n + 1) average in
-        let other : place + 1 ≢ s.serving = λ e. w.if-number-settings.true (e ∙ sym serving) in
-        renamed s reports (place + 1) (Move (place + 1)) c.if-number-settings.decision c.if-number-settings.wanted c.if-number-settings.wanted w.decision-is refl
-        (Wants-takes s reports place c.loop-place.decision c.loop-place.wanted (place + 1) c.if-number-settings.wanted other (omega (arith, average, w.if-level-wanted.true)) refl next c.loop-place.invariant)
-    | then-number-settings+else-level-wanted w ↦
-        let average : w.from-level.result ≡ average_at s reports place = w.from-level.ensures ∙ w.neighbour_level.ensures ∙ here in
-        renamed s reports (place + 1) c.loop-place.decision c.if-number-settings.decision c.loop-place.wanted c.if-number-settings.wanted w.decision-is w.wanted-is
-        (Wants-keeps s reports place c.loop-place.decision c.loop-place.wanted (λ _. omega (arith, average, w.if-level-wanted.false)) c.loop-place.invariant)
-    | else-number-settings w ↦
-        renamed s reports (place + 1) c.loop-place.decision c.if-number-settings.decision c.loop-place.wanted c.if-number-settings.wanted w.decision-is w.wanted-is
-        (Wants-keeps s reports place c.loop-place.decision c.loop-place.wanted (λ other. absurd (other (w.if-number-settings.false ∙ serving))) c.loop-place.invariant)
+      | then-number-settings+then-level-wanted w ↦
+          let average : w.from-level.result ≡ average_at s reports place = w.from-level.ensures ∙ w.neighbour_level.ensures ∙ here in
+          let next : c.if-number-settings.wanted ≡ average_at s reports place + 1 = w.wanted-is ∙ ap (λ n. n + 1) average in
+          let other : place + 1 ≢ s.serving = λ e. w.if-number-settings.true (e ∙ sym serving) in
+          renamed s reports (place + 1) (Move (place + 1)) c.if-number-settings.decision c.if-number-settings.wanted c.if-number-settings.wanted w.decision-is refl
+          (Wants-takes s reports place c.loop-place.decision c.loop-place.wanted (place + 1) c.if-number-settings.wanted other (omega (arith, average, w.if-level-wanted.true)) refl next c.loop-place.invariant)
+      | then-number-settings+else-level-wanted w ↦
+          let average : w.from-level.result ≡ average_at s reports place = w.from-level.ensures ∙ w.neighbour_level.ensures ∙ here in
+          renamed s reports (place + 1) c.loop-place.decision c.if-number-settings.decision c.loop-place.wanted c.if-number-settings.wanted w.decision-is w.wanted-is
+          (Wants-keeps s reports place c.loop-place.decision c.loop-place.wanted (λ _. omega (arith, average, w.if-level-wanted.false)) c.loop-place.invariant)
+      | else-number-settings w ↦
+          renamed s reports (place + 1) c.loop-place.decision c.if-number-settings.decision c.loop-place.wanted c.if-number-settings.wanted w.decision-is w.wanted-is
+          (Wants-keeps s reports place c.loop-place.decision c.loop-place.wanted (λ other. absurd (other (w.if-number-settings.false ∙ serving))) c.loop-place.invariant)
     ]
 
 pub returns : goal.returns
