@@ -1,9 +1,11 @@
 -- The choice among the first cells, and one cell more.
-use Rattle.std.proofs.Common.{◌≡◌, ◌≢◌, ℕ, ◌+◌, ◌<◌, ◌≤◌, ◌⊎◌, List, refl, sym, subst, inl, inr, arith}
-use Rattle.std.proofs.lemmas.Bool.{cases_lt}
+use Rattle.std.proofs.Common.{◌≡◌, ◌≢◌, ℕ, ◌+◌, ◌<◌, ◌≤◌, ◌⊎◌, Bool, true, false, cond, nat_le, List, refl, sym, subst, inl, inr, arith}
+use Rattle.std.proofs.lemmas.Bool.{cases_lt, leb-true, leb-false}
 use Rattle.dtap_codec.specs.declared.report.Report.{Report}
 use Rattle.ho_decision.specs.declared.decision.Decision.{Decision}
 use Rattle.ho_decision.specs.declared.decision.Decision.TheVariants.{Stay, Move}
+use Rattle.ho_decision.specs.declared.decision.Choice.{Choice}
+use Rattle.ho_decision.specs.Choice.{offered}
 use Rattle.ho_decision.specs.Settings.{Settings}
 use Rattle.ho_decision.specs.Decision.{IsOther, IsChosen, NoneReaches, Chooses, average_at, bound}
 
@@ -96,3 +98,14 @@ Wants-takes s reports many d wanted number next other high is next_is h = (
   },
   next_is,
 )
+
+offered_by : (s : Settings) (reports : List Report) (many number level : ℕ) (choice : Choice) (b : Bool) → many + 1 ≢ s.serving → number ≡ many + 1 → level ≡ average_at s reports many → Wants s reports many choice.decision choice.wanted → nat_le choice.wanted level ≡ b → Wants s reports (many + 1) (cond b (record { decision = Move number; wanted = level + 1 }) choice).decision (cond b (record { decision = Move number; wanted = level + 1 }) choice).wanted
+offered_by s reports many number level choice true other is level_is h e =
+    Wants-takes s reports many choice.decision choice.wanted number (level + 1) other (omega (arith, leb-true choice.wanted level e, level_is)) is (omega (arith, level_is)) h
+offered_by s reports many number level choice false other is level_is h e =
+    Wants-keeps s reports many choice.decision choice.wanted (λ _. omega (arith, leb-false choice.wanted level e, level_is)) h
+
+-- a further cell, offered to the choice
+pub Wants-offered : (s : Settings) (reports : List Report) (many number level : ℕ) (choice : Choice) → many + 1 ≢ s.serving → number ≡ many + 1 → level ≡ average_at s reports many → Wants s reports many choice.decision choice.wanted → Wants s reports (many + 1) (offered choice number level).decision (offered choice number level).wanted
+Wants-offered s reports many number level choice other is level_is h =
+    offered_by s reports many number level choice (nat_le choice.wanted level) other is level_is h refl

@@ -1,4 +1,5 @@
 pub mod Average
+pub mod Choice
 pub mod Decision
 pub mod Measure
 pub mod Settings

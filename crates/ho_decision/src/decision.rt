@@ -1,6 +1,6 @@
 ghost use Rattle.std.specs.Prelude.{◌≡◌, ◌<◌, length};
 ghost use Rattle.ho_decision.specs.Average.{serving_average, neighbour_average};
-ghost use Rattle.ho_decision.specs.Decision.{Decides, Chooses, is_due};
+ghost use Rattle.ho_decision.specs.Decision.{Decides, Chooses, bound, is_due};
 
 use crate::measure::{Measure, average, sum_of_last};
 use crate::{Cell, HoSettings};
@@ -41,25 +41,52 @@ fn is_due(settings: &HoSettings, reports: &HeapCircularBuffer<Report>, number: u
     bad >= 3 || level == 0 || number % interval == interval - 1
 }
 
-// The choice among all cells: each cell that is better than what is wanted raises what is wanted.
+// The best cell so far, and the level that a further one has to have.
+#[derive(Drop)]
+struct Choice {
+    decision: Decision,
+    wanted: u16,
+}
+
+impl Choice {
+    ghost use Rattle.ho_decision.specs.Choice.{offered};
+
+    // Takes a further cell where its level is what is wanted.
+    fn offer(&mut self, number: u8, level: u8)
+        ensures { self.new ≡ offered self.old number level }
+    {
+        let level = u16::from(level);
+        if level >= self.wanted {
+            self.decision = Decision::Move(number);
+            self.wanted = level + 1;
+        }
+    }
+}
+
+// The choice among all cells.
 fn best(settings: &HoSettings, reports: &HeapCircularBuffer<Report>) -> Decision
     requires { 0 < length reports.now.items }
     ensures { Chooses settings.now reports.now.items (length settings.now.cells) result }
 {
-    let mut decision = Decision::Stay;
-    let mut wanted = u16::from(serving_level(settings, reports))
-        + u16::from(settings.parameters.hysteresis);
+    let mut choice = Choice {
+        decision: Decision::Stay,
+        wanted: bound(settings, reports),
+    };
     for (place, cell) in settings.cells.iter().enumerate() {
         let number = place as u8 + 1;
         if number != settings.serving {
-            let level = u16::from(neighbour_level(settings, reports, *cell));
-            if level >= wanted {
-                decision = Decision::Move(number);
-                wanted = level + 1;
-            }
+            choice.offer(number, neighbour_level(settings, reports, *cell));
         }
     }
-    decision
+    choice.decision
+}
+
+// What the average level of a neighbour has to reach.
+fn bound(settings: &HoSettings, reports: &HeapCircularBuffer<Report>) -> u16
+    requires { 0 < length reports.now.items }
+    ensures { result ≡ bound settings.now reports.now.items }
+{
+    u16::from(serving_level(settings, reports)) + u16::from(settings.parameters.hysteresis)
 }
 
 // The average level of the serving cell.
