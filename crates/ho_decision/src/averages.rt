@@ -2,6 +2,7 @@ ghost use Rattle.std.specs.Prelude.{◌≡◌, IfOk, List};
 ghost use Rattle.dtap_codec.specs.declared.report.Report.{Report as ReportValue};
 ghost use Rattle.ho_decision.specs.Average.{quality, last};
 ghost use Rattle.ho_decision.specs.Decision.{Decides};
+ghost use Rattle.ho_decision.specs.Settings.{IsAllowed};
 
 use crate::decision::decide;
 use crate::measure::{Measure, average};
@@ -85,6 +86,15 @@ impl Averages {
         // It is the decision over all reports of which these are the last ten.
         ensures all { (all : List ReportValue) → last 10 all ≡ self.now.reports
             → Decides self.now.settings all self.now.number result }
+    {
+        self.decide_over_kept(settings)
+    }
+
+    // The decision over the reports that are kept.
+    fn decide_over_kept(&self, settings: &HoSettings) -> Decision
+        requires { settings.now ≡ self.now.settings }
+        ensures decides { Decides self.now.settings self.now.reports self.now.number result }
+        ensures allowed { IsAllowed self.now.settings }
     {
         decide(settings, &self.reports, self.number)
     }

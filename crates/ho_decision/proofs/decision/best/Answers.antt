@@ -24,16 +24,16 @@ loop-place-preserved c =
     let serving : c.settings.inside.serving ≡ s.serving = ap (λ (t : Settings). t.serving) c.settings.view_is in
     let P : Choice → Type 0 = λ v. Wants s reports (place + 1) v.decision v.wanted in
     elim c.if-number-settings.branch [
-      then-number-settings w ↦
-        let level : w.neighbour_level.result ≡ average_at s reports place = w.neighbour_level.ensures ∙ level_at s reports c.deref-cell-items.result.now place cells in
-        let other : place + 1 ≢ s.serving = λ e. w.if-number-settings.true (e ∙ sym serving) in
-        subst P
-        (sym (w.choice-is ∙ w.offer.ensures))
-        (Wants-offered s reports place (place + 1) w.neighbour_level.result choice other refl level c.loop-place.invariant)
-    | else-number-settings w ↦
-        subst P
-        (sym w.choice-is)
-        (Wants-keeps s reports place choice.decision choice.wanted (λ other. absurd (other (w.if-number-settings.false ∙ serving))) c.loop-place.invariant)
+      | then-number-settings w ↦
+          let level : w.neighbour_level.result ≡ average_at s reports place = w.neighbour_level.ensures ∙ level_at s reports c.deref-cell-items.result.now place cells in
+          let other : place + 1 ≢ s.serving = λ e. w.if-number-settings.true (e ∙ sym serving) in
+          subst P
+          (sym (w.choice-is ∙ w.offer.ensures))
+          (Wants-offered s reports place (place + 1) w.neighbour_level.result choice other refl level c.loop-place.invariant)
+      | else-number-settings w ↦
+          subst P
+          (sym w.choice-is)
+          (Wants-keeps s reports place choice.decision choice.wanted (λ other. absurd (other (w.if-number-settings.false ∙ serving))) c.loop-place.invariant)
     ]
 
 pub returns : goal.returns

@@ -1,7 +1,6 @@
 -- The last ten reports decide as all do.
-use Rattle.std.proofs.Common.{◌≡◌, ℕ, List, sym, ap, subst, rules}
+use Rattle.std.proofs.Common.{◌≡◌, ℕ, List, sym, subst}
 use Rattle.dtap_codec.specs.declared.report.Report.{Report}
-use Rattle.ho_decision.specs.Settings.{Settings, IsAllowed}
 use Rattle.ho_decision.specs.State.{State}
 use Rattle.ho_decision.specs.Decision.{Decides}
 use Rattle.ho_decision.proofs.Ten.{Decides-of_last}
@@ -11,7 +10,6 @@ pub returns-clause-all : goal.returns-clause-all
 returns-clause-all c =
     λ all e.
     let state : State = c.args.self.now in
-    let kept : Decides state.settings state.reports state.number c.decide.result = search rules in
-    let P : List Report → Type 0 = λ rs. Decides state.settings rs state.number c.decide.result in
-    let Q : State → Type 0 = λ t. IsAllowed t.settings in
-    Decides-of_last state.settings all state.number c.decide.result (subst Q c.self.view_is c.self.invariant.2) (subst P (sym e) kept)
+    let d = c.decide_over_kept.result in
+    let P : List Report → Type 0 = λ rs. Decides state.settings rs state.number d in
+    Decides-of_last state.settings all state.number d c.decide_over_kept.ensures.allowed (subst P (sym e) c.decide_over_kept.ensures.decides)
