@@ -3,7 +3,7 @@
 
 pub use averages::Averages;
 pub use decision::Decision;
-pub use law::ten_reports_are_enough;
+pub use law::{arfcns_are_rising, one_decision, ten_reports_are_enough};
 pub use settings::{Cell, HoParameters, HoSettings};
 
 mod averages;
