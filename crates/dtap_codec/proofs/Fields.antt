@@ -1,5 +1,5 @@
 -- Fields of bits, joined and compared.
-use Rattle.std.proofs.Common.{◌≡◌, ℕ, ◌+◌, ◌*◌, ◌^◌, ◌<◌, List, [], ◌∷◌, ◌++◌, map, refl, sym, ap, ◌∙◌, subst, arith}
+use Rattle.std.proofs.Common.{◌≡◌, ℕ, ◌+◌, ◌*◌, ◌^◌, ◌<◌, List, [], ◌∷◌, ◌++◌, refl, sym, ap, ◌∙◌, subst, arith}
 use Rattle.std.proofs.Math.Nat.{mul_assoc, mul_comm, add-mul}
 use Rattle.std.proofs.lemmas.Nat.{pow-add, same_from_place, mul-add-lt}
 use Rattle.dtap_codec.specs.Bits.{Field, field, width_of, number_of, Fit, Begin}

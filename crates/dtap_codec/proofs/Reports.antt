@@ -1,9 +1,9 @@
 -- A number is that of one report at most.
-use Rattle.std.proofs.Common.{◌≡◌, ℕ, ◌+◌, ◌*◌, ◌^◌, ◌<◌, Bool, true, false, not, eqb, List, [], ◌∷◌, length, suc, zero, refl, sym, ap, ◌∙◌, subst, arith}
+use Rattle.std.proofs.Common.{◌≡◌, ℕ, ◌<◌, Bool, true, false, not, eqb, List, [], ◌∷◌, length, suc, zero, refl, sym, ap, ◌∙◌, arith}
 use Rattle.dtap_codec.specs.declared.report.Neighbour.{Neighbour}
 use Rattle.dtap_codec.specs.declared.report.Report.{Report}
-use Rattle.dtap_codec.specs.Bits.{Field, field, number_of, Fit}
-use Rattle.dtap_codec.specs.Report.{bit, entry_fields, entries_fields, report_fields, Writes}
+use Rattle.dtap_codec.specs.Bits.{Field, field}
+use Rattle.dtap_codec.specs.Report.{bit, entries_fields, report_fields, Writes}
 use Rattle.dtap_codec.proofs.Fields.{widths, same_fields}
 
 -- a bit that is read as a flag

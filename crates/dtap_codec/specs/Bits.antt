@@ -1,5 +1,5 @@
 -- Fields of bits, one after the other, the high bit first.
-use Rattle.std.specs.Prelude.{◌≡◌, ℕ, ◌+◌, ◌*◌, ◌^◌, ◌<◌, Bool, true, false, List, [], ◌∷◌}
+use Rattle.std.specs.Prelude.{◌≡◌, ℕ, ◌+◌, ◌*◌, ◌^◌, ◌<◌, List, [], ◌∷◌}
 
 -- a field: how many bits it has, and the number that they write
 pub record Field : Type 0 where

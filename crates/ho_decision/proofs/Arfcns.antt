@@ -1,11 +1,11 @@
 -- The ARFCNs of the other cells are rising, and are those of the other cells.
-use Rattle.std.proofs.Common.{◌≡◌, ◌≢◌, ℕ, ◌+◌, ◌<◌, ◌≤◌, ◌==◌, ◌||◌, Bool, true, false, cond, nat_lt, nat_eq, ltb, eqb, List, [], ◌∷◌, ◌++◌, length, take, drop, get_or, fold, insert, count_by, refl, sym, ap, ◌∙◌, subst, arith, zero, suc}
+use Rattle.std.proofs.Common.{◌≡◌, ℕ, ◌+◌, ◌<◌, ◌≤◌, ◌==◌, ◌||◌, Bool, true, false, cond, nat_lt, List, [], ◌∷◌, length, get_or, fold, insert, count_by, refl, sym, ap, ◌∙◌, subst, arith, zero, suc}
 use Rattle.std.specs.List.{list_any}
 use Rattle.std.specs.List.Sorted.{IsStrictlyIncreasing}
 use Rattle.std.proofs.lemmas.Bool.{ltb-true, ltb-false, le-ltb, eqb-true, eqb-false, true≢false}
 use Rattle.std.proofs.lemmas.List.Sums.{sum_by-cons}
 use Rattle.ho_decision.specs.declared.settings.Cell.{Cell}
-use Rattle.ho_decision.specs.Settings.{Settings, with_arfcn, with_cell, others, other_arfcns}
+use Rattle.ho_decision.specs.Settings.{Settings, with_cell, others, other_arfcns}
 
 -- every number is above a
 abbrev Above : ℕ → List ℕ → Type 0

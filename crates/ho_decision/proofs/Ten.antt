@@ -1,5 +1,5 @@
 -- The last ten reports have what the averages and the decision want of all.
-use Rattle.std.proofs.Common.{◌≡◌, ◌≢◌, ℕ, ◌+◌, ◌-◌, ◌/◌, ◌%◌, ◌<◌, ◌≤◌, ◌==◌, ◌||◌, nat_le, List, [], ◌∷◌, ◌++◌, length, drop, sum_by, count_by, refl, sym, ap, ◌∙◌, arith, Some, length-append}
+use Rattle.std.proofs.Common.{◌≡◌, ℕ, ◌-◌, ◌/◌, ◌%◌, ◌<◌, ◌≤◌, ◌==◌, ◌||◌, nat_le, List, [], ◌∷◌, ◌++◌, length, drop, sum_by, count_by, refl, sym, ap, ◌∙◌, arith, Some, length-append}
 use Rattle.std.proofs.lemmas.List.{drop-drop, drop-append-le, length-drop}
 use Rattle.dtap_codec.specs.declared.report.Report.{Report}
 use Rattle.ho_decision.specs.declared.settings.Cell.{Cell}
@@ -7,7 +7,7 @@ use Rattle.ho_decision.specs.declared.decision.Decision.{Decision}
 use Rattle.ho_decision.specs.declared.decision.Decision.TheVariants.{Stay, Move}
 use Rattle.ho_decision.specs.Settings.{Settings, IsAllowed}
 use Rattle.ho_decision.specs.Average.{last, average, quality, serving_average, neighbour_average}
-use Rattle.ho_decision.specs.Decision.{is_bad, is_due, bound, average_at, Chooses, Decides}
+use Rattle.ho_decision.specs.Decision.{is_bad, is_due, average_at, Chooses, Decides}
 
 -- the last n of the last m, where n is no more
 last-last : {X : Type 0} (n m : ℕ) (xs : List X) → n ≤ m → last n (last m xs) ≡ last n xs

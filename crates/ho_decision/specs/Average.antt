@@ -1,5 +1,5 @@
 -- Averages over reports, the oldest first.
-use Rattle.std.specs.Prelude.{ℕ, ◌-◌, ◌/◌, ◌==◌, nat_le, Bool, false, ◌&&◌, Option, Some, None, option_map, unwrap_or, List, [], ◌∷◌, length, slice_get, drop, find, sum_by}
+use Rattle.std.specs.Prelude.{ℕ, ◌-◌, ◌/◌, ◌==◌, Bool, false, ◌&&◌, Option, Some, None, option_map, unwrap_or, List, [], ◌∷◌, length, slice_get, drop, find, sum_by}
 use Rattle.dtap_codec.specs.declared.report.Neighbour.{Neighbour}
 use Rattle.dtap_codec.specs.declared.report.Report.{Report}
 use Rattle.dtap_codec.specs.Report.{neighbours_of}

@@ -1,5 +1,5 @@
 -- The settings of the handover decision, with the cell that serves.
-use Rattle.std.specs.Prelude.{ℕ, ◌-◌, ◌<◌, ◌≤◌, ◌==◌, nat_lt, List, [], length, fold, remove, insert, count_by, if◌then◌else◌}
+use Rattle.std.specs.Prelude.{ℕ, ◌-◌, ◌≤◌, ◌==◌, nat_lt, List, [], length, fold, remove, insert, count_by, if◌then◌else◌}
 use Rattle.std.specs.List.{list_any}
 use Rattle.ho_decision.specs.declared.settings.Cell.{Cell}
 use Rattle.ho_decision.specs.declared.settings.HoParameters.{HoParameters}

@@ -27,13 +27,11 @@ pub fn ten_reports_are_enough()
 pub fn one_decision()
     ensures { (s : Settings) (reports : List Report) (number : ℕ) (d e : Decision) → Decides s reports number d
         → Decides s reports number e → d ≡ e }
-{
-}
+{}
 
 /// BCCH-FREQ counts in a rising list without repeats, of the ARFCNs of the other cells and no others.
 pub fn arfcns_are_rising()
     ensures rising { (s : Settings) → IsStrictlyIncreasing (other_arfcns s) }
     ensures members { (s : Settings) (arfcn : ℕ)
         → list_any (λ a. a == arfcn) (other_arfcns s) ≡ list_any (λ c. c.arfcn == arfcn) (others s) }
-{
-}
+{}

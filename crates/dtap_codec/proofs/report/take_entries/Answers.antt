@@ -1,6 +1,5 @@
 -- The six entries, one behind the other; then no bit is left.
-use Rattle.std.proofs.Common.{◌≡◌, ℕ, arith}
-use Rattle.dtap_codec.specs.Report.{entries_fields}
+use Rattle.std.proofs.Common.{◌≡◌, arith}
 use Rattle.dtap_codec.proofs.Fields.{Begin-append, Begin-end}
 use Rattle.dtap_codec.proofs.report.take_entries.Goals as goal
 

@@ -1,6 +1,6 @@
 -- The fields of a report, one behind the other; then no bit is left.
-use Rattle.std.proofs.Common.{◌≡◌, ℕ, length, List, [], ◌∷◌, subst, ◌∙◌, arith, rules}
-use Rattle.dtap_codec.specs.Bits.{Begin, field, number_of}
+use Rattle.std.proofs.Common.{◌≡◌, ℕ, [], ◌∷◌, subst, ◌∙◌, arith, rules}
+use Rattle.dtap_codec.specs.Bits.{Begin, field}
 use Rattle.dtap_codec.proofs.Fields.{Begin-append}
 use Rattle.dtap_codec.proofs.Reports.{bit-is_one, bit-is_zero}
 use Rattle.dtap_codec.proofs.report.take_report.Goals as goal

@@ -1,5 +1,5 @@
 -- The ARFCNs that are kept are those of the other cells.
-use Rattle.std.proofs.Common.{◌≡◌, ℕ, List, ap, ◌∙◌, subst}
+use Rattle.std.proofs.Common.{◌≡◌, List, ap, ◌∙◌, subst}
 use Rattle.dtap_codec.specs.declared.report.Report.{Report}
 use Rattle.ho_decision.specs.Settings.{Settings, settings_of, other_arfcns}
 use Rattle.ho_decision.specs.Average.{average, level_in, neighbour_average}

@@ -1,5 +1,5 @@
 -- Each turn adds the report that is so far from the back.
-use Rattle.std.proofs.Common.{◌≡◌, ℕ, ◌+◌, ◌<◌, ◌≤◌, length, arith}
+use Rattle.std.proofs.Common.{◌<◌, length, arith}
 use Rattle.ho_decision.specs.Measure.{measured}
 use Rattle.ho_decision.proofs.Sums.{sum_by-last_more, back_is_there}
 use Rattle.ho_decision.proofs.measure.sum_of_last.Goals as goal

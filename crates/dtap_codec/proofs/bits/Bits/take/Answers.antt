@@ -1,5 +1,5 @@
 -- The bits taken are a number below 2 ^ width, since those of the rest are below.
-use Rattle.std.proofs.Common.{◌≡◌, ℕ, ◌+◌, ◌-◌, ◌*◌, ◌/◌, ◌%◌, ◌^◌, ◌<◌, ◌≤◌, [], ◌∷◌, arith, sym, subst}
+use Rattle.std.proofs.Common.{◌≡◌, ℕ, ◌+◌, ◌-◌, ◌/◌, ◌%◌, ◌^◌, ◌<◌, ◌≤◌, [], ◌∷◌, arith, sym, subst}
 use Rattle.std.proofs.lemmas.Nat.{shr_below, shr_split, one_shl}
 use Rattle.std.proofs.Math.Nat.{pow-le-pow_right}
 use Rattle.dtap_codec.specs.Bits.{Begin, field}

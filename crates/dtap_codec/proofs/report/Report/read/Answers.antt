@@ -1,7 +1,7 @@
 -- The number of the first 16 octets is that of one report at most.
-use Rattle.std.proofs.Common.{◌≡◌, ℕ, List, Ok, take, ap, sym, ◌∙◌, subst, rules}
+use Rattle.std.proofs.Common.{Ok, take, ap, rules}
 use Rattle.std.specs.Int.{from_be_bytes, w128}
-use Rattle.dtap_codec.specs.Report.{Writes, IsReport}
+use Rattle.dtap_codec.specs.Report.{IsReport}
 use Rattle.dtap_codec.proofs.Reports.{same_report}
 use Rattle.dtap_codec.proofs.report.Report.read.Goals as goal
 

@@ -1,5 +1,5 @@
 -- The last ten reports decide as all do.
-use Rattle.std.proofs.Common.{◌≡◌, ℕ, List, sym, subst}
+use Rattle.std.proofs.Common.{List, sym, subst}
 use Rattle.dtap_codec.specs.declared.report.Report.{Report}
 use Rattle.ho_decision.specs.State.{State}
 use Rattle.ho_decision.specs.Decision.{Decides}

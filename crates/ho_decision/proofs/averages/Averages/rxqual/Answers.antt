@@ -1,5 +1,5 @@
 -- With a report there is an average.
-use Rattle.std.proofs.Common.{◌≡◌, ℕ, ◌<◌, Some, List, length, sym, ap, ◌∙◌, arith}
+use Rattle.std.proofs.Common.{◌<◌, Some, List, length, sym, ap, ◌∙◌, arith}
 use Rattle.std.proofs.lemmas.Bool.Decides.{nat_tests}
 use Rattle.dtap_codec.specs.declared.report.Report.{Report}
 use Rattle.ho_decision.specs.Settings.{Settings}
