@@ -1,2 +1,4 @@
 pub mod Numbers
 pub mod Rising
+pub mod Fields
+pub mod Reports

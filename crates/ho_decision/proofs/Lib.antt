@@ -1,0 +1,5 @@
+pub mod Arfcns
+pub mod Choice
+pub mod Sums
+pub mod Ten
+pub mod Unique

@@ -1,0 +1,6 @@
+use Rattle.ho_decision.proofs.Choice.{Wants}
+use Rattle.ho_decision.proofs.decision.best.Given as goal
+
+-- the choice among the cells so far
+abbrev pub invariant-loop-place : goal.invariant-loop-place
+invariant-loop-place l = Wants l.settings l.reports.items l.place l.choice.decision l.choice.wanted

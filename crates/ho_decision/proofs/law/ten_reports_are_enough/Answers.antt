@@ -1,0 +1,11 @@
+use Rattle.ho_decision.proofs.Ten.{serving_average-last, quality-last, neighbour_average-last, Decides-last, Decides-of_last, last-push}
+use Rattle.ho_decision.proofs.law.ten_reports_are_enough.Goals as goal
+
+pub returns : goal.returns
+returns c = record {
+  serving = serving_average-last;
+  quality = quality-last;
+  neighbour = neighbour_average-last;
+  decision = λ s all number d allowed. (Decides-last s all number d allowed, Decides-of_last s all number d allowed);
+  one_more = last-push 10;
+}

@@ -1,0 +1,6 @@
+pub mod Average
+pub mod Choice
+pub mod Decision
+pub mod Measure
+pub mod Settings
+pub mod State

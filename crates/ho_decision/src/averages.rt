@@ -1,0 +1,101 @@
+ghost use Rattle.std.specs.Prelude.{◌≡◌, IfOk, List};
+ghost use Rattle.dtap_codec.specs.declared.report.Report.{Report as ReportValue};
+ghost use Rattle.ho_decision.specs.Average.{quality, last};
+ghost use Rattle.ho_decision.specs.Decision.{Decides};
+ghost use Rattle.ho_decision.specs.Settings.{IsAllowed};
+
+use crate::decision::decide;
+use crate::measure::{Measure, average};
+use crate::{Decision, HoSettings};
+use circular_buffer::HeapCircularBuffer;
+use dtap_codec::Report;
+use octets::Memory;
+use std::alloc::Global;
+use std::marker::Model;
+use std::snapshot::Snapshot;
+
+/// How many reports are kept: as many as the widest window has.
+const KEPT: usize = 10;
+
+/// The measurement reports of one connection on one channel, the last ten valid ones with the number of the last.
+#[derive(Drop)]
+pub struct Averages {
+    settings: Snapshot<HoSettings>,
+    rxqual_window: u8,
+    reports: HeapCircularBuffer<Report>,
+    number: u8,
+}
+
+impl Model for Averages {
+    ghost use Rattle.std.specs.Prelude.{◌≡◌};
+    ghost use Rattle.ho_decision.specs.Settings.{IsAllowed};
+    ghost use Rattle.ho_decision.specs.State.{State};
+
+    ghost Value = { State };
+
+    ghost view = { λ a. record { settings = a.settings.value; reports = a.reports.items; number = a.number } };
+
+    ghost invariant = { λ a. (a.reports.capacity ≡ 10) × (a.rxqual_window ≡ a.settings.value.parameters.rxqual_window) × IsAllowed a.settings.value };
+}
+
+impl Averages {
+    ghost use Rattle.ho_decision.specs.State.{new_state, after_report};
+
+    /// No reports yet, for a connection in the serving cell of these settings. It makes the room for all reports.
+    pub fn new(alloc: Global, settings: &HoSettings) -> Result<Averages, Memory>
+        ensures { IfOk result (λ averages. averages ≡ new_state settings.now) }
+    {
+        let rxqual_window = settings.parameters.rxqual_window;
+        Ok(Averages {
+            settings: Snapshot::of(settings),
+            rxqual_window,
+            reports: HeapCircularBuffer::with_capacity(alloc, KEPT)?,
+            number: 0,
+        })
+    }
+
+    /// Adds a report with its number, which takes no memory. An invalid report changes nothing.
+    pub fn add(&mut self, report: &Report, number: u8)
+        ensures { self.new ≡ after_report self.old report.now number }
+    {
+        if report.valid {
+            self.reports.push_back(*report);
+            self.number = number;
+        }
+    }
+
+    /// The average RXQUAL-FULL of the serving cell, cut to a whole number; none without a report.
+    pub fn rxqual(&self) -> Option<u8>
+        ensures { result ≡ quality self.now.settings self.now.reports }
+    {
+        if self.reports.is_empty() {
+            return None;
+        }
+        Some(average(&self.reports, self.rxqual_window, Measure::ServingQuality))
+    }
+
+    /// The handover decision, which takes no memory. The settings are those that the averages were made for.
+    ///
+    /// It stays without a report, and where the levels aren't compared. They are where the quality was 5 or worse in
+    /// three of the last four reports, where the serving cell's average level is 0, and at the last report of each
+    /// interval. Then it moves to the cell of the greatest average level among the other cells whose average is at
+    /// least the serving cell's plus the hysteresis, the first in the settings on a tie; without such a cell it stays.
+    pub fn decide(&self, settings: &HoSettings) -> Decision
+        requires { settings.now ≡ self.now.settings }
+        ensures kept { Decides self.now.settings self.now.reports self.now.number result }
+        // It is the decision over all reports of which these are the last ten.
+        ensures all { (all : List ReportValue) → last 10 all ≡ self.now.reports
+            → Decides self.now.settings all self.now.number result }
+    {
+        self.decide_over_kept(settings)
+    }
+
+    // The decision over the reports that are kept.
+    fn decide_over_kept(&self, settings: &HoSettings) -> Decision
+        requires { settings.now ≡ self.now.settings }
+        ensures decides { Decides self.now.settings self.now.reports self.now.number result }
+        ensures allowed { IsAllowed self.now.settings }
+    {
+        decide(settings, &self.reports, self.number)
+    }
+}

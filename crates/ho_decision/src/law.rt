@@ -1,0 +1,37 @@
+ghost use Rattle.std.specs.Prelude.{◌≡◌, ◌==◌, ℕ, List, [], ◌∷◌, ◌++◌, ◌↔◌};
+ghost use Rattle.std.specs.List.{list_any};
+ghost use Rattle.std.specs.List.Sorted.{IsStrictlyIncreasing};
+ghost use Rattle.dtap_codec.specs.declared.report.Report.{Report};
+ghost use Rattle.ho_decision.specs.declared.settings.Cell.{Cell};
+ghost use Rattle.ho_decision.specs.declared.decision.Decision.{Decision};
+ghost use Rattle.ho_decision.specs.Settings.{Settings, IsAllowed, others, other_arfcns};
+ghost use Rattle.ho_decision.specs.Average.{last, serving_average, neighbour_average, quality};
+ghost use Rattle.ho_decision.specs.Decision.{Decides};
+
+/// Ten reports are enough: with settings that are allowed, each average and the decision over all reports that ever came
+/// are those over the last ten of them.
+pub fn ten_reports_are_enough()
+    ensures serving { (s : Settings) (all : List Report) → IsAllowed s
+        → serving_average s all ≡ serving_average s (last 10 all) }
+    ensures quality { (s : Settings) (all : List Report) → IsAllowed s → quality s all ≡ quality s (last 10 all) }
+    ensures neighbour { (s : Settings) (all : List Report) (cell : Cell) → IsAllowed s
+        → neighbour_average s all cell ≡ neighbour_average s (last 10 all) cell }
+    ensures decision { (s : Settings) (all : List Report) (number : ℕ) (d : Decision) → IsAllowed s
+        → Decides s all number d ↔ Decides s (last 10 all) number d }
+    // One report more of the last ten is one more of all.
+    ensures one_more { (all : List Report) (report : Report)
+        → last 10 (last 10 all ++ report ∷ []) ≡ last 10 (all ++ report ∷ []) }
+{}
+
+/// Reports, the last one's number and the settings have one decision at most.
+pub fn one_decision()
+    ensures { (s : Settings) (reports : List Report) (number : ℕ) (d e : Decision) → Decides s reports number d
+        → Decides s reports number e → d ≡ e }
+{}
+
+/// BCCH-FREQ counts in a rising list without repeats, of the ARFCNs of the other cells and no others.
+pub fn arfcns_are_rising()
+    ensures rising { (s : Settings) → IsStrictlyIncreasing (other_arfcns s) }
+    ensures members { (s : Settings) (arfcn : ℕ)
+        → list_any (λ a. a == arfcn) (other_arfcns s) ≡ list_any (λ c. c.arfcn == arfcn) (others s) }
+{}

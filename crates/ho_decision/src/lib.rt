@@ -1,0 +1,15 @@
+//! When a connection is handed over, and to which cell: averages of measurement reports, and the decision over them.
+#![tactic(auto)]
+
+pub use averages::Averages;
+pub use decision::Decision;
+pub use law::{arfcns_are_rising, one_decision, ten_reports_are_enough};
+pub use settings::{Cell, HoParameters, HoSettings};
+
+mod averages;
+mod decision;
+mod law;
+mod measure;
+mod settings;
+#[cfg(test)]
+mod tests;
