@@ -2,10 +2,7 @@ ghost use Rattle.std.specs.Prelude.{◌≡◌, ◌≢◌, false, IfOk, IfErr, ma
 ghost use Rattle.clap.specs.Words.{app_of, kind_of, subcommand_of, subcommand_rows_of};
 ghost use Rattle.clap.specs.declared.error.kind.ErrorKind.TheVariants.{OutOfMemory};
 ghost use Rattle.clap.specs.declared.builder.command.Command.TheViews.{out-Command as fields_of};
-
 ghost use Rattle.bsc_main.specs.CommandLine.{bsc, bare, run_command, replay_command, decode_command, AreTaken, AreRefused, IsTask};
-
-
 
 use crate::words::{Task, TaskFault};
 use clap::error::ErrorKind;

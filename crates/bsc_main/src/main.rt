@@ -2,21 +2,24 @@
 #![tactic(auto)]
 
 use crate::command_line::task;
+use crate::decode::decode;
 use crate::replay::replay;
 use crate::words::{Task, TaskFault};
 use std::alloc::AllocError;
+use std::env;
 use std::io::ErrorKind;
 use std::process::ExitCode;
-use std::env;
 
 mod command_line;
+mod decode;
 mod failure;
 mod replay;
 mod report;
 mod script;
 mod words;
 
-const USAGE: &str = "usage: bsc run --config FILE | bsc replay [--config FILE] [--break N] | bsc decode";
+const USAGE: &str =
+    "usage: bsc run --config FILE | bsc replay [--config FILE] [--break N] | bsc decode";
 
 fn main(rt: HostRuntime) -> ExitCode {
     match asked(&rt) {
@@ -54,7 +57,8 @@ fn run(rt: &HostRuntime, task: Task) -> u8 {
             rt.stdout(),
             rt.stderr(),
         ),
-        Task::Run(_) | Task::Decode => {
+        Task::Decode => decode(rt.alloc(), rt.stdin(), rt.stdout(), rt.stderr()),
+        Task::Run(_) => {
             let _ = eprintln!(rt; "bsc: not supported");
             2
         }

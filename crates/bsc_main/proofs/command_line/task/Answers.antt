@@ -14,7 +14,7 @@ returns-in-Some-run-default-clause-ok c =
     let words : List (List ℕ) = map (λ word. word.now) c.args.words.now in
     let found : subcommand_of bsc words ≡ Some (codes "run", rows) = found_by c.in_ok-matches.matches (subcommand_of bsc words) (codes "run") rows c.in_ok-matches.ensures.ok.1 (ap (λ (t : List ℕ). Some t) (sym said.is-run) ∙ said.ensures.name) said.ensures.rows in
     let settings = c.in_ok-from_str-in-Some-run-default.ensures.ok ∙ ap (λ (t : Bor (List ℕ)). t.now) c.unwrap_or-settings.ensures ∙ unwrap_or-now c.get_str.result _ refl
-        ∙ ap (λ (o : Option (List ℕ)). unwrap_or o []) (c.get_str.ensures ∙ first_value-rows (found_of said.options.now) (codes "config")) in
+    ∙ ap (λ (o : Option (List ℕ)). unwrap_or o []) (c.get_str.ensures ∙ first_value-rows (found_of said.options.now) (codes "config")) in
     (c.in_ok-matches.ensures.ok.0, subst (IsTask (Run c.in_ok-from_str-in-Some-run-default.field-0)) (sym found) (refl, settings))
 
 pub returns-in-Some-replay-default-clause-ok : goal.returns-in-Some-replay-default-clause-ok

@@ -1,0 +1,272 @@
+//! `bsc decode`: names the frames of a link.
+ghost use Rattle.std.specs.Prelude.{◌≡◌, ◌⊎◌};
+
+use crate::failure::Failure;
+use crate::script::READS;
+use ipa_framing::{Frame, FrameFault, Framer};
+use octets::Memory;
+use rsl_codec::{Rsl, RslFault};
+use std::alloc::{AllocError, Global};
+use std::io::{self, BufWriter, ErrorKind, Read, Write};
+
+/// The octets that one read asks for.
+const BLOCK: usize = 1 << 20;
+
+/// Why a stream isn't decoded to its end.
+#[derive(Clone, Copy, Debug, PartialEq, Eq)]
+enum Stop {
+    /// A frame has more than 2,048 octets.
+    TooLong,
+    Failed(Failure),
+}
+
+impl From<io::Error> for Stop {
+    fn from(error: io::Error) -> Stop {
+        Stop::Failed(Failure::from(error))
+    }
+}
+
+impl From<AllocError> for Stop {
+    fn from(_error: AllocError) -> Stop {
+        Stop::Failed(Failure::Memory)
+    }
+}
+
+impl From<Memory> for Stop {
+    fn from(_memory: Memory) -> Stop {
+        Stop::Failed(Failure::Memory)
+    }
+}
+
+impl From<FrameFault> for Stop {
+    fn from(fault: FrameFault) -> Stop {
+        match fault {
+            FrameFault::TooLong => Stop::TooLong,
+            FrameFault::Memory => Stop::Failed(Failure::Memory),
+        }
+    }
+}
+
+/// The name of a message.
+fn message_name(message: &Rsl) -> &'static str {
+    match message {
+        Rsl::DataRequest(_) => "DATA REQUEST",
+        Rsl::DataIndication(_) => "DATA INDICATION",
+        Rsl::ErrorIndication(_) => "ERROR INDICATION",
+        Rsl::EstablishRequest(_) => "ESTABLISH REQUEST",
+        Rsl::EstablishConfirm(_) => "ESTABLISH CONFIRM",
+        Rsl::EstablishIndication(_) => "ESTABLISH INDICATION",
+        Rsl::ReleaseRequest(_) => "RELEASE REQUEST",
+        Rsl::ReleaseConfirm(_) => "RELEASE CONFIRM",
+        Rsl::ReleaseIndication(_) => "RELEASE INDICATION",
+        Rsl::ChannelRequired(_) => "CHANNEL REQUIRED",
+        Rsl::ImmediateAssignCommand(_) => "IMMEDIATE ASSIGN COMMAND",
+        Rsl::ChannelActivation(_) => "CHANNEL ACTIVATION",
+        Rsl::ChannelActivationAck(_) => "CHANNEL ACTIVATION ACK",
+        Rsl::ChannelActivationNack(_) => "CHANNEL ACTIVATION NACK",
+        Rsl::ConnectionFailure(_) => "CONNECTION FAILURE",
+        Rsl::HandoverDetection(_) => "HANDOVER DETECTION",
+        Rsl::MeasurementResult(_) => "MEASUREMENT RESULT",
+        Rsl::RfChannelRelease(_) => "RF CHANNEL RELEASE",
+        Rsl::RfChannelReleaseAck(_) => "RF CHANNEL RELEASE ACK",
+    }
+}
+
+/// The name of an RSL message, or of why it isn't one.
+fn rsl_name(alloc: Global, body: &[u8]) -> Result<&'static str, Memory> {
+    match Rsl::read(alloc, body) {
+        Ok(message) => Ok(message_name(&message)),
+        Err(RslFault::Short) => Ok("fault S1"),
+        Err(RslFault::UnknownType) => Ok("fault S2"),
+        Err(RslFault::MissingElement(_)) => Ok("fault S3"),
+        Err(RslFault::BadChannel) => Ok("fault S4"),
+        Err(RslFault::Memory) => Err(Memory),
+        Err(RslFault::TooLong) => Ok("fault S6"),
+    }
+}
+
+/// The name of a CCM message, by its first octet.
+fn ccm_name(body: &[u8]) -> &'static str {
+    match body {
+        [0x00, ..] => "PING",
+        [0x01, ..] => "PONG",
+        _ => "CCM",
+    }
+}
+
+/// The name of what a frame carries.
+fn name_of(alloc: Global, frame: &Frame) -> Result<&'static str, Memory> {
+    match frame.stream {
+        0x00 => rsl_name(alloc, frame.body.as_slice()),
+        0xfe => Ok(ccm_name(frame.body.as_slice())),
+        0xff => Ok("OML"),
+        _ => Ok("unknown"),
+    }
+}
+
+/// Prints a line for each frame that is whole.
+fn print_frames<W: Write>(alloc: Global, framer: &mut Framer, output: &mut W) -> Result<(), Stop> {
+    while let Some(frame) = framer.next()? {
+        let stream = frame.stream;
+        let name = name_of(alloc, &frame)?;
+        writeln!(output, "{stream:02x} {name}")?;
+    }
+    Ok(())
+}
+
+/// Prints the frames of the input to its end, and what remains of a started one. What was read is printed before more is
+/// read.
+fn print_stream<R: Read, W: Write>(
+    alloc: Global,
+    input: &mut R,
+    output: &mut W,
+) -> Result<(), Stop> {
+    let mut framer = Framer::new(alloc);
+    let mut block = vec![in alloc; 0u8; BLOCK]?;
+    for _ in 0..READS {
+        let count = match input.read(&mut block) {
+            Ok(count) => count,
+            Err(error) if error.kind() == ErrorKind::Interrupted => continue,
+            Err(error) => return Err(Stop::from(error)),
+        };
+        if count == 0 {
+            let rest = framer.rest();
+            if rest > 0 {
+                writeln!(output, "rest {rest}")?;
+            }
+            return Ok(());
+        }
+        framer.feed(&block[..count])?;
+        print_frames(alloc, &mut framer, output)?;
+        output.flush()?;
+    }
+    Err(Stop::Failed(Failure::Device))
+}
+
+/// Prints the stream, and a frame that is too long as its last line.
+fn print_all<R: Read, W: Write + Drop>(
+    alloc: Global,
+    input: &mut R,
+    output: W,
+) -> Result<(), Stop> {
+    let mut output = BufWriter::new(alloc, output)?;
+    let printed = print_stream(alloc, input, &mut output);
+    if printed == Err(Stop::TooLong) {
+        writeln!(output, "fault F1")?;
+    }
+    output.flush()?;
+    printed
+}
+
+/// Names each frame of the IPA stream on `input`, and gives the status that the program ends with: 0, or 3 where a frame
+/// is too long, memory was wanted or a device failed. The text of a status above 0 goes to `errors`, but for `fault F1`,
+/// the last line of the output where a frame is too long.
+pub fn decode<R: Read + Drop, W: Write + Drop, E: Write + Drop>(
+    alloc: Global,
+    mut input: R,
+    output: W,
+    mut errors: E,
+) -> u8
+    ensures { (result ≡ 0) ⊎ (result ≡ 3) }
+{
+    match print_all(alloc, &mut input, output) {
+        Ok(()) => 0,
+        Err(Stop::TooLong) => 3,
+        Err(Stop::Failed(failure)) => {
+            let _ = writeln!(errors, "bsc: {failure}");
+            3
+        }
+    }
+}
+
+#[cfg(test)]
+mod tests {
+    use super::*;
+    use std::process::Abort;
+    use std::test::Fail;
+
+    /// A reader whose reads fail.
+    #[derive(Drop)]
+    struct NoReader;
+
+    impl Read for NoReader {
+        fn read(&mut self, _buf: &mut [u8]) -> io::Result<usize> {
+            Err(io::Error::from(ErrorKind::BrokenPipe))
+        }
+    }
+
+    /// A writer whose writes fail.
+    #[derive(Drop)]
+    struct NoWriter;
+
+    impl Write for NoWriter {
+        fn write(&mut self, _buf: &[u8]) -> io::Result<usize> {
+            Err(io::Error::from(ErrorKind::BrokenPipe))
+        }
+
+        fn flush(&mut self) -> io::Result<()> {
+            Ok(())
+        }
+    }
+
+    /// Asserts the lines and the status that octets are decoded to.
+    fn decodes(
+        rt: &(impl Abort + AllocGlobal),
+        octets: &[u8],
+        status: u8,
+        lines: &str,
+    ) -> Result<(), Fail> {
+        let mut output = Vec::new(rt.alloc());
+        let mut errors = Vec::new(rt.alloc());
+        assert_eq!(rt;
+            decode(rt.alloc(), octets, &mut output, &mut errors),
+            status
+        );
+        assert_eq!(rt; output.as_slice(), lines.as_bytes());
+        assert!(rt; errors.is_empty());
+        Ok(())
+    }
+
+    #[test]
+    fn frames_are_named_and_the_rest_is_counted(rt: HostRuntime) -> Result<(), Fail> {
+        let stream = [
+            0x00, 0x01, 0xfe, 0x00, 0x00, 0x0b, 0x00, 0x03, 0x02, 0x01, 0x41, 0x02, 0x00, 0x0b,
+            0x00, 0x02, 0x03, 0x45, 0x00, 0x01, 0xff,
+        ];
+        decodes(&rt, &stream, 0, "fe PING\n00 DATA INDICATION\nrest 3\n")?;
+        decodes(&rt, &[0x00, 0x00, 0x00], 0, "00 fault S1\n")?;
+        decodes(
+            &rt,
+            &[0x00, 0x00, 0xfe, 0x00, 0x00, 0xfd, 0x00, 0x00, 0xff],
+            0,
+            "fe CCM\nfd unknown\nff OML\n",
+        )?;
+        decodes(&rt, &[], 0, "")
+    }
+
+    #[test]
+    fn a_frame_that_is_too_long_ends_the_lines(rt: HostRuntime) -> Result<(), Fail> {
+        decodes(&rt, &[0x08, 0x01], 3, "fault F1\n")?;
+        decodes(
+            &rt,
+            &[0x00, 0x01, 0xfe, 0x01, 0x08, 0x01, 0x00],
+            3,
+            "fe PONG\nfault F1\n",
+        )
+    }
+
+    #[test]
+    fn a_device_that_fails_is_told(rt: HostRuntime) -> Result<(), Fail> {
+        let mut output = Vec::new(rt.alloc());
+        let mut errors = Vec::new(rt.alloc());
+        assert_eq!(rt; decode(rt.alloc(), NoReader, &mut output, &mut errors), 3);
+        let frame = [0x00, 0x00, 0x00].as_slice();
+        assert_eq!(rt; decode(rt.alloc(), frame, NoWriter, &mut errors), 3);
+        assert_eq!(rt;
+            errors.as_slice(),
+            b"bsc: device failed\nbsc: device failed\n".as_slice()
+        );
+        assert!(rt; output.is_empty());
+        Ok(())
+    }
+}
