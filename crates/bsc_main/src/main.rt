@@ -16,6 +16,8 @@ mod failure;
 mod replay;
 mod report;
 mod script;
+#[cfg(test)]
+mod tests;
 mod words;
 
 const USAGE: &str =

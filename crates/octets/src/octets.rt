@@ -60,6 +60,25 @@ impl Octets {
     pub fn into_vec(self) -> Vec<u8>
         ensures { result.items ≡ self }
     {
-        self.octets
+        let Octets { octets } = self;
+        octets
+    }
+}
+
+#[cfg(test)]
+mod tests {
+    use super::*;
+    use std::test::Fail;
+
+    #[test]
+    fn octets_are_kept(rt: HostRuntime) -> Result<(), Fail> {
+        let message = Octets::copy(rt.alloc(), &[0x05, 0x24, 0x71])?;
+        assert_eq!(rt; message.as_slice(), [0x05, 0x24, 0x71].as_slice());
+        assert_eq!(rt; message.len(), 3);
+        assert!(rt; !message.is_empty());
+        let same = Octets::new(message.into_vec());
+        assert_eq!(rt; same.into_vec().as_slice(), [0x05, 0x24, 0x71].as_slice());
+        assert!(rt; Octets::new(Vec::new(rt.alloc())).is_empty());
+        Ok(())
     }
 }
