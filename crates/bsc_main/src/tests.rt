@@ -249,12 +249,16 @@ fn words_ask_for_tasks(rt: HostRuntime) -> Result<(), Fail> {
         }
         _ => return Err(Fail::from("not replay")),
     }
-    let refused: [&[&str]; 6] = [
+    let refused: [&[&str]; 10] = [
         &[],
         &["relay"],
         &["run"],
         &["decode", "x"],
+        &["help"],
+        &["help", "replay"],
         &["--help"],
+        &["decode", "--help"],
+        &["--version"],
         &["replay", "--config"],
     ];
     for words in refused {
