@@ -1,0 +1,2 @@
+pub mod AirLink
+pub mod RestsReached

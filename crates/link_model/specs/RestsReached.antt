@@ -1,0 +1,11 @@
+-- What a link is once the message that it lends comes back.
+use Rattle.std.specs.Prelude.{◌≡◌}
+use Rattle.std.specs.Borrow.{MutBor, Fml}
+use Rattle.std.specs.Io.BufRead.{Rests}
+use Rattle.link_model.specs.declared.air_link.Air.{Air}
+use Rattle.link_model.specs.contracts.air_link.AirLink.{the_row}
+use Rattle.link_model.specs.AirLink.{reached}
+
+-- the station has taken the message
+abbrev pub RestsReached : MutBor Air → Fml
+RestsReached link = Rests the_row link (λ new. new ≡ reached link.now)
