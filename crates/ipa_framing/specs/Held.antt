@@ -1,0 +1,59 @@
+-- What a framer holds, and what its calls answer.
+use Rattle.std.specs.Prelude.{◌≡◌, ℕ, Bool, true, false, List, [], ◌∷◌, ◌++◌, Option, Some, None, Result, Ok, Err}
+use Rattle.ipa_framing.specs.declared.frame.Frame.{Frame}
+use Rattle.ipa_framing.specs.declared.fault.FrameFault.{FrameFault}
+use Rattle.ipa_framing.specs.declared.fault.FrameFault.TheVariants.{TooLong, Memory}
+use Rattle.ipa_framing.specs.Frame.{frame_text, IsFrame, IsPartial, IsTooLong}
+
+-- the octets that were fed and belong to no frame taken so far, and whether one of them was met as too long
+pub record Held : Type 0 where
+  pub octets : List ℕ
+  pub failed : Bool
+
+abbrev pub nothing_held : Held
+nothing_held = record { octets = []; failed = false }
+
+-- Feeding a piece appends it; it is refused as too long exactly after a frame was.
+abbrev pub Feeds : {X : Type 0} → Held → List ℕ → Result X FrameFault → Held → Type 0
+Feeds old piece (Ok _) new = (old.failed ≡ false) × (new ≡ record { octets = old.octets ++ piece; failed = false })
+Feeds old piece (Err TooLong) new = (old.failed ≡ true) × (new ≡ old)
+Feeds old piece (Err Memory) new = (old.failed ≡ false) × (new ≡ old)
+
+-- a frame stands whole at the front, and the rest behind it
+abbrev pub BeginsWith : List ℕ → Frame → List ℕ → Type 0
+BeginsWith octets f rest = IsFrame f × (octets ≡ frame_text f ++ rest)
+
+-- The next frame is taken where it stands whole at the front, nothing where it was only started, and a length that
+-- is too long is refused. Memory is wanted for a whole frame alone.
+abbrev pub Takes : Held → Result (Option Frame) FrameFault → Held → Type 0
+Takes old (Ok (Some f)) new = BeginsWith old.octets f new.octets × (new.failed ≡ old.failed)
+Takes old (Ok None) new = IsPartial old.octets × (new ≡ old)
+Takes old (Err TooLong) new = IsTooLong old.octets × (new ≡ record { octets = old.octets; failed = true })
+Takes old (Err Memory) new = ((f : Frame) × (rest : List ℕ) × BeginsWith old.octets f rest) × (new ≡ old)
+
+-- ---- any list of calls
+
+pub data Call : Type 0 where
+  feed : List ℕ → Result (Unit {0}) FrameFault → Call
+  next : Result (Option Frame) FrameFault → Call
+
+abbrev pub Does : Held → Call → Held → Type 0
+Does old (feed piece result) new = Feeds old piece result new
+Does old (next result) new = Takes old result new
+
+-- the calls, each with its answer, lead from what was held to what is
+abbrev pub Run : Held → List Call → Held → Type 0
+Run old [] new = old ≡ new
+Run old (c ∷ cs) new = (between : Held) × Does old c between × Run between cs new
+
+-- the octets that were taken in, whatever pieces they came in
+abbrev pub fed : List Call → List ℕ
+fed [] = []
+fed (feed piece (Ok _) ∷ cs) = piece ++ fed cs
+fed (_ ∷ cs) = fed cs
+
+-- the frames that were given out
+abbrev pub given : List Call → List Frame
+given [] = []
+given (next (Ok (Some f)) ∷ cs) = f ∷ given cs
+given (_ ∷ cs) = given cs

@@ -1,0 +1,38 @@
+ghost use Rattle.std.specs.Prelude.{◌≡◌, ◌++◌, OnErr, OnOk};
+ghost use Rattle.octets.specs.Refusal.{RefusesBy};
+ghost use Rattle.ipa_framing.specs.Frame.{frame_text, write_fault};
+
+use crate::FrameFault;
+use octets::Octets;
+
+/// The most octets that the body of a frame has.
+pub const MAX_BODY: usize = 2048;
+
+/// A frame of a link: the stream that it belongs to, and its body.
+///
+/// Streams are `00` RSL, `FD` SCCP, `FE` CCM and `FF` OML.
+#[derive(Debug, Drop)]
+pub struct Frame {
+    pub stream: u8,
+    pub body: Octets,
+}
+
+/// Appends the octets of a frame: two octets of length, the stream, the body. A frame that is too long is refused
+/// before memory is wanted; a refusal appends nothing.
+pub fn write_frame(frame: &Frame, out: &mut Vec<u8>) -> Result<(), FrameFault>
+    ensures ok { OnOk result (out.new.items ≡ out.old.items ++ frame_text frame.now) }
+    ensures refused { RefusesBy FrameFault.Memory result (write_fault frame.now) }
+    ensures err { OnErr result (out.new.items ≡ out.old.items) }
+{
+    let body = frame.body.as_slice();
+    let size = body.len();
+    if size > MAX_BODY {
+        return Err(FrameFault::TooLong);
+    }
+    out.reserve(3 + size)?;
+    out.push_reserved((size / 256) as u8);
+    out.push_reserved((size % 256) as u8);
+    out.push_reserved(frame.stream);
+    out.extend_from_slice(body)?;
+    Ok(())
+}

@@ -1,0 +1,5 @@
+pub mod Channel
+pub mod Fields
+pub mod Message
+pub mod Reading
+pub mod Text

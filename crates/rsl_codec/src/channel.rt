@@ -1,0 +1,46 @@
+ghost use Rattle.std.specs.Prelude.{◌≡◌};
+ghost use Rattle.rsl_codec.specs.Channel.{channel_by};
+
+use crate::RslFault;
+use std::marker::Model;
+
+/// A channel number (TS 48.058 clause 9.3.1): the kind of channel in bits 8 to 4, the timeslot in bits 3 to 1.
+///
+/// The octets are `08` to `0F` TCH/F, `10` to `1F` TCH/H, `20` to `3F` SDCCH/4, `40` to `7F` SDCCH/8, `88` RACH and
+/// `90` PCH and AGCH.
+#[derive(Clone, Copy, Debug, PartialEq, Eq)]
+pub struct ChanNo {
+    octet: u8,
+}
+
+impl Model for ChanNo {
+    ghost use Rattle.std.specs.Prelude.{◌≡◌, ℕ, true};
+    ghost use Rattle.rsl_codec.specs.Channel.{is_channel};
+
+    ghost Value = { ℕ };
+
+    ghost view = { λ c. c.octet };
+
+    ghost invariant = { λ c. is_channel c.octet ≡ true };
+
+    ghost inverse = { λ n. record { octet = n } };
+}
+
+impl ChanNo {
+    /// The channel number in this octet; `BadChannel` where it is none of those above.
+    pub fn read(octet: u8) -> Result<ChanNo, RslFault>
+        ensures { result ≡ channel_by octet }
+    {
+        match octet {
+            0x08..=0x7f | 0x88 | 0x90 => Ok(ChanNo { octet }),
+            _ => Err(RslFault::BadChannel),
+        }
+    }
+
+    /// The octet of the channel number.
+    pub fn octet(self) -> u8
+        ensures { result ≡ self }
+    {
+        self.octet
+    }
+}

@@ -1,0 +1,168 @@
+ghost use Rattle.std.specs.Prelude.{◌≡◌, ◌++◌, ◌<◌, length, option_map, IfOk, OnOk};
+ghost use Rattle.std.specs.Option.{ForSome};
+ghost use Rattle.rsl_codec.specs.Fields.{element_of, optional_of, octet_value, number_value, reference_value};
+ghost use Rattle.rsl_codec.specs.Reading.{Gives, breaks_off, channel_at, elements_of, first_of, l3_at, needed_at, number_of, octet_of, optional_l3_at, reference_of, seen};
+
+use crate::table::ELEMENTS;
+use crate::{ChanNo, RequestReference, RslFault};
+use octets::{element, Memory, Octets};
+use std::alloc::Global;
+
+/// The most octets that L3 information has.
+pub(crate) const MAX_L3: usize = 251;
+
+/// Whether the elements behind a message's type end within one of them.
+#[tactic(auto, unfolding(crate::specs::Reading::breaks_off))]
+pub(crate) fn is_cut(body: &[u8]) -> bool
+    ensures { result ≡ breaks_off body.now }
+{
+    element::is_cut(&ELEMENTS, body)
+}
+
+/// The value of the first element with this identifier.
+#[tactic(auto, unfolding(crate::specs::Reading::elements_of))]
+pub(crate) fn value(body: &[u8], id: u8) -> Option<&[u8]>
+    ensures { option_map (λ v. v.now) result ≡ first_of id (elements_of body.now) }
+{
+    element::first_value(&ELEMENTS, body, id)
+}
+
+/// The value of the first element with this identifier, which the message needs.
+pub(crate) fn needed(body: &[u8], id: u8) -> Result<&[u8], RslFault>
+    ensures { seen (λ v. v.now) result ≡ needed_at id (elements_of body.now) }
+{
+    match value(body, id) {
+        Some(value) => Ok(value),
+        None => Err(RslFault::MissingElement(id)),
+    }
+}
+
+/// The channel number in a value of one octet.
+pub(crate) fn channel(value: &[u8]) -> Result<ChanNo, RslFault>
+    ensures { result ≡ channel_at value.now }
+{
+    match value {
+        [octet, ..] => ChanNo::read(*octet),
+        [] => Err(RslFault::BadChannel),
+    }
+}
+
+/// The octet of a value of one octet. The table gives such an element no other size, so the 0 never counts.
+pub(crate) fn octet(value: &[u8]) -> u8
+    ensures { result ≡ octet_of value.now }
+{
+    match value {
+        [octet, ..] => *octet,
+        [] => 0,
+    }
+}
+
+/// The number in a value of two octets, the high one first.
+pub(crate) fn number(value: &[u8]) -> u16
+    ensures { result ≡ number_of value.now }
+{
+    match value {
+        [high, low, ..] => 256 * *high as u16 + *low as u16,
+        _ => 0,
+    }
+}
+
+/// The request reference in a value of three octets.
+pub(crate) fn reference(value: &[u8]) -> RequestReference
+    ensures { result ≡ reference_of value.now }
+{
+    match value {
+        [access, frame @ ..] => RequestReference {
+            access: *access,
+            frame: number(frame),
+        },
+        [] => RequestReference {
+            access: 0,
+            frame: 0,
+        },
+    }
+}
+
+/// A copy of an L3 information: 1 to 251 octets.
+pub(crate) fn l3(alloc: Global, value: &[u8]) -> Result<Octets, RslFault>
+    ensures { Gives (λ x. x) result (l3_at value.now) }
+{
+    if value.is_empty() {
+        return Err(RslFault::Short);
+    }
+    if value.len() > MAX_L3 {
+        return Err(RslFault::TooLong);
+    }
+    Ok(Octets::copy(alloc, value)?)
+}
+
+/// A copy of an L3 information that may be absent.
+pub(crate) fn optional_l3(alloc: Global, value: Option<&[u8]>) -> Result<Option<Octets>, RslFault>
+    ensures { Gives (λ x. x) result (optional_l3_at (option_map (λ v. v.now) value.entry)) }
+{
+    match value {
+        Some(value) => Ok(Some(l3(alloc, value)?)),
+        None => Ok(None),
+    }
+}
+
+/// A copy of a value that may be absent.
+pub(crate) fn optional_octets(alloc: Global, value: Option<&[u8]>) -> Result<Option<Octets>, Memory>
+    ensures { IfOk result (λ o. o ≡ option_map (λ v. v.now) value.entry) }
+{
+    match value {
+        Some(value) => Ok(Some(Octets::copy(alloc, value)?)),
+        None => Ok(None),
+    }
+}
+
+/// Appends an element, in the format that the table has for it.
+#[tactic(auto, unfolding(crate::specs::Fields::element_of))]
+pub(crate) fn put(text: &mut Vec<u8>, id: u8, value: &[u8]) -> Result<(), Memory>
+    requires { length value.now < 256 }
+    ensures { OnOk result (text.new.items ≡ text.old.items ++ element_of id value.now) }
+{
+    if let Some(format) = element::format_of(&ELEMENTS, id) {
+        element::append(text, format, id, value)?;
+    }
+    Ok(())
+}
+
+/// Appends an element of one octet, where it is there.
+pub(crate) fn put_octet(text: &mut Vec<u8>, id: u8, octet: Option<u8>) -> Result<(), Memory>
+    ensures { OnOk result (text.new.items ≡ text.old.items ++ optional_of id (option_map octet_value octet)) }
+{
+    match octet {
+        Some(octet) => put(text, id, &[octet]),
+        None => Ok(()),
+    }
+}
+
+/// Appends an element of two octets, where it is there.
+pub(crate) fn put_number(text: &mut Vec<u8>, id: u8, number: Option<u16>) -> Result<(), Memory>
+    ensures { OnOk result (text.new.items ≡ text.old.items ++ optional_of id (option_map number_value number)) }
+{
+    match number {
+        Some(number) => put(text, id, &[(number / 256) as u8, (number % 256) as u8]),
+        None => Ok(()),
+    }
+}
+
+/// Appends an element of octets, where it is there.
+pub(crate) fn put_octets(text: &mut Vec<u8>, id: u8, octets: Option<&Octets>) -> Result<(), Memory>
+    requires { ForSome octets (λ o. length o.now < 256) }
+    ensures { OnOk result (text.new.items ≡ text.old.items ++ optional_of id (option_map (λ o. o.now) octets.entry)) }
+{
+    match octets {
+        Some(octets) => put(text, id, octets.as_slice()),
+        None => Ok(()),
+    }
+}
+
+/// Appends a request reference: the access information, then the frame, its high octet first.
+pub(crate) fn put_reference(text: &mut Vec<u8>, id: u8, reference: RequestReference) -> Result<(), Memory>
+    ensures { OnOk result (text.new.items ≡ text.old.items ++ element_of id (reference_value reference)) }
+{
+    let frame = reference.frame;
+    put(text, id, &[reference.access, (frame / 256) as u8, (frame % 256) as u8])
+}
