@@ -11,3 +11,6 @@ mod air_link;
 mod base_end;
 mod fault;
 mod laws;
+
+#[cfg(test)]
+mod tests;

@@ -12,3 +12,6 @@ mod fault;
 mod lawful;
 mod laws;
 mod mobile_end;
+
+#[cfg(test)]
+mod tests;
