@@ -4,6 +4,7 @@ use std::alloc::Global;
 use std::test::Fail;
 
 /// What a mobile or its station does.
+#[derive(Drop)]
 enum Step {
     Send([u8; 2]),
     /// The station takes the frame in the air.
