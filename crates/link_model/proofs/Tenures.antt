@@ -39,15 +39,15 @@ activation : (channel number : ℕ) (active : List ℕ) → is_active active num
 activation channel number active idle =
     elim (cases_Bool (nat_eq number channel)) [
       | inl same ↦
-        let number_is : number ≡ channel = eqb-true number channel same in
-        let before : is_active active channel ≡ false = ap (is_active active) (sym number_is) ∙ idle in
-        let after : is_active (active ++ number ∷ []) channel ≡ true =
-            is_active-push active number channel ∙ ap (λ (b : Bool). b || (nat_eq number channel || false)) before ∙ ap (λ (b : Bool). b || false) same in
-        Tenures-at before after (subst (λ (n : ℕ). Tenures channel false (activation_ack n ∷ []) true) (sym number_is) (begins (over true)))
+          let number_is : number ≡ channel = eqb-true number channel same in
+          let before : is_active active channel ≡ false = ap (is_active active) (sym number_is) ∙ idle in
+          let after : is_active (active ++ number ∷ []) channel ≡ true =
+          is_active-push active number channel ∙ ap (λ (b : Bool). b || (nat_eq number channel || false)) before ∙ ap (λ (b : Bool). b || false) same in
+          Tenures-at before after (subst (λ (n : ℕ). Tenures channel false (activation_ack n ∷ []) true) (sym number_is) (begins (over true)))
       | inr other ↦
-        let after : is_active (active ++ number ∷ []) channel ≡ is_active active channel =
-            is_active-push active number channel ∙ ap (λ (b : Bool). is_active active channel || (b || false)) other ∙ or-false (is_active active channel) in
-        Tenures-at refl after (apart refl other (over (is_active active channel)))
+          let after : is_active (active ++ number ∷ []) channel ≡ is_active active channel =
+          is_active-push active number channel ∙ ap (λ (b : Bool). is_active active channel || (b || false)) other ∙ or-false (is_active active channel) in
+          Tenures-at refl after (apart refl other (over (is_active active channel)))
     ]
 
 -- what a mobile brings on an active channel
@@ -55,8 +55,8 @@ bringing : (channel number : ℕ) (active : List ℕ) (message : Rsl) → is_act
 bringing channel number active message up is unbound =
     elim (cases_Bool (nat_eq number channel)) [
       | inl same ↦
-        let here : is_active active channel ≡ true = ap (is_active active) (sym (eqb-true number channel same)) ∙ up in
-        Tenures-at here here (brought (is ∙ same) (over true))
+          let here : is_active active channel ≡ true = ap (is_active active) (sym (eqb-true number channel same)) ∙ up in
+          Tenures-at here here (brought (is ∙ same) (over true))
       | inr other ↦ apart (is ∙ other) unbound (over (is_active active channel))
     ]
 
@@ -66,11 +66,11 @@ is_active-released channel [] = refl
 is_active-released channel (n ∷ ns) =
     elim (cases_Bool (nat_eq n channel)) [
       | inl same ↦
-        ap (λ (active : List ℕ). is_active active channel) (cond-false (not (nat_eq n channel)) (n ∷ filter (λ number. not (nat_eq number channel)) ns) (filter (λ number. not (nat_eq number channel)) ns) (ap not same))
-        ∙ is_active-released channel ns
+          ap (λ (active : List ℕ). is_active active channel) (cond-false (not (nat_eq n channel)) (n ∷ filter (λ number. not (nat_eq number channel)) ns) (filter (λ number. not (nat_eq number channel)) ns) (ap not same))
+          ∙ is_active-released channel ns
       | inr other ↦
-        ap (λ (active : List ℕ). is_active active channel) (cond-true (not (nat_eq n channel)) (n ∷ filter (λ number. not (nat_eq number channel)) ns) (filter (λ number. not (nat_eq number channel)) ns) (ap not other))
-        ∙ ap (λ (b : Bool). b || is_active (filter (λ number. not (nat_eq number channel)) ns) channel) other ∙ is_active-released channel ns
+          ap (λ (active : List ℕ). is_active active channel) (cond-true (not (nat_eq n channel)) (n ∷ filter (λ number. not (nat_eq number channel)) ns) (filter (λ number. not (nat_eq number channel)) ns) (ap not other))
+          ∙ ap (λ (b : Bool). b || is_active (filter (λ number. not (nat_eq number channel)) ns) channel) other ∙ is_active-released channel ns
     ]
 
 is_active-kept : (channel released : ℕ) (active : List ℕ) → nat_eq released channel ≡ false → is_active (filter (λ number. not (nat_eq number released)) active) channel ≡ is_active active channel
@@ -78,22 +78,22 @@ is_active-kept channel released [] differ = refl
 is_active-kept channel released (n ∷ ns) differ =
     elim (cases_Bool (nat_eq n released)) [
       | inl same ↦
-        let away : nat_eq n channel ≡ false = ap (λ (k : ℕ). nat_eq k channel) (eqb-true n released same) ∙ differ in
-        ap (λ (active : List ℕ). is_active active channel) (cond-false (not (nat_eq n released)) (n ∷ filter (λ number. not (nat_eq number released)) ns) (filter (λ number. not (nat_eq number released)) ns) (ap not same))
-        ∙ is_active-kept channel released ns differ ∙ sym (ap (λ (b : Bool). b || is_active ns channel) away)
+          let away : nat_eq n channel ≡ false = ap (λ (k : ℕ). nat_eq k channel) (eqb-true n released same) ∙ differ in
+          ap (λ (active : List ℕ). is_active active channel) (cond-false (not (nat_eq n released)) (n ∷ filter (λ number. not (nat_eq number released)) ns) (filter (λ number. not (nat_eq number released)) ns) (ap not same))
+          ∙ is_active-kept channel released ns differ ∙ sym (ap (λ (b : Bool). b || is_active ns channel) away)
       | inr other ↦
-        ap (λ (active : List ℕ). is_active active channel) (cond-true (not (nat_eq n released)) (n ∷ filter (λ number. not (nat_eq number released)) ns) (filter (λ number. not (nat_eq number released)) ns) (ap not other))
-        ∙ ap (λ (b : Bool). nat_eq n channel || b) (is_active-kept channel released ns differ)
+          ap (λ (active : List ℕ). is_active active channel) (cond-true (not (nat_eq n released)) (n ∷ filter (λ number. not (nat_eq number released)) ns) (filter (λ number. not (nat_eq number released)) ns) (ap not other))
+          ∙ ap (λ (b : Bool). nat_eq n channel || b) (is_active-kept channel released ns differ)
     ]
 
 releasing : (channel released : ℕ) (active : List ℕ) → Tenures channel (is_active active channel) (messages.RfChannelReleaseAck released ∷ []) (is_active (filter (λ number. not (nat_eq number released)) active) channel)
 releasing channel released active =
     elim (cases_Bool (nat_eq released channel)) [
       | inl same ↦
-        let released_is : released ≡ channel = eqb-true released channel same in
-        let after : is_active (filter (λ number. not (nat_eq number released)) active) channel ≡ false =
-            ap (λ (n : ℕ). is_active (filter (λ number. not (nat_eq number n)) active) channel) released_is ∙ is_active-released channel active in
-        Tenures-at refl after (subst (λ (n : ℕ). Tenures channel (is_active active channel) (messages.RfChannelReleaseAck n ∷ []) false) (sym released_is) (ends (over false)))
+          let released_is : released ≡ channel = eqb-true released channel same in
+          let after : is_active (filter (λ number. not (nat_eq number released)) active) channel ≡ false =
+          ap (λ (n : ℕ). is_active (filter (λ number. not (nat_eq number n)) active) channel) released_is ∙ is_active-released channel active in
+          Tenures-at refl after (subst (λ (n : ℕ). Tenures channel (is_active active channel) (messages.RfChannelReleaseAck n ∷ []) false) (sym released_is) (ends (over false)))
       | inr other ↦ Tenures-at refl (is_active-kept channel released active other) (apart refl other (over (is_active active channel)))
     ]
 

@@ -15,11 +15,9 @@ pub fn keeps_tenures()
     // So it is of what a new end gave out, with what waits to be given out.
     ensures given { (station channel : ℕ) (calls : List BaseCall) →
         Tenures channel false (given_by_calls (new_base station) calls ++ (after_calls (new_base station) calls).made) (is_active (after_calls (new_base station) calls).active channel) }
-{
-}
+{}
 
 /// What is given out are the messages that were made, each once and in order. It does nothing.
 pub fn gives_in_order()
     ensures { (base : BaseState) (calls : List BaseCall) → given_by_calls base calls ++ (after_calls base calls).made ≡ base.made ++ made_by_calls base calls }
-{
-}
+{}

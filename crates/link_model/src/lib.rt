@@ -11,6 +11,5 @@ mod air_link;
 mod base_end;
 mod fault;
 mod laws;
-
 #[cfg(test)]
 mod tests;

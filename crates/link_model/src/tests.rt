@@ -18,7 +18,10 @@ fn holds_one_message_and_gives_it_once(rt: HostRuntime) -> Result<(), Fail> {
     let alloc = rt.alloc();
     let mut link = AirLink::new();
     assert!(rt; link.give([0x0a].to_vec(alloc)?).is_ok());
-    assert_eq!(rt; link.give([0x0b].to_vec(alloc)?), Err([0x0b].to_vec(alloc)?));
+    assert_eq!(rt;
+        link.give([0x0b].to_vec(alloc)?),
+        Err([0x0b].to_vec(alloc)?)
+    );
     assert!(rt; !link.ack());
     assert_eq!(rt; link.reach(), Some([0x0a].as_slice()));
     assert_eq!(rt; link.reach(), None);
@@ -32,7 +35,10 @@ fn acknowledges_activation_and_release(rt: HostRuntime) -> Result<(), Fail> {
     let alloc = rt.alloc();
     let channel = ChanNo::read(0x41)?;
     let mut base = BaseEnd::new(alloc, 1);
-    assert_eq!(rt; base.up(channel, Sapi::Zero, &[0x05, 0x24]), Err(LinkFault::NotActive));
+    assert_eq!(rt;
+        base.up(channel, Sapi::Zero, &[0x05, 0x24]),
+        Err(LinkFault::NotActive)
+    );
     base.activate(channel)?;
     assert_eq!(rt; base.activate(channel), Err(LinkFault::Busy));
     base.release(channel)?;
@@ -40,7 +46,10 @@ fn acknowledges_activation_and_release(rt: HostRuntime) -> Result<(), Fail> {
         next_text(alloc, &mut base)?.as_slice(),
         [0x08, 0x22, 0x01, 0x41, 0x08, 0x00, 0x00].as_slice()
     );
-    assert_eq!(rt; next_text(alloc, &mut base)?.as_slice(), [0x08, 0x33, 0x01, 0x41].as_slice());
+    assert_eq!(rt;
+        next_text(alloc, &mut base)?.as_slice(),
+        [0x08, 0x33, 0x01, 0x41].as_slice()
+    );
     assert!(rt; base.next().is_none());
     Ok(())
 }
@@ -64,8 +73,12 @@ fn tells_what_a_mobile_brings(rt: HostRuntime) -> Result<(), Fail> {
     let texts: [&[u8]; 4] = [
         &[0x0c, 0x13, 0x01, 0x88, 0x13, 0x01, 0x00, 0x00, 0x11, 0x00],
         &[0x08, 0x22, 0x01, 0x41, 0x08, 0x00, 0x00],
-        &[0x02, 0x06, 0x01, 0x41, 0x02, 0x00, 0x0b, 0x00, 0x03, 0x05, 0x24, 0x71],
-        &[0x03, 0x02, 0x01, 0x41, 0x02, 0x03, 0x0b, 0x00, 0x02, 0x09, 0x01],
+        &[
+            0x02, 0x06, 0x01, 0x41, 0x02, 0x00, 0x0b, 0x00, 0x03, 0x05, 0x24, 0x71,
+        ],
+        &[
+            0x03, 0x02, 0x01, 0x41, 0x02, 0x03, 0x0b, 0x00, 0x02, 0x09, 0x01,
+        ],
     ];
     for text in texts {
         assert_eq!(rt; next_text(alloc, &mut base)?.as_slice(), text);

@@ -61,9 +61,9 @@ IsKept-same old new modulus sent = record { modulus = modulus; more = []; sent =
 
 IsKept-then : {old mid new : MobileState} → IsKept old mid → IsKept mid new → IsKept old new
 IsKept-then {old} {mid} {new} one two = record {
-    modulus = two.modulus ∙ one.modulus;
-    more = one.more ++ two.more;
-    sent = two.sent ∙ ap (λ (xs : List (List ℕ)). xs ++ two.more) one.sent ∙ append_assoc old.sent one.more two.more
+  modulus = two.modulus ∙ one.modulus;
+  more = one.more ++ two.more;
+  sent = two.sent ∙ ap (λ (xs : List (List ℕ)). xs ++ two.more) one.sent ∙ append_assoc old.sent one.more two.more;
 }
 
 IsKept-with_link : (mobile : MobileState) (sapi : Sapi) (link : DataLinkState) → IsKept mobile (with_link mobile sapi link)
@@ -134,9 +134,9 @@ IsLastTaken-queueing mobile taken sapi message last =
 
 IsGoing-queueing : (m : ℕ) (before : List (List ℕ)) (mobile : MobileState) (taken : List (List ℕ)) (sapi : Sapi) (message : List ℕ) → has_clear_number message ≡ true → IsGoing m before mobile taken → IsGoing m before (queueing mobile sapi message) taken
 IsGoing-queueing m before mobile taken sapi message clear going = record {
-    numbered = IsNumbered-queueing before mobile taken sapi message clear going.numbered;
-    last = IsLastTaken-queueing mobile taken sapi message going.last;
-    modulus = (IsKept-queueing mobile sapi message).modulus ∙ going.modulus
+  numbered = IsNumbered-queueing before mobile taken sapi message clear going.numbered;
+  last = IsLastTaken-queueing mobile taken sapi message going.last;
+  modulus = (IsKept-queueing mobile sapi message).modulus ∙ going.modulus;
 }
 
 IsGoing-connect : (m : ℕ) (before : List (List ℕ)) (mobile : MobileState) (taken : List (List ℕ)) (initial : Option (List ℕ)) → IsGoing m before mobile taken → IsGoing m before (unless_refused (refusal_of_connect initial) mobile (after_connect mobile initial)) taken
@@ -146,9 +146,9 @@ IsGoing-connect m before mobile taken None going =
 IsGoing-connect m before mobile taken (Some initial) going =
     unless_refused-by (λ new. IsGoing m before new taken) (is_initial initial) None mobile (after_connect mobile (Some initial)) going
     (λ lawful.
-        let queued = IsGoing-queueing m before mobile taken Zero initial (is_initial-clear initial lawful) going in
-        let numbered = queued.numbered in
-        record { numbered = record { after = numbered.after; parts = numbered.parts; numbers = numbered.numbers; clear = numbered.clear }; last = queued.last; modulus = queued.modulus })
+    let queued = IsGoing-queueing m before mobile taken Zero initial (is_initial-clear initial lawful) going in
+    let numbered = queued.numbered in
+    record { numbered = record { after = numbered.after; parts = numbered.parts; numbers = numbered.numbers; clear = numbered.clear }; last = queued.last; modulus = queued.modulus })
 
 -- what a frame of SAPI 3 or an acknowledgement changes isn't seen on SAPI 0
 IsGoing-frame_three : (m : ℕ) (before : List (List ℕ)) (stage : Stage) (place : Place) (mobile : MobileState) (taken : List (List ℕ)) → IsGoing m before mobile taken → IsGoing m before (after_frame_at stage place mobile Three) taken
@@ -183,17 +183,17 @@ IsGoing-call m before mobile taken (connects initial) doesnt going =
     nothing_taken m before _ taken (unless_connected-by (λ new. IsGoing m before new taken) mobile.stage mobile _ going (IsGoing-connect m before mobile taken initial going))
 IsGoing-call m before mobile taken (sends sapi message) doesnt going =
     nothing_taken m before _ taken (unless_refused-by (λ new. IsGoing m before new taken) (is_sendable sapi message) (refusal_before_connect mobile.stage) mobile (queueing mobile sapi message) going
-        (λ lawful. IsGoing-queueing m before mobile taken sapi message (is_sendable-clear sapi message lawful) going))
+    (λ lawful. IsGoing-queueing m before mobile taken sapi message (is_sendable-clear sapi message lawful) going))
 IsGoing-call m before mobile taken (frames Zero) doesnt going = record {
-    numbered = IsNumbered-frame before mobile.stage mobile.place mobile taken going.numbered;
-    last = IsLastTaken-frame mobile.stage mobile.place mobile taken going.last;
-    modulus = (IsKept-frame mobile.stage mobile.place mobile Zero).modulus ∙ going.modulus
+  numbered = IsNumbered-frame before mobile.stage mobile.place mobile taken going.numbered;
+  last = IsLastTaken-frame mobile.stage mobile.place mobile taken going.last;
+  modulus = (IsKept-frame mobile.stage mobile.place mobile Zero).modulus ∙ going.modulus;
 }
 IsGoing-call m before mobile taken (frames Three) doesnt going = nothing_taken m before _ taken (IsGoing-frame_three m before mobile.stage mobile.place mobile taken going)
 IsGoing-call m before mobile taken (acknowledges sapi) doesnt going = nothing_taken m before _ taken (record {
-    numbered = IsNumbered-acked before mobile.place mobile taken sapi going.numbered;
-    last = IsLastTaken-acked mobile.place mobile taken sapi going.last;
-    modulus = (IsKept-acked mobile.place mobile sapi).modulus ∙ going.modulus
+  numbered = IsNumbered-acked before mobile.place mobile taken sapi going.numbered;
+  last = IsLastTaken-acked mobile.place mobile taken sapi going.last;
+  modulus = (IsKept-acked mobile.place mobile sapi).modulus ∙ going.modulus;
 })
 IsGoing-call m before mobile taken leaves doesnt going =
     let numbered = going.numbered in
@@ -228,9 +228,9 @@ record IsArrival (mobile : MobileState) (call : Call) : Type 0 where
 
 arrival_of : (mobile : MobileState) (control : List ℕ) (call : Call) → may_arrive mobile control ≡ true → after_call mobile call ≡ cond (may_arrive mobile control) (after_arrival mobile control) mobile → IsArrival mobile call
 arrival_of mobile control call does is = record {
-    control = control;
-    is_one = second_so _ (is_control control) does;
-    arrived = is ∙ cond-true (may_arrive mobile control) (after_arrival mobile control) mobile does
+  control = control;
+  is_one = second_so _ (is_control control) does;
+  arrived = is ∙ cond-true (may_arrive mobile control) (after_arrival mobile control) mobile does;
 }
 
 IsArrival-begins : (mobile : MobileState) (call : Call) → begins mobile call ≡ true → IsArrival mobile call
@@ -251,18 +251,18 @@ OneRepeat-calls m before mobile taken [] going =
 OneRepeat-calls m before mobile taken (call ∷ calls) going =
     elim (cases_Bool (begins mobile call)) [
       | inl does ↦
-        let arrival = IsArrival-begins mobile call does in
-        let cut = arrival-cut m before mobile taken going in
-        let next : IsGoing m cut.next (after_call mobile call) [] =
-            subst (λ (new : MobileState). IsGoing m cut.next new []) (sym arrival.arrived) (arrival-going m before mobile taken arrival.control arrival.is_one going) in
-        let later = OneRepeat-calls m cut.next (after_call mobile call) [] calls next in
-        let kept = IsKept-then (IsKept-call mobile call) (IsKept-calls (after_call mobile call) calls) in
-        begun m (after_calls mobile (call ∷ calls)).sent (length before) mobile taken call calls does
-        (subst (λ (xs : List (List ℕ)). OneRepeat m xs (length before) (taken ∷ establishments (after_call mobile call) [] calls)) (sym kept.sent)
-            (OneRepeat-cut m before mobile.sent kept.more taken _ _ cut (subst (λ (xs : List (List ℕ)). OneRepeat m xs (length cut.next) (establishments (after_call mobile call) [] calls)) kept.sent later)))
+          let arrival = IsArrival-begins mobile call does in
+          let cut = arrival-cut m before mobile taken going in
+          let next : IsGoing m cut.next (after_call mobile call) [] =
+          subst (λ (new : MobileState). IsGoing m cut.next new []) (sym arrival.arrived) (arrival-going m before mobile taken arrival.control arrival.is_one going) in
+          let later = OneRepeat-calls m cut.next (after_call mobile call) [] calls next in
+          let kept = IsKept-then (IsKept-call mobile call) (IsKept-calls (after_call mobile call) calls) in
+          begun m (after_calls mobile (call ∷ calls)).sent (length before) mobile taken call calls does
+          (subst (λ (xs : List (List ℕ)). OneRepeat m xs (length before) (taken ∷ establishments (after_call mobile call) [] calls)) (sym kept.sent)
+          (OneRepeat-cut m before mobile.sent kept.more taken _ _ cut (subst (λ (xs : List (List ℕ)). OneRepeat m xs (length cut.next) (establishments (after_call mobile call) [] calls)) kept.sent later)))
       | inr doesnt ↦
-        went_on m (after_calls mobile (call ∷ calls)).sent (length before) mobile taken call calls doesnt
-        (OneRepeat-calls m before (after_call mobile call) (taken ++ taken_by_call mobile call) calls (IsGoing-call m before mobile taken call doesnt going))
+          went_on m (after_calls mobile (call ∷ calls)).sent (length before) mobile taken call calls doesnt
+          (OneRepeat-calls m before (after_call mobile call) (taken ++ taken_by_call mobile call) calls (IsGoing-call m before mobile taken call doesnt going))
     ]
 
 -- nothing was taken of a mobile that never sent
@@ -286,12 +286,12 @@ joined-establishments mobile taken (call ∷ calls) =
     let behind : List (List ℕ) = taken_by_calls (after_call mobile call) calls in
     elim (cases_Bool (begins mobile call)) [
       | inl does ↦
-        ap joined (cond-true (begins mobile call) (taken ∷ establishments (after_call mobile call) [] calls) (establishments (after_call mobile call) (taken ++ taken_by_call mobile call) calls) does)
-        ∙ ap (λ (xs : List (List ℕ)). taken ++ xs) (joined-establishments (after_call mobile call) [] calls)
-        ∙ ap (λ (xs : List (List ℕ)). taken ++ (xs ++ behind)) (sym (taken_by_call-begins mobile call does))
+          ap joined (cond-true (begins mobile call) (taken ∷ establishments (after_call mobile call) [] calls) (establishments (after_call mobile call) (taken ++ taken_by_call mobile call) calls) does)
+          ∙ ap (λ (xs : List (List ℕ)). taken ++ xs) (joined-establishments (after_call mobile call) [] calls)
+          ∙ ap (λ (xs : List (List ℕ)). taken ++ (xs ++ behind)) (sym (taken_by_call-begins mobile call does))
       | inr doesnt ↦
-        ap joined (cond-false (begins mobile call) (taken ∷ establishments (after_call mobile call) [] calls) (establishments (after_call mobile call) (taken ++ taken_by_call mobile call) calls) doesnt)
-        ∙ joined-establishments (after_call mobile call) (taken ++ taken_by_call mobile call) calls ∙ append_assoc taken (taken_by_call mobile call) behind
+          ap joined (cond-false (begins mobile call) (taken ∷ establishments (after_call mobile call) [] calls) (establishments (after_call mobile call) (taken ++ taken_by_call mobile call) calls) doesnt)
+          ∙ joined-establishments (after_call mobile call) (taken ++ taken_by_call mobile call) calls ∙ append_assoc taken (taken_by_call mobile call) behind
     ]
 
 -- what was sent is clear
@@ -300,9 +300,9 @@ AreClear-calls m before mobile taken [] going = going.numbered.clear
 AreClear-calls m before mobile taken (call ∷ calls) going =
     elim (cases_Bool (begins mobile call)) [
       | inl does ↦
-        let arrival = IsArrival-begins mobile call does in
-        let next = subst (λ (new : MobileState). IsGoing m (arrival-cut m before mobile taken going).next new []) (sym arrival.arrived) (arrival-going m before mobile taken arrival.control arrival.is_one going) in
-        AreClear-calls m (arrival-cut m before mobile taken going).next (after_call mobile call) [] calls next
+          let arrival = IsArrival-begins mobile call does in
+          let next = subst (λ (new : MobileState). IsGoing m (arrival-cut m before mobile taken going).next new []) (sym arrival.arrived) (arrival-going m before mobile taken arrival.control arrival.is_one going) in
+          AreClear-calls m (arrival-cut m before mobile taken going).next (after_call mobile call) [] calls next
       | inr doesnt ↦ AreClear-calls m before (after_call mobile call) (taken ++ taken_by_call mobile call) calls (IsGoing-call m before mobile taken call doesnt going)
     ]
 

@@ -87,16 +87,16 @@ IsNumbered-numbering before mobile taken message clear so_far =
           ap (filter is_flow_message) (to_be_taken-one_more taken mobile.zero (numbered (length mobile.sent % mobile.modulus) message))
           ∙ ap (λ (n : ℕ). filter is_flow_message ((taken ++ to_be_taken mobile.zero) ++ numbered (n % mobile.modulus) message ∷ [])) (sym place)
           ∙ one_more;
-      clear = AreClear-push mobile.sent message so_far.clear clear
+      clear = AreClear-push mobile.sent message so_far.clear clear;
     }
 
 -- a message of another protocol that waits
 IsNumbered-waiting : (before : List (List ℕ)) (mobile : MobileState) (taken : List (List ℕ)) (sapi : Sapi) (message : List ℕ) → is_flow_message message ≡ false → IsNumbered before mobile taken → IsNumbered before (with_link mobile sapi (waits (link_of mobile sapi) message)) taken
 IsNumbered-waiting before mobile taken Zero message apart so_far = record {
-    after = so_far.after;
-    parts = so_far.parts;
-    numbers = ap (filter is_flow_message) (to_be_taken-one_more taken mobile.zero message) ∙ numbers-other (taken ++ to_be_taken mobile.zero) _ message apart so_far.numbers;
-    clear = so_far.clear
+  after = so_far.after;
+  parts = so_far.parts;
+  numbers = ap (filter is_flow_message) (to_be_taken-one_more taken mobile.zero message) ∙ numbers-other (taken ++ to_be_taken mobile.zero) _ message apart so_far.numbers;
+  clear = so_far.clear;
 }
 IsNumbered-waiting before mobile taken Three message apart so_far = record { after = so_far.after; parts = so_far.parts; numbers = so_far.numbers; clear = so_far.clear }
 
@@ -113,23 +113,23 @@ pub IsNumbered-frame : (before : List (List ℕ)) (stage : Stage) (place : Place
 IsNumbered-frame before New place mobile taken so_far = subst (λ (xs : List (List ℕ)). IsNumbered before mobile xs) (sym (append-nil taken)) so_far
 IsNumbered-frame before Connected Moving mobile taken so_far = subst (λ (xs : List (List ℕ)). IsNumbered before mobile xs) (sym (append-nil taken)) so_far
 IsNumbered-frame before Connected OnChannel mobile taken so_far = record {
-    after = so_far.after;
-    parts = so_far.parts;
-    numbers =
-        ap (filter is_flow_message) (append_assoc taken (option_to_list (lent mobile.zero)) (to_be_taken (after_lending mobile.zero))
-            ∙ ap (λ (xs : List (List ℕ)). taken ++ xs) (to_be_taken-lent mobile.zero.waiting mobile.zero.air))
-        ∙ so_far.numbers;
-    clear = so_far.clear
+  after = so_far.after;
+  parts = so_far.parts;
+  numbers =
+      ap (filter is_flow_message) (append_assoc taken (option_to_list (lent mobile.zero)) (to_be_taken (after_lending mobile.zero))
+      ∙ ap (λ (xs : List (List ℕ)). taken ++ xs) (to_be_taken-lent mobile.zero.waiting mobile.zero.air))
+      ∙ so_far.numbers;
+  clear = so_far.clear;
 }
 
 -- an acknowledgement leaves it so
 pub IsNumbered-acked : (before : List (List ℕ)) (place : Place) (mobile : MobileState) (taken : List (List ℕ)) (sapi : Sapi) → IsNumbered before mobile taken → IsNumbered before (after_acked_at place mobile sapi) taken
 IsNumbered-acked before Moving mobile taken sapi so_far = so_far
 IsNumbered-acked before OnChannel mobile taken Zero so_far = record {
-    after = so_far.after;
-    parts = so_far.parts;
-    numbers = ap (λ (xs : List (List ℕ)). filter is_flow_message (taken ++ xs)) (to_be_taken-acknowledged mobile.zero.waiting mobile.zero.air) ∙ so_far.numbers;
-    clear = so_far.clear
+  after = so_far.after;
+  parts = so_far.parts;
+  numbers = ap (λ (xs : List (List ℕ)). filter is_flow_message (taken ++ xs)) (to_be_taken-acknowledged mobile.zero.waiting mobile.zero.air) ∙ so_far.numbers;
+  clear = so_far.clear;
 }
 IsNumbered-acked before OnChannel mobile taken Three so_far = record { after = so_far.after; parts = so_far.parts; numbers = so_far.numbers; clear = so_far.clear }
 

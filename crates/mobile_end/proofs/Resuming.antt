@@ -29,13 +29,13 @@ without_control-flow [] = refl
 without_control-flow (x ∷ xs) =
     elim (cases_Bool (is_control x)) [
       | inl control ↦
-        let dropped : without_control (x ∷ xs) ≡ without_control xs = cond-false (not (is_control x)) (x ∷ without_control xs) (without_control xs) (ap not control) in
-        let apart : filter is_flow_message (x ∷ xs) ≡ filter is_flow_message xs = cond-false (is_flow_message x) (x ∷ filter is_flow_message xs) (filter is_flow_message xs) (is_control-apart x control) in
-        ap (filter is_flow_message) dropped ∙ without_control-flow xs ∙ sym apart
+          let dropped : without_control (x ∷ xs) ≡ without_control xs = cond-false (not (is_control x)) (x ∷ without_control xs) (without_control xs) (ap not control) in
+          let apart : filter is_flow_message (x ∷ xs) ≡ filter is_flow_message xs = cond-false (is_flow_message x) (x ∷ filter is_flow_message xs) (filter is_flow_message xs) (is_control-apart x control) in
+          ap (filter is_flow_message) dropped ∙ without_control-flow xs ∙ sym apart
       | inr other ↦
-        let stays : without_control (x ∷ xs) ≡ x ∷ without_control xs = cond-true (not (is_control x)) (x ∷ without_control xs) (without_control xs) (ap not other) in
-        ap (filter is_flow_message) stays ∙ filter-append is_flow_message (x ∷ []) (without_control xs)
-        ∙ ap (λ (ys : List (List ℕ)). filter is_flow_message (x ∷ []) ++ ys) (without_control-flow xs) ∙ sym (filter-append is_flow_message (x ∷ []) xs)
+          let stays : without_control (x ∷ xs) ≡ x ∷ without_control xs = cond-true (not (is_control x)) (x ∷ without_control xs) (without_control xs) (ap not other) in
+          ap (filter is_flow_message) stays ∙ filter-append is_flow_message (x ∷ []) (without_control xs)
+          ∙ ap (λ (ys : List (List ℕ)). filter is_flow_message (x ∷ []) ++ ys) (without_control-flow xs) ∙ sym (filter-append is_flow_message (x ∷ []) xs)
     ]
 
 -- numbers in two parts number two parts
@@ -48,10 +48,13 @@ numbered_from-split m k (z ∷ zs) (x ∷ xs) ys is =
     let behind : xs ++ ys ≡ numbered_from m (k + 1) zs = cc in
     let parts = numbered_from-split m (k + 1) zs xs ys behind in
     let first_is : x ≡ numbered (k % m) z = cc in
-    let here : k + 1 + length parts.0 ≡ k + length (z ∷ parts.0) = omega arith in
-    (z ∷ parts.0, parts.1, ap (λ (list : List (List ℕ)). z ∷ list) parts.2,
-        ap (λ (first : List ℕ). first ∷ xs) first_is ∙ ap (λ (list : List (List ℕ)). numbered (k % m) z ∷ list) parts.3,
-        parts.4 ∙ ap (λ (n : ℕ). numbered_from m n parts.1) here)
+    let here : k + 1 + length parts.0 ≡ k + length (z ∷ parts.0) = omega arith in (
+      z ∷ parts.0,
+      parts.1,
+      ap (λ (list : List (List ℕ)). z ∷ list) parts.2,
+      ap (λ (first : List ℕ). first ∷ xs) first_is ∙ ap (λ (list : List (List ℕ)). numbered (k % m) z ∷ list) parts.3,
+      parts.4 ∙ ap (λ (n : ℕ). numbered_from m n parts.1) here,
+    )
 
 -- a message that the station took and that wasn't acknowledged is the last that it took
 abbrev pub IsLastTaken : Air → List (List ℕ) → Type 0
@@ -91,7 +94,7 @@ cut-after m before after sent taken unsent parts numbers =
       others = halves.1;
       next_parts = append_assoc before halves.0 halves.1 ∙ whole;
       unsent_is = halves.4 ∙ ap (λ (n : ℕ). numbered_from m n halves.1) (sym (length-append before halves.0));
-      begins = inl (length-append before halves.0)
+      begins = inl (length-append before halves.0);
     }
 
 -- a message apart from the flow may be moved over the cut
@@ -109,13 +112,13 @@ cut-at_last : (m : ℕ) (before after sent others waiting : List (List ℕ)) (x 
 cut-at_last m before after sent others waiting x flow parts numbers =
     let alone : filter is_flow_message (x ∷ []) ≡ x ∷ [] = cond-true (is_flow_message x) (x ∷ []) [] flow in
     let earlier = numbered_from-split m (length before) after (filter is_flow_message others) (filter is_flow_message (x ∷ waiting))
-        (sym (filter-append is_flow_message others (x ∷ waiting)) ∙ ap (filter is_flow_message) (sym (append_assoc others (x ∷ []) waiting)) ∙ numbers) in
+    (sym (filter-append is_flow_message others (x ∷ waiting)) ∙ ap (filter is_flow_message) (sym (append_assoc others (x ∷ []) waiting)) ∙ numbers) in
     let later = numbered_from-split m (length before + length earlier.0) earlier.1 (filter is_flow_message (x ∷ [])) (filter is_flow_message waiting)
-        (sym (filter-append is_flow_message (x ∷ []) waiting) ∙ earlier.4) in
+    (sym (filter-append is_flow_message (x ∷ []) waiting) ∙ earlier.4) in
     let one : length later.0 ≡ 1 = one_number m (length before + length earlier.0) x later.0 (sym alone ∙ later.3) in
     let joined : (before ++ earlier.0) ++ earlier.1 ≡ sent = append_assoc before earlier.0 earlier.1 ∙ ap (λ (xs : List (List ℕ)). before ++ xs) earlier.2 ∙ parts in
     let regrouped : before ++ ((earlier.0 ++ later.0) ++ later.1) ≡ sent =
-        ap (λ (xs : List (List ℕ)). before ++ xs) (append_assoc earlier.0 later.0 later.1 ∙ ap (λ (xs : List (List ℕ)). earlier.0 ++ xs) later.2 ∙ earlier.2) ∙ parts in
+    ap (λ (xs : List (List ℕ)). before ++ xs) (append_assoc earlier.0 later.0 later.1 ∙ ap (λ (xs : List (List ℕ)). earlier.0 ++ xs) later.2 ∙ earlier.2) ∙ parts in
     let place : length (before ++ earlier.0) ≡ length before + length earlier.0 = length-append before earlier.0 in
     let both : length (earlier.0 ++ later.0) ≡ length earlier.0 + length later.0 = length-append earlier.0 later.0 in
     record {
@@ -129,7 +132,7 @@ cut-at_last m before after sent others waiting x flow parts numbers =
       others = earlier.1;
       next_parts = joined;
       unsent_is = earlier.4 ∙ ap (λ (n : ℕ). numbered_from m n earlier.1) (sym place);
-      begins = inr (omega (arith, place, both, one), omega (arith, place))
+      begins = inr (omega (arith, place, both, one), omega (arith, place));
     }
 
 -- the two cases of the message in the air
@@ -139,13 +142,13 @@ cut-by m before after sent taken waiting (Given x) parts last numbers = cut-afte
 cut-by m before after sent taken waiting (Reached x) parts last numbers =
     elim (cases_Bool (is_flow_message x)) [
       | inl flow ↦
-        let at_last = cut-at_last m before after sent last.0 waiting x flow parts (ap (λ (xs : List (List ℕ)). filter is_flow_message (xs ++ waiting)) (sym last.1) ∙ numbers) in
-        subst (λ (xs : List (List ℕ)). IsCut m before sent xs (x ∷ waiting)) (sym last.1) at_last
+          let at_last = cut-at_last m before after sent last.0 waiting x flow parts (ap (λ (xs : List (List ℕ)). filter is_flow_message (xs ++ waiting)) (sym last.1) ∙ numbers) in
+          subst (λ (xs : List (List ℕ)). IsCut m before sent xs (x ∷ waiting)) (sym last.1) at_last
       | inr apart ↦
-        let passed : filter is_flow_message (taken ++ (x ∷ waiting)) ≡ numbered_from m (length before) after =
-            filter-append is_flow_message taken (x ∷ waiting) ∙ ap (λ (xs : List (List ℕ)). filter is_flow_message taken ++ xs) (filter-apart x waiting apart)
-            ∙ sym (filter-append is_flow_message taken waiting) ∙ numbers in
-        cut-after m before after sent taken (x ∷ waiting) parts passed
+          let passed : filter is_flow_message (taken ++ (x ∷ waiting)) ≡ numbered_from m (length before) after =
+          filter-append is_flow_message taken (x ∷ waiting) ∙ ap (λ (xs : List (List ℕ)). filter is_flow_message taken ++ xs) (filter-apart x waiting apart)
+          ∙ sym (filter-append is_flow_message taken waiting) ∙ numbers in
+          cut-after m before after sent taken (x ∷ waiting) parts passed
     ]
 
 -- the cut that a change of channel makes
@@ -165,8 +168,8 @@ arrival-going m before mobile taken control is going =
         numbers =
             filter-apart control (without_control (outstanding mobile.zero)) (is_control-apart control is) ∙ without_control-flow (outstanding mobile.zero)
             ∙ cut.unsent_is ∙ ap (λ (n : ℕ). numbered_from n (length cut.next) cut.others) (sym going.modulus);
-        clear = going.numbered.clear
+        clear = going.numbered.clear;
       };
       last = tt;
-      modulus = going.modulus
+      modulus = going.modulus;
     }

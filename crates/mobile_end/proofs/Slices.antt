@@ -22,7 +22,7 @@ IsSlice-of_parts m sent before part rest xs e parts taken end =
     record {
       begins = omega arith;
       ends = omega (arith, whole, end);
-      taken = taken ∙ ap (numbered_from m (length before)) (sym here)
+      taken = taken ∙ ap (numbered_from m (length before)) (sym here);
     }
 
 -- the sent list in three parts, the slice in the middle
@@ -34,7 +34,7 @@ slice_parts sent b e slice =
     let before : length (take b sent) ≡ b = length-take b sent ∙ omega arith in
     let rest : length (drop e sent) ≡ length sent - e = length-drop e sent in
     let all : length (take b sent) + (length (slice_range sent b e) + length (drop e sent)) ≡ length sent =
-        ap (λ (n : ℕ). length (take b sent) + n) (sym (length-append (slice_range sent b e) (drop e sent))) ∙ sym (length-append (take b sent) (slice_range sent b e ++ drop e sent)) ∙ ap length whole in
+    ap (λ (n : ℕ). length (take b sent) + n) (sym (length-append (slice_range sent b e) (drop e sent))) ∙ sym (length-append (take b sent) (slice_range sent b e ++ drop e sent)) ∙ ap length whole in
     (whole, before, omega (arith, before, rest, all, begins, ends))
 
 -- a slice stays when more is sent
@@ -42,8 +42,8 @@ pub IsSlice-grow : (m : ℕ) (sent more : List (List ℕ)) (b e : ℕ) (xs : Lis
 IsSlice-grow m sent more b e xs slice =
     let halves = slice_parts sent b e slice in
     let longer : take b sent ++ (slice_range sent b e ++ (drop e sent ++ more)) ≡ sent ++ more =
-        ap (λ (ys : List (List ℕ)). take b sent ++ ys) (sym (append_assoc (slice_range sent b e) (drop e sent) more))
-        ∙ sym (append_assoc (take b sent) (slice_range sent b e ++ drop e sent) more) ∙ ap (λ (ys : List (List ℕ)). ys ++ more) halves.0 in
+    ap (λ (ys : List (List ℕ)). take b sent ++ ys) (sym (append_assoc (slice_range sent b e) (drop e sent) more))
+    ∙ sym (append_assoc (take b sent) (slice_range sent b e ++ drop e sent) more) ∙ ap (λ (ys : List (List ℕ)). ys ++ more) halves.0 in
     let grown = IsSlice-of_parts m (sent ++ more) (take b sent) (slice_range sent b e) (drop e sent ++ more) xs e longer (slice.taken ∙ ap (λ (k : ℕ). numbered_from m k (slice_range sent b e)) (sym halves.1)) (halves.2 ∙ ap (λ (k : ℕ). k + length (slice_range sent b e)) (sym halves.1)) in
     subst (λ (k : ℕ). IsSlice m (sent ++ more) k e xs) halves.1 grown
 
@@ -75,14 +75,14 @@ Rise-again m sent before y part rest [] parts clear taken = absurd cc
 Rise-again m sent before y part rest (x ∷ xs) parts clear taken =
     elim (cases_Bool (is_flow_message x)) [
       | inl flow ↦
-        let first : x ∷ filter is_flow_message xs ≡ numbered (length before % m) y ∷ numbered_from m (length before + 1) part = sym (cond-true (is_flow_message x) _ _ flow) ∙ taken in
-        let x_is : x ≡ numbered (length before % m) y = cc in
-        let behind : filter is_flow_message xs ≡ numbered_from m (length before + 1) part = cc in
-        let place : length (before ++ y ∷ []) ≡ length before + 1 = length-append before (y ∷ []) in
-        let regrouped : (before ++ y ∷ []) ++ (part ++ rest) ≡ sent = append_assoc before (y ∷ []) (part ++ rest) ∙ parts in
-        let here = subst (λ (list : List (List ℕ)). slice_get list (length before) ≡ Some y) parts (slice_get-append_seam before y (part ++ rest)) in
-        let later = Rise-part m sent (before ++ y ∷ []) part rest xs regrouped clear.1 (behind ∙ ap (λ (k : ℕ). numbered_from m k part) (sym place)) in
-        again refl (record { message = y; is_sent = here; is_clear = clear.0; carries = x_is }) (subst (λ (k : ℕ). Rise m sent k xs (k + length part)) place later)
+          let first : x ∷ filter is_flow_message xs ≡ numbered (length before % m) y ∷ numbered_from m (length before + 1) part = sym (cond-true (is_flow_message x) _ _ flow) ∙ taken in
+          let x_is : x ≡ numbered (length before % m) y = cc in
+          let behind : filter is_flow_message xs ≡ numbered_from m (length before + 1) part = cc in
+          let place : length (before ++ y ∷ []) ≡ length before + 1 = length-append before (y ∷ []) in
+          let regrouped : (before ++ y ∷ []) ++ (part ++ rest) ≡ sent = append_assoc before (y ∷ []) (part ++ rest) ∙ parts in
+          let here = subst (λ (list : List (List ℕ)). slice_get list (length before) ≡ Some y) parts (slice_get-append_seam before y (part ++ rest)) in
+          let later = Rise-part m sent (before ++ y ∷ []) part rest xs regrouped clear.1 (behind ∙ ap (λ (k : ℕ). numbered_from m k part) (sym place)) in
+          again refl (record { message = y; is_sent = here; is_clear = clear.0; carries = x_is }) (subst (λ (k : ℕ). Rise m sent k xs (k + length part)) place later)
       | inr apart ↦ other apart (Rise-again m sent before y part rest xs parts clear (sym (cond-false (is_flow_message x) _ _ apart) ∙ taken))
     ]
 
@@ -111,7 +111,7 @@ Rise-slice m sent xs b e n clear slice at =
     let behind = (AreClear-split (take b sent) (slice_range sent b e ++ drop e sent) split).1 in
     let middle = (AreClear-split (slice_range sent b e) (drop e sent) behind).0 in
     let made = Rise-slice_by m sent (take b sent) (slice_range sent b e) (drop e sent) xs n parts.0 middle
-        (slice.taken ∙ ap (λ (k : ℕ). numbered_from m k (slice_range sent b e)) (sym parts.1)) (subst (IsAt n) (sym parts.1) at) in
+    (slice.taken ∙ ap (λ (k : ℕ). numbered_from m k (slice_range sent b e)) (sym parts.1)) (subst (IsAt n) (sym parts.1) at) in
     let end : length (take b sent) + length (slice_range sent b e) ≡ e = ap (λ (k : ℕ). k + length (slice_range sent b e)) parts.1 ∙ sym parts.2 in
     (made.0, made.1, subst (λ (k : ℕ). ComesTo k e made.0) parts.1 (subst (λ (k : ℕ). ComesTo (length (take b sent)) k made.0) end made.2))
 

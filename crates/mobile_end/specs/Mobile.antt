@@ -42,7 +42,7 @@ abbrev pub numbering : MobileState → List ℕ → MobileState
 numbering mobile message =
     record mobile {
       sent = mobile.sent ++ message ∷ [];
-      zero = waits mobile.zero (numbered (length mobile.sent % mobile.modulus) message)
+      zero = waits mobile.zero (numbered (length mobile.sent % mobile.modulus) message);
     }
 
 -- the mobile once a message of the upper layers waits

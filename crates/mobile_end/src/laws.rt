@@ -9,11 +9,9 @@ ghost use Rattle.mobile_end.specs.OneRepeat.{OneRepeat};
 /// the last ended, or at its last message. It is a law on the definitions that the calls' contracts cite: it does nothing.
 pub fn repeats_at_most_one()
     ensures { (m : ℕ) (calls : List Call) → OneRepeat m (after_calls (new_mobile m) calls).sent 0 (establishments (new_mobile m) [] calls) }
-{
-}
+{}
 
 /// So the places of what stations take, over all channels, rise by steps of 0 or 1 from place 0. It does nothing.
 pub fn numbers_run_on()
     ensures { (m : ℕ) (calls : List Call) → (k : ℕ) × Rise m (after_calls (new_mobile m) calls).sent 0 (taken_by_calls (new_mobile m) calls) k }
-{
-}
+{}

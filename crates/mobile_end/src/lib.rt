@@ -12,6 +12,5 @@ mod fault;
 mod lawful;
 mod laws;
 mod mobile_end;
-
 #[cfg(test)]
 mod tests;

@@ -56,12 +56,12 @@ impl Model for MobileEnd {
     ghost Value = { MobileState };
 
     ghost view = { λ mobile. record {
-        modulus = count_of mobile.modulus;
-        stage = mobile.stage;
-        place = mobile.place;
-        sent = mobile.sent.items;
-        zero = mobile.zero;
-        three = mobile.three
+      modulus = count_of mobile.modulus;
+      stage = mobile.stage;
+      place = mobile.place;
+      sent = mobile.sent.items;
+      zero = mobile.zero;
+      three = mobile.three;
     } };
 
     ghost invariant = { λ mobile. mobile.send_sequence ≡ length mobile.sent.items % count_of mobile.modulus };
