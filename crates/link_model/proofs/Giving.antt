@@ -4,7 +4,7 @@ use Rattle.std.proofs.lemmas.List.{append-nil}
 use Rattle.link_model.specs.declared.fault.LinkFault.{LinkFault}
 use Rattle.link_model.specs.BaseState.{BaseState}
 use Rattle.link_model.specs.Made.{activation_ack, establish_indication, data_indication}
-use Rattle.link_model.specs.Base.{refusal_of_activate, after_activate, refusal_unless_active, after_establish, after_up, is_told, telling, first_in, behind_first, first_made, after_next}
+use Rattle.link_model.specs.Base.{refusal_of_activate, after_activate, refusal_unless_active, after_establish, after_up, is_told, telling, first_in, behind_first}
 use Rattle.link_model.specs.BaseCalls.{BaseCall, unless_refused, after_call, after_calls, made_unless, made_by_call, made_by_calls, given_by_call, given_by_calls}
 use Rattle.link_model.specs.BaseCalls.BaseCall.{activates, establishes, brings_up, releases, tells, gives_next}
 use Rattle.rsl_codec.specs.declared.rsl.Rsl.{Rsl}

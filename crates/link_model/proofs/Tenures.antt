@@ -1,10 +1,8 @@
 -- The messages of a base station end stand in tenures.
 use Rattle.std.proofs.Common.{◌≡◌, ℕ, Bool, true, false, not, ◌||◌, Option, Some, None, List, [], ◌∷◌, ◌++◌, refl, sym, ap, ◌∙◌, subst, inl, inr, cond, filter, nat_eq}
-use Rattle.std.specs.List.{list_any}
 use Rattle.std.proofs.Math.Bool.{or-false}
 use Rattle.std.proofs.lemmas.Bool.{cases_Bool, cond-true, cond-false, eqb-true}
 use Rattle.std.proofs.lemmas.List.Folds.{list_any-append}
-use Rattle.dtap_codec.specs.declared.sapi.Sapi.{Sapi}
 use Rattle.link_model.specs.declared.fault.LinkFault.{LinkFault}
 use Rattle.link_model.specs.declared.fault.LinkFault.TheVariants.{NotActive, Busy}
 use Rattle.link_model.specs.BaseState.{BaseState}

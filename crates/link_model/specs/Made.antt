@@ -1,10 +1,10 @@
 -- The messages that a base station end makes (TS 48.058).
-use Rattle.std.specs.Prelude.{ℕ, Bool, true, false, ◌==◌, nat_lt, Option, Some, List, if◌then◌else◌}
+use Rattle.std.specs.Prelude.{ℕ, nat_lt, Option, Some, List, if◌then◌else◌}
 use Rattle.dtap_codec.specs.declared.sapi.Sapi.{Sapi}
 use Rattle.dtap_codec.specs.declared.sapi.Sapi.TheVariants.{Zero, Three}
 use Rattle.link_model.specs.declared.base_end.TheConstants.{FIRST_SDCCH}
 use Rattle.rsl_codec.specs.declared.rsl.Rsl.{Rsl}
-use Rattle.rsl_codec.specs.declared.rsl.Rsl.TheVariants.{DataIndication, EstablishIndication, ChannelActivationAck, RfChannelReleaseAck}
+use Rattle.rsl_codec.specs.declared.rsl.Rsl.TheVariants.{DataIndication, EstablishIndication, ChannelActivationAck}
 
 -- SAPI 0 takes the main link, SAPI 3 that of an SDCCH and the SACCH of a TCH
 abbrev pub link_on : ℕ → Sapi → ℕ

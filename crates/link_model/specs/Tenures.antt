@@ -1,5 +1,5 @@
 -- What a base station end keeps of an honest station: its messages of one channel, in tenures.
-use Rattle.std.specs.Prelude.{◌≡◌, ℕ, Bool, true, false, ◌||◌, ◌==◌, List, [], ◌∷◌}
+use Rattle.std.specs.Prelude.{◌≡◌, ℕ, Bool, true, false, ◌==◌, List, [], ◌∷◌}
 use Rattle.link_model.specs.Made.{activation_ack}
 use Rattle.rsl_codec.specs.declared.rsl.Rsl.{Rsl}
 use Rattle.rsl_codec.specs.declared.rsl.Rsl.TheVariants.{DataIndication, EstablishIndication, ChannelActivationAck, RfChannelReleaseAck}
