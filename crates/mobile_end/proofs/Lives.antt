@@ -1,5 +1,5 @@
 -- The one-repeat rule over any list of calls.
-use Rattle.std.proofs.Common.{◌≡◌, ℕ, ◌+◌, ◌≤◌, Bool, true, false, Option, Some, None, List, [], ◌∷◌, ◌++◌, length, refl, sym, ap, ◌∙◌, subst, arith, append_assoc, inl, inr, cond, option_to_list}
+use Rattle.std.proofs.Common.{◌≡◌, ℕ, ◌+◌, Bool, true, false, Option, Some, None, List, [], ◌∷◌, ◌++◌, length, refl, sym, ap, ◌∙◌, subst, append_assoc, inl, inr, cond, option_to_list}
 use Rattle.std.specs.Cmp.{second_so}
 use Rattle.std.proofs.lemmas.Bool.{cases_Bool, cond-true, cond-false, cond_both}
 use Rattle.std.proofs.lemmas.List.{append-nil}
@@ -22,12 +22,12 @@ use Rattle.mobile_end.specs.DataLinkState.{DataLinkState}
 use Rattle.mobile_end.specs.DataLink.{waits, lent, after_lending}
 use Rattle.mobile_end.specs.Lawful.{has_clear_number, is_initial, is_sendable}
 use Rattle.mobile_end.specs.MobileState.{MobileState}
-use Rattle.mobile_end.specs.Mobile.{new_mobile, queueing, numbering, with_link, link_of, after_connect, refusal_of_connect, refusal_before_connect, framed_at, after_frame_at, after_acked_at, is_on_channel, after_arrival}
+use Rattle.mobile_end.specs.Mobile.{new_mobile, queueing, numbering, with_link, link_of, after_connect, refusal_of_connect, refusal_before_connect, framed_at, after_frame_at, after_acked_at, after_arrival}
 use Rattle.mobile_end.specs.Calls.{Call, after_call, after_calls, taken_by_call, taken_by_calls, unless_refused, unless_connected, may_arrive, frame_lent, begins, establishments}
 use Rattle.mobile_end.specs.Calls.Call.{connects, sends, frames, acknowledges, leaves, arrives, gives_up}
 use Rattle.mobile_end.specs.OneRepeat.{OneRepeat}
 use Rattle.mobile_end.specs.OneRepeat.OneRepeat.{over, goes_on, repeats}
-use Rattle.mobile_end.proofs.Numbering.{IsNumbered, IsNumbered-queueing, IsNumbered-frame, IsNumbered-acked, IsNumbered-new}
+use Rattle.mobile_end.proofs.Numbering.{IsNumbered-queueing, IsNumbered-frame, IsNumbered-acked, IsNumbered-new}
 use Rattle.mobile_end.proofs.Resuming.{IsLastTaken, IsGoing, IsCut, arrival-cut, arrival-going}
 use Rattle.mobile_end.proofs.Slices.{IsSlice-of_parts, IsSlice-grow, joined, Rise-slices}
 

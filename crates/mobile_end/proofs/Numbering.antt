@@ -1,10 +1,10 @@
 -- What keeps the numbers of a mobile's messages, call by call.
-use Rattle.std.proofs.Common.{◌≡◌, ℕ, ◌+◌, ◌*◌, ◌%◌, ◌<◌, Bool, true, false, Option, Some, None, List, [], ◌∷◌, ◌++◌, length, refl, sym, ap, ◌∙◌, subst, arith, append_assoc, inl, inr, filter, nat_lt, option_to_list, length-append}
+use Rattle.std.proofs.Common.{◌≡◌, ℕ, ◌+◌, ◌*◌, ◌%◌, ◌<◌, true, false, List, [], ◌∷◌, ◌++◌, length, refl, sym, ap, ◌∙◌, subst, arith, append_assoc, filter, nat_lt, option_to_list, length-append}
 use Rattle.std.proofs.lemmas.Bool.{cond-true, cond-false, cond_both, ltb-true}
 use Rattle.std.proofs.lemmas.List.{append-nil}
 use Rattle.std.proofs.lemmas.List.Elements.{filter-append}
 use Rattle.dtap_codec.specs.Message.{is_flow_message, is_flow_protocol}
-use Rattle.dtap_codec.specs.Number.{numbered, unnumbered}
+use Rattle.dtap_codec.specs.Number.{numbered}
 use Rattle.dtap_codec.specs.Places.{numbered_from, IsClear, AreClear}
 use Rattle.dtap_codec.specs.declared.sapi.Sapi.{Sapi}
 use Rattle.dtap_codec.specs.declared.sapi.Sapi.TheVariants.{Zero, Three}
@@ -17,8 +17,8 @@ use Rattle.mobile_end.specs.declared.mobile_end.Place.TheVariants.{OnChannel, Mo
 use Rattle.mobile_end.specs.declared.mobile_end.Stage.{Stage}
 use Rattle.mobile_end.specs.declared.mobile_end.Stage.TheVariants.{New, Connected}
 use Rattle.mobile_end.specs.DataLinkState.{DataLinkState}
-use Rattle.mobile_end.specs.DataLink.{waits, loaded_from, loaded, lent, after_lending, after_acknowledgement, to_be_taken}
-use Rattle.mobile_end.specs.Lawful.{has_clear_number, is_initial, is_sendable}
+use Rattle.mobile_end.specs.DataLink.{waits, lent, after_lending, after_acknowledgement, to_be_taken}
+use Rattle.mobile_end.specs.Lawful.{has_clear_number}
 use Rattle.mobile_end.specs.MobileState.{MobileState}
 use Rattle.mobile_end.specs.Mobile.{new_mobile, queueing, numbering, with_link, link_of, after_frame_at, framed_at, after_acked_at}
 use Rattle.mobile_end.specs.Calls.{frame_lent}

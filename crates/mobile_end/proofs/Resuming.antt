@@ -1,7 +1,6 @@
 -- What a change of channel keeps of the numbers: the next slice begins where the last ended, or at its last message.
-use Rattle.std.proofs.Common.{◌≡◌, ℕ, ◌+◌, ◌%◌, ◌≤◌, ◌⊎◌, Bool, true, false, not, Option, Some, None, List, [], ◌∷◌, ◌++◌, length, refl, sym, ap, ◌∙◌, subst, arith, append_assoc, inl, inr, filter, option_to_list, length-append}
+use Rattle.std.proofs.Common.{◌≡◌, ℕ, ◌+◌, ◌%◌, ◌≤◌, ◌⊎◌, true, false, not, List, [], ◌∷◌, ◌++◌, length, refl, sym, ap, ◌∙◌, subst, arith, append_assoc, inl, inr, filter, option_to_list, length-append}
 use Rattle.std.proofs.lemmas.Bool.{cases_Bool, cond-true, cond-false, eqb-true}
-use Rattle.std.proofs.lemmas.List.{append-nil}
 use Rattle.std.proofs.lemmas.List.Elements.{filter-append}
 use Rattle.dtap_codec.specs.Message.{is_flow_message, is_flow_protocol}
 use Rattle.dtap_codec.specs.Number.{numbered}
@@ -12,7 +11,7 @@ use Rattle.link_model.specs.AirLink.{message_in, offered}
 use Rattle.link_model.specs.declared.air_link.Air.{Air}
 use Rattle.link_model.specs.declared.air_link.Air.TheVariants.{Empty, Given, Reached}
 use Rattle.mobile_end.specs.Control.{is_control, without_control}
-use Rattle.mobile_end.specs.DataLink.{to_be_taken, outstanding, resumed}
+use Rattle.mobile_end.specs.DataLink.{outstanding}
 use Rattle.mobile_end.specs.MobileState.{MobileState}
 use Rattle.mobile_end.specs.Mobile.{after_arrival}
 use Rattle.mobile_end.proofs.Numbering.{IsNumbered}

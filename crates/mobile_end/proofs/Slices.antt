@@ -1,13 +1,13 @@
 -- Slices of the sent list, and the places that rise where one follows another.
-use Rattle.std.proofs.Common.{◌≡◌, ℕ, ◌+◌, ◌-◌, ◌%◌, ◌≤◌, ◌⊎◌, Bool, true, false, List, [], ◌∷◌, ◌++◌, length, take, drop, refl, sym, ap, ◌∙◌, subst, arith, append_assoc, inl, inr, filter, Some, slice_get, length-append, length-take, length-drop, slice_range}
+use Rattle.std.proofs.Common.{◌≡◌, ℕ, ◌+◌, ◌-◌, ◌%◌, ◌≤◌, ◌⊎◌, List, [], ◌∷◌, ◌++◌, length, take, drop, refl, sym, ap, ◌∙◌, subst, arith, append_assoc, inl, inr, filter, Some, slice_get, length-append, length-take, length-drop, slice_range}
 use Rattle.std.proofs.lemmas.Bool.{cases_Bool, cond-true, cond-false}
-use Rattle.std.proofs.lemmas.List.{append-nil, take-append-drop, take_at, drop_at}
+use Rattle.std.proofs.lemmas.List.{take-append-drop, take_at, drop_at}
 use Rattle.std.proofs.lemmas.List.Folds.{drop_split}
 use Rattle.octets.proofs.ListLemmas.{slice_get-append_seam}
 use Rattle.dtap_codec.specs.Message.{is_flow_message}
 use Rattle.dtap_codec.specs.Number.{numbered}
-use Rattle.dtap_codec.specs.Places.{numbered_from, AreClear, Carries, Rise}
-use Rattle.dtap_codec.specs.Places.Rise.{over, other, next, again}
+use Rattle.dtap_codec.specs.Places.{numbered_from, AreClear, Rise}
+use Rattle.dtap_codec.specs.Places.Rise.{over, other, again}
 use Rattle.dtap_codec.proofs.Rising.{Rise-grow, Rise-append, Rise-numbered_from}
 use Rattle.mobile_end.specs.OneRepeat.{IsSlice, OneRepeat}
 use Rattle.mobile_end.specs.OneRepeat.OneRepeat.{over as ended, goes_on, repeats}

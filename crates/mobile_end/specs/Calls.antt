@@ -1,7 +1,7 @@
 -- A life of a mobile: any list of calls, in any order.
-use Rattle.std.specs.Prelude.{◌≡◌, ℕ, Bool, true, false, ◌&&◌, not, Option, Some, None, Result, Ok, Err, List, [], ◌∷◌, ◌++◌, option_to_list, if◌then◌else◌}
+use Rattle.std.specs.Prelude.{ℕ, Bool, false, ◌&&◌, not, Option, Some, None, Result, Ok, Err, List, [], ◌∷◌, ◌++◌, option_to_list, if◌then◌else◌}
 use Rattle.dtap_codec.specs.declared.sapi.Sapi.{Sapi}
-use Rattle.dtap_codec.specs.declared.sapi.Sapi.TheVariants.{Zero, Three}
+use Rattle.dtap_codec.specs.declared.sapi.Sapi.TheVariants.{Zero}
 use Rattle.mobile_end.specs.declared.fault.MobileFault.{MobileFault}
 use Rattle.mobile_end.specs.declared.mobile_end.Stage.{Stage}
 use Rattle.mobile_end.specs.declared.mobile_end.Stage.TheVariants.{New, Connected}

@@ -1,5 +1,5 @@
 -- What the calls of a data link do.
-use Rattle.std.specs.Prelude.{ℕ, Option, Some, None, List, [], ◌∷◌, ◌++◌, option_to_list}
+use Rattle.std.specs.Prelude.{ℕ, Option, List, [], ◌∷◌, ◌++◌, option_to_list}
 use Rattle.link_model.specs.AirLink.{message_in, offered, reached, freed}
 use Rattle.link_model.specs.declared.air_link.Air.{Air}
 use Rattle.link_model.specs.declared.air_link.Air.TheVariants.{Empty, Given, Reached}
