@@ -1,2 +1,4 @@
 pub mod Numbering
+pub mod Resuming
+pub mod Slices
 pub mod Lives

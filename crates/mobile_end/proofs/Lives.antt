@@ -1,23 +1,37 @@
--- The numbers of a mobile's messages over any list of calls.
-use Rattle.std.proofs.Common.{◌≡◌, ℕ, Bool, true, false, Option, Some, None, List, [], ◌∷◌, ◌++◌, refl, sym, ap, ◌∙◌, subst, append_assoc, inl, inr, cond}
+-- The one-repeat rule over any list of calls.
+use Rattle.std.proofs.Common.{◌≡◌, ℕ, ◌+◌, Bool, true, false, Option, Some, None, List, [], ◌∷◌, ◌++◌, length, refl, sym, ap, ◌∙◌, subst, append_assoc, inl, inr, cond, option_to_list}
 use Rattle.std.specs.Cmp.{second_so}
-use Rattle.std.proofs.lemmas.Bool.{cases_Bool}
+use Rattle.std.proofs.lemmas.Bool.{cases_Bool, cond-true, cond-false, cond_both}
 use Rattle.std.proofs.lemmas.List.{append-nil}
+use Rattle.octets.specs.Refusal.{first_refusal}
+use Rattle.dtap_codec.specs.Message.{is_flow_message}
+use Rattle.dtap_codec.specs.Places.{AreClear, Rise}
 use Rattle.dtap_codec.specs.declared.sapi.Sapi.{Sapi}
 use Rattle.dtap_codec.specs.declared.sapi.Sapi.TheVariants.{Zero, Three}
+use Rattle.link_model.specs.AirLink.{freed}
+use Rattle.link_model.specs.declared.air_link.Air.{Air}
+use Rattle.link_model.specs.declared.air_link.Air.TheVariants.{Empty, Given, Reached}
 use Rattle.mobile_end.specs.declared.fault.MobileFault.{MobileFault}
 use Rattle.mobile_end.specs.declared.fault.MobileFault.TheVariants.{BadMessage}
+use Rattle.mobile_end.specs.declared.mobile_end.Place.{Place}
+use Rattle.mobile_end.specs.declared.mobile_end.Place.TheVariants.{OnChannel, Moving}
 use Rattle.mobile_end.specs.declared.mobile_end.Stage.{Stage}
 use Rattle.mobile_end.specs.declared.mobile_end.Stage.TheVariants.{New, Connected}
-use Rattle.octets.specs.Refusal.{first_refusal}
+use Rattle.mobile_end.specs.Control.{is_control}
+use Rattle.mobile_end.specs.DataLinkState.{DataLinkState}
+use Rattle.mobile_end.specs.DataLink.{waits, lent, after_lending}
 use Rattle.mobile_end.specs.Lawful.{has_clear_number, is_initial, is_sendable}
 use Rattle.mobile_end.specs.MobileState.{MobileState}
-use Rattle.mobile_end.specs.Mobile.{new_mobile, connected, queueing, after_connect, refusal_of_connect, refusal_before_connect, after_frame_at}
-use Rattle.mobile_end.specs.Calls.{Call, after_call, after_calls, taken_by_call, taken_by_calls, unless_refused, unless_connected, IsNumbered}
-use Rattle.mobile_end.specs.Calls.Call.{connects, sends, frames, acknowledges}
-use Rattle.mobile_end.proofs.Numbering.{IsNumbered-queueing, IsNumbered-frame, IsNumbered-acked}
+use Rattle.mobile_end.specs.Mobile.{new_mobile, queueing, numbering, with_link, link_of, after_connect, refusal_of_connect, refusal_before_connect, framed_at, after_frame_at, after_acked_at, after_arrival}
+use Rattle.mobile_end.specs.Calls.{Call, after_call, after_calls, taken_by_call, taken_by_calls, unless_refused, unless_connected, may_arrive, frame_lent, begins, establishments}
+use Rattle.mobile_end.specs.Calls.Call.{connects, sends, frames, acknowledges, leaves, arrives, gives_up}
+use Rattle.mobile_end.specs.OneRepeat.{OneRepeat}
+use Rattle.mobile_end.specs.OneRepeat.OneRepeat.{over, goes_on, repeats}
+use Rattle.mobile_end.proofs.Numbering.{IsNumbered-queueing, IsNumbered-frame, IsNumbered-acked, IsNumbered-new}
+use Rattle.mobile_end.proofs.Resuming.{IsLastTaken, IsGoing, IsCut, arrival-cut, arrival-going}
+use Rattle.mobile_end.proofs.Slices.{IsSlice-of_parts, IsSlice-grow, joined, Rise-slices}
 
--- what may be sent has no number
+-- what may be sent has doesnt number
 pub is_sendable-clear : (sapi : Sapi) (message : List ℕ) → is_sendable sapi message ≡ true → has_clear_number message ≡ true
 is_sendable-clear sapi [] lawful = refl
 is_sendable-clear sapi (first ∷ rest) lawful = second_so _ (has_clear_number (first ∷ rest)) lawful
@@ -36,37 +50,266 @@ unless_connected-by : (P : MobileState → Type 0) (stage : Stage) (old new : Mo
 unless_connected-by P New old new kept made = made
 unless_connected-by P Connected old new kept made = kept
 
-IsNumbered-connect : (mobile : MobileState) (taken : List (List ℕ)) (initial : Option (List ℕ)) → IsNumbered mobile taken → IsNumbered (unless_refused (refusal_of_connect initial) mobile (after_connect mobile initial)) taken
-IsNumbered-connect mobile taken None so_far = record { numbers = so_far.numbers; clear = so_far.clear }
-IsNumbered-connect mobile taken (Some initial) so_far =
-    unless_refused-by (λ new. IsNumbered new taken) (is_initial initial) None mobile (after_connect mobile (Some initial)) so_far
-    (λ lawful. let queued = IsNumbered-queueing mobile taken Zero initial (is_initial-clear initial lawful) so_far in record { numbers = queued.numbers; clear = queued.clear })
+-- What calls keep: the modulus, and what was sent.
+record IsKept (old new : MobileState) : Type 0 where
+  pub modulus : new.modulus ≡ old.modulus
+  pub more : List (List ℕ)
+  pub sent : new.sent ≡ old.sent ++ more
 
-IsNumbered-frame_three : (stage : Stage) (mobile : MobileState) (taken : List (List ℕ)) → IsNumbered mobile taken → IsNumbered (after_frame_at stage mobile Three) taken
-IsNumbered-frame_three New mobile taken so_far = so_far
-IsNumbered-frame_three Connected mobile taken so_far = record { numbers = so_far.numbers; clear = so_far.clear }
+IsKept-same : (old new : MobileState) → new.modulus ≡ old.modulus → new.sent ≡ old.sent → IsKept old new
+IsKept-same old new modulus sent = record { modulus = modulus; more = []; sent = sent ∙ sym (append-nil old.sent) }
 
--- each call keeps what was taken, and what can be taken, numbered
-pub IsNumbered-call : (mobile : MobileState) (taken : List (List ℕ)) (call : Call) → IsNumbered mobile taken → IsNumbered (after_call mobile call) (taken ++ taken_by_call mobile call)
-IsNumbered-call mobile taken (connects initial) so_far =
-    subst (λ (xs : List (List ℕ)). IsNumbered (after_call mobile (connects initial)) xs) (sym (append-nil taken))
-    (unless_connected-by (λ new. IsNumbered new taken) mobile.stage mobile _ so_far (IsNumbered-connect mobile taken initial so_far))
-IsNumbered-call mobile taken (sends sapi message) so_far =
-    subst (λ (xs : List (List ℕ)). IsNumbered (after_call mobile (sends sapi message)) xs) (sym (append-nil taken))
-    (unless_refused-by (λ new. IsNumbered new taken) (is_sendable sapi message) (refusal_before_connect mobile.stage) mobile (queueing mobile sapi message) so_far
-        (λ lawful. IsNumbered-queueing mobile taken sapi message (is_sendable-clear sapi message lawful) so_far))
-IsNumbered-call mobile taken (frames Zero) so_far = IsNumbered-frame mobile.stage mobile taken so_far
-IsNumbered-call mobile taken (frames Three) so_far =
-    subst (λ (xs : List (List ℕ)). IsNumbered (after_call mobile (frames Three)) xs) (sym (append-nil taken)) (IsNumbered-frame_three mobile.stage mobile taken so_far)
-IsNumbered-call mobile taken (acknowledges sapi) so_far =
-    subst (λ (xs : List (List ℕ)). IsNumbered (after_call mobile (acknowledges sapi)) xs) (sym (append-nil taken)) (IsNumbered-acked mobile taken sapi so_far)
+IsKept-then : {old mid new : MobileState} → IsKept old mid → IsKept mid new → IsKept old new
+IsKept-then {old} {mid} {new} one two = record {
+  modulus = two.modulus ∙ one.modulus;
+  more = one.more ++ two.more;
+  sent = two.sent ∙ ap (λ (xs : List (List ℕ)). xs ++ two.more) one.sent ∙ append_assoc old.sent one.more two.more;
+}
 
-pub IsNumbered-calls : (mobile : MobileState) (taken : List (List ℕ)) (calls : List Call) → IsNumbered mobile taken → IsNumbered (after_calls mobile calls) (taken ++ taken_by_calls mobile calls)
-IsNumbered-calls mobile taken [] so_far = subst (λ (xs : List (List ℕ)). IsNumbered mobile xs) (sym (append-nil taken)) so_far
-IsNumbered-calls mobile taken (call ∷ calls) so_far =
-    subst (λ (xs : List (List ℕ)). IsNumbered (after_calls mobile (call ∷ calls)) xs) (append_assoc taken (taken_by_call mobile call) (taken_by_calls (after_call mobile call) calls))
-    (IsNumbered-calls (after_call mobile call) (taken ++ taken_by_call mobile call) calls (IsNumbered-call mobile taken call so_far))
+IsKept-with_link : (mobile : MobileState) (sapi : Sapi) (link : DataLinkState) → IsKept mobile (with_link mobile sapi link)
+IsKept-with_link mobile Zero link = IsKept-same mobile (with_link mobile Zero link) refl refl
+IsKept-with_link mobile Three link = IsKept-same mobile (with_link mobile Three link) refl refl
 
--- a mobile that never sent has nothing to number
-pub IsNumbered-new : (m : ℕ) → IsNumbered (new_mobile m) []
-IsNumbered-new m = record { numbers = refl; clear = tt }
+IsKept-queueing : (mobile : MobileState) (sapi : Sapi) (message : List ℕ) → IsKept mobile (queueing mobile sapi message)
+IsKept-queueing mobile sapi message =
+    cond_both (is_flow_message message) (numbering mobile message) (with_link mobile sapi (waits (link_of mobile sapi) message)) (IsKept mobile)
+    (λ flow. record { modulus = refl; more = message ∷ []; sent = refl })
+    (λ apart. IsKept-with_link mobile sapi (waits (link_of mobile sapi) message))
+
+IsKept-connect : (mobile : MobileState) (initial : Option (List ℕ)) → IsKept mobile (unless_refused (refusal_of_connect initial) mobile (after_connect mobile initial))
+IsKept-connect mobile None = IsKept-same mobile (after_connect mobile None) refl refl
+IsKept-connect mobile (Some initial) =
+    unless_refused-by (IsKept mobile) (is_initial initial) None mobile (after_connect mobile (Some initial)) (IsKept-same mobile mobile refl refl)
+    (λ lawful. let queued = IsKept-queueing mobile Zero initial in record { modulus = queued.modulus; more = queued.more; sent = queued.sent })
+
+IsKept-frame : (stage : Stage) (place : Place) (mobile : MobileState) (sapi : Sapi) → IsKept mobile (after_frame_at stage place mobile sapi)
+IsKept-frame New place mobile sapi = IsKept-same mobile mobile refl refl
+IsKept-frame Connected Moving mobile sapi = IsKept-same mobile mobile refl refl
+IsKept-frame Connected OnChannel mobile sapi = IsKept-with_link mobile sapi _
+
+IsKept-acked : (place : Place) (mobile : MobileState) (sapi : Sapi) → IsKept mobile (after_acked_at place mobile sapi)
+IsKept-acked Moving mobile sapi = IsKept-same mobile mobile refl refl
+IsKept-acked OnChannel mobile sapi = IsKept-with_link mobile sapi _
+
+IsKept-arrival : (mobile : MobileState) (control : List ℕ) → IsKept mobile (cond (may_arrive mobile control) (after_arrival mobile control) mobile)
+IsKept-arrival mobile control =
+    cond_both (may_arrive mobile control) (after_arrival mobile control) mobile (IsKept mobile)
+    (λ _. IsKept-same mobile (after_arrival mobile control) refl refl) (λ _. IsKept-same mobile mobile refl refl)
+
+IsKept-call : (mobile : MobileState) (call : Call) → IsKept mobile (after_call mobile call)
+IsKept-call mobile (connects initial) = unless_connected-by (IsKept mobile) mobile.stage mobile _ (IsKept-same mobile mobile refl refl) (IsKept-connect mobile initial)
+IsKept-call mobile (sends sapi message) =
+    unless_refused-by (IsKept mobile) (is_sendable sapi message) (refusal_before_connect mobile.stage) mobile (queueing mobile sapi message)
+    (IsKept-same mobile mobile refl refl) (λ _. IsKept-queueing mobile sapi message)
+IsKept-call mobile (frames sapi) = IsKept-frame mobile.stage mobile.place mobile sapi
+IsKept-call mobile (acknowledges sapi) = IsKept-acked mobile.place mobile sapi
+IsKept-call mobile leaves = record { modulus = refl; more = []; sent = sym (append-nil mobile.sent) }
+IsKept-call mobile (arrives complete) = IsKept-arrival mobile complete
+IsKept-call mobile (gives_up failure) = IsKept-arrival mobile failure
+
+IsKept-calls : (mobile : MobileState) (calls : List Call) → IsKept mobile (after_calls mobile calls)
+IsKept-calls mobile [] = IsKept-same mobile mobile refl refl
+IsKept-calls mobile (call ∷ calls) = IsKept-then (IsKept-call mobile call) (IsKept-calls (after_call mobile call) calls)
+
+-- the last message that was taken, after each call
+IsLastTaken-lent : (waiting : List (List ℕ)) (air : Air) (taken : List (List ℕ)) → IsLastTaken air taken → let link : DataLinkState = record { waiting = waiting; air = air } in IsLastTaken (after_lending link).air (taken ++ option_to_list (lent link))
+IsLastTaken-lent [] Empty taken last = tt
+IsLastTaken-lent (first ∷ others) Empty taken last = (taken, refl)
+IsLastTaken-lent waiting (Given message) taken last = (taken, refl)
+IsLastTaken-lent waiting (Reached message) taken last = (last.0, append-nil taken ∙ last.1)
+
+IsLastTaken-freed : (air : Air) (taken : List (List ℕ)) → IsLastTaken (freed air) taken
+IsLastTaken-freed Empty taken = tt
+IsLastTaken-freed (Given message) taken = tt
+IsLastTaken-freed (Reached message) taken = tt
+
+IsLastTaken-queueing : (mobile : MobileState) (taken : List (List ℕ)) (sapi : Sapi) (message : List ℕ) → IsLastTaken mobile.zero.air taken → IsLastTaken (queueing mobile sapi message).zero.air taken
+IsLastTaken-queueing mobile taken sapi message last =
+    cond_both (is_flow_message message) (numbering mobile message) (with_link mobile sapi (waits (link_of mobile sapi) message))
+    (λ (new : MobileState). IsLastTaken new.zero.air taken) (λ _. last) (λ _. waiting sapi)
+  where
+    waiting : (sapi : Sapi) → IsLastTaken (with_link mobile sapi (waits (link_of mobile sapi) message)).zero.air taken
+    waiting Zero = last
+    waiting Three = last
+
+IsGoing-queueing : (m : ℕ) (before : List (List ℕ)) (mobile : MobileState) (taken : List (List ℕ)) (sapi : Sapi) (message : List ℕ) → has_clear_number message ≡ true → IsGoing m before mobile taken → IsGoing m before (queueing mobile sapi message) taken
+IsGoing-queueing m before mobile taken sapi message clear going = record {
+  numbered = IsNumbered-queueing before mobile taken sapi message clear going.numbered;
+  last = IsLastTaken-queueing mobile taken sapi message going.last;
+  modulus = (IsKept-queueing mobile sapi message).modulus ∙ going.modulus;
+}
+
+IsGoing-connect : (m : ℕ) (before : List (List ℕ)) (mobile : MobileState) (taken : List (List ℕ)) (initial : Option (List ℕ)) → IsGoing m before mobile taken → IsGoing m before (unless_refused (refusal_of_connect initial) mobile (after_connect mobile initial)) taken
+IsGoing-connect m before mobile taken None going =
+    let numbered = going.numbered in
+    record { numbered = record { after = numbered.after; parts = numbered.parts; numbers = numbered.numbers; clear = numbered.clear }; last = going.last; modulus = going.modulus }
+IsGoing-connect m before mobile taken (Some initial) going =
+    unless_refused-by (λ new. IsGoing m before new taken) (is_initial initial) None mobile (after_connect mobile (Some initial)) going
+    (λ lawful.
+    let queued = IsGoing-queueing m before mobile taken Zero initial (is_initial-clear initial lawful) going in
+    let numbered = queued.numbered in
+    record { numbered = record { after = numbered.after; parts = numbered.parts; numbers = numbered.numbers; clear = numbered.clear }; last = queued.last; modulus = queued.modulus })
+
+-- what a frame of SAPI 3 or an acknowledgement changes isn't seen on SAPI 0
+IsGoing-frame_three : (m : ℕ) (before : List (List ℕ)) (stage : Stage) (place : Place) (mobile : MobileState) (taken : List (List ℕ)) → IsGoing m before mobile taken → IsGoing m before (after_frame_at stage place mobile Three) taken
+IsGoing-frame_three m before New place mobile taken going = going
+IsGoing-frame_three m before Connected Moving mobile taken going = going
+IsGoing-frame_three m before Connected OnChannel mobile taken going =
+    let numbered = going.numbered in
+    record { numbered = record { after = numbered.after; parts = numbered.parts; numbers = numbered.numbers; clear = numbered.clear }; last = going.last; modulus = going.modulus }
+
+IsLastTaken-acked : (place : Place) (mobile : MobileState) (taken : List (List ℕ)) (sapi : Sapi) → IsLastTaken mobile.zero.air taken → IsLastTaken (after_acked_at place mobile sapi).zero.air taken
+IsLastTaken-acked Moving mobile taken sapi last = last
+IsLastTaken-acked OnChannel mobile taken Zero last = IsLastTaken-freed mobile.zero.air taken
+IsLastTaken-acked OnChannel mobile taken Three last = last
+
+IsLastTaken-frame : (stage : Stage) (place : Place) (mobile : MobileState) (taken : List (List ℕ)) → IsLastTaken mobile.zero.air taken → IsLastTaken (after_frame_at stage place mobile Zero).zero.air (taken ++ frame_lent (framed_at stage place (lent mobile.zero)))
+IsLastTaken-frame New place mobile taken last = subst (λ (xs : List (List ℕ)). IsLastTaken mobile.zero.air xs) (sym (append-nil taken)) last
+IsLastTaken-frame Connected Moving mobile taken last = subst (λ (xs : List (List ℕ)). IsLastTaken mobile.zero.air xs) (sym (append-nil taken)) last
+IsLastTaken-frame Connected OnChannel mobile taken last = IsLastTaken-lent mobile.zero.waiting mobile.zero.air taken last
+
+-- a call that takes nothing
+nothing_taken : (m : ℕ) (before : List (List ℕ)) (mobile : MobileState) (taken : List (List ℕ)) → IsGoing m before mobile taken → IsGoing m before mobile (taken ++ [])
+nothing_taken m before mobile taken going = subst (λ (xs : List (List ℕ)). IsGoing m before mobile xs) (sym (append-nil taken)) going
+
+-- an arrival that doesn't come about changes nothing
+IsGoing-refused : (m : ℕ) (before : List (List ℕ)) (mobile : MobileState) (taken : List (List ℕ)) (control : List ℕ) → may_arrive mobile control ≡ false → IsGoing m before mobile taken → IsGoing m before (cond (may_arrive mobile control) (after_arrival mobile control) mobile) taken
+IsGoing-refused m before mobile taken control not_so going =
+    subst (λ (new : MobileState). IsGoing m before new taken) (sym (cond-false (may_arrive mobile control) (after_arrival mobile control) mobile not_so)) going
+
+-- each call in an establishment
+IsGoing-call : (m : ℕ) (before : List (List ℕ)) (mobile : MobileState) (taken : List (List ℕ)) (call : Call) → begins mobile call ≡ false → IsGoing m before mobile taken → IsGoing m before (after_call mobile call) (taken ++ taken_by_call mobile call)
+IsGoing-call m before mobile taken (connects initial) doesnt going =
+    nothing_taken m before _ taken (unless_connected-by (λ new. IsGoing m before new taken) mobile.stage mobile _ going (IsGoing-connect m before mobile taken initial going))
+IsGoing-call m before mobile taken (sends sapi message) doesnt going =
+    nothing_taken m before _ taken (unless_refused-by (λ new. IsGoing m before new taken) (is_sendable sapi message) (refusal_before_connect mobile.stage) mobile (queueing mobile sapi message) going
+    (λ lawful. IsGoing-queueing m before mobile taken sapi message (is_sendable-clear sapi message lawful) going))
+IsGoing-call m before mobile taken (frames Zero) doesnt going = record {
+  numbered = IsNumbered-frame before mobile.stage mobile.place mobile taken going.numbered;
+  last = IsLastTaken-frame mobile.stage mobile.place mobile taken going.last;
+  modulus = (IsKept-frame mobile.stage mobile.place mobile Zero).modulus ∙ going.modulus;
+}
+IsGoing-call m before mobile taken (frames Three) doesnt going = nothing_taken m before _ taken (IsGoing-frame_three m before mobile.stage mobile.place mobile taken going)
+IsGoing-call m before mobile taken (acknowledges sapi) doesnt going = nothing_taken m before _ taken (record {
+  numbered = IsNumbered-acked before mobile.place mobile taken sapi going.numbered;
+  last = IsLastTaken-acked mobile.place mobile taken sapi going.last;
+  modulus = (IsKept-acked mobile.place mobile sapi).modulus ∙ going.modulus;
+})
+IsGoing-call m before mobile taken leaves doesnt going =
+    let numbered = going.numbered in
+    nothing_taken m before _ taken (record { numbered = record { after = numbered.after; parts = numbered.parts; numbers = numbered.numbers; clear = numbered.clear }; last = going.last; modulus = going.modulus })
+IsGoing-call m before mobile taken (arrives complete) doesnt going = nothing_taken m before _ taken (IsGoing-refused m before mobile taken complete doesnt going)
+IsGoing-call m before mobile taken (gives_up failure) doesnt going = nothing_taken m before _ taken (IsGoing-refused m before mobile taken failure doesnt going)
+
+-- the establishments after a call that begins one, and after any other
+begun : (m : ℕ) (sent : List (List ℕ)) (b : ℕ) (mobile : MobileState) (taken : List (List ℕ)) (call : Call) (calls : List Call) → begins mobile call ≡ true → OneRepeat m sent b (taken ∷ establishments (after_call mobile call) [] calls) → OneRepeat m sent b (establishments mobile taken (call ∷ calls))
+begun m sent b mobile taken call calls does rule =
+    subst (λ (list : List (List (List ℕ))). OneRepeat m sent b list)
+    (sym (cond-true (begins mobile call) (taken ∷ establishments (after_call mobile call) [] calls) (establishments (after_call mobile call) (taken ++ taken_by_call mobile call) calls) does)) rule
+
+went_on : (m : ℕ) (sent : List (List ℕ)) (b : ℕ) (mobile : MobileState) (taken : List (List ℕ)) (call : Call) (calls : List Call) → begins mobile call ≡ false → OneRepeat m sent b (establishments (after_call mobile call) (taken ++ taken_by_call mobile call) calls) → OneRepeat m sent b (establishments mobile taken (call ∷ calls))
+went_on m sent b mobile taken call calls doesnt rule =
+    subst (λ (list : List (List (List ℕ))). OneRepeat m sent b list)
+    (sym (cond-false (begins mobile call) (taken ∷ establishments (after_call mobile call) [] calls) (establishments (after_call mobile call) (taken ++ taken_by_call mobile call) calls) doesnt)) rule
+
+-- a slice, and then the slices of the channel that the mobile arrives on
+OneRepeat-cut : (m : ℕ) (before sent more taken unsent : List (List ℕ)) (others : List (List (List ℕ))) (cut : IsCut m before sent taken unsent) → OneRepeat m (sent ++ more) (length cut.next) others → OneRepeat m (sent ++ more) (length before) (taken ∷ others)
+OneRepeat-cut m before sent more taken unsent others cut rule =
+    elim cut.begins [
+      | inl same ↦ goes_on (IsSlice-grow m sent more (length before) (length cut.next) taken (IsSlice-of_parts m sent before cut.part cut.rest taken (length cut.next) cut.parts cut.taken_is same)) rule
+      | inr last ↦ repeats last.1 (IsSlice-grow m sent more (length before) (length cut.next + 1) taken (IsSlice-of_parts m sent before cut.part cut.rest taken (length cut.next + 1) cut.parts cut.taken_is last.0)) rule
+    ]
+
+-- a call that begins an establishment is an arrival
+record IsArrival (mobile : MobileState) (call : Call) : Type 0 where
+  pub control : List ℕ
+  pub is_one : is_control control ≡ true
+  pub arrived : after_call mobile call ≡ after_arrival mobile control
+
+arrival_of : (mobile : MobileState) (control : List ℕ) (call : Call) → may_arrive mobile control ≡ true → after_call mobile call ≡ cond (may_arrive mobile control) (after_arrival mobile control) mobile → IsArrival mobile call
+arrival_of mobile control call does is = record {
+  control = control;
+  is_one = second_so _ (is_control control) does;
+  arrived = is ∙ cond-true (may_arrive mobile control) (after_arrival mobile control) mobile does;
+}
+
+IsArrival-begins : (mobile : MobileState) (call : Call) → begins mobile call ≡ true → IsArrival mobile call
+IsArrival-begins mobile (arrives complete) does = arrival_of mobile complete (arrives complete) does refl
+IsArrival-begins mobile (gives_up failure) does = arrival_of mobile failure (gives_up failure) does refl
+IsArrival-begins mobile (connects initial) does = absurd cc
+IsArrival-begins mobile (sends sapi message) does = absurd cc
+IsArrival-begins mobile (frames sapi) does = absurd cc
+IsArrival-begins mobile (acknowledges sapi) does = absurd cc
+IsArrival-begins mobile leaves does = absurd cc
+
+-- the slices from an establishment on
+pub OneRepeat-calls : (m : ℕ) (before : List (List ℕ)) (mobile : MobileState) (taken : List (List ℕ)) (calls : List Call) → IsGoing m before mobile taken → OneRepeat m (after_calls mobile calls).sent (length before) (establishments mobile taken calls)
+OneRepeat-calls m before mobile taken [] going =
+    let cut = arrival-cut m before mobile taken going in
+    subst (λ (xs : List (List ℕ)). OneRepeat m xs (length before) (taken ∷ [])) (append-nil mobile.sent)
+    (OneRepeat-cut m before mobile.sent [] taken _ [] cut (over (length cut.next)))
+OneRepeat-calls m before mobile taken (call ∷ calls) going =
+    elim (cases_Bool (begins mobile call)) [
+      | inl does ↦
+          let arrival = IsArrival-begins mobile call does in
+          let cut = arrival-cut m before mobile taken going in
+          let next : IsGoing m cut.next (after_call mobile call) [] =
+          subst (λ (new : MobileState). IsGoing m cut.next new []) (sym arrival.arrived) (arrival-going m before mobile taken arrival.control arrival.is_one going) in
+          let later = OneRepeat-calls m cut.next (after_call mobile call) [] calls next in
+          let kept = IsKept-then (IsKept-call mobile call) (IsKept-calls (after_call mobile call) calls) in
+          begun m (after_calls mobile (call ∷ calls)).sent (length before) mobile taken call calls does
+          (subst (λ (xs : List (List ℕ)). OneRepeat m xs (length before) (taken ∷ establishments (after_call mobile call) [] calls)) (sym kept.sent)
+          (OneRepeat-cut m before mobile.sent kept.more taken _ _ cut (subst (λ (xs : List (List ℕ)). OneRepeat m xs (length cut.next) (establishments (after_call mobile call) [] calls)) kept.sent later)))
+      | inr doesnt ↦
+          went_on m (after_calls mobile (call ∷ calls)).sent (length before) mobile taken call calls doesnt
+          (OneRepeat-calls m before (after_call mobile call) (taken ++ taken_by_call mobile call) calls (IsGoing-call m before mobile taken call doesnt going))
+    ]
+
+-- nothing was taken of a mobile that never sent
+pub IsGoing-new : (m : ℕ) → IsGoing m [] (new_mobile m) []
+IsGoing-new m = record { numbered = IsNumbered-new m; last = tt; modulus = refl }
+
+-- a call that begins an establishment takes nothing
+taken_by_call-begins : (mobile : MobileState) (call : Call) → begins mobile call ≡ true → taken_by_call mobile call ≡ []
+taken_by_call-begins mobile (arrives complete) does = refl
+taken_by_call-begins mobile (gives_up failure) does = refl
+taken_by_call-begins mobile (connects initial) does = refl
+taken_by_call-begins mobile (sends sapi message) does = refl
+taken_by_call-begins mobile (frames sapi) does = absurd cc
+taken_by_call-begins mobile (acknowledges sapi) does = refl
+taken_by_call-begins mobile leaves does = refl
+
+-- what was taken in all establishments is what was taken
+pub joined-establishments : (mobile : MobileState) (taken : List (List ℕ)) (calls : List Call) → joined (establishments mobile taken calls) ≡ taken ++ taken_by_calls mobile calls
+joined-establishments mobile taken [] = refl
+joined-establishments mobile taken (call ∷ calls) =
+    let behind : List (List ℕ) = taken_by_calls (after_call mobile call) calls in
+    elim (cases_Bool (begins mobile call)) [
+      | inl does ↦
+          ap joined (cond-true (begins mobile call) (taken ∷ establishments (after_call mobile call) [] calls) (establishments (after_call mobile call) (taken ++ taken_by_call mobile call) calls) does)
+          ∙ ap (λ (xs : List (List ℕ)). taken ++ xs) (joined-establishments (after_call mobile call) [] calls)
+          ∙ ap (λ (xs : List (List ℕ)). taken ++ (xs ++ behind)) (sym (taken_by_call-begins mobile call does))
+      | inr doesnt ↦
+          ap joined (cond-false (begins mobile call) (taken ∷ establishments (after_call mobile call) [] calls) (establishments (after_call mobile call) (taken ++ taken_by_call mobile call) calls) doesnt)
+          ∙ joined-establishments (after_call mobile call) (taken ++ taken_by_call mobile call) calls ∙ append_assoc taken (taken_by_call mobile call) behind
+    ]
+
+-- what was sent is clear
+AreClear-calls : (m : ℕ) (before : List (List ℕ)) (mobile : MobileState) (taken : List (List ℕ)) (calls : List Call) → IsGoing m before mobile taken → AreClear (after_calls mobile calls).sent
+AreClear-calls m before mobile taken [] going = going.numbered.clear
+AreClear-calls m before mobile taken (call ∷ calls) going =
+    elim (cases_Bool (begins mobile call)) [
+      | inl does ↦
+          let arrival = IsArrival-begins mobile call does in
+          let next = subst (λ (new : MobileState). IsGoing m (arrival-cut m before mobile taken going).next new []) (sym arrival.arrived) (arrival-going m before mobile taken arrival.control arrival.is_one going) in
+          AreClear-calls m (arrival-cut m before mobile taken going).next (after_call mobile call) [] calls next
+      | inr doesnt ↦ AreClear-calls m before (after_call mobile call) (taken ++ taken_by_call mobile call) calls (IsGoing-call m before mobile taken call doesnt going)
+    ]
+
+-- the places of what was taken rise
+pub Rise-calls : (m : ℕ) (calls : List Call) → (k : ℕ) × Rise m (after_calls (new_mobile m) calls).sent 0 (taken_by_calls (new_mobile m) calls) k
+Rise-calls m calls =
+    let rule = OneRepeat-calls m [] (new_mobile m) [] calls (IsGoing-new m) in
+    let clear = AreClear-calls m [] (new_mobile m) [] calls (IsGoing-new m) in
+    let rise = Rise-slices m (after_calls (new_mobile m) calls).sent 0 0 (establishments (new_mobile m) [] calls) clear (inl refl) rule in
+    (rise.0, subst (λ (xs : List (List ℕ)). Rise m (after_calls (new_mobile m) calls).sent 0 xs rise.0) (joined-establishments (new_mobile m) [] calls) rise.1)

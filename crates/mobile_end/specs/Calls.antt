@@ -1,15 +1,13 @@
 -- A life of a mobile: any list of calls, in any order.
-use Rattle.std.specs.Prelude.{◌≡◌, ℕ, Option, Some, None, Result, Ok, Err, List, [], ◌∷◌, ◌++◌, filter, option_to_list}
-use Rattle.dtap_codec.specs.Message.{is_flow_message}
-use Rattle.dtap_codec.specs.Places.{numbered_from, AreClear}
+use Rattle.std.specs.Prelude.{ℕ, Bool, false, ◌&&◌, not, Option, Some, None, Result, Ok, Err, List, [], ◌∷◌, ◌++◌, option_to_list, if◌then◌else◌}
 use Rattle.dtap_codec.specs.declared.sapi.Sapi.{Sapi}
-use Rattle.dtap_codec.specs.declared.sapi.Sapi.TheVariants.{Zero, Three}
+use Rattle.dtap_codec.specs.declared.sapi.Sapi.TheVariants.{Zero}
 use Rattle.mobile_end.specs.declared.fault.MobileFault.{MobileFault}
 use Rattle.mobile_end.specs.declared.mobile_end.Stage.{Stage}
 use Rattle.mobile_end.specs.declared.mobile_end.Stage.TheVariants.{New, Connected}
-use Rattle.mobile_end.specs.DataLink.{to_be_taken}
+use Rattle.mobile_end.specs.Control.{is_control}
 use Rattle.mobile_end.specs.MobileState.{MobileState}
-use Rattle.mobile_end.specs.Mobile.{after_connect, refusal_of_connect, queueing, refusal_of_send, framed, after_frame, after_acked}
+use Rattle.mobile_end.specs.Mobile.{after_connect, refusal_of_connect, queueing, refusal_of_send, framed, after_frame, after_acked, is_on_channel, after_leave, after_arrival}
 
 -- what is called
 pub data Call : Type 0 where
@@ -17,6 +15,9 @@ pub data Call : Type 0 where
   sends : Sapi → List ℕ → Call
   frames : Sapi → Call
   acknowledges : Sapi → Call
+  leaves : Call
+  arrives : List ℕ → Call
+  gives_up : List ℕ → Call
 
 -- a refused call changes nothing
 abbrev pub unless_refused : Option MobileFault → MobileState → MobileState → MobileState
@@ -28,12 +29,19 @@ abbrev pub unless_connected : Stage → MobileState → MobileState → MobileSt
 unless_connected Connected old new = old
 unless_connected New old new = new
 
+-- `arrive` and `give_up` each come after a `leave`, with a message of radio resource management
+abbrev pub may_arrive : MobileState → List ℕ → Bool
+may_arrive mobile control = not (is_on_channel mobile.place) && is_control control
+
 abbrev pub after_call : MobileState → Call → MobileState
 after_call mobile (connects initial) =
     unless_connected mobile.stage mobile (unless_refused (refusal_of_connect initial) mobile (after_connect mobile initial))
 after_call mobile (sends sapi message) = unless_refused (refusal_of_send mobile sapi message) mobile (queueing mobile sapi message)
 after_call mobile (frames sapi) = after_frame mobile sapi
 after_call mobile (acknowledges sapi) = after_acked mobile sapi
+after_call mobile leaves = after_leave mobile
+after_call mobile (arrives complete) = if may_arrive mobile complete then after_arrival mobile complete else mobile
+after_call mobile (gives_up failure) = if may_arrive mobile failure then after_arrival mobile failure else mobile
 
 abbrev pub after_calls : MobileState → List Call → MobileState
 after_calls mobile [] = mobile
@@ -53,8 +61,16 @@ abbrev pub taken_by_calls : MobileState → List Call → List (List ℕ)
 taken_by_calls mobile [] = []
 taken_by_calls mobile (call ∷ calls) = taken_by_call mobile call ++ taken_by_calls (after_call mobile call) calls
 
--- The messages of the flow among those that a station took of the mobile and those that it can still take are the sent
--- list, in order, each once, with the number of its place.
-pub record IsNumbered (mobile : MobileState) (taken : List (List ℕ)) : Type 0 where
-  pub numbers : filter is_flow_message (taken ++ to_be_taken mobile.zero) ≡ numbered_from mobile.modulus 0 mobile.sent
-  pub clear : AreClear mobile.sent
+-- whether a call begins an establishment: the mobile has layer 2 up on a channel from there on
+abbrev pub begins : MobileState → Call → Bool
+begins mobile (arrives complete) = may_arrive mobile complete
+begins mobile (gives_up failure) = may_arrive mobile failure
+begins mobile _ = false
+
+-- What stations take on SAPI 0 in each establishment, in order; so_far was taken in the first of them.
+abbrev pub establishments : MobileState → List (List ℕ) → List Call → List (List (List ℕ))
+establishments mobile so_far [] = so_far ∷ []
+establishments mobile so_far (call ∷ calls) =
+    if begins mobile call
+    then so_far ∷ establishments (after_call mobile call) [] calls
+    else establishments (after_call mobile call) (so_far ++ taken_by_call mobile call) calls

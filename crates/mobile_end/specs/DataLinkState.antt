@@ -1,6 +1,6 @@
 -- The data link of one SAPI: what stands in the air, and what waits behind it in order.
 use Rattle.std.specs.Prelude.{ℕ, List}
-use Rattle.mobile_end.specs.declared.air_link.Air.{Air}
+use Rattle.link_model.specs.declared.air_link.Air.{Air}
 
 pub record DataLinkState : Type 0 where
   pub waiting : List (List ℕ)

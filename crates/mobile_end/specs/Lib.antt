@@ -1,5 +1,4 @@
-pub mod AirLink
-pub mod RestsReached
+pub mod Control
 pub mod DataLinkState
 pub mod DataLink
 pub mod Lawful
@@ -7,4 +6,5 @@ pub mod MobileState
 pub mod Mobile
 pub mod RestsFramed
 pub mod Calls
+pub mod OneRepeat
 pub mod RestsLent

@@ -1,19 +1,22 @@
 -- What the calls of a mobile do. Messages of the flow are numbered when the upper layers send them: the one at place k of
--- the sent list carries k modulo m (TS 24.007 clause 11.2.3.2.3).
-use Rattle.std.specs.Prelude.{◌≡◌, ℕ, ◌%◌, Bool, true, false, Option, Some, None, Result, Ok, Err, List, [], ◌∷◌, ◌++◌, length, if◌then◌else◌}
+-- the sent list carries k modulo m (TS 24.007 clause 11.2.3.2.3). At a change of channel the message that wasn't acknowledged
+-- is sent again, with its number, behind the control message of the new channel (TS 44.006 clause 5.4.3).
+use Rattle.std.specs.Prelude.{ℕ, ◌%◌, Bool, true, false, ◌&&◌, Option, Some, None, Result, Ok, Err, List, [], ◌∷◌, ◌++◌, length, if◌then◌else◌}
 use Rattle.octets.specs.Refusal.{first_refusal}
 use Rattle.dtap_codec.specs.Message.{is_flow_message}
 use Rattle.dtap_codec.specs.Number.{numbered}
 use Rattle.dtap_codec.specs.declared.sapi.Sapi.{Sapi}
 use Rattle.dtap_codec.specs.declared.sapi.Sapi.TheVariants.{Zero, Three}
-use Rattle.mobile_end.specs.declared.air_link.Air.TheVariants.{Empty}
+use Rattle.link_model.specs.AirLink.{is_reached}
+use Rattle.link_model.specs.declared.air_link.Air.TheVariants.{Empty}
 use Rattle.mobile_end.specs.declared.fault.MobileFault.{MobileFault}
 use Rattle.mobile_end.specs.declared.fault.MobileFault.TheVariants.{NotConnected, BadMessage}
+use Rattle.mobile_end.specs.declared.mobile_end.Place.{Place}
+use Rattle.mobile_end.specs.declared.mobile_end.Place.TheVariants.{OnChannel, Moving}
 use Rattle.mobile_end.specs.declared.mobile_end.Stage.{Stage}
 use Rattle.mobile_end.specs.declared.mobile_end.Stage.TheVariants.{New, Connected}
-use Rattle.mobile_end.specs.AirLink.{is_reached}
 use Rattle.mobile_end.specs.DataLinkState.{DataLinkState}
-use Rattle.mobile_end.specs.DataLink.{waits, lent, after_lending, after_acknowledgement}
+use Rattle.mobile_end.specs.DataLink.{waits, lent, after_lending, after_acknowledgement, resumed, repeated}
 use Rattle.mobile_end.specs.Lawful.{is_initial, is_sendable}
 use Rattle.mobile_end.specs.MobileState.{MobileState}
 
@@ -22,7 +25,7 @@ idle = record { waiting = []; air = Empty }
 
 -- a mobile that never sent
 abbrev pub new_mobile : ℕ → MobileState
-new_mobile m = record { modulus = m; stage = New; sent = []; zero = idle; three = idle }
+new_mobile m = record { modulus = m; stage = New; place = OnChannel; sent = []; zero = idle; three = idle }
 
 -- the data link of a SAPI
 abbrev pub link_of : MobileState → Sapi → DataLinkState
@@ -31,18 +34,15 @@ link_of mobile Three = mobile.three
 
 -- the mobile with another data link of this SAPI
 abbrev pub with_link : MobileState → Sapi → DataLinkState → MobileState
-with_link mobile Zero link = record { modulus = mobile.modulus; stage = mobile.stage; sent = mobile.sent; zero = link; three = mobile.three }
-with_link mobile Three link = record { modulus = mobile.modulus; stage = mobile.stage; sent = mobile.sent; zero = mobile.zero; three = link }
+with_link mobile Zero link = record mobile { zero = link }
+with_link mobile Three link = record mobile { three = link }
 
 -- a message of the flow joins the sent list, and waits on SAPI 0 with the number of its place
 abbrev pub numbering : MobileState → List ℕ → MobileState
 numbering mobile message =
-    record {
-      modulus = mobile.modulus;
-      stage = mobile.stage;
+    record mobile {
       sent = mobile.sent ++ message ∷ [];
       zero = waits mobile.zero (numbered (length mobile.sent % mobile.modulus) message);
-      three = mobile.three
     }
 
 -- the mobile once a message of the upper layers waits
@@ -51,7 +51,7 @@ queueing mobile sapi message =
     if is_flow_message message then numbering mobile message else with_link mobile sapi (waits (link_of mobile sapi) message)
 
 abbrev pub connected : MobileState → MobileState
-connected mobile = record { modulus = mobile.modulus; stage = Connected; sent = mobile.sent; zero = mobile.zero; three = mobile.three }
+connected mobile = record mobile { stage = Connected }
 
 -- an initial message is the first that waits
 abbrev pub after_connect : MobileState → Option (List ℕ) → MobileState
@@ -70,25 +70,42 @@ abbrev pub refusal_of_send : MobileState → Sapi → List ℕ → Option Mobile
 refusal_of_send mobile sapi message =
     first_refusal (refusal_before_connect mobile.stage) (if is_sendable sapi message then None else Some BadMessage)
 
-abbrev pub framed_at : Stage → Option (List ℕ) → Result (Option (List ℕ)) MobileFault
-framed_at New message = Err NotConnected
-framed_at Connected message = Ok message
+abbrev pub framed_at : Stage → Place → Option (List ℕ) → Result (Option (List ℕ)) MobileFault
+framed_at New place message = Err NotConnected
+framed_at Connected Moving message = Ok None
+framed_at Connected OnChannel message = Ok message
 
 -- what `frame` answers: the message in the air that the station hasn't taken yet, if there is one
 abbrev pub framed : MobileState → Sapi → Result (Option (List ℕ)) MobileFault
-framed mobile sapi = framed_at mobile.stage (lent (link_of mobile sapi))
+framed mobile sapi = framed_at mobile.stage mobile.place (lent (link_of mobile sapi))
 
-abbrev pub after_frame_at : Stage → MobileState → Sapi → MobileState
-after_frame_at New mobile sapi = mobile
-after_frame_at Connected mobile sapi = with_link mobile sapi (after_lending (link_of mobile sapi))
+abbrev pub after_frame_at : Stage → Place → MobileState → Sapi → MobileState
+after_frame_at Connected OnChannel mobile sapi = with_link mobile sapi (after_lending (link_of mobile sapi))
+after_frame_at _ _ mobile sapi = mobile
 
 -- the mobile after `frame`
 abbrev pub after_frame : MobileState → Sapi → MobileState
-after_frame mobile sapi = after_frame_at mobile.stage mobile sapi
+after_frame mobile sapi = after_frame_at mobile.stage mobile.place mobile sapi
+
+abbrev pub is_on_channel : Place → Bool
+is_on_channel OnChannel = true
+is_on_channel Moving = false
 
 abbrev pub is_acknowledged : MobileState → Sapi → Bool
-is_acknowledged mobile sapi = is_reached (link_of mobile sapi).air
+is_acknowledged mobile sapi = is_on_channel mobile.place && is_reached (link_of mobile sapi).air
+
+abbrev pub after_acked_at : Place → MobileState → Sapi → MobileState
+after_acked_at OnChannel mobile sapi = with_link mobile sapi (after_acknowledgement (link_of mobile sapi))
+after_acked_at Moving mobile sapi = mobile
 
 -- the mobile after `acked`
 abbrev pub after_acked : MobileState → Sapi → MobileState
-after_acked mobile sapi = with_link mobile sapi (after_acknowledgement (link_of mobile sapi))
+after_acked mobile sapi = after_acked_at mobile.place mobile sapi
+
+-- the mobile after `leave`
+abbrev pub after_leave : MobileState → MobileState
+after_leave mobile = record mobile { place = Moving }
+
+-- The mobile after `arrive` or `give_up`: on the channel its control message comes first, and then what wasn't acknowledged.
+abbrev pub after_arrival : MobileState → List ℕ → MobileState
+after_arrival mobile control = record mobile { place = OnChannel; zero = resumed mobile.zero control; three = repeated mobile.three }

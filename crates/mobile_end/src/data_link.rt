@@ -1,11 +1,14 @@
-ghost use Rattle.std.specs.Prelude.{◌≡◌, [], option_map, OnOk, OnErr};
+ghost use Rattle.std.specs.Prelude.{◌≡◌, ◌≤◌, [], option_map, OnOk, OnErr};
+ghost use Rattle.std.specs.VecDeque.{deque_len, deque_capacity};
 ghost use Rattle.std.specs.Borrow.{sem};
-ghost use Rattle.mobile_end.specs.declared.air_link.Air.TheVariants.{Empty};
-ghost use Rattle.mobile_end.specs.AirLink.{is_reached};
-ghost use Rattle.mobile_end.specs.DataLink.{waits, loaded, lent, after_lending, after_acknowledgement};
+ghost use Rattle.link_model.specs.declared.air_link.Air.TheVariants.{Empty};
+ghost use Rattle.link_model.specs.AirLink.{is_reached};
+ghost use Rattle.mobile_end.specs.Control.{is_control, without_control};
+ghost use Rattle.mobile_end.specs.DataLink.{waits, loaded, lent, after_lending, after_acknowledgement, resumed, repeated};
 ghost use Rattle.mobile_end.specs.RestsLent.{RestsLent};
 
-use crate::air_link::AirLink;
+use dtap_codec::{RADIO_RESOURCE, pd_of};
+use link_model::AirLink;
 use octets::{Memory, Octets};
 use std::alloc::Global;
 use std::collections::VecDeque;
@@ -61,7 +64,7 @@ impl DataLink {
     {
         if self.air.is_empty() {
             if let Some(message) = self.waiting.pop_front() {
-                self.air.give(message);
+                self.air.give(message.into_vec()).unwrap();
             }
         }
     }
@@ -73,4 +76,46 @@ impl DataLink {
     {
         self.air.ack()
     }
+
+    /// Takes the link to another channel: the control message stands in the air, and behind it what wasn't acknowledged
+    /// waits again, without control messages of an earlier channel.
+    pub(crate) fn resume(&mut self, control: Vec<u8>) -> Result<(), Memory>
+        ensures ok { OnOk result (self.new ≡ resumed self.old control.items) }
+        ensures err { OnErr result (self.new ≡ self.old) }
+    {
+        self.waiting.reserve(1)?;
+        drop_control(&mut self.waiting);
+        if let Some(message) = self.air.cut() {
+            if !is_control(&message) {
+                self.waiting.push_front_reserved(Octets::new(message));
+            }
+        }
+        self.air.give(control).unwrap();
+        Ok(())
+    }
+
+    /// Takes the link to another channel, where the message that wasn't acknowledged stands in the air again.
+    pub(crate) fn repeat(&mut self)
+        ensures { self.new ≡ repeated self.old }
+    {
+        if let Some(message) = self.air.cut() {
+            self.air.give(message).unwrap();
+        }
+    }
+}
+
+/// Drops the control messages among those that wait.
+fn drop_control(waiting: &mut VecDeque<Octets>)
+    ensures items { waiting.new.items ≡ without_control waiting.old.items }
+    ensures length { deque_len waiting.new ≤ deque_len waiting.old }
+    ensures capacity { deque_capacity waiting.new ≡ deque_capacity waiting.old }
+{
+    waiting.retain(|message| !is_control(message.as_slice()));
+}
+
+/// Whether a message is of radio resource management.
+pub(crate) fn is_control(message: &[u8]) -> bool
+    ensures { result ≡ is_control message.now }
+{
+    pd_of(message) == Some(RADIO_RESOURCE)
 }

@@ -1,10 +1,17 @@
-ghost use Rattle.std.specs.Prelude.{ℕ, List};
+ghost use Rattle.std.specs.Prelude.{ℕ, List, []};
+ghost use Rattle.dtap_codec.specs.Places.{Rise};
 ghost use Rattle.mobile_end.specs.Mobile.{new_mobile};
-ghost use Rattle.mobile_end.specs.Calls.{Call, after_calls, taken_by_calls, IsNumbered};
+ghost use Rattle.mobile_end.specs.Calls.{Call, after_calls, taken_by_calls, establishments};
+ghost use Rattle.mobile_end.specs.OneRepeat.{OneRepeat};
 
-/// Whatever is called and in whatever order, a station takes the messages of the sent list in order, each once, the one
-/// at place k with the number k modulo m. It is a law on the definitions that the calls' contracts cite: it does nothing.
+/// The one-repeat rule: whatever is called and in whatever order, in each establishment a station takes a slice of the sent
+/// list, in order, the one at place k with the number k modulo m. The first slice begins at place 0, and each next one where
+/// the last ended, or at its last message. It is a law on the definitions that the calls' contracts cite: it does nothing.
+pub fn repeats_at_most_one()
+    ensures { (m : ℕ) (calls : List Call) → OneRepeat m (after_calls (new_mobile m) calls).sent 0 (establishments (new_mobile m) [] calls) }
+{}
+
+/// So the places of what stations take, over all channels, rise by steps of 0 or 1 from place 0. It does nothing.
 pub fn numbers_run_on()
-    ensures { (m : ℕ) (calls : List Call) → IsNumbered (after_calls (new_mobile m) calls) (taken_by_calls (new_mobile m) calls) }
-{
-}
+    ensures { (m : ℕ) (calls : List Call) → (k : ℕ) × Rise m (after_calls (new_mobile m) calls).sent 0 (taken_by_calls (new_mobile m) calls) k }
+{}

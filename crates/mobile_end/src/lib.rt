@@ -1,20 +1,16 @@
-//! The mobile end of the radio link: what the upper layers send, numbered by N(SD), and one message in the air per SAPI.
+//! The mobile end of the radio link: what the upper layers send, numbered by N(SD), one message in the air per SAPI, and
+//! what is sent again after a change of channel.
 #![tactic(auto)]
 
 pub use fault::MobileFault;
 pub use lawful::INITIAL_LIMIT;
-pub use laws::numbers_run_on;
-pub use mobile_end::{MobileEnd, Stage};
+pub use laws::{numbers_run_on, repeats_at_most_one};
+pub use mobile_end::{MobileEnd, Place, Stage};
 
-
-
-mod air_link;
 mod data_link;
-
 mod fault;
 mod lawful;
 mod laws;
 mod mobile_end;
-
-
-
+#[cfg(test)]
+mod tests;

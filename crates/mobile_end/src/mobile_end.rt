@@ -4,7 +4,8 @@ ghost use Rattle.std.specs.Borrow.{sem};
 ghost use Rattle.octets.specs.Refusal.{RefusesBy};
 ghost use Rattle.dtap_codec.specs.Message.{is_flow_message};
 ghost use Rattle.dtap_codec.specs.Number.{count_of};
-ghost use Rattle.mobile_end.specs.Mobile.{new_mobile, numbering, queueing, after_connect, refusal_of_connect, after_frame, framed, after_acked, is_acknowledged, refusal_of_send};
+ghost use Rattle.mobile_end.specs.Mobile.{new_mobile, numbering, queueing, after_connect, refusal_of_connect, after_frame, framed, after_acked, is_acknowledged, after_leave, after_arrival, refusal_of_send};
+ghost use Rattle.mobile_end.specs.Control.{is_control};
 ghost use Rattle.mobile_end.specs.RestsFramed.{RestsFramed};
 
 use crate::MobileFault;
@@ -22,13 +23,24 @@ pub enum Stage {
     Connected,
 }
 
+/// Where the mobile is.
+#[derive(Clone, Copy, Debug, PartialEq, Eq)]
+pub enum Place {
+    /// On a channel, its first one before any `leave`.
+    OnChannel,
+    /// Between two channels.
+    Moving,
+}
+
 /// A mobile: what its upper layers send goes into the air with the send sequence number of its place
-/// (TS 24.007 clause 11.2.3.2.3), one message at a time per SAPI (TS 44.006).
+/// (TS 24.007 clause 11.2.3.2.3), one message at a time per SAPI (TS 44.006). On another channel it sends again the one that
+/// wasn't acknowledged, with the same number, and no other.
 #[derive(Debug, Drop)]
 pub struct MobileEnd {
     alloc: Global,
     modulus: Modulus,
     stage: Stage,
+    place: Place,
     sent: Vec<Octets>,
     /// V(SD), the number of the next message of the flow.
     send_sequence: u8,
@@ -44,11 +56,12 @@ impl Model for MobileEnd {
     ghost Value = { MobileState };
 
     ghost view = { λ mobile. record {
-        modulus = count_of mobile.modulus;
-        stage = mobile.stage;
-        sent = mobile.sent.items;
-        zero = mobile.zero;
-        three = mobile.three
+      modulus = count_of mobile.modulus;
+      stage = mobile.stage;
+      place = mobile.place;
+      sent = mobile.sent.items;
+      zero = mobile.zero;
+      three = mobile.three;
     } };
 
     ghost invariant = { λ mobile. mobile.send_sequence ≡ length mobile.sent.items % count_of mobile.modulus };
@@ -63,6 +76,7 @@ impl MobileEnd {
             alloc,
             modulus,
             stage: Stage::New,
+            place: Place::OnChannel,
             sent: Vec::new(alloc),
             send_sequence: 0,
             zero: DataLink::new(alloc),
@@ -137,13 +151,16 @@ impl MobileEnd {
     }
 
     /// What stands in the air on this SAPI, once, for the station to take; an empty air first takes the next message
-    /// that waits. Before `connect` it is refused as `NotConnected`. It takes no memory.
+    /// that waits. Before `connect` it is refused as `NotConnected`; between two channels there is none. It takes no memory.
     pub fn frame(&mut self, sapi: Sapi) -> Result<Option<&[u8]>, MobileFault>
         ensures* after { sem 𝓛 (RestsFramed self.entry sapi) }
         ensures frame { result_map_both (option_map (λ frame. frame.now)) (λ fault. fault) result ≡ framed self.old sapi }
     {
         if self.stage == Stage::New {
             return Err(MobileFault::NotConnected);
+        }
+        if self.place == Place::Moving {
+            return Ok(None);
         }
         match sapi {
             Sapi::Zero => Ok(self.zero.lend()),
@@ -152,15 +169,63 @@ impl MobileEnd {
     }
 
     /// The station's acknowledgement of the frame that it took; the air on this SAPI is then free. False where it took
-    /// none that wasn't acknowledged yet.
+    /// none that wasn't acknowledged yet, and between two channels.
     pub fn acked(&mut self, sapi: Sapi) -> bool
         ensures acknowledged { result ≡ is_acknowledged self.old sapi }
         ensures after { self.new ≡ after_acked self.old sapi }
     {
+        if self.place == Place::Moving {
+            return false;
+        }
         match sapi {
             Sapi::Zero => self.zero.ack(),
             Sapi::Three => self.three.ack(),
         }
+    }
+
+    /// Leaves the channel, as a command told the mobile: its data links are suspended (TS 44.006 clause 5.4.3), and nothing
+    /// is taken or acknowledged until it is on a channel again.
+    pub fn leave(&mut self)
+        ensures { self.new ≡ after_leave self.old }
+    {
+        self.place = Place::Moving;
+    }
+
+    /// Arrives on another channel, after a `leave` of its own: its data links are resumed there with the COMPLETE, which
+    /// comes first (TS 44.006 clause 5.4.3). Then comes the message that wasn't acknowledged, with the number that it has;
+    /// one of radio resource management that belongs to an earlier channel is dropped.
+    pub fn arrive(&mut self, complete: Vec<u8>) -> Result<(), MobileFault>
+        requires moving { self.old.place ≡ Place.Moving }
+        requires control { is_control complete.items ≡ true }
+        ensures ok { OnOk result (self.new ≡ after_arrival self.old complete.items) }
+        ensures refused { RefusesBy MobileFault.Memory result None }
+        ensures err { OnErr result (self.new ≡ self.old) }
+    {
+        self.resume(complete)
+    }
+
+    /// Gives the other channel up and returns to the one that it left, after a `leave` of its own: as `arrive`, with the
+    /// FAILURE (TS 44.006 clause 5.4.3).
+    pub fn give_up(&mut self, failure: Vec<u8>) -> Result<(), MobileFault>
+        requires moving { self.old.place ≡ Place.Moving }
+        requires control { is_control failure.items ≡ true }
+        ensures ok { OnOk result (self.new ≡ after_arrival self.old failure.items) }
+        ensures refused { RefusesBy MobileFault.Memory result None }
+        ensures err { OnErr result (self.new ≡ self.old) }
+    {
+        self.resume(failure)
+    }
+
+    /// Takes the data links to a channel, where this control message comes first.
+    fn resume(&mut self, control: Vec<u8>) -> Result<(), MobileFault>
+        ensures ok { OnOk result (self.new ≡ after_arrival self.old control.items) }
+        ensures refused { RefusesBy MobileFault.Memory result None }
+        ensures err { OnErr result (self.new ≡ self.old) }
+    {
+        self.zero.resume(control)?;
+        self.three.repeat();
+        self.place = Place::OnChannel;
+        Ok(())
     }
 
     /// The sent list: the messages of the flow that the upper layers sent, in order, without numbers.

@@ -1,12 +1,24 @@
 -- One acknowledged link: at most one message stands in the air (TS 44.006).
-use Rattle.std.specs.Prelude.{ℕ, Bool, true, false, Option, Some, None, List}
-use Rattle.mobile_end.specs.declared.air_link.Air.{Air}
-use Rattle.mobile_end.specs.declared.air_link.Air.TheVariants.{Empty, Given, Reached}
+use Rattle.std.specs.Prelude.{ℕ, Bool, true, false, Option, Some, None, Result, Ok, Err, List}
+use Rattle.link_model.specs.declared.air_link.Air.{Air}
+use Rattle.link_model.specs.declared.air_link.Air.TheVariants.{Empty, Given, Reached}
 
 abbrev pub is_empty : Air → Bool
 is_empty Empty = true
 is_empty (Given message) = false
 is_empty (Reached message) = false
+
+-- what `give` answers: a link that isn't empty hands the message back
+abbrev pub given_answer : Air → List ℕ → Result (Unit {0}) (List ℕ)
+given_answer Empty message = Ok tt
+given_answer (Given first) message = Err message
+given_answer (Reached first) message = Err message
+
+-- the link after `give`, which changes an empty link alone
+abbrev pub after_give : Air → List ℕ → Air
+after_give Empty message = Given message
+after_give (Given first) message = Given first
+after_give (Reached first) message = Reached first
 
 -- the message in the air
 abbrev pub message_in : Air → Option (List ℕ)

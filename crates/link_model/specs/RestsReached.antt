@@ -2,9 +2,9 @@
 use Rattle.std.specs.Prelude.{◌≡◌}
 use Rattle.std.specs.Borrow.{MutBor, Fml}
 use Rattle.std.specs.Io.BufRead.{Rests}
-use Rattle.mobile_end.specs.declared.air_link.Air.{Air}
-use Rattle.mobile_end.specs.contracts.air_link.AirLink.{the_row}
-use Rattle.mobile_end.specs.AirLink.{reached}
+use Rattle.link_model.specs.declared.air_link.Air.{Air}
+use Rattle.link_model.specs.contracts.air_link.AirLink.{the_row}
+use Rattle.link_model.specs.AirLink.{reached}
 
 -- the station has taken the message
 abbrev pub RestsReached : MutBor Air → Fml

@@ -1,0 +1,27 @@
+-- What a base station end keeps of an honest station: its messages of one channel, in tenures.
+use Rattle.std.specs.Prelude.{◌≡◌, ℕ, Bool, true, false, ◌==◌, List, [], ◌∷◌}
+use Rattle.link_model.specs.Made.{activation_ack}
+use Rattle.rsl_codec.specs.declared.rsl.Rsl.{Rsl}
+use Rattle.rsl_codec.specs.declared.rsl.Rsl.TheVariants.{DataIndication, EstablishIndication, ChannelActivationAck, RfChannelReleaseAck}
+
+-- an ESTABLISH INDICATION, or a DATA INDICATION, as DTAP is, of the channel
+abbrev pub is_brought_on : ℕ → Rsl → Bool
+is_brought_on channel (EstablishIndication establishment) = establishment.channel == channel
+is_brought_on channel (DataIndication indication) = indication.channel == channel
+is_brought_on channel _ = false
+
+-- an acknowledgement of the channel's activation or of its release
+abbrev pub is_bound_of : ℕ → Rsl → Bool
+is_bound_of channel (ChannelActivationAck acknowledgement) = acknowledgement.channel == channel
+is_bound_of channel (RfChannelReleaseAck released) = released == channel
+is_bound_of channel _ = false
+
+-- The channel's messages stand in tenures: a tenure begins with an ACTIVATION ACK, which comes in none, and the next RELEASE
+-- ACK is its last. What a mobile brings on the channel stands in a tenure alone. The messages lead from within a tenure, or
+-- from outside, to within one, or outside.
+pub data Tenures (channel : ℕ) : Bool → List Rsl → Bool → Type 0 where
+  over : (within : Bool) → Tenures channel within [] within
+  begins : {end : Bool} {messages : List Rsl} → Tenures channel true messages end → Tenures channel false (activation_ack channel ∷ messages) end
+  brought : {end : Bool} {message : Rsl} {messages : List Rsl} → is_brought_on channel message ≡ true → Tenures channel true messages end → Tenures channel true (message ∷ messages) end
+  ends : {within end : Bool} {messages : List Rsl} → Tenures channel false messages end → Tenures channel within (RfChannelReleaseAck channel ∷ messages) end
+  apart : {within end : Bool} {message : Rsl} {messages : List Rsl} → is_brought_on channel message ≡ false → is_bound_of channel message ≡ false → Tenures channel within messages end → Tenures channel within (message ∷ messages) end

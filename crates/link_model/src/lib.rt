@@ -1,0 +1,15 @@
+//! The radio side of the model: the acknowledged link between a mobile and its station (TS 44.006), and the station's end
+//! towards its controller (TS 48.058).
+#![tactic(auto)]
+
+pub use air_link::AirLink;
+pub use base_end::BaseEnd;
+pub use fault::LinkFault;
+pub use laws::{gives_in_order, keeps_tenures};
+
+mod air_link;
+mod base_end;
+mod fault;
+mod laws;
+#[cfg(test)]
+mod tests;
