@@ -1,1 +1,4 @@
 pub mod ListLemmas
+pub mod Walks
+pub mod Grammar
+pub mod Fields

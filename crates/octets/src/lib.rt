@@ -4,5 +4,6 @@
 pub use memory::Memory;
 pub use octets::Octets;
 
+pub mod element;
 mod memory;
 mod octets;

@@ -1,0 +1,101 @@
+-- A walk goes on behind the element at the front, however many steps it was given.
+use Rattle.std.proofs.Common.{◌≡◌, ℕ, zero, suc, ◌<◌, ◌≤◌, Bool, true, false, cond, ltb, List, [], ◌∷◌, length, take, drop, Option, Some, None, Result, Ok, Err, refl, sym, ap, ◌∙◌, arith, eqb, ◌≢◌, eq-eqb, option_map}
+use Rattle.std.specs.List.{find}
+use Rattle.std.proofs.lemmas.Bool.{ltb-false, ne_eqb}
+use Rattle.std.proofs.lemmas.List.{length-drop}
+use Rattle.octets.specs.declared.element.Entry.{Entry}
+use Rattle.octets.specs.declared.element.Format.{Format}
+use Rattle.octets.specs.declared.element.Cut.{Cut}
+use Rattle.octets.specs.Element.{Element, element, format_in}
+use Rattle.octets.specs.Walk.{◌>>=◌, the_cut, width_of, size_by, split_at, element_at, front_by, front_of, Walked, walked_by, walk_within, walk, first_of}
+
+-- the value of a step that was not cut
+pub bind_ok : {A B : Type 0} (r : Result A Cut) (f : A → Result B Cut) (y : B) → (r >>= f) ≡ Ok y → (x : A) × (r ≡ Ok x) × (f x ≡ Ok y)
+bind_ok (Ok x) f y e = (x, refl, e)
+bind_ok (Err d) f y e = absurd cc
+
+-- what is split off is there
+pub record IsSplit (size : ℕ) (octets : List ℕ) (p : List ℕ × List ℕ) : Type 0 where
+  pub long : size ≤ length octets
+  pub front : take size octets ≡ p.0
+  pub back : drop size octets ≡ p.1
+
+guard : (b : Bool) (x y : List ℕ × List ℕ) → cond b (Err the_cut) (Ok x) ≡ Ok y → (b ≡ false) × (x ≡ y)
+guard true x y e = absurd cc
+guard false x y e = (refl, cc)
+
+pub split_ok : (size : ℕ) (octets : List ℕ) (p : List ℕ × List ℕ) → split_at size octets ≡ Ok p → IsSplit size octets p
+split_ok size octets p e =
+    let g = guard (ltb (length octets) size) (take size octets, drop size octets) p e in
+    record { long = ltb-false _ _ g.0; front = ap (λ (q : List ℕ × List ℕ). q.0) g.1; back = ap (λ (q : List ℕ × List ℕ). q.1) g.1 }
+
+split_rest : (size : ℕ) (octets : List ℕ) (p : List ℕ × List ℕ) → split_at size octets ≡ Ok p → length p.1 ≤ length octets
+split_rest size octets p e =
+    let s = split_ok size octets p e in
+    omega (arith, length-drop size octets, ap length s.back)
+
+some_is : (f g : Element × List ℕ) → (let a : Result (Option (Element × List ℕ)) Cut = Ok (Some f) in a) ≡ Ok (Some g) → f ≡ g
+some_is f g e = cc
+
+element_rest : (id : ℕ) (format : Format) (octets : List ℕ) (f : Element × List ℕ) → element_at id format octets ≡ Ok (Some f) → length f.1 ≤ length octets
+element_rest id format octets f e =
+    let a = bind_ok (split_at (width_of format) octets) (λ size. split_at (size_by format size.0) size.1 >>= λ value. Ok (Some (element id value.0, value.1))) (Some f) e in
+    let b = bind_ok (split_at (size_by format a.0.0) a.0.1) (λ value. Ok (Some (element id value.0, value.1))) (Some f) a.2 in
+    let first = split_rest (width_of format) octets a.0 a.1 in
+    let second = split_rest (size_by format a.0.0) a.0.1 b.0 b.1 in
+    let is = some_is (element id b.0.0, b.0.1) f b.2 in
+    omega (arith, first, second, ap (λ (g : Element × List ℕ). length g.1) is)
+
+front_rest : (id : ℕ) (format : Option Format) (octets : List ℕ) (f : Element × List ℕ) → front_by id format octets ≡ Ok (Some f) → length f.1 ≤ length octets
+front_rest id None octets f e = absurd cc
+front_rest id (Some format) octets f e = element_rest id format octets f e
+
+-- each step takes an octet at least
+pub front-shorter : (table : List Entry) (octets : List ℕ) (f : Element × List ℕ) → front_of table octets ≡ Ok (Some f) → length f.1 < length octets
+front-shorter table [] f e = absurd cc
+front-shorter table (id ∷ octets) f e = omega (arith, front_rest id (format_in table id) octets f e)
+
+-- two ways to go on that agree behind the front
+same_by : (front : Result (Option (Element × List ℕ)) Cut) (go on : List ℕ → Walked) → ((f : Element × List ℕ) → front ≡ Ok (Some f) → go f.1 ≡ on f.1) → walked_by front go ≡ walked_by front on
+same_by (Err e) go on h = refl
+same_by (Ok None) go on h = refl
+same_by (Ok (Some f)) go on h = ap (λ (w : Walked). record { elements = f.0 ∷ w.elements; is_cut = w.is_cut }) (h f refl)
+
+-- steps enough are enough
+enough : (table : List Entry) (n m : ℕ) (octets : List ℕ) → length octets ≤ n → length octets ≤ m → walk_within table n octets ≡ walk_within table m octets
+enough table zero zero octets le le' = refl
+enough table zero (suc m) [] le le' = refl
+enough table zero (suc m) (x ∷ octets) le le' = absurd (omega arith)
+enough table (suc n) zero [] le le' = refl
+enough table (suc n) zero (x ∷ octets) le le' = absurd (omega arith)
+enough table (suc n) (suc m) octets le le' =
+    same_by (front_of table octets) (walk_within table n) (walk_within table m)
+    (λ f e. let lt = front-shorter table octets f e in enough table n m f.1 (omega arith) (omega arith))
+
+pub walk-front : (table : List Entry) (octets : List ℕ) (front : Result (Option (Element × List ℕ)) Cut) → front_of table octets ≡ front → walk table octets ≡ walked_by front (walk table)
+unfolding walk
+walk-front table [] front e = ap (λ r. walked_by r (λ rest. walk_within table (length rest) rest)) e
+walk-front table (x ∷ octets) front e =
+    same_by (front_of table (x ∷ octets)) (walk_within table (length octets)) (λ rest. walk_within table (length rest) rest)
+    (λ f is. let lt = front-shorter table (x ∷ octets) f is in enough table (length octets) (length f.1) f.1 (omega arith) (omega arith))
+    ∙ ap (λ r. walked_by r (λ rest. walk_within table (length rest) rest)) e
+
+-- ---- what the two loops keep
+
+pub cut-front : (table : List Entry) (octets : List ℕ) (front : Result (Option (Element × List ℕ)) Cut) (total : Bool) → front ≡ front_of table octets → (walk table octets).is_cut ≡ total → (walked_by front (walk table)).is_cut ≡ total
+cut-front table octets front total e so_far = sym (ap (λ (w : Walked). w.is_cut) (walk-front table octets front (sym e))) ∙ so_far
+
+pub first-front : (table : List Entry) (octets : List ℕ) (front : Result (Option (Element × List ℕ)) Cut) (id : ℕ) (total : Option (List ℕ)) → front ≡ front_of table octets → first_of id (walk table octets).elements ≡ total → first_of id (walked_by front (walk table)).elements ≡ total
+first-front table octets front id total e so_far = sym (ap (λ (w : Walked). first_of id w.elements) (walk-front table octets front (sym e))) ∙ so_far
+
+first_by : (b : Bool) (e : Element) (es : List Element) (id : ℕ) → eqb e.id id ≡ b → first_of id (e ∷ es) ≡ cond b (Some e.value) (first_of id es)
+first_by true e es id h = ap (λ b. option_map (λ (x : Element). x.value) (cond b (Some e) (find (λ (x : Element). eqb x.id id) es))) h
+first_by false e es id h = ap (λ b. option_map (λ (x : Element). x.value) (cond b (Some e) (find (λ (x : Element). eqb x.id id) es))) h
+
+-- an element with the identifier that stands first is the first one
+pub first_here : (e : Element) (es : List Element) (id : ℕ) → e.id ≡ id → first_of id (e ∷ es) ≡ Some e.value
+first_here e es id h = first_by true e es id (eq-eqb _ _ h)
+
+-- an element with another identifier is passed over
+pub first_behind : (e : Element) (es : List Element) (id : ℕ) → e.id ≢ id → first_of id (e ∷ es) ≡ first_of id es
+first_behind e es id h = first_by false e es id (ne_eqb _ _ h)

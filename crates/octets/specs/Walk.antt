@@ -1,0 +1,77 @@
+-- The elements of octets as a function: the walk from the front, an element a step.
+use Rattle.std.specs.Prelude.{ℕ, zero, suc, ◌+◌, ◌*◌, Bool, true, false, nat_lt, ◌==◌, if◌then◌else◌, List, [], ◌∷◌, length, take, drop, slice_index, Option, Some, None, option_map, Result, Ok, Err}
+use Rattle.std.specs.List.{find}
+use Rattle.octets.specs.declared.element.Entry.{Entry}
+use Rattle.octets.specs.declared.element.Cut.{Cut}
+use Rattle.octets.specs.declared.element.Format.{Format}
+use Rattle.octets.specs.declared.element.Format.TheVariants.{Tv, Tlv, TlvE}
+use Rattle.octets.specs.Element.{Element, element, format_in}
+
+-- how many octets of length stand before the value
+abbrev pub width_of : Format → ℕ
+width_of (Tv n) = 0
+width_of Tlv = 1
+width_of TlvE = 2
+
+-- the size of the value, from the octets of length before it
+abbrev pub size_by : Format → List ℕ → ℕ
+size_by (Tv n) octets = n
+size_by Tlv octets = slice_index octets 0
+size_by TlvE octets = 256 * slice_index octets 0 + slice_index octets 1
+
+infixl 10 ◌>>=◌
+abbrev pub ◌>>=◌ : {A B : Type 0} → Result A Cut → (A → Result B Cut) → Result B Cut
+(Ok x) >>= f = f x
+(Err e) >>= f = Err e
+
+abbrev pub seen : {A B : Type 0} → (A → B) → Result A Cut → Result B Cut
+seen view (Ok x) = Ok (view x)
+seen view (Err e) = Err e
+
+abbrev pub the_cut : Cut
+the_cut = record {}
+
+-- the first octets, this many, and those behind them
+abbrev pub split_at : ℕ → List ℕ → Result (List ℕ × List ℕ) Cut
+split_at size octets = if nat_lt (length octets) size then Err the_cut else Ok (take size octets, drop size octets)
+
+-- the element behind an identifier of this format
+abbrev pub element_at : ℕ → Format → List ℕ → Result (Option (Element × List ℕ)) Cut
+element_at id format octets = do
+  size ← split_at (width_of format) octets
+  value ← split_at (size_by format size.0) size.1
+  Ok (Some (element id value.0, value.1))
+
+abbrev pub front_by : ℕ → Option Format → List ℕ → Result (Option (Element × List ℕ)) Cut
+front_by id None octets = Ok None
+front_by id (Some format) octets = element_at id format octets
+
+-- the element at the front, and the octets behind it; none where the octets stop
+abbrev pub front_of : List Entry → List ℕ → Result (Option (Element × List ℕ)) Cut
+front_of table [] = Ok None
+front_of table (id ∷ octets) = front_by id (format_in table id) octets
+
+-- what a walk finds: the elements that are whole, and whether one is cut behind them
+pub record Walked : Type 0 where
+  pub elements : List Element
+  pub is_cut : Bool
+
+abbrev pub walked : List Element → Bool → Walked
+walked es is_cut = record { elements = es; is_cut = is_cut }
+
+abbrev pub walked_by : Result (Option (Element × List ℕ)) Cut → (List ℕ → Walked) → Walked
+walked_by (Err e) go = record { elements = []; is_cut = true }
+walked_by (Ok None) go = record { elements = []; is_cut = false }
+walked_by (Ok (Some f)) go = record { elements = f.0 ∷ (go f.1).elements; is_cut = (go f.1).is_cut }
+
+-- no more steps than this
+abbrev pub walk_within : List Entry → ℕ → List ℕ → Walked
+walk_within table zero octets = record { elements = []; is_cut = false }
+walk_within table (suc n) octets = walked_by (front_of table octets) (walk_within table n)
+
+unfoldable pub walk : List Entry → List ℕ → Walked
+walk table octets = walk_within table (length octets) octets
+
+-- the value of the first element with this identifier
+abbrev pub first_of : ℕ → List Element → Option (List ℕ)
+first_of id es = option_map (λ e. e.value) (find (λ e. e.id == id) es)
