@@ -1,2 +1,4 @@
+pub mod Fields
 pub mod Numbers
+pub mod Reports
 pub mod Rising

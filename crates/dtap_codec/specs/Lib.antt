@@ -1,3 +1,5 @@
+pub mod Bits
 pub mod Message
 pub mod Number
 pub mod Places
+pub mod Report

@@ -2,10 +2,16 @@
 //! send sequence number N(SD) (TS 24.007 clause 11.2.3).
 #![tactic(auto)]
 
-pub use message::{is_flow, pd_of, CALL_CONTROL, MESSAGE_LIMIT, MOBILITY_MANAGEMENT, SHORT_MESSAGES, SUPPLEMENTARY_SERVICES, RADIO_RESOURCE};
-pub use number::{number_of, with_number, without_number, Modulus};
+pub use message::{
+    CALL_CONTROL, MESSAGE_LIMIT, MOBILITY_MANAGEMENT, RADIO_RESOURCE, SHORT_MESSAGES,
+    SUPPLEMENTARY_SERVICES, is_flow, pd_of,
+};
+pub use number::{Modulus, number_of, with_number, without_number};
+pub use report::{Neighbour, Report, RrFault};
 pub use sapi::Sapi;
 
+mod bits;
 mod message;
 mod number;
+mod report;
 mod sapi;

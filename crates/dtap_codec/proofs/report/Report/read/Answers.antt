@@ -1,0 +1,12 @@
+-- The number of the first 16 octets is that of one report at most.
+use Rattle.std.proofs.Common.{◌≡◌, ℕ, List, Ok, take, ap, sym, ◌∙◌, subst, rules}
+use Rattle.std.specs.Int.{from_be_bytes, w128}
+use Rattle.dtap_codec.specs.Report.{Writes, IsReport}
+use Rattle.dtap_codec.proofs.Reports.{same_report}
+use Rattle.dtap_codec.proofs.report.Report.read.Goals as goal
+
+pub returns-clause-only : goal.returns-clause-only
+returns-clause-only c =
+    λ report is.
+    let found : IsReport c.args.octets.now c.report_of.result = search rules in
+    ap Ok (same_report (from_be_bytes w128 (take 16 c.args.octets.now)) c.report_of.result report found.value is.value)

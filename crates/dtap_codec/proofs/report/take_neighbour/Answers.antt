@@ -1,0 +1,6 @@
+-- The three fields, one behind the other.
+use Rattle.dtap_codec.proofs.Fields.{Begin-append}
+use Rattle.dtap_codec.proofs.report.take_neighbour.Goals as goal
+
+pub returns : goal.returns
+returns c = Begin-append c.take-rxlev.ensures (Begin-append c.take-bcch_freq.ensures c.take-bsic.ensures)

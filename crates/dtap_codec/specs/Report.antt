@@ -1,0 +1,44 @@
+-- The value of a measurement report, bit by bit (TS 44.018 clause 10.5.2.20).
+use Rattle.std.specs.Prelude.{◌≡◌, ℕ, ◌≤◌, nat_le, Bool, true, false, not, List, [], ◌∷◌, ◌++◌, length, take, if◌then◌else◌}
+use Rattle.std.specs.Int.{from_be_bytes, w128}
+use Rattle.dtap_codec.specs.Bits.{Field, field, number_of, Fit}
+use Rattle.dtap_codec.specs.declared.report.Neighbour.{Neighbour}
+use Rattle.dtap_codec.specs.declared.report.Report.{Report}
+
+-- one bit, 1 for true
+abbrev pub bit : Bool → ℕ
+bit true = 1
+bit false = 0
+
+-- the entry of a neighbour: RXLEV, BCCH-FREQ, BSIC
+abbrev pub entry_fields : Neighbour → List Field
+entry_fields n = field 6 n.rxlev ∷ field 5 n.bcch_freq ∷ field 6 n.bsic ∷ []
+
+abbrev pub entries_fields : List Neighbour → List Field
+entries_fields [] = []
+entries_fields (n ∷ ns) = entry_fields n ++ entries_fields ns
+
+-- A report, octet by octet up to the entries, with the two bits that aren't looked at.
+abbrev pub report_fields : ℕ → ℕ → Report → List Field
+report_fields second third r =
+    field 1 r.ba_used ∷ field 1 (bit r.dtx_used) ∷ field 6 r.rxlev_full
+    ∷ field 1 second ∷ field 1 (bit (not r.valid)) ∷ field 6 r.rxlev_sub
+    ∷ field 1 third ∷ field 3 r.rxqual_full ∷ field 3 r.rxqual_sub ∷ field 3 r.no_ncell
+    ∷ entries_fields r.entries
+
+-- The number is that of the 128 bits of this report.
+pub record Writes (number : ℕ) (r : Report) : Type 0 where
+  pub second : ℕ
+  pub third : ℕ
+  pub six : length r.entries ≡ 6
+  pub fit : Fit (report_fields second third r)
+  pub text : number ≡ number_of (report_fields second third r)
+
+-- The first 16 octets are the text of this report.
+pub record IsReport (octets : List ℕ) (r : Report) : Type 0 where
+  pub enough : 16 ≤ length octets
+  pub value : Writes (from_be_bytes w128 (take 16 octets)) r
+
+-- the first NO-NCELL entries count, and none where that is 7
+abbrev pub neighbours_of : Report → List Neighbour
+neighbours_of r = if nat_le r.no_ncell 6 then take r.no_ncell r.entries else []

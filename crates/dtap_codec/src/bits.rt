@@ -1,0 +1,40 @@
+ghost use Rattle.std.specs.Prelude.{◌≡◌, ◌+◌, ◌*◌, ◌^◌, ◌<◌, ◌≤◌, [], ◌∷◌};
+ghost use Rattle.std.specs.Int.{from_be_bytes, w128};
+ghost use Rattle.dtap_codec.specs.Bits.{Begin, field};
+
+/// Bits that are still to be read, the high one first: how many, and the number that they write.
+#[derive(Drop)]
+pub(crate) struct Bits {
+    left: u32,
+    number: u128,
+    ghost few: { left ≤ 128 },
+    ghost fits: { number < 2 ^ left },
+}
+
+impl Bits {
+    /// The 128 bits of 16 octets.
+    pub fn of_octets(octets: [u8; 16]) -> Bits
+        ensures left { result.left ≡ 128 }
+        ensures number { result.number ≡ from_be_bytes w128 octets }
+    {
+        Bits {
+            left: 128,
+            number: u128::from_be_bytes(octets),
+        }
+    }
+
+    /// Reads the next `width` bits as a number.
+    pub fn take(&mut self, width: u32) -> u8
+        requires some { 0 < width }
+        requires octet { width ≤ 8 }
+        requires enough { width ≤ self.old.left }
+        ensures { Begin (field width result ∷ []) self.old.left self.old.number self.new.left self.new.number }
+    {
+        let left = self.left - width;
+        let taken = self.number >> left;
+        let number = self.number % (1 << left);
+        self.left = left;
+        self.number = number;
+        taken as u8
+    }
+}

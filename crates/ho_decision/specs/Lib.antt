@@ -1,0 +1,4 @@
+pub mod Average
+pub mod Decision
+pub mod Measure
+pub mod Settings

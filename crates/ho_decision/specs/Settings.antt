@@ -1,0 +1,40 @@
+-- The settings of the handover decision, with the cell that serves.
+use Rattle.std.specs.Prelude.{ℕ, ◌-◌, ◌<◌, ◌≤◌, ◌==◌, nat_lt, List, [], length, fold, remove, insert, count_by, if◌then◌else◌}
+use Rattle.std.specs.List.{list_any}
+use Rattle.ho_decision.specs.declared.settings.Cell.{Cell}
+use Rattle.ho_decision.specs.declared.settings.HoParameters.{HoParameters}
+
+-- the numbers, the cells in their order, and the number of the serving one, from 1
+pub record Settings : Type 0 where
+  pub parameters : HoParameters
+  pub cells : List Cell
+  pub serving : ℕ
+
+abbrev pub settings_of : HoParameters → List Cell → ℕ → Settings
+settings_of parameters cells serving = record { parameters = parameters; cells = cells; serving = serving }
+
+-- what the settings' format allows, with the serving cell one of the cells
+pub record IsAllowed (s : Settings) : Type 0 where
+  pub rxlev_window : (1 ≤ s.parameters.rxlev_window) × (s.parameters.rxlev_window ≤ 10)
+  pub rxqual_window : (1 ≤ s.parameters.rxqual_window) × (s.parameters.rxqual_window ≤ 10)
+  pub neighbour_window : (1 ≤ s.parameters.neighbour_window) × (s.parameters.neighbour_window ≤ 10)
+  pub interval : (1 ≤ s.parameters.interval) × (s.parameters.interval ≤ 99)
+  pub hysteresis : s.parameters.hysteresis ≤ 63
+  pub cells : length s.cells ≤ 32
+  pub serving : (1 ≤ s.serving) × (s.serving ≤ length s.cells)
+
+-- the cells but the serving one
+abbrev pub others : Settings → List Cell
+others s = remove s.cells (s.serving - 1)
+
+-- rising ARFCNs with one more in its place, unless it is there
+abbrev pub with_arfcn : List ℕ → ℕ → List ℕ
+with_arfcn arfcns arfcn =
+    if list_any (λ a. a == arfcn) arfcns then arfcns else insert arfcns (count_by (λ a. nat_lt a arfcn) arfcns) arfcn
+
+abbrev pub with_cell : List ℕ → Cell → List ℕ
+with_cell arfcns cell = with_arfcn arfcns cell.arfcn
+
+-- the ARFCNs of the other cells, rising and each once
+abbrev pub other_arfcns : Settings → List ℕ
+other_arfcns s = fold with_cell [] (others s)

@@ -1,0 +1,99 @@
+ghost use Rattle.std.specs.Prelude.{◌≡◌, ◌<◌, ◌≤◌, ◌-◌, IfOk, OnOk, fold, drop as dropped, take as taken};
+ghost use Rattle.ho_decision.specs.Settings.{with_arfcn, with_cell};
+
+use octets::Memory;
+use std::alloc::Global;
+use std::marker::Model;
+
+/// A cell as the air shows it: the ARFCN of its BCCH carrier and its base station identity code.
+#[derive(Clone, Copy, Debug, PartialEq, Eq)]
+pub struct Cell {
+    /// The absolute radio frequency channel number, 1 to 1023.
+    pub arfcn: u16,
+    /// The base station identity code, NCC times 8 plus BCC; 0 to 63.
+    pub bsic: u8,
+}
+
+/// The numbers of the handover decision.
+#[derive(Clone, Copy, Debug, PartialEq, Eq)]
+pub struct HoParameters {
+    /// Over how many reports the serving cell's level is averaged, 1 to 10.
+    pub rxlev_window: u8,
+    /// Over how many reports the serving cell's quality is averaged, 1 to 10.
+    pub rxqual_window: u8,
+    /// Over how many reports a neighbour's level is averaged, 1 to 10.
+    pub neighbour_window: u8,
+    /// Every how many reports the levels are compared, 1 to 99.
+    pub interval: u8,
+    /// By how many dB a neighbour has to be better than the serving cell, 0 to 63.
+    pub hysteresis: u8,
+}
+
+/// What the handover decision of one serving cell needs: the numbers, the cells in the order of the settings, and which
+/// of them serves.
+#[derive(Debug, Drop)]
+pub struct HoSettings {
+    pub(crate) parameters: HoParameters,
+    pub(crate) cells: Vec<Cell>,
+    pub(crate) serving: u8,
+    // The ARFCNs of the other cells, rising and each once: what BCCH-FREQ counts.
+    pub(crate) frequencies: Vec<u16>,
+}
+
+impl Model for HoSettings {
+    ghost use Rattle.std.specs.Prelude.{◌≡◌};
+    ghost use Rattle.ho_decision.specs.Settings.{Settings, settings_of, other_arfcns, IsAllowed};
+
+    ghost Value = { Settings };
+
+    ghost view = { λ s. settings_of s.parameters s.cells.items s.serving };
+
+    ghost invariant = { λ s. (s.frequencies.items ≡ other_arfcns (settings_of s.parameters s.cells.items s.serving)) × IsAllowed (settings_of s.parameters s.cells.items s.serving) };
+}
+
+impl HoSettings {
+    ghost use Rattle.ho_decision.specs.Settings.{settings_of, IsAllowed};
+
+    /// The settings of a serving cell, the number, from 1, of one of the cells. They are as `IsAllowed` says.
+    pub fn new(
+        alloc: Global,
+        parameters: HoParameters,
+        cells: Vec<Cell>,
+        serving: u8,
+    ) -> Result<HoSettings, Memory>
+        requires { IsAllowed (settings_of parameters cells.items serving) }
+        ensures { IfOk result (λ settings. settings ≡ settings_of parameters cells.items serving) }
+    {
+        let mut frequencies = Vec::new(alloc);
+        let place = usize::from(serving);
+        add_frequencies(&mut frequencies, &cells[..place - 1])?;
+        add_frequencies(&mut frequencies, &cells[place..])?;
+        Ok(HoSettings {
+            parameters,
+            cells,
+            serving,
+            frequencies,
+        })
+    }
+}
+
+// Puts the ARFCNs of cells among those that are there, each once.
+fn add_frequencies(frequencies: &mut Vec<u16>, cells: &[Cell]) -> Result<(), Memory>
+    ensures { OnOk result (frequencies.new.items ≡ fold with_cell frequencies.old.items cells.now) }
+{
+    for cell in cells {
+        add_frequency(frequencies, cell.arfcn)?;
+    }
+    Ok(())
+}
+
+// Puts an ARFCN in its place among rising ones, where it isn't there.
+fn add_frequency(frequencies: &mut Vec<u16>, arfcn: u16) -> Result<(), Memory>
+    ensures { OnOk result (frequencies.new.items ≡ with_arfcn frequencies.old.items arfcn) }
+{
+    if !frequencies.contains(&arfcn) {
+        let place = frequencies.iter().filter(|f| **f < arfcn).count();
+        frequencies.insert(place, arfcn)?;
+    }
+    Ok(())
+}
