@@ -1,6 +1,9 @@
+pub mod BssapReading
+pub mod BssmapType
 pub mod Front
 pub mod Refused
 pub mod Sccp
 pub mod SccpReading
 pub mod SccpType
 pub mod SccpWritten
+pub mod Values

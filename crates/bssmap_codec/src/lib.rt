@@ -1,18 +1,23 @@
 //! Messages of the A interface: SCCP of class 2 (Q.713), BSSAP (TS 48.006) and BSSMAP (TS 48.008), read and written.
 #![tactic(auto)]
 
+pub use bssmap::{Bssap, Bssmap, BssmapType};
 pub use fault::{InterfaceFault, Refusal};
 pub use laws::sccp_text_is_read;
 pub use reference::Reference;
+pub use sccp::{Sccp, SccpType};
 pub use sccp_reader::read_sccp;
 pub use sccp_writer::write_sccp;
-pub use sccp::{Sccp, SccpType};
+pub use values::{Cause, CellIdentifier, ChannelType, Dlci, RejectedDlci, RrCause};
 
-mod pointers;
+mod bssap_reader;
+mod bssmap;
 mod fault;
 mod front;
 mod laws;
+mod pointers;
 mod reference;
 mod sccp;
 mod sccp_reader;
 mod sccp_writer;
+mod values;
