@@ -1,4 +1,6 @@
+pub mod Bssap
 pub mod BssapReading
+pub mod BssapWritten
 pub mod BssmapType
 pub mod Front
 pub mod Refused

@@ -1,6 +1,7 @@
 //! Messages of the A interface: SCCP of class 2 (Q.713), BSSAP (TS 48.006) and BSSMAP (TS 48.008), read and written.
 #![tactic(auto)]
 
+pub use bssap_writer::write_bssap;
 pub use bssmap::{Bssap, Bssmap, BssmapType};
 pub use fault::{InterfaceFault, Refusal};
 pub use laws::sccp_text_is_read;
@@ -11,6 +12,7 @@ pub use sccp_writer::write_sccp;
 pub use values::{Cause, CellIdentifier, ChannelType, Dlci, RejectedDlci, RrCause};
 
 mod bssap_reader;
+mod bssap_writer;
 mod bssmap;
 mod fault;
 mod front;
