@@ -1,3 +1,6 @@
+pub mod BssapTexts
+pub mod Bssaps
+pub mod Contents
 pub mod Fronts
 pub mod Options
 pub mod OptionsGrammar

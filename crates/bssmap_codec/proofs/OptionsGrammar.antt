@@ -13,7 +13,6 @@ use Rattle.bssmap_codec.proofs.Steps.{bind_ok, ok_is, counted-shorter}
 use Rattle.bssmap_codec.proofs.Fronts.{counted-text, counted_is, part_again, part_ok, octets_behind}
 use Rattle.bssmap_codec.proofs.Options.{data-front}
 
-
 -- ---- options are read
 
 option-text : (id : ℕ) (value rest : List ℕ) → id ≢ 0 → option_at (id ∷ (counted_text value ++ rest)) ≡ Ok (Some (id, value, rest))
@@ -46,7 +45,7 @@ behind_is id rest user go (Ok p) fits ne is on e =
           let is-user : Some p.0 ≡ user = ok_is (Some p.0) user here in
           subst (λ (u : Option (List ℕ)). Options (id ∷ rest) u) is-user
           (subst (λ (n : ℕ). Options (n ∷ rest) (Some p.0)) (sym same)
-            (subst (λ (xs : List ℕ). Options (DATA ∷ xs) (Some p.0)) (sym text.0) (carried p.0 p.1 text.1)))
+          (subst (λ (xs : List ℕ). Options (DATA ∷ xs) (Some p.0)) (sym text.0) (carried p.0 p.1 text.1)))
       | inr apart ↦
           let there : go p.1 ≡ Ok user = ap (λ b. cond b (Ok (Some p.0)) (go p.1)) (sym (ne_eqb id DATA apart)) ∙ e in
           subst (λ (xs : List ℕ). Options (id ∷ xs) user) (sym text.0) (other id p.0 p.1 user ne apart text.1 (on p is there))
@@ -70,9 +69,9 @@ options_within (suc n) (id ∷ rest) user le fits e =
           let behind : AreOctets rest = λ i. fits (suc i) in
           behind_is id rest user (data_within n) (counted_at rest) behind ne refl
           (λ p is there.
-            let lt = counted-shorter rest p is in
-            let text = counted_is rest p behind is in
-            options_within n p.1 user (omega arith) (octets_back (counted_text p.0) p.1 (subst AreOctets text.0 behind)) there) e'
+          let lt = counted-shorter rest p is in
+          let text = counted_is rest p behind is in
+          options_within n p.1 user (omega arith) (octets_back (counted_text p.0) p.1 (subst AreOctets text.0 behind)) there) e'
     ]
 
 pub options_ok : (octets : List ℕ) (user : Option (List ℕ)) → AreOctets octets → data_in octets ≡ Ok user → Options octets user

@@ -47,10 +47,10 @@ request_text source (Some user) more h e =
       number = 0x42 ∷ 0xfe ∷ [];
       counted = record { more = DATA ∷ behind; is = refl; short = omega arith };
       carries = inr (record {
-          part = DATA ∷ behind;
-          points = record { pointer = 4; rest = 2 ∷ 0x42 ∷ 0xfe ∷ DATA ∷ behind; is = refl; forward = omega arith; within = omega arith; leads = refl };
-          options = options;
-        });
+        part = DATA ∷ behind;
+        points = record { pointer = 4; rest = 2 ∷ 0x42 ∷ 0xfe ∷ DATA ∷ behind; is = refl; forward = omega arith; within = omega arith; leads = refl };
+        options = options;
+      });
     }
 
 pub sccp_written : (message : Sccp) (more : List ℕ) → HasReferences message → sccp_refusal message ≡ None → IsSccp (sccp_text message ++ more) message

@@ -1,8 +1,12 @@
-ghost use Rattle.std.specs.Prelude.{◌≡◌, option_map, take};
+ghost use Rattle.std.specs.Prelude.{◌≡◌, ◌⊎◌, Ok, Err, IfOk, option_map, take};
+ghost use Rattle.octets.specs.Refusal.{RefusesBy};
+ghost use Rattle.bssmap_codec.specs.declared.bssmap.Bssap.{Bssap as BssapValue};
+ghost use Rattle.bssmap_codec.specs.declared.fault.InterfaceFault.TheVariants.{Memory as OutOfMemory};
+ghost use Rattle.bssmap_codec.specs.Bssap.{IsBssap};
 ghost use Rattle.octets.specs.Walk.{first_of};
 ghost use Rattle.bssmap_codec.specs.BssapReading as reading;
 ghost use Rattle.bssmap_codec.specs.Front.{seen, split_at};
-ghost use Rattle.bssmap_codec.specs.Refused.{Gives};
+ghost use Rattle.bssmap_codec.specs.Refused.{Gives, first_fault};
 
 use crate::bssmap::{
     BSSMAP_TABLE, Bssap, Bssmap, BssmapType, CAUSE, CELL_IDENTIFIER, CHANNEL_TYPE, DLCI,
@@ -17,6 +21,24 @@ use std::alloc::Global;
 
 /// The octets that a layer 3 message has at most.
 pub const LAYER_3_LIMIT: usize = 251;
+
+/// Reads a message of BSSAP. What follows its length isn't looked at, nor are elements but the first of each identifier
+/// that the message has, nor what follows the first identifier outside the table of elements.
+///
+/// The faults, in the order in which they are looked for: `Short` without the header, which is `00`, a length and a type,
+/// or `01`, a DLCI and a length; `UnknownType` for another first octet, for a type or a SAPI that isn't known; `Short` where
+/// fewer octets follow than the length says or an element is cut; `MissingElement`, in the order in which the elements are
+/// written; for a layer 3 message `Short` without an octet, and `TooLong` over 251. `Memory` comes last.
+pub fn read_bssap(alloc: Global, octets: &[u8]) -> Result<Bssap, InterfaceFault>
+    // What is read is what the octets are a text of.
+    ensures found { IfOk result (λ message. IsBssap octets.now message) }
+    // What the octets are a text of is read, unless memory runs out.
+    ensures only { (message : BssapValue) → IsBssap octets.now message → (result ≡ Ok message) ⊎ (result ≡ Err OutOfMemory) }
+    // A refusal is the first fault, and memory runs out only where there is none.
+    ensures refused { RefusesBy OutOfMemory result (first_fault (reading.bssap_at octets.now)) }
+{
+    read(alloc, octets)
+}
 
 #[tactic(auto, unfolding(crate::specs::BssapReading::bssap_at))]
 fn read(alloc: Global, octets: &[u8]) -> Result<Bssap, InterfaceFault>

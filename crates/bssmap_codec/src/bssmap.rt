@@ -7,14 +7,23 @@ use octets::element::{Entry, Format};
 
 /// Identifiers of elements (TS 48.008 clause 3.2.2.1).
 pub const CIRCUIT_IDENTITY: u8 = 0x01;
+
 pub const CAUSE: u8 = 0x04;
+
 pub const CELL_IDENTIFIER: u8 = 0x05;
+
 pub const PRIORITY: u8 = 0x06;
+
 pub const LAYER_3_HEADER: u8 = 0x07;
+
 pub const CHANNEL_TYPE: u8 = 0x0b;
+
 pub const RR_CAUSE: u8 = 0x15;
+
 pub const LAYER_3_INFORMATION: u8 = 0x17;
+
 pub const DLCI: u8 = 0x18;
+
 pub const CHOSEN_CHANNEL: u8 = 0x21;
 
 /// The elements that are known, with their formats.
@@ -106,10 +115,7 @@ pub enum Bssap {
     /// A message of BSSMAP.
     Management(Bssmap),
     /// DTAP: a layer 3 message of 1 to 251 octets, and the link of the mobile that it takes.
-    Transfer {
-        dlci: Dlci,
-        message: Octets,
-    },
+    Transfer { dlci: Dlci, message: Octets },
 }
 
 /// The type of a message of BSSMAP, its first octet (TS 48.008 clause 3.2.2.1).

@@ -19,7 +19,9 @@ pub enum Sccp {
         source: Reference,
     },
     /// CREF, connection refused.
-    ConnectionRefused { destination: Reference },
+    ConnectionRefused {
+        destination: Reference,
+    },
     /// RLSD, released: asks to release the connection.
     Released {
         destination: Reference,
@@ -79,6 +81,9 @@ impl SccpType {
     pub fn of_octet(octet: u8) -> Option<SccpType>
         ensures { result ≡ sccp_type octet }
     {
-        SCCP_TYPES.iter().copied().find(|kind| kind.octet() == octet)
+        SCCP_TYPES
+            .iter()
+            .copied()
+            .find(|kind| kind.octet() == octet)
     }
 }

@@ -25,7 +25,8 @@ pub fn write_sccp(alloc: Global, message: &Sccp, text: &mut Vec<u8>) -> Result<(
         return Err(refusal.into());
     }
     let written = written(alloc, message)?;
-    text.extend_from_slice(written.as_slice()).map_err(Memory::from)?;
+    text.extend_from_slice(written.as_slice())
+        .map_err(Memory::from)?;
     Ok(())
 }
 
@@ -35,7 +36,8 @@ fn refusal(message: &Sccp) -> Option<Refusal>
 {
     match message {
         Sccp::ConnectionRequest {
-            data: Some(data), ..
+            data: Some(data),
+            ..
         } if data.len() > 255 => Some(Refusal::TooLong),
         Sccp::DataForm1 { data, .. } if data.len() > 255 => Some(Refusal::TooLong),
         _ => None,
