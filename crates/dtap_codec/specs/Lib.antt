@@ -3,3 +3,5 @@ pub mod Message
 pub mod Number
 pub mod Places
 pub mod Report
+pub mod RrReading
+pub mod RrType
