@@ -30,6 +30,8 @@ pub const LAYER_3_LIMIT: usize = 251;
 /// fewer octets follow than the length says or an element is cut; `MissingElement`, in the order in which the elements are
 /// written; for a layer 3 message `Short` without an octet, and `TooLong` over 251. `Memory` comes last.
 pub fn read_bssap(alloc: Global, octets: &[u8]) -> Result<Bssap, InterfaceFault>
+    // What is answered is what the octets are read as.
+    ensures reads { Gives (λ v. v) result (reading.bssap_at octets.now) }
     // What is read is what the octets are a text of.
     ensures found { IfOk result (λ message. IsBssap octets.now message) }
     // What the octets are a text of is read, unless memory runs out.

@@ -21,6 +21,8 @@ use std::alloc::Global;
 /// looked at, `BadPointer` where it leads out of the octets, or is 0 and leads to no options, and `Short` where what it
 /// leads to is cut. `Memory` comes last.
 pub fn read_sccp(alloc: Global, octets: &[u8]) -> Result<Sccp, InterfaceFault>
+    // What is answered is what the octets are read as.
+    ensures reads { Gives (λ v. v) result (reading.sccp_at octets.now) }
     // What is read is what the octets are a text of.
     ensures found { IfOk result (λ message. IsSccp octets.now message) }
     // What the octets are a text of is read, unless memory runs out.

@@ -12,6 +12,7 @@ pub use rr::{
     Arfcn, CellDescription, ChannelDescription, ChannelOctet, ColourCode, RrCause, RrMessage, RrType,
     TimingAdvance,
 };
+pub use rr_codec::rr_text_is_read;
 pub use rr_reader::RrRefusal;
 pub use sapi::Sapi;
 
@@ -20,5 +21,6 @@ mod message;
 mod number;
 mod report;
 mod rr;
+mod rr_codec;
 mod rr_reader;
 mod sapi;
