@@ -22,7 +22,7 @@ pub fn data(
     destination: Reference,
     message: &Bssap,
 ) -> Result<Option<Sccp>, Memory>
-    ensures { IfOk result (λ data. data ≡ sent_to destination message.now) }
+    ensures { IfOk result (λ sent. sent ≡ sent_to destination message.now) }
 {
     let mut text = Vec::new(alloc);
     match write_bssap(alloc, message, &mut text) {

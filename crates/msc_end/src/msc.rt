@@ -5,7 +5,7 @@ ghost use Rattle.nsd_filter.specs.Accepted.{accepted, not_of_the_flow};
 ghost use Rattle.msc_end.specs.declared.connection.Stage.TheVariants.{Clearing};
 ghost use Rattle.msc_end.specs.declared.fault.MscFault.TheVariants.{Memory as OutOfMemory};
 ghost use Rattle.msc_end.specs.Refusal.{send_fault};
-ghost use Rattle.msc_end.specs.Switch.{after, replies, assignment, cleared, clearing, connection_of, dlci_for, initial, sent_on, sent_to};
+ghost use Rattle.msc_end.specs.Switch.{after, replies, assignment, cleared, clearing, connection_of, dlci_for, initial, initial_of, sent_on, sent_to};
 
 use crate::hearing::{data, hear};
 use crate::{Connection, MscFault, Stage};
@@ -250,15 +250,47 @@ impl MscEnd {
 fn first_taken(alloc: Global, modulus: Modulus, data: &Option<Octets>) -> Result<Reception, Memory>
     ensures { IfOk result (λ reception. reception ≡ record { modulus = count_of modulus; taken = initial data.now }) }
 {
-    let mut reception = Reception::new(alloc, modulus);
-    if let Some(data) = data {
-        if let Some(Bssap::Management(Bssmap::CompleteLayer3Information { layer3, .. })) =
-            hear(alloc, data.as_slice())?
-        {
-            reception.take(layer3)?;
+    match data {
+        Some(data) => {
+            let message = hear(alloc, data.as_slice())?;
+            started(alloc, modulus, initial_message(message))
         }
+        None => Ok(Reception::new(alloc, modulus)),
     }
-    Ok(reception)
+}
+
+// The initial message that a message carries.
+fn initial_message(message: Option<Bssap>) -> Option<Octets>
+    ensures { option_to_list result ≡ initial_of message }
+{
+    match message {
+        Some(Bssap::Management(message)) => layer3_of(message),
+        Some(Bssap::Transfer { .. }) => None,
+        None => None,
+    }
+}
+
+fn layer3_of(message: Bssmap) -> Option<Octets>
+    ensures { option_to_list result ≡ initial_of (Some (Bssap.Management message)) }
+{
+    match message {
+        Bssmap::CompleteLayer3Information { layer3, .. } => Some(layer3),
+        _ => None,
+    }
+}
+
+// A connection on which this was taken.
+fn started(alloc: Global, modulus: Modulus, first: Option<Octets>) -> Result<Reception, Memory>
+    ensures { IfOk result (λ reception. reception ≡ record { modulus = count_of modulus; taken = option_to_list first }) }
+{
+    let mut reception = Reception::new(alloc, modulus);
+    match first {
+        Some(message) => {
+            reception.take(message)?;
+            Ok(reception)
+        }
+        None => Ok(reception),
+    }
 }
 
 // The DLCI of a SAPI, which leaves the channel open.
