@@ -119,3 +119,53 @@ pub fn rr_text_is_read()
     ensures read { (message : RrValue) → RrFits message → rr_at (rr_text message) ≡ Ok message }
 {
 }
+
+#[cfg(test)]
+mod tests {
+    use super::*;
+    use std::test::Fail;
+
+    #[test]
+    fn texts_are_read_and_written_back(rt: HostRuntime) -> Result<(), Fail> {
+        let texts: [&[u8]; 7] = [
+            &[
+                0x2d, 0x06, 0x3f, 0x00, 0x41, 0x20, 0x14, 0x7f, 0x01, 0x02, 0x05, 0x00, 0x2b, 0x2b,
+                0x2b, 0x2b, 0x2b, 0x2b, 0x2b, 0x2b, 0x2b, 0x2b, 0x2b,
+            ],
+            &[0x06, 0x2e, 0x0a, 0x20, 0x14, 0x00],
+            &[0x06, 0x2b, 0x12, 0x1e, 0x41, 0x40, 0x1e, 0x00, 0x00],
+            &[0x06, 0x2c, 0x00],
+            &[0x06, 0x0d, 0x01],
+            &[
+                0x06, 0x15, 0x14, 0x14, 0x00, 0x57, 0x02, 0x40, 0, 0, 0, 0, 0, 0, 0, 0, 0, 0,
+            ],
+            &[0x06, 0x27, 0x71],
+        ];
+        for text in texts {
+            let message = RrMessage::read(rt.alloc(), text)?;
+            let mut written = Vec::new(rt.alloc());
+            message.write(rt.alloc(), &mut written)?;
+            assert_eq!(rt; written.as_slice(), text);
+        }
+        Ok(())
+    }
+
+    #[test]
+    fn faults_have_their_causes(rt: HostRuntime) -> Result<(), Fail> {
+        let rows: [(&[u8], RrFault); 9] = [
+            (&[], RrFault::Short),
+            (&[0x03, 0x05], RrFault::UnknownRr),
+            (&[0x06, 0x2c], RrFault::Short),
+            (&[0x06, 0x99], RrFault::UnknownRr),
+            (&[0x16, 0x29, 0x00], RrFault::UnknownRr),
+            (&[0x2d], RrFault::Short),
+            (&[0x2d, 0x03], RrFault::UnknownRr),
+            (&[0x2d, 0x06], RrFault::Short),
+            (&[0x2d, 0x06, 0x29, 0x00], RrFault::UnknownRr),
+        ];
+        for (octets, fault) in rows {
+            assert!(rt; RrMessage::read(rt.alloc(), octets).err() == Some(fault));
+        }
+        Ok(())
+    }
+}

@@ -17,11 +17,7 @@ pub fn hear(alloc: Global, octets: &[u8]) -> Result<Option<Bssap>, Memory>
 }
 
 /// The data form 1 that carries a message of BSSAP; none where the message isn't written.
-pub fn data(
-    alloc: Global,
-    destination: Reference,
-    message: &Bssap,
-) -> Result<Option<Sccp>, Memory>
+pub fn data(alloc: Global, destination: Reference, message: &Bssap) -> Result<Option<Sccp>, Memory>
     ensures { IfOk result (λ sent. sent ≡ sent_to destination message.now) }
 {
     let mut text = Vec::new(alloc);

@@ -304,12 +304,7 @@ fn dlci(sapi: Sapi) -> Dlci
 }
 
 // Appends the data that carry a message.
-fn send(
-    alloc: Global,
-    peer: Reference,
-    message: &Bssap,
-    out: &mut Vec<Sccp>,
-) -> Result<(), Memory>
+fn send(alloc: Global, peer: Reference, message: &Bssap, out: &mut Vec<Sccp>) -> Result<(), Memory>
     ensures ok { OnOk result (out.new.items ≡ out.old.items ++ option_to_list (sent_to peer message.now)) }
     ensures err { OnErr result (out.new.items ≡ out.old.items) }
 {
@@ -318,4 +313,53 @@ fn send(
         out.push_reserved(sent);
     }
     Ok(())
+}
+
+#[cfg(test)]
+mod tests {
+    use super::*;
+    use bssmap_codec::{read_sccp, write_sccp};
+    use std::test::Fail;
+
+    const CONNECTION_REQUEST: [u8; 31] = [
+        0x01, 0x00, 0x00, 0x01, 0x02, 0x02, 0x04, 0x02, 0x42, 0xfe, 0x0f, 0x12, 0x00, 0x10, 0x57,
+        0x05, 0x08, 0x00, 0x00, 0xf1, 0x10, 0x00, 0x01, 0x00, 0x01, 0x17, 0x03, 0x05, 0x24, 0x71,
+        0x00,
+    ];
+
+    #[test]
+    fn a_connection_is_confirmed_used_and_cleared(rt: HostRuntime) -> Result<(), Fail> {
+        let alloc = rt.alloc();
+        let mut switch = MscEnd::new(alloc, Modulus::Four);
+        let mut out = Vec::new(alloc);
+        let request = read_sccp(alloc, &CONNECTION_REQUEST)?;
+        switch.on_message(&request, &mut out)?;
+        switch.send_dtap(1, Sapi::Zero, &[0x83, 0x02], &mut out)?;
+        switch.clear(1, &mut out)?;
+        let mut text = Vec::new(alloc);
+        for message in &out {
+            write_sccp(alloc, message, &mut text)?;
+        }
+        let expected: [u8; 34] = [
+            0x02, 0x00, 0x00, 0x01, 0x80, 0x00, 0x01, 0x02, 0x00, 0x06, 0x00, 0x00, 0x01, 0x00,
+            0x01, 0x05, 0x01, 0x00, 0x02, 0x83, 0x02, 0x06, 0x00, 0x00, 0x01, 0x00, 0x01, 0x06,
+            0x00, 0x04, 0x20, 0x04, 0x01, 0x09,
+        ];
+        assert_eq!(rt; text.as_slice(), expected.as_slice());
+        let taken = switch.taken(1).ok_or("no connection")?;
+        assert_eq!(rt; taken.len(), 1);
+        assert_eq!(rt; taken[0].as_slice(), [0x05, 0x24, 0x71].as_slice());
+        let accepted = switch.accepted(1).ok_or("no connection")?;
+        assert_eq!(rt; accepted.len(), 1);
+        assert_eq!(rt; accepted[0].as_slice(), [0x05, 0x24, 0x71].as_slice());
+        assert!(rt;
+            switch.send_dtap(1, Sapi::Zero, &[0x83, 0x02], &mut out) == Err(MscFault::Closed)
+        );
+        assert!(rt;
+            switch.send_dtap(2, Sapi::Zero, &[0x83, 0x02], &mut out) == Err(MscFault::NoConnection)
+        );
+        assert!(rt; switch.assign(1, &mut out) == Err(MscFault::Closed));
+        assert!(rt; switch.unnumbered(2).is_none());
+        Ok(())
+    }
 }

@@ -11,9 +11,9 @@ returns-then-number-eq0-clause-replies c =
     c.reserve.ensures.items ∙ sym (append-nil c.args.out.now.items)
     ∙ ap (λ (ys : List Sccp). c.args.out.now.items ++ ys)
     (elim c.then-number-eq0.branch [
-        | then-number-eq0-via-then-number-eq0 w ↦ silent c.args.self.now.connections.items _ c.args.destination (heard c.args.data.now) n (inl (omega arith))
-        | then-number-eq0-via-else-number-eq0+then-number-len w ↦ silent c.args.self.now.connections.items _ c.args.destination (heard c.args.data.now) n (inr (omega arith))
-      ])
+      | then-number-eq0-via-then-number-eq0 w ↦ silent c.args.self.now.connections.items _ c.args.destination (heard c.args.data.now) n (inl (omega arith))
+      | then-number-eq0-via-else-number-eq0+then-number-len w ↦ silent c.args.self.now.connections.items _ c.args.destination (heard c.args.data.now) n (inr (omega arith))
+    ])
 
 pub returns-in-Some-reply-clause-state : goal.returns-in-Some-reply-clause-state
 returns-in-Some-reply-clause-state c =
