@@ -199,8 +199,8 @@ handover_ok octets rest message is fits e =
       power = f.0.0;
       more = f.0.1;
       is = is ∙ ap (λ (xs : List ℕ). 0x06 ∷ 0x2b ∷ xs) (ha.is ∙ ap (λ (xs : List ℕ). a.0.0 ∷ xs) (hb.is ∙ ap (λ (xs : List ℕ). b.0.0 ∷ xs) (hc.is ∙ ap (λ (xs : List ℕ). c.0.0 ∷ c.0.1 ∷ c.0.2 ∷ xs) behind)))
-        ∙ ap (λ (xs : List ℕ). 0x06 ∷ 0x2b ∷ (xs ++ (c.0.0 ∷ c.0.1 ∷ c.0.2 ∷ tail))) (sym cell.0)
-        ∙ ap (λ (xs : List ℕ). 0x06 ∷ 0x2b ∷ (cell_text (cell_of a.0.0 b.0.0) ++ (xs ++ tail))) (sym channel.0);
+          ∙ ap (λ (xs : List ℕ). 0x06 ∷ 0x2b ∷ (xs ++ (c.0.0 ∷ c.0.1 ∷ c.0.2 ∷ tail))) (sym cell.0)
+          ∙ ap (λ (xs : List ℕ). 0x06 ∷ 0x2b ∷ (cell_text (cell_of a.0.0 b.0.0) ++ (xs ++ tail))) (sym channel.0);
       three_bits = three_bits c.0.1;
       cell_fits = cell.1;
       channel_fits = channel.1;
@@ -305,8 +305,8 @@ immediate_ok octets rest message is fits e =
       high = d.0.0 / 64;
       last = d.0.1;
       is = is ∙ ap (λ (xs : List ℕ). PSEUDO_LENGTH ∷ 0x06 ∷ IMMEDIATE_ASSIGNMENT ∷ xs)
-        (ha.is ∙ ap (λ (xs : List ℕ). a.0.0 ∷ xs) (hc.is ∙ ap (λ (xs : List ℕ). c.0.0 ∷ c.0.1 ∷ c.0.2 ∷ xs) (hr.is ∙ ap (λ (xs : List ℕ). r.0.0 ∷ r.0.1 ∷ r.0.2 ∷ xs) (hd.is ∙ ap (λ (n : ℕ). n ∷ d.0.1) advance))))
-        ∙ ap (λ (xs : List ℕ). PSEUDO_LENGTH ∷ 0x06 ∷ IMMEDIATE_ASSIGNMENT ∷ a.0.0 ∷ (xs ++ (request ++ (d.0.0 / 64 * 64 + d.0.0 % 64) ∷ d.0.1))) (sym channel.0);
+          (ha.is ∙ ap (λ (xs : List ℕ). a.0.0 ∷ xs) (hc.is ∙ ap (λ (xs : List ℕ). c.0.0 ∷ c.0.1 ∷ c.0.2 ∷ xs) (hr.is ∙ ap (λ (xs : List ℕ). r.0.0 ∷ r.0.1 ∷ r.0.2 ∷ xs) (hd.is ∙ ap (λ (n : ℕ). n ∷ d.0.1) advance))))
+          ∙ ap (λ (xs : List ℕ). PSEUDO_LENGTH ∷ 0x06 ∷ IMMEDIATE_ASSIGNMENT ∷ a.0.0 ∷ (xs ++ (request ++ (d.0.0 / 64 * 64 + d.0.0 % 64) ∷ d.0.1))) (sym channel.0);
       three_bits = three_bits c.0.1;
       channel_fits = channel.1;
       three = refl;

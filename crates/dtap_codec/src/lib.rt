@@ -9,8 +9,8 @@ pub use message::{
 pub use number::{Modulus, number_of, with_number, without_number};
 pub use report::{Neighbour, Report, RrFault};
 pub use rr::{
-    Arfcn, CellDescription, ChannelDescription, ChannelOctet, ColourCode, RrCause, RrMessage, RrType,
-    TimingAdvance,
+    Arfcn, CellDescription, ChannelDescription, ChannelOctet, ColourCode, RrCause, RrMessage,
+    RrType, TimingAdvance,
 };
 pub use rr_codec::rr_text_is_read;
 pub use rr_reader::RrRefusal;

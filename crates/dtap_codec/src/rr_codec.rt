@@ -117,8 +117,7 @@ fn put_channel(text: &mut Vec<u8>, channel: ChannelDescription) -> Result<(), Me
 pub fn rr_text_is_read()
     ensures text { (message : RrValue) → RrFits message → IsRr (rr_text message) message }
     ensures read { (message : RrValue) → RrFits message → rr_at (rr_text message) ≡ Ok message }
-{
-}
+{}
 
 #[cfg(test)]
 mod tests {
