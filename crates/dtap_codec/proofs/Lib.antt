@@ -1,4 +1,5 @@
-pub mod Numbers
-pub mod Rising
 pub mod Fields
+pub mod Numbers
 pub mod Reports
+pub mod Rising
+pub mod RrGrammar

@@ -18,10 +18,10 @@ take_next {m} {k} {sent} c =
 -- a message stays at its place when more are sent
 pub Carries-grow : {m k : ℕ} {sent : List (List ℕ)} {x : List ℕ} (more : List (List ℕ)) → Carries m sent k x → Carries m (sent ++ more) k x
 Carries-grow {k} {sent} more c = record {
-    message = c.message;
-    is_sent = slice_get-append sent more k c.message c.is_sent;
-    is_clear = c.is_clear;
-    carries = c.carries
+  message = c.message;
+  is_sent = slice_get-append sent more k c.message c.is_sent;
+  is_clear = c.is_clear;
+  carries = c.carries;
 }
 
 -- the places stay as they are when more is sent
@@ -60,10 +60,10 @@ Rise-numbered_from m sent (x ∷ xs) before [] n split place clear is =
 Rise-numbered_from m sent (x ∷ xs) before (y ∷ ys) n split place clear is =
     elim (cases_Bool (is_flow_message x)) [
       | inl flow ↦
-        let first : x ∷ filter is_flow_message xs ≡ numbered (n % m) y ∷ numbered_from m (n + 1) ys = sym (cond-true (is_flow_message x) _ _ flow) ∙ is in
-        let here : slice_get sent n ≡ Some y = ap (λ (list : List (List ℕ)). slice_get list n) (sym split) ∙ ap (λ (k : ℕ). slice_get (before ++ y ∷ ys) k) (sym place) ∙ slice_get-append_seam before y ys in
-        let regrouped : (before ++ y ∷ []) ++ ys ≡ sent = append_assoc before (y ∷ []) ys ∙ split in
-        let longer : length (before ++ y ∷ []) ≡ n + 1 = length-append before (y ∷ []) ∙ ap (λ (k : ℕ). k + 1) place in
-        next (record { message = y; is_sent = here; is_clear = clear.0; carries = cc }) (Rise-numbered_from m sent xs (before ++ y ∷ []) ys (n + 1) regrouped longer clear.1 cc)
+          let first : x ∷ filter is_flow_message xs ≡ numbered (n % m) y ∷ numbered_from m (n + 1) ys = sym (cond-true (is_flow_message x) _ _ flow) ∙ is in
+          let here : slice_get sent n ≡ Some y = ap (λ (list : List (List ℕ)). slice_get list n) (sym split) ∙ ap (λ (k : ℕ). slice_get (before ++ y ∷ ys) k) (sym place) ∙ slice_get-append_seam before y ys in
+          let regrouped : (before ++ y ∷ []) ++ ys ≡ sent = append_assoc before (y ∷ []) ys ∙ split in
+          let longer : length (before ++ y ∷ []) ≡ n + 1 = length-append before (y ∷ []) ∙ ap (λ (k : ℕ). k + 1) place in
+          next (record { message = y; is_sent = here; is_clear = clear.0; carries = cc }) (Rise-numbered_from m sent xs (before ++ y ∷ []) ys (n + 1) regrouped longer clear.1 cc)
       | inr flow ↦ other flow (Rise-numbered_from m sent xs before (y ∷ ys) n split place clear (sym (cond-false (is_flow_message x) _ _ flow) ∙ is))
     ]

@@ -3,3 +3,6 @@ pub mod Message
 pub mod Number
 pub mod Places
 pub mod Report
+pub mod Rr
+pub mod RrReading
+pub mod RrType

@@ -8,10 +8,19 @@ pub use message::{
 };
 pub use number::{Modulus, number_of, with_number, without_number};
 pub use report::{Neighbour, Report, RrFault};
+pub use rr::{
+    Arfcn, CellDescription, ChannelDescription, ChannelOctet, ColourCode, RrCause, RrMessage,
+    RrType, TimingAdvance,
+};
+pub use rr_codec::rr_text_is_read;
+pub use rr_reader::RrRefusal;
 pub use sapi::Sapi;
 
 mod bits;
 mod message;
 mod number;
 mod report;
+mod rr;
+mod rr_codec;
+mod rr_reader;
 mod sapi;

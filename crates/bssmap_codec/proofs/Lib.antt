@@ -1,0 +1,10 @@
+pub mod BssapTexts
+pub mod Bssaps
+pub mod Contents
+pub mod Fronts
+pub mod Options
+pub mod OptionsGrammar
+pub mod Refusals
+pub mod SccpTexts
+pub mod Sccps
+pub mod Steps

@@ -1,0 +1,60 @@
+-- The text in which a message of BSSAP is written, and why it may not be.
+use Rattle.std.specs.Prelude.{◌≡◌, ℕ, ◌+◌, true, nat_lt, ◌==◌, if◌then◌else◌, List, [], ◌∷◌, ◌++◌, length, Option, Some, None}
+use Rattle.octets.specs.Field.{fields_text}
+use Rattle.octets.specs.Refusal.{first_refusal}
+use Rattle.bssmap_codec.specs.declared.fault.Refusal.{Refusal}
+use Rattle.bssmap_codec.specs.declared.fault.Refusal.TheVariants.{Short, TooLong}
+use Rattle.bssmap_codec.specs.declared.bssmap.Bssap.{Bssap}
+use Rattle.bssmap_codec.specs.declared.bssmap.Bssap.TheVariants.{Management, Transfer}
+use Rattle.bssmap_codec.specs.declared.bssmap.Bssmap.{Bssmap}
+use Rattle.bssmap_codec.specs.declared.bssmap.Bssmap.TheVariants.{AssignmentRequest, AssignmentComplete, AssignmentFailure, HandoverPerformed, ClearCommand, ClearComplete, ClearRequest, SapiNReject, CipherModeCommand, CompleteLayer3Information, CipherModeReject}
+use Rattle.bssmap_codec.specs.declared.bssmap.TheConstants.{BSSMAP_TABLE}
+use Rattle.bssmap_codec.specs.declared.values.RrCause.{RrCause}
+use Rattle.bssmap_codec.specs.BssmapType.{bssmap_octet, type_of}
+use Rattle.bssmap_codec.specs.Bssap.{fields}
+use Rattle.bssmap_codec.specs.Sccp.{counted_text}
+use Rattle.bssmap_codec.specs.SccpWritten.{size_refusal}
+use Rattle.bssmap_codec.specs.Values.{is_dlci}
+
+-- the type, and the elements in the table's order
+abbrev pub bssmap_text : Bssmap → List ℕ
+bssmap_text message = bssmap_octet (type_of message) ∷ fields_text BSSMAP_TABLE (fields message)
+
+abbrev pub bssap_text : Bssap → List ℕ
+bssap_text (Management message) = 0 ∷ counted_text (bssmap_text message)
+bssap_text (Transfer dlci message) = 1 ∷ dlci ∷ counted_text message
+
+abbrev pub layer3_refusal : List ℕ → Option Refusal
+layer3_refusal message = if length message == 0 then Some Short else (if nat_lt 251 (length message) then Some TooLong else None)
+
+abbrev pub rr_cause_size : Option RrCause → ℕ
+rr_cause_size None = 0
+rr_cause_size (Some cause) = 2
+
+-- how many octets the text has
+abbrev pub bssmap_size : Bssmap → ℕ
+bssmap_size (AssignmentRequest channel_type) = 3 + length channel_type.0
+bssmap_size (AssignmentComplete rr_cause) = 1 + rr_cause_size rr_cause
+bssmap_size (AssignmentFailure cause rr_cause) = 3 + length cause.0 + rr_cause_size rr_cause
+bssmap_size (HandoverPerformed cause cell) = 5 + length cause.0 + length cell.0
+bssmap_size (ClearCommand cause) = 3 + length cause.0
+bssmap_size ClearComplete = 1
+bssmap_size (ClearRequest cause) = 3 + length cause.0
+bssmap_size (SapiNReject dlci cause) = 5 + length cause.0
+bssmap_size CipherModeCommand = 1
+bssmap_size (CompleteLayer3Information cell layer3) = 5 + length cell.0 + length layer3
+bssmap_size (CipherModeReject cause) = 3 + length cause.0
+
+abbrev pub content_refusal : Bssmap → Option Refusal
+content_refusal (CompleteLayer3Information cell layer3) = layer3_refusal layer3
+content_refusal _ = None
+
+-- a layer 3 message that isn't one, then what a length octet can't count
+abbrev pub bssap_refusal : Bssap → Option Refusal
+bssap_refusal (Management message) = first_refusal (content_refusal message) (size_refusal (bssmap_size message))
+bssap_refusal (Transfer dlci message) = layer3_refusal message
+
+-- the SAPI of DTAP is 0 or 3
+abbrev pub HasDlci : Bssap → Type 0
+HasDlci (Management message) = Unit {0}
+HasDlci (Transfer dlci message) = is_dlci dlci ≡ true

@@ -1,0 +1,11 @@
+pub mod Bssap
+pub mod BssapReading
+pub mod BssapWritten
+pub mod BssmapType
+pub mod Front
+pub mod Refused
+pub mod Sccp
+pub mod SccpReading
+pub mod SccpType
+pub mod SccpWritten
+pub mod Values

@@ -1,0 +1,63 @@
+use octets::Memory;
+use thiserror::Error;
+
+/// Why octets of the A interface aren't read, or a message isn't written.
+#[derive(Clone, Copy, Debug, PartialEq, Eq, Error)]
+pub enum InterfaceFault {
+    /// The octets end too early, or what may not be empty is empty.
+    #[error("message too short")]
+    Short,
+    /// The type of the message isn't known.
+    #[error("unknown type of message")]
+    UnknownType,
+    /// The message lacks the element with this identifier.
+    #[error("element {0} is missing")]
+    MissingElement(u8),
+    /// A pointer leads out of the message.
+    #[error("pointer out of the message")]
+    BadPointer,
+    /// The octets are more than the message carries, or than its length octet can count.
+    #[error("message too long")]
+    TooLong,
+    /// There was no memory.
+    #[error("out of memory")]
+    Memory,
+}
+
+/// A cause for which octets are refused whatever memory there is.
+#[derive(Clone, Copy, Debug, PartialEq, Eq)]
+pub enum Refusal {
+    Short,
+    UnknownType,
+    MissingElement(u8),
+    BadPointer,
+    TooLong,
+}
+
+impl From<Refusal> for InterfaceFault {
+    ghost use Rattle.std.specs.Prelude.{◌≡◌};
+    ghost use Rattle.bssmap_codec.specs.Refused.{fault_of};
+
+    ghost from_gives = { λ refusal fault. fault ≡ fault_of refusal };
+
+    fn from(refusal: Refusal) -> InterfaceFault {
+        match refusal {
+            Refusal::Short => InterfaceFault::Short,
+            Refusal::UnknownType => InterfaceFault::UnknownType,
+            Refusal::MissingElement(id) => InterfaceFault::MissingElement(id),
+            Refusal::BadPointer => InterfaceFault::BadPointer,
+            Refusal::TooLong => InterfaceFault::TooLong,
+        }
+    }
+}
+
+impl From<Memory> for InterfaceFault {
+    ghost use Rattle.std.specs.Prelude.{◌≡◌};
+    ghost use Rattle.bssmap_codec.specs.declared.fault.InterfaceFault.TheVariants as faults;
+
+    ghost from_gives = { λ _ fault. fault ≡ faults.Memory };
+
+    fn from(_error: Memory) -> InterfaceFault {
+        InterfaceFault::Memory
+    }
+}

@@ -1,0 +1,104 @@
+-- Messages of radio resource management, octet by octet (TS 44.018 clause 9.1).
+use Rattle.std.specs.Prelude.{◌≡◌, ℕ, ◌+◌, ◌*◌, ◌/◌, ◌%◌, ◌<◌, List, [], ◌∷◌, ◌++◌, length}
+use Rattle.dtap_codec.specs.declared.rr.CellDescription.{CellDescription}
+use Rattle.dtap_codec.specs.declared.rr.ChannelDescription.{ChannelDescription}
+use Rattle.dtap_codec.specs.declared.rr.RrCause.{RrCause}
+use Rattle.dtap_codec.specs.declared.rr.RrMessage.{RrMessage}
+use Rattle.dtap_codec.specs.declared.rr.RrMessage.TheVariants.{HandoverCommand, AssignmentCommand, HandoverComplete, HandoverFailure, AssignmentComplete, AssignmentFailure, ChannelRelease, ImmediateAssignment, MeasurementReport, PagingResponse}
+use Rattle.dtap_codec.specs.declared.rr.TheConstants.{PSEUDO_LENGTH, IMMEDIATE_ASSIGNMENT}
+
+-- two high bits of the ARFCN, three of the NCC, three of the BCC; the low eight bits of the ARFCN (clause 10.5.2.2)
+abbrev pub cell_text : CellDescription → List ℕ
+cell_text c = (c.arfcn / 256 * 64 + c.ncc * 8 + c.bcc) ∷ (c.arfcn % 256) ∷ []
+
+-- the channel; three bits of the TSC, three more, which are 0 where it is written, two high bits of the ARFCN; its low eight (clause 10.5.2.5)
+abbrev pub channel_text : ℕ → ChannelDescription → List ℕ
+channel_text more c = c.channel.0 ∷ (c.tsc * 32 + more * 4 + c.arfcn / 256) ∷ (c.arfcn % 256) ∷ []
+
+-- each number fits its bits
+pub record CellFits (c : CellDescription) : Type 0 where
+  pub arfcn : c.arfcn < 1024
+  pub ncc : c.ncc < 8
+  pub bcc : c.bcc < 8
+
+pub record ChannelFits (c : ChannelDescription) : Type 0 where
+  pub tsc : c.tsc < 8
+  pub arfcn : c.arfcn < 1024
+
+pub record IsHandoverCommand (octets : List ℕ) (cell : CellDescription) (channel : ChannelDescription) (reference : ℕ) : Type 0 where
+  pub bits : ℕ
+  pub power : ℕ
+  pub more : List ℕ
+  pub is : octets ≡ 0x06 ∷ 0x2b ∷ (cell_text cell ++ (channel_text bits channel ++ reference ∷ power ∷ more))
+  pub three_bits : bits < 8
+  pub cell_fits : CellFits cell
+  pub channel_fits : ChannelFits channel
+
+pub record IsAssignmentCommand (octets : List ℕ) (channel : ChannelDescription) : Type 0 where
+  pub bits : ℕ
+  pub power : ℕ
+  pub more : List ℕ
+  pub is : octets ≡ 0x06 ∷ 0x2e ∷ (channel_text bits channel ++ power ∷ more)
+  pub three_bits : bits < 8
+  pub channel_fits : ChannelFits channel
+
+-- a message of this type that has a cause alone
+pub record IsCauseOf (kind : ℕ) (octets : List ℕ) (cause : RrCause) : Type 0 where
+  pub more : List ℕ
+  pub is : octets ≡ 0x06 ∷ kind ∷ cause.0 ∷ more
+
+-- page mode, channel, request reference, timing advance below two bits, and the last twelve of the 23 octets
+pub record IsImmediate (octets : List ℕ) (channel : ChannelDescription) (request : List ℕ) (advance : ℕ) : Type 0 where
+  pub page_mode : ℕ
+  pub bits : ℕ
+  pub high : ℕ
+  pub last : List ℕ
+  pub is : octets ≡ PSEUDO_LENGTH ∷ 0x06 ∷ IMMEDIATE_ASSIGNMENT ∷ page_mode ∷ (channel_text bits channel ++ (request ++ (high * 64 + advance) ∷ last))
+  pub three_bits : bits < 8
+  pub channel_fits : ChannelFits channel
+  pub three : length request ≡ 3
+  pub six_bits : advance < 64
+  pub whole : 11 < length last
+
+pub record IsReport (octets value : List ℕ) : Type 0 where
+  pub more : List ℕ
+  pub is : octets ≡ 0x06 ∷ 0x15 ∷ (value ++ more)
+  pub sixteen : length value ≡ 16
+
+-- The octets are a text of the message; what follows its parts isn't looked at.
+abbrev pub IsRr : List ℕ → RrMessage → Type 0
+IsRr octets (HandoverCommand cell channel reference) = IsHandoverCommand octets cell channel reference
+IsRr octets (AssignmentCommand channel) = IsAssignmentCommand octets channel
+IsRr octets (HandoverComplete cause) = IsCauseOf 0x2c octets cause
+IsRr octets (HandoverFailure cause) = IsCauseOf 0x28 octets cause
+IsRr octets (AssignmentComplete cause) = IsCauseOf 0x29 octets cause
+IsRr octets (AssignmentFailure cause) = IsCauseOf 0x2f octets cause
+IsRr octets (ChannelRelease cause) = IsCauseOf 0x0d octets cause
+IsRr octets (ImmediateAssignment channel request advance) = IsImmediate octets channel request advance
+IsRr octets (MeasurementReport value) = IsReport octets value
+IsRr octets (PagingResponse rest) = octets ≡ 0x06 ∷ 0x27 ∷ rest
+
+-- what an IMMEDIATE ASSIGNMENT ends with: no mobile allocation, and padding
+abbrev pub immediate_end : List ℕ
+immediate_end = 0x00 ∷ 0x2b ∷ 0x2b ∷ 0x2b ∷ 0x2b ∷ 0x2b ∷ 0x2b ∷ 0x2b ∷ 0x2b ∷ 0x2b ∷ 0x2b ∷ 0x2b ∷ []
+
+-- The text in which a message is written.
+abbrev pub rr_text : RrMessage → List ℕ
+rr_text (HandoverCommand cell channel reference) = 0x06 ∷ 0x2b ∷ (cell_text cell ++ (channel_text 0 channel ++ reference ∷ 0 ∷ []))
+rr_text (AssignmentCommand channel) = 0x06 ∷ 0x2e ∷ (channel_text 0 channel ++ 0 ∷ [])
+rr_text (HandoverComplete cause) = 0x06 ∷ 0x2c ∷ cause.0 ∷ []
+rr_text (HandoverFailure cause) = 0x06 ∷ 0x28 ∷ cause.0 ∷ []
+rr_text (AssignmentComplete cause) = 0x06 ∷ 0x29 ∷ cause.0 ∷ []
+rr_text (AssignmentFailure cause) = 0x06 ∷ 0x2f ∷ cause.0 ∷ []
+rr_text (ChannelRelease cause) = 0x06 ∷ 0x0d ∷ cause.0 ∷ []
+rr_text (ImmediateAssignment channel request advance) = PSEUDO_LENGTH ∷ 0x06 ∷ IMMEDIATE_ASSIGNMENT ∷ 0 ∷ (channel_text 0 channel ++ (request ++ advance ∷ immediate_end))
+rr_text (MeasurementReport value) = 0x06 ∷ 0x15 ∷ value
+rr_text (PagingResponse rest) = 0x06 ∷ 0x27 ∷ rest
+
+-- the numbers of a message fit their bits
+abbrev pub RrFits : RrMessage → Type 0
+RrFits (HandoverCommand cell channel reference) = CellFits cell × ChannelFits channel
+RrFits (AssignmentCommand channel) = ChannelFits channel
+RrFits (ImmediateAssignment channel request advance) = ChannelFits channel × (length request ≡ 3) × (advance < 64)
+RrFits (MeasurementReport value) = length value ≡ 16
+RrFits _ = Unit {0}

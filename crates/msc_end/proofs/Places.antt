@@ -1,0 +1,45 @@
+-- Connections by their number.
+use Rattle.std.proofs.Common.{◌≡◌, ◌≢◌, ◌⊎◌, ℕ, zero, suc, ◌+◌, ◌-◌, ◌<◌, ◌≤◌, Bool, true, false, cond, eqb, List, [], ◌∷◌, ◌++◌, length, get_or, Option, Some, None, refl, sym, ap, ◌∙◌, arith, eq-eqb, inl, inr}
+use Rattle.std.specs.Prelude.{slice_get, slice_set, option_to_list}
+use Rattle.std.proofs.lemmas.Bool.{ne_eqb}
+use Rattle.bssmap_codec.specs.declared.bssmap.Bssap.{Bssap}
+use Rattle.bssmap_codec.specs.declared.sccp.Sccp.{Sccp}
+use Rattle.msc_end.specs.declared.connection.Connection.{Connection}
+use Rattle.msc_end.specs.Switch.{base, connection_after, connection_of, heard_on, reply_of, reply_on}
+
+got : {X : Type 0} (xs : List X) (i : ℕ) (d : X) → i < length xs → slice_get xs i ≡ Some (get_or xs i d)
+got [] i d h = absurd (omega arith)
+got (x ∷ xs) zero d h = refl
+got (x ∷ xs) (suc i) d h = got xs i d (omega arith)
+
+past : {X : Type 0} (xs : List X) (i : ℕ) → length xs ≤ i → slice_get xs i ≡ None
+past [] i h = refl
+past (x ∷ xs) zero h = absurd (omega arith)
+past (x ∷ xs) (suc i) h = past xs i (omega arith)
+
+pub here : (cs : List Connection) (n : ℕ) (c : Connection) → n ≢ 0 → n ≤ length cs → c ≡ get_or cs (n - 1) c → connection_of cs n ≡ Some c
+here cs n c ne le at =
+    ap (λ b. cond b None (slice_get cs (n - 1))) (ne_eqb n 0 ne) ∙ got cs (n - 1) c (omega arith) ∙ ap (λ (x : Connection). Some x) (sym at)
+
+pub nowhere : (cs : List Connection) (n : ℕ) → (n ≡ 0) ⊎ (length cs < n) → connection_of cs n ≡ None
+nowhere cs n (inl is) = ap (λ b. cond b None (slice_get cs (n - 1))) (eq-eqb n 0 is)
+nowhere cs n (inr lt) =
+    let ne : n ≢ 0 = omega arith in
+    ap (λ b. cond b None (slice_get cs (n - 1))) (ne_eqb n 0 ne) ∙ past cs (n - 1) (omega arith)
+
+pub state_is : (cs : List Connection) (n d : ℕ) (c new : Connection) (m : Bssap) (h : Option Bssap) → n ≡ d - base → n ≢ 0 → n ≤ length cs → c ≡ get_or cs (n - 1) c → h ≡ Some m → new ≡ connection_after c m
+    → slice_set cs (n - 1) new ≡ heard_on cs (d - base) (connection_of cs (d - base)) h
+state_is cs n d c new m h is ne le at hm after =
+    ap (λ (x : Connection). slice_set cs (n - 1) x) after
+    ∙ sym (ap (λ o. heard_on cs n o h) (here cs n c ne le at) ∙ ap (λ g. heard_on cs n (Some c) g) hm)
+    ∙ ap (λ (k : ℕ). heard_on cs k (connection_of cs k) h) is
+
+pub reply_is : (cs : List Connection) (n d : ℕ) (c : Connection) (m : Bssap) (h : Option Bssap) (reply : Option Sccp) → n ≡ d - base → n ≢ 0 → n ≤ length cs → c ≡ get_or cs (n - 1) c → h ≡ Some m → reply ≡ reply_of c m
+    → option_to_list reply ≡ reply_on (connection_of cs (d - base)) h
+reply_is cs n d c m h reply is ne le at hm r =
+    ap (λ (x : Option Sccp). option_to_list x) r
+    ∙ sym (ap (λ o. reply_on o h) (here cs n c ne le at) ∙ ap (λ g. reply_on (Some c) g) hm)
+    ∙ ap (λ (k : ℕ). reply_on (connection_of cs k) h) is
+
+pub silent : (cs : List Connection) (n d : ℕ) (h : Option Bssap) → n ≡ d - base → (n ≡ 0) ⊎ (length cs < n) → [] ≡ reply_on (connection_of cs (d - base)) h
+silent cs n d h is no_one = sym (ap (λ o. reply_on o h) (nowhere cs n no_one)) ∙ ap (λ (k : ℕ). reply_on (connection_of cs k) h) is

@@ -1,0 +1,74 @@
+ghost use Rattle.std.specs.Prelude.{◌≡◌, OnOk, OnErr, IfOk};
+ghost use Rattle.msc_end.specs.Switch.{answering, connection_after, reply_of, taking};
+
+use crate::hearing::data;
+use bssmap_codec::{Bssap, Bssmap, Reference, Sccp};
+use nsd_filter::Reception;
+use octets::Memory;
+use std::alloc::Global;
+
+/// How far a connection has come.
+#[derive(Clone, Copy, Debug, PartialEq, Eq)]
+pub enum Stage {
+    /// It carries messages both ways.
+    Open,
+    /// A CLEAR COMMAND was sent: messages of the mobile are still taken.
+    Clearing,
+    /// The CLEAR COMPLETE came.
+    Ended,
+}
+
+/// A connection at the switch.
+#[derive(Drop)]
+pub struct Connection {
+    /// The reference by which the base station controller knows it.
+    pub peer: Reference,
+    /// The reference by which the switch knows it.
+    pub number: Reference,
+    /// How far it has come.
+    pub stage: Stage,
+    /// What was taken on it.
+    pub reception: Reception,
+}
+
+impl Connection {
+    /// Takes a message of BSSAP, and gives what is answered. An `Err` changes nothing.
+    pub fn on_bssap(&mut self, alloc: Global, message: Bssap) -> Result<Option<Sccp>, Memory>
+        ensures state { OnOk result (self.new ≡ connection_after self.old message) }
+        ensures reply { IfOk result (λ reply. reply ≡ reply_of self.old message) }
+        ensures err { OnErr result (self.new ≡ self.old) }
+    {
+        match self.stage {
+            Stage::Ended => Ok(None),
+            Stage::Open | Stage::Clearing => self.take(alloc, message),
+        }
+    }
+
+    // Takes a message of BSSAP on a connection that hasn't ended.
+    fn take(&mut self, alloc: Global, message: Bssap) -> Result<Option<Sccp>, Memory>
+        ensures state { OnOk result (self.new ≡ taking self.old message) }
+        ensures reply { IfOk result (λ reply. reply ≡ answering self.old message) }
+        ensures err { OnErr result (self.new ≡ self.old) }
+    {
+        match message {
+            Bssap::Transfer { message, .. } => {
+                self.reception.take(message)?;
+                Ok(None)
+            }
+            Bssap::Management(Bssmap::ClearRequest { cause }) => {
+                let command = Bssap::Management(Bssmap::ClearCommand { cause });
+                let reply = data(alloc, self.peer, &command)?;
+                self.stage = Stage::Clearing;
+                Ok(reply)
+            }
+            Bssap::Management(Bssmap::ClearComplete) => {
+                self.stage = Stage::Ended;
+                Ok(Some(Sccp::Released {
+                    destination: self.peer,
+                    source: self.number,
+                }))
+            }
+            Bssap::Management(_) => Ok(None),
+        }
+    }
+}

@@ -1,0 +1,32 @@
+ghost use Rattle.std.specs.Prelude.{◌≡◌, IfOk};
+ghost use Rattle.msc_end.specs.Switch.{heard, sent_to};
+
+use bssmap_codec::{Bssap, InterfaceFault, Reference, Sccp, read_bssap, write_bssap};
+use octets::{Memory, Octets};
+use std::alloc::Global;
+
+/// The message of BSSAP that the octets are read as; none where they are refused.
+pub fn hear(alloc: Global, octets: &[u8]) -> Result<Option<Bssap>, Memory>
+    ensures { IfOk result (λ message. message ≡ heard octets.now) }
+{
+    match read_bssap(alloc, octets) {
+        Ok(message) => Ok(Some(message)),
+        Err(InterfaceFault::Memory) => Err(Memory),
+        Err(_) => Ok(None),
+    }
+}
+
+/// The data form 1 that carries a message of BSSAP; none where the message isn't written.
+pub fn data(alloc: Global, destination: Reference, message: &Bssap) -> Result<Option<Sccp>, Memory>
+    ensures { IfOk result (λ sent. sent ≡ sent_to destination message.now) }
+{
+    let mut text = Vec::new(alloc);
+    match write_bssap(alloc, message, &mut text) {
+        Ok(()) => Ok(Some(Sccp::DataForm1 {
+            destination,
+            data: Octets::new(text),
+        })),
+        Err(InterfaceFault::Memory) => Err(Memory),
+        Err(_) => Ok(None),
+    }
+}

@@ -1,0 +1,12 @@
+//! The switch end: what tests use as the mobile switching centre. It accepts of each connection what the duplicate
+//! detection of TS 24.007 lets through.
+#![tactic(auto)]
+
+pub use connection::{Connection, Stage};
+pub use fault::MscFault;
+pub use msc::MscEnd;
+
+mod connection;
+mod fault;
+mod hearing;
+mod msc;

@@ -1,0 +1,365 @@
+ghost use Rattle.std.specs.Prelude.{◌≡◌, ◌≤◌, ◌+◌, ◌-◌, ◌∷◌, [], ◌++◌, length, Some, None, OnOk, OnErr, IfOk, MatchResult, option_map, option_to_list, slice_set};
+ghost use Rattle.octets.specs.Refusal.{RefusesBy};
+ghost use Rattle.dtap_codec.specs.Number.{count_of};
+ghost use Rattle.nsd_filter.specs.Accepted.{accepted, not_of_the_flow};
+ghost use Rattle.msc_end.specs.declared.connection.Stage.TheVariants.{Clearing};
+ghost use Rattle.msc_end.specs.declared.fault.MscFault.TheVariants.{Memory as OutOfMemory};
+ghost use Rattle.msc_end.specs.Refusal.{send_fault};
+ghost use Rattle.msc_end.specs.Switch.{after, replies, assignment, cleared, clearing, connection_of, dlci_for, initial, initial_of, sent_on, sent_to};
+
+use crate::hearing::{data, hear};
+use crate::{Connection, MscFault, Stage};
+use bssmap_codec::{Bssap, Bssmap, Cause, ChannelType, Dlci, Reference, Sccp};
+use dtap_codec::{Modulus, Sapi};
+use nsd_filter::Reception;
+use octets::{Memory, Octets};
+use std::alloc::Global;
+
+/// How many connections the switch end gives out.
+const CONNECTION_LIMIT: usize = 0x7f_ffff;
+
+/// The reference before that of the first connection.
+const REFERENCE_BASE: u32 = 0x80_0000;
+
+/// The switch end. The n-th connection request gets connection n and the reference 800000 hexadecimal plus n.
+#[derive(Drop)]
+pub struct MscEnd {
+    alloc: Global,
+    modulus: Modulus,
+    connections: Vec<Connection>,
+}
+
+impl MscEnd {
+    /// A switch without connections. It takes no memory.
+    pub fn new(alloc: Global, modulus: Modulus) -> MscEnd
+        ensures connections { result.connections.items ≡ [] }
+        ensures modulus { result.modulus ≡ modulus }
+    {
+        MscEnd {
+            alloc,
+            modulus,
+            connections: Vec::new(alloc),
+        }
+    }
+
+    /// Takes a message from the base station controller, and appends what is replied. An `Err` changes nothing.
+    pub fn on_message(&mut self, message: &Sccp, out: &mut Vec<Sccp>) -> Result<(), Memory>
+        ensures state { OnOk result (self.new.connections.items ≡ after (count_of self.old.modulus) self.old.connections.items message.now) }
+        ensures replies { OnOk result (out.new.items ≡ out.old.items ++ replies self.old.connections.items message.now) }
+        ensures modulus { self.new.modulus ≡ self.old.modulus }
+        ensures unchanged { OnErr result (self.new.connections.items ≡ self.old.connections.items) }
+        ensures unanswered { OnErr result (out.new.items ≡ out.old.items) }
+    {
+        match message {
+            Sccp::ConnectionRequest { source, data } => self.on_request(*source, data, out),
+            Sccp::DataForm1 { destination, data } => self.on_data(*destination, data, out),
+            _ => Ok(()),
+        }
+    }
+
+    // Takes a connection request.
+    fn on_request(
+        &mut self,
+        source: Reference,
+        data: &Option<Octets>,
+        out: &mut Vec<Sccp>,
+    ) -> Result<(), Memory>
+        ensures state { OnOk result (self.new.connections.items ≡ after (count_of self.old.modulus) self.old.connections.items (Sccp.ConnectionRequest source data.now)) }
+        ensures replies { OnOk result (out.new.items ≡ out.old.items ++ replies self.old.connections.items (Sccp.ConnectionRequest source data.now)) }
+        ensures modulus { self.new.modulus ≡ self.old.modulus }
+        ensures unchanged { OnErr result (self.new.connections.items ≡ self.old.connections.items) }
+        ensures unanswered { OnErr result (out.new.items ≡ out.old.items) }
+    {
+        out.reserve(1)?;
+        let count = self.connections.len();
+        if count >= CONNECTION_LIMIT {
+            out.push_reserved(Sccp::ConnectionRefused {
+                destination: source,
+            });
+            return Ok(());
+        }
+        self.connections.reserve(1)?;
+        let reception = first_taken(self.alloc, self.modulus, data)?;
+        let number = Reference::new(REFERENCE_BASE + (count as u32 + 1));
+        self.connections.push_reserved(Connection {
+            peer: source,
+            number,
+            stage: Stage::Open,
+            reception,
+        });
+        out.push_reserved(Sccp::ConnectionConfirm {
+            destination: source,
+            source: number,
+        });
+        Ok(())
+    }
+
+    // Takes data of a connection.
+    fn on_data(
+        &mut self,
+        destination: Reference,
+        data: &Octets,
+        out: &mut Vec<Sccp>,
+    ) -> Result<(), Memory>
+        ensures state { OnOk result (self.new.connections.items ≡ after (count_of self.old.modulus) self.old.connections.items (Sccp.DataForm1 destination data.now)) }
+        ensures replies { OnOk result (out.new.items ≡ out.old.items ++ replies self.old.connections.items (Sccp.DataForm1 destination data.now)) }
+        ensures modulus { self.new.modulus ≡ self.old.modulus }
+        ensures unchanged { OnErr result (self.new.connections.items ≡ self.old.connections.items) }
+        ensures unanswered { OnErr result (out.new.items ≡ out.old.items) }
+    {
+        out.reserve(1)?;
+        let number = destination.number().saturating_sub(REFERENCE_BASE) as usize;
+        if number == 0 || number > self.connections.len() {
+            return Ok(());
+        }
+        let Some(message) = hear(self.alloc, data.as_slice())? else {
+            return Ok(());
+        };
+        let alloc = self.alloc;
+        let connection = &mut self.connections[number - 1];
+        let reply = connection.on_bssap(alloc, message)?;
+        if let Some(reply) = reply {
+            out.push_reserved(reply);
+        }
+        Ok(())
+    }
+
+    /// Sends a layer 3 message to the mobile of a connection. An `Err` changes nothing: `NoConnection`, then `Closed`, then `Memory`.
+    pub fn send_dtap(
+        &self,
+        conn: u32,
+        sapi: Sapi,
+        message: &[u8],
+        out: &mut Vec<Sccp>,
+    ) -> Result<(), MscFault>
+        requires some { 1 ≤ length message.now }
+        requires few { length message.now ≤ 251 }
+        ensures ok { OnOk result (out.new.items ≡ out.old.items ++ sent_on (connection_of self.now.connections.items conn) (Bssap.Transfer (dlci_for sapi) message.now)) }
+        ensures err { OnErr result (out.new.items ≡ out.old.items) }
+        ensures refused { RefusesBy OutOfMemory result (send_fault (connection_of self.now.connections.items conn)) }
+    {
+        let peer = self.open_peer(conn)?;
+        let message = Bssap::Transfer {
+            dlci: dlci(sapi),
+            message: Octets::copy(self.alloc, message)?,
+        };
+        send(self.alloc, peer, &message, out)?;
+        Ok(())
+    }
+
+    /// Asks for a speech channel for a connection. An `Err` changes nothing: `NoConnection`, then `Closed`, then `Memory`.
+    pub fn assign(&self, conn: u32, out: &mut Vec<Sccp>) -> Result<(), MscFault>
+        ensures ok { OnOk result (out.new.items ≡ out.old.items ++ sent_on (connection_of self.now.connections.items conn) assignment) }
+        ensures err { OnErr result (out.new.items ≡ out.old.items) }
+        ensures refused { RefusesBy OutOfMemory result (send_fault (connection_of self.now.connections.items conn)) }
+    {
+        let peer = self.open_peer(conn)?;
+        let channel_type = ChannelType(Octets::copy(self.alloc, &[0x01, 0x08, 0x01])?);
+        let message = Bssap::Management(Bssmap::AssignmentRequest { channel_type });
+        send(self.alloc, peer, &message, out)?;
+        Ok(())
+    }
+
+    /// Sends CLEAR COMMAND, cause call control, on a connection. An `Err` changes nothing: `NoConnection`, then `Closed`, then `Memory`.
+    pub fn clear(&mut self, conn: u32, out: &mut Vec<Sccp>) -> Result<(), MscFault>
+        ensures ok { OnOk result (out.new.items ≡ out.old.items ++ sent_on (connection_of self.old.connections.items conn) clearing) }
+        ensures state { OnOk result (self.new.connections.items ≡ cleared self.old.connections.items conn (connection_of self.old.connections.items conn)) }
+        ensures modulus { self.new.modulus ≡ self.old.modulus }
+        ensures err { OnErr result (out.new.items ≡ out.old.items) }
+        ensures unchanged { OnErr result (self.new.connections.items ≡ self.old.connections.items) }
+        ensures refused { RefusesBy OutOfMemory result (send_fault (connection_of self.old.connections.items conn)) }
+    {
+        let peer = self.open_peer(conn)?;
+        let cause = Cause::one(self.alloc, 0x09)?;
+        let message = Bssap::Management(Bssmap::ClearCommand { cause });
+        send(self.alloc, peer, &message, out)?;
+        self.begin_clear(conn);
+        Ok(())
+    }
+
+    // Marks a connection as cleared.
+    fn begin_clear(&mut self, conn: u32)
+        ensures state { self.new.connections.items ≡ cleared self.old.connections.items conn (connection_of self.old.connections.items conn) }
+        ensures modulus { self.new.modulus ≡ self.old.modulus }
+    {
+        let number = conn as usize;
+        if number == 0 || number > self.connections.len() {
+            return;
+        }
+        let connection = &mut self.connections[number - 1];
+        connection.stage = Stage::Clearing;
+    }
+
+    // The reference of the other end of a connection that is open.
+    fn open_peer(&self, conn: u32) -> Result<Reference, MscFault>
+        ensures peer { IfOk result (λ peer. option_map (λ c. c.peer) (connection_of self.now.connections.items conn) ≡ Some peer) }
+        ensures refused { MatchResult result (λ _. send_fault (connection_of self.now.connections.items conn) ≡ None) (λ fault. send_fault (connection_of self.now.connections.items conn) ≡ Some fault) }
+    {
+        match self.connection(conn) {
+            None => Err(MscFault::NoConnection),
+            Some(connection) => match connection.stage {
+                Stage::Open => Ok(connection.peer),
+                Stage::Clearing | Stage::Ended => Err(MscFault::Closed),
+            },
+        }
+    }
+
+    // The connection of this number.
+    fn connection(&self, conn: u32) -> Option<&Connection>
+        ensures { option_map (λ c. c.now) result ≡ connection_of self.now.connections.items conn }
+    {
+        if conn == 0 {
+            return None;
+        }
+        self.connections.get(conn as usize - 1)
+    }
+
+    /// All messages of the mobile that were taken on a connection up to the CLEAR COMPLETE, in order, the initial message
+    /// first; none where there is no connection of that number.
+    pub fn taken(&self, conn: u32) -> Option<&[Octets]>
+        ensures { option_map (λ v. v.now) result ≡ option_map (λ c. c.reception.taken) (connection_of self.now.connections.items conn) }
+    {
+        match self.connection(conn) {
+            Some(connection) => Some(connection.reception.taken()),
+            None => None,
+        }
+    }
+
+    /// What was given up to the upper layers of the flow on a connection: the judgement over the messages taken, numbers cleared.
+    pub fn accepted(&self, conn: u32) -> Option<&[Octets]>
+        ensures { option_map (λ v. v.now) result ≡ option_map (λ c. accepted c.reception.modulus c.reception.taken) (connection_of self.now.connections.items conn) }
+    {
+        match self.connection(conn) {
+            Some(connection) => Some(connection.reception.accepted()),
+            None => None,
+        }
+    }
+
+    /// The messages taken on a connection that carry no number, in order.
+    pub fn unnumbered(&self, conn: u32) -> Option<&[Octets]>
+        ensures { option_map (λ v. v.now) result ≡ option_map (λ c. not_of_the_flow c.reception.taken) (connection_of self.now.connections.items conn) }
+    {
+        match self.connection(conn) {
+            Some(connection) => Some(connection.reception.unnumbered()),
+            None => None,
+        }
+    }
+}
+
+// What is taken of a connection request: the initial message, where there is one.
+fn first_taken(alloc: Global, modulus: Modulus, data: &Option<Octets>) -> Result<Reception, Memory>
+    ensures { IfOk result (λ reception. reception ≡ record { modulus = count_of modulus; taken = initial data.now }) }
+{
+    match data {
+        Some(data) => {
+            let message = hear(alloc, data.as_slice())?;
+            started(alloc, modulus, initial_message(message))
+        }
+        None => Ok(Reception::new(alloc, modulus)),
+    }
+}
+
+// The initial message that a message carries.
+fn initial_message(message: Option<Bssap>) -> Option<Octets>
+    ensures { option_to_list result ≡ initial_of message }
+{
+    match message {
+        Some(Bssap::Management(message)) => layer3_of(message),
+        Some(Bssap::Transfer { .. }) => None,
+        None => None,
+    }
+}
+
+fn layer3_of(message: Bssmap) -> Option<Octets>
+    ensures { option_to_list result ≡ initial_of (Some (Bssap.Management message)) }
+{
+    match message {
+        Bssmap::CompleteLayer3Information { layer3, .. } => Some(layer3),
+        _ => None,
+    }
+}
+
+// A connection on which this was taken.
+fn started(alloc: Global, modulus: Modulus, first: Option<Octets>) -> Result<Reception, Memory>
+    ensures { IfOk result (λ reception. reception ≡ record { modulus = count_of modulus; taken = option_to_list first }) }
+{
+    let mut reception = Reception::new(alloc, modulus);
+    match first {
+        Some(message) => {
+            reception.take(message)?;
+            Ok(reception)
+        }
+        None => Ok(reception),
+    }
+}
+
+// The DLCI of a SAPI, which leaves the channel open.
+fn dlci(sapi: Sapi) -> Dlci
+    ensures { result ≡ dlci_for sapi }
+{
+    match sapi {
+        Sapi::Zero => Dlci::new(0x00),
+        Sapi::Three => Dlci::new(0x03),
+    }
+}
+
+// Appends the data that carry a message.
+fn send(alloc: Global, peer: Reference, message: &Bssap, out: &mut Vec<Sccp>) -> Result<(), Memory>
+    ensures ok { OnOk result (out.new.items ≡ out.old.items ++ option_to_list (sent_to peer message.now)) }
+    ensures err { OnErr result (out.new.items ≡ out.old.items) }
+{
+    out.reserve(1)?;
+    if let Some(sent) = data(alloc, peer, message)? {
+        out.push_reserved(sent);
+    }
+    Ok(())
+}
+
+#[cfg(test)]
+mod tests {
+    use super::*;
+    use bssmap_codec::{read_sccp, write_sccp};
+    use std::test::Fail;
+
+    const CONNECTION_REQUEST: [u8; 31] = [
+        0x01, 0x00, 0x00, 0x01, 0x02, 0x02, 0x04, 0x02, 0x42, 0xfe, 0x0f, 0x12, 0x00, 0x10, 0x57,
+        0x05, 0x08, 0x00, 0x00, 0xf1, 0x10, 0x00, 0x01, 0x00, 0x01, 0x17, 0x03, 0x05, 0x24, 0x71,
+        0x00,
+    ];
+
+    #[test]
+    fn a_connection_is_confirmed_used_and_cleared(rt: HostRuntime) -> Result<(), Fail> {
+        let alloc = rt.alloc();
+        let mut switch = MscEnd::new(alloc, Modulus::Four);
+        let mut out = Vec::new(alloc);
+        let request = read_sccp(alloc, &CONNECTION_REQUEST)?;
+        switch.on_message(&request, &mut out)?;
+        switch.send_dtap(1, Sapi::Zero, &[0x83, 0x02], &mut out)?;
+        switch.clear(1, &mut out)?;
+        let mut text = Vec::new(alloc);
+        for message in &out {
+            write_sccp(alloc, message, &mut text)?;
+        }
+        let expected: [u8; 34] = [
+            0x02, 0x00, 0x00, 0x01, 0x80, 0x00, 0x01, 0x02, 0x00, 0x06, 0x00, 0x00, 0x01, 0x00,
+            0x01, 0x05, 0x01, 0x00, 0x02, 0x83, 0x02, 0x06, 0x00, 0x00, 0x01, 0x00, 0x01, 0x06,
+            0x00, 0x04, 0x20, 0x04, 0x01, 0x09,
+        ];
+        assert_eq!(rt; text.as_slice(), expected.as_slice());
+        let taken = switch.taken(1).ok_or("no connection")?;
+        assert_eq!(rt; taken.len(), 1);
+        assert_eq!(rt; taken[0].as_slice(), [0x05, 0x24, 0x71].as_slice());
+        let accepted = switch.accepted(1).ok_or("no connection")?;
+        assert_eq!(rt; accepted.len(), 1);
+        assert_eq!(rt; accepted[0].as_slice(), [0x05, 0x24, 0x71].as_slice());
+        assert!(rt;
+            switch.send_dtap(1, Sapi::Zero, &[0x83, 0x02], &mut out) == Err(MscFault::Closed)
+        );
+        assert!(rt;
+            switch.send_dtap(2, Sapi::Zero, &[0x83, 0x02], &mut out) == Err(MscFault::NoConnection)
+        );
+        assert!(rt; switch.assign(1, &mut out) == Err(MscFault::Closed));
+        assert!(rt; switch.unnumbered(2).is_none());
+        Ok(())
+    }
+}
