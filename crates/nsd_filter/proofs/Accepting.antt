@@ -31,11 +31,11 @@ mod-suc_differs m p two same =
     let within : p % m + 1 ≤ m = omega arith in
     elim (eq-or-lt_of_le within) [
       | inl full ↦
-        let zero_next : (p % m + 1) % m ≡ 0 = ap (λ (n : ℕ). n % m) full ∙ mod_self m in
-        absurd (omega arith)
+          let zero_next : (p % m + 1) % m ≡ 0 = ap (λ (n : ℕ). n % m) full ∙ mod_self m in
+          absurd (omega arith)
       | inr below ↦
-        let more : (p % m + 1) % m ≡ p % m + 1 = mod-eq_of_lt below in
-        absurd (omega arith)
+          let more : (p % m + 1) % m ≡ p % m + 1 = mod-eq_of_lt below in
+          absurd (omega arith)
     ]
 
 -- the message at the next place is accepted

@@ -7,5 +7,4 @@ ghost use Rattle.nsd_filter.specs.Accepted.{accepted, progress};
 pub fn accepts_in_order()
     ensures accepted { (m : ℕ) (sent messages : List (List ℕ)) (k : ℕ) → 2 ≤ m → Rise m sent 0 messages k → accepted m messages ≡ take k sent }
     ensures no_gap { (m : ℕ) (sent messages : List (List ℕ)) (k : ℕ) → 2 ≤ m → Rise m sent 0 messages k → progress m messages ≢ None }
-{
-}
+{}

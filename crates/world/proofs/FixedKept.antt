@@ -75,26 +75,26 @@ pub upper-step : (world : FixedState) (sapi : Sapi) (message : List ℕ) → Fix
 upper-step world sapi message =
     sent_unless-step (is_sendable sapi message) (refusal_before_connect world.mobile.stage) world (with_mobile world (queueing world.mobile sapi message))
     (λ lawful. FixedStep-mobile world (queueing world.mobile sapi message) (λ kept. record {
-        numbered = IsNumbered-queueing [] world.mobile (world.switch.taken ++ world.outbox) sapi message (is_sendable-clear sapi message lawful) kept.numbered;
-        modulus = kept.modulus ∙ sym (modulus-queueing world.mobile sapi message);
-        two = subst (λ (m : ℕ). 2 ≤ m) (sym (modulus-queueing world.mobile sapi message)) kept.two
+      numbered = IsNumbered-queueing [] world.mobile (world.switch.taken ++ world.outbox) sapi message (is_sendable-clear sapi message lawful) kept.numbered;
+      modulus = kept.modulus ∙ sym (modulus-queueing world.mobile sapi message);
+      two = subst (λ (m : ℕ). 2 ≤ m) (sym (modulus-queueing world.mobile sapi message)) kept.two;
     }))
 
 air_up_with-step : (world : FixedState) (answer : Result (Option (List ℕ)) MobileFault) → framed world.mobile Zero ≡ answer → FixedStep world (unwrap_or (air_up_with (frame_in answer) world) world) (option_to_list (frame_in answer)) []
 air_up_with-step world (Err fault) is = FixedStep-none world
 air_up_with-step world (Ok None) is = FixedStep-none world
 air_up_with-step world (Ok (Some frame)) is = record {
-    kept = λ kept.
-        let next = IsNumbered-frame [] world.mobile.stage world.mobile.place world.mobile (world.switch.taken ++ world.outbox) kept.numbered in
-        let lent_is : (world.switch.taken ++ world.outbox) ++ frame_lent (framed world.mobile Zero) ≡ world.switch.taken ++ (world.outbox ++ frame ∷ []) =
-            ap (λ (answer : Result (Option (List ℕ)) MobileFault). (world.switch.taken ++ world.outbox) ++ frame_lent answer) is ∙ append_assoc world.switch.taken world.outbox (frame ∷ []) in
-        record {
-          numbered = subst (λ (xs : List (List ℕ)). IsNumbered [] (after_frame world.mobile Zero) xs) lent_is next;
-          modulus = kept.modulus ∙ sym (modulus-after_frame world.mobile.stage world.mobile.place world.mobile);
-          two = subst (λ (m : ℕ). 2 ≤ m) (sym (modulus-after_frame world.mobile.stage world.mobile.place world.mobile)) kept.two
-        };
-    first_out = refl;
-    switch = sym (append-nil world.switch.taken)
+  kept = λ kept.
+      let next = IsNumbered-frame [] world.mobile.stage world.mobile.place world.mobile (world.switch.taken ++ world.outbox) kept.numbered in
+      let lent_is : (world.switch.taken ++ world.outbox) ++ frame_lent (framed world.mobile Zero) ≡ world.switch.taken ++ (world.outbox ++ frame ∷ []) =
+      ap (λ (answer : Result (Option (List ℕ)) MobileFault). (world.switch.taken ++ world.outbox) ++ frame_lent answer) is ∙ append_assoc world.switch.taken world.outbox (frame ∷ []) in
+      record {
+        numbered = subst (λ (xs : List (List ℕ)). IsNumbered [] (after_frame world.mobile Zero) xs) lent_is next;
+        modulus = kept.modulus ∙ sym (modulus-after_frame world.mobile.stage world.mobile.place world.mobile);
+        two = subst (λ (m : ℕ). 2 ≤ m) (sym (modulus-after_frame world.mobile.stage world.mobile.place world.mobile)) kept.two;
+      };
+  first_out = refl;
+  switch = sym (append-nil world.switch.taken);
 }
 
 pub air_up-step : (world : FixedState) → FixedStep world (unwrap_or (after_air_up world) world) (option_to_list (frame_up world)) []
@@ -103,9 +103,9 @@ air_up-step world = air_up_with-step world (framed world.mobile Zero) refl
 air_ack_by-step : (world : FixedState) (acknowledged : Bool) → FixedStep world (unwrap_or (cond acknowledged (Some (with_mobile world (after_acked world.mobile Zero))) None) world) [] []
 air_ack_by-step world false = FixedStep-none world
 air_ack_by-step world true = FixedStep-mobile world (after_acked world.mobile Zero) (λ kept. record {
-    numbered = IsNumbered-acked [] world.mobile.place world.mobile (world.switch.taken ++ world.outbox) Zero kept.numbered;
-    modulus = kept.modulus ∙ sym (modulus-after_acked world.mobile.place world.mobile);
-    two = subst (λ (m : ℕ). 2 ≤ m) (sym (modulus-after_acked world.mobile.place world.mobile)) kept.two
+  numbered = IsNumbered-acked [] world.mobile.place world.mobile (world.switch.taken ++ world.outbox) Zero kept.numbered;
+  modulus = kept.modulus ∙ sym (modulus-after_acked world.mobile.place world.mobile);
+  two = subst (λ (m : ℕ). 2 ≤ m) (sym (modulus-after_acked world.mobile.place world.mobile)) kept.two;
 })
 
 pub air_ack-step : (world : FixedState) → FixedStep world (unwrap_or (after_air_ack world) world) [] []
@@ -114,13 +114,13 @@ air_ack-step world = air_ack_by-step world (is_acknowledged world.mobile Zero)
 taking_from-step : (world : FixedState) (messages : List (List ℕ)) → world.outbox ≡ messages → FixedStep world (unwrap_or (taking_from messages world) world) [] (first_of messages)
 taking_from-step world [] is = FixedStep-none world
 taking_from-step world (first ∷ others) is = record {
-    kept = λ kept. record {
-      numbered = subst (λ (xs : List (List ℕ)). IsNumbered [] world.mobile xs) (ap (λ (xs : List (List ℕ)). world.switch.taken ++ xs) is ∙ sym (append_assoc world.switch.taken (first ∷ []) others)) kept.numbered;
-      modulus = kept.modulus;
-      two = kept.two
-    };
-    first_out = append-nil world.outbox ∙ is;
-    switch = refl
+  kept = λ kept. record {
+    numbered = subst (λ (xs : List (List ℕ)). IsNumbered [] world.mobile xs) (ap (λ (xs : List (List ℕ)). world.switch.taken ++ xs) is ∙ sym (append_assoc world.switch.taken (first ∷ []) others)) kept.numbered;
+    modulus = kept.modulus;
+    two = kept.two;
+  };
+  first_out = append-nil world.outbox ∙ is;
+  switch = refl;
 }
 
 pub switch_takes-step : (world : FixedState) → FixedStep world (unwrap_or (after_switch_takes world) world) [] (first_of world.outbox)

@@ -32,10 +32,10 @@ slice_split-join word (next ∷ words) none =
 -- what is read of a line's words
 pub IsLine-read : (cells : ℕ) (line : List ℕ) (event : Event) → line_at cells (slice_split is_space line) ≡ Some event → IsLine cells event line
 IsLine-read cells line event is = record {
-    words = slice_split is_space line;
-    parted = sym (join_with_byte-slice_split 32 line);
-    are_words = words-no_space line;
-    say = line_at-says cells (slice_split is_space line) event is
+  words = slice_split is_space line;
+  parted = sym (join_with_byte-slice_split 32 line);
+  are_words = words-no_space line;
+  say = line_at-says cells (slice_split is_space line) event is;
 }
 
 AreWords-split : (cells : ℕ) (event : Event) (words : List (List ℕ)) → AreWords cells (words_of event) words → AllByRecursion HasNoSpace words → slice_split is_space (join_with_byte 32 words) ≡ words

@@ -11,7 +11,6 @@ use Rattle.world.specs.declared.script.Action.TheVariants as action
 use Rattle.world.specs.Words.{said_at, and_rest, end_of, mobile_in, station_in, source_in, any_number_in, sapi_in, answer_in, octets_in}
 use Rattle.world.specs.Script.{Word, keyword, mobile, station, source, any_number, sapi, answer, octets, IsWord, AreWords, words_of, name_of, name_of_action}
 use Rattle.world.specs.ScriptReading.{◌>>=◌, last_at, kind_in, action_in, mobile_and_sapi_in, mobile_at, mobile_and_sapi_at, upper_at, connect_at, report_at, dtap_at, action_at, switch_does_at, event_at, line_at}
-
 use Rattle.world.proofs.Reading.{chain_some, chain_again, said_at-some, said_at-again, end_of-some, last_at-some, last_at-again, kind_in-some, action_in-some, kind_in-name, action_in-name}
 
 -- ---- what is read is what the words say
@@ -183,7 +182,7 @@ two_again : (event : ℕ → Sapi → Event) (rest : List (List ℕ)) (first : L
 two_again event rest first more second end m s split one split_more two ends =
     chain_again (mobile_and_sapi_in rest) _ (m, s) (Some (event m s))
     (chain_again (said_at mobile_in rest) _ (m, more) (Some (m, s)) (said_at-again mobile_in rest first more m split one)
-        (chain_again (last_at sapi_in more) _ s (Some (m, s)) (last_at-again sapi_in more second end s split_more ends two) refl))
+    (chain_again (last_at sapi_in more) _ s (Some (m, s)) (last_at-again sapi_in more second end s split_more ends two) refl))
     refl
 
 -- the event that the words say is read from them
@@ -192,24 +191,24 @@ unfolding event_at upper_at connect_at report_at dtap_at
 line_at-again cells (Upper m s o) words (name, rest, split, named, (w, ws, split_w, is_m, (v, vs, split_v, is_s, (u, us, split_u, is_o, end)))) =
     line_at-by cells words kind.Upper name rest (Upper m s o) split named
     (chain_again (said_at mobile_in rest) _ (m, ws) _ (said_at-again mobile_in rest w ws m split_w is_m)
-        (chain_again (said_at sapi_in ws) _ (s, vs) _ (said_at-again sapi_in ws v vs s split_v is_s)
-            (chain_again (last_at octets_in vs) _ o _ (last_at-again octets_in vs u us o split_u end is_o) refl)))
+    (chain_again (said_at sapi_in ws) _ (s, vs) _ (said_at-again sapi_in ws v vs s split_v is_s)
+    (chain_again (last_at octets_in vs) _ o _ (last_at-again octets_in vs u us o split_u end is_o) refl)))
 line_at-again cells (Connect m b o y) words (name, rest, split, named, (w, ws, split_w, is_m, (v, vs, split_v, is_b, (u, us, split_u, is_o, (t, ts, split_t, is_y, end))))) =
     line_at-by cells words kind.Connect name rest (Connect m b o y) split named
     (chain_again (said_at mobile_in rest) _ (m, ws) _ (said_at-again mobile_in rest w ws m split_w is_m)
-        (chain_again (said_at (station_in cells) ws) _ (b, vs) _ (said_at-again (station_in cells) ws v vs b split_v is_b)
-            (chain_again (said_at octets_in vs) _ (o, us) _ (said_at-again octets_in vs u us o split_u is_o)
-                (chain_again (last_at answer_in us) _ y _ (last_at-again answer_in us t ts y split_t end is_y) refl))))
+    (chain_again (said_at (station_in cells) ws) _ (b, vs) _ (said_at-again (station_in cells) ws v vs b split_v is_b)
+    (chain_again (said_at octets_in vs) _ (o, us) _ (said_at-again octets_in vs u us o split_u is_o)
+    (chain_again (last_at answer_in us) _ y _ (last_at-again answer_in us t ts y split_t end is_y) refl))))
 line_at-again cells (Report m o) words (name, rest, split, named, (w, ws, split_w, is_m, (u, us, split_u, is_o, end))) =
     line_at-by cells words kind.Report name rest (Report m o) split named
     (chain_again (said_at mobile_in rest) _ (m, ws) _ (said_at-again mobile_in rest w ws m split_w is_m)
-        (chain_again (last_at octets_in ws) _ o _ (last_at-again octets_in ws u us o split_u end is_o) refl))
+    (chain_again (last_at octets_in ws) _ o _ (last_at-again octets_in ws u us o split_u end is_o) refl))
 line_at-again cells (SwitchDoes (Dtap c s o)) words (name, rest, split, named, (act, more, split_act, acts, (w, ws, split_w, is_c, (v, vs, split_v, is_s, (u, us, split_u, is_o, end))))) =
     line_at-by cells words kind.SwitchDoes name rest (SwitchDoes (Dtap c s o)) split named
     (switch_does_at-by rest action.Dtap act more (SwitchDoes (Dtap c s o)) split_act acts
-        (chain_again (said_at any_number_in more) _ (c, ws) _ (said_at-again any_number_in more w ws c split_w is_c)
-            (chain_again (said_at sapi_in ws) _ (s, vs) _ (said_at-again sapi_in ws v vs s split_v is_s)
-                (chain_again (last_at octets_in vs) _ o _ (last_at-again octets_in vs u us o split_u end is_o) refl))))
+    (chain_again (said_at any_number_in more) _ (c, ws) _ (said_at-again any_number_in more w ws c split_w is_c)
+    (chain_again (said_at sapi_in ws) _ (s, vs) _ (said_at-again sapi_in ws v vs s split_v is_s)
+    (chain_again (last_at octets_in vs) _ o _ (last_at-again octets_in vs u us o split_u end is_o) refl))))
 line_at-again cells (SwitchDoes (Assign c)) words (name, rest, split, named, (act, more, split_act, acts, (w, ws, split_w, is_c, end))) =
     line_at-by cells words kind.SwitchDoes name rest (SwitchDoes (Assign c)) split named
     (switch_does_at-by rest action.Assign act more (SwitchDoes (Assign c)) split_act acts (one_again any_number_in (λ c. SwitchDoes (Assign c)) more w ws c split_w is_c end))
