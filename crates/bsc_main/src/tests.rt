@@ -243,9 +243,9 @@ fn words_ask_for_tasks(rt: HostRuntime) -> Result<(), Fail> {
         _ => return Err(Fail::from("not run")),
     }
     match task(rt.alloc(), &["replay", "--config=b.toml", "--break", "2"])? {
-        Task::Replay(Some(settings), Some(breaks)) => {
-            assert_eq!(rt; settings.as_str(), "b.toml");
-            assert_eq!(rt; breaks.as_str(), "2");
+        Task::Replay(settings, breaks) => {
+            assert_eq!(rt; settings.as_deref().unwrap_or("none"), "b.toml");
+            assert_eq!(rt; breaks.as_deref().unwrap_or("none"), "2");
         }
         _ => return Err(Fail::from("not replay")),
     }
