@@ -1,11 +1,15 @@
 //! `bsc decode`: names the frames of a link.
 ghost use Rattle.std.specs.Prelude.{◌≡◌, ◌⊎◌};
+ghost use Rattle.std.specs.IoError.{error_kind};
+ghost use Rattle.bsc_main.specs.Status.{failure_of, stop_of};
+ghost use Rattle.bsc_main.specs.declared.decode.Stop.TheVariants.{Failed};
+ghost use Rattle.bsc_main.specs.declared.failure.Failure.TheVariants.{Memory as OutOfMemory};
 
 use crate::failure::Failure;
+use crate::names::frame_name;
 use crate::script::READS;
-use ipa_framing::{Frame, FrameFault, Framer};
+use ipa_framing::{FrameFault, Framer};
 use octets::Memory;
-use rsl_codec::{Rsl, RslFault};
 use std::alloc::{AllocError, Global};
 use std::io::{self, BufWriter, ErrorKind, Read, Write};
 
@@ -21,24 +25,32 @@ enum Stop {
 }
 
 impl From<io::Error> for Stop {
+    ghost from_gives = { λ error stop. stop ≡ Failed (failure_of (error_kind error)) };
+
     fn from(error: io::Error) -> Stop {
         Stop::Failed(Failure::from(error))
     }
 }
 
 impl From<AllocError> for Stop {
+    ghost from_gives = { λ _ stop. stop ≡ Failed OutOfMemory };
+
     fn from(_error: AllocError) -> Stop {
         Stop::Failed(Failure::Memory)
     }
 }
 
 impl From<Memory> for Stop {
+    ghost from_gives = { λ _ stop. stop ≡ Failed OutOfMemory };
+
     fn from(_memory: Memory) -> Stop {
         Stop::Failed(Failure::Memory)
     }
 }
 
 impl From<FrameFault> for Stop {
+    ghost from_gives = { λ fault stop. stop ≡ stop_of fault };
+
     fn from(fault: FrameFault) -> Stop {
         match fault {
             FrameFault::TooLong => Stop::TooLong,
@@ -47,68 +59,11 @@ impl From<FrameFault> for Stop {
     }
 }
 
-/// The name of a message.
-fn message_name(message: &Rsl) -> &'static str {
-    match message {
-        Rsl::DataRequest(_) => "DATA REQUEST",
-        Rsl::DataIndication(_) => "DATA INDICATION",
-        Rsl::ErrorIndication(_) => "ERROR INDICATION",
-        Rsl::EstablishRequest(_) => "ESTABLISH REQUEST",
-        Rsl::EstablishConfirm(_) => "ESTABLISH CONFIRM",
-        Rsl::EstablishIndication(_) => "ESTABLISH INDICATION",
-        Rsl::ReleaseRequest(_) => "RELEASE REQUEST",
-        Rsl::ReleaseConfirm(_) => "RELEASE CONFIRM",
-        Rsl::ReleaseIndication(_) => "RELEASE INDICATION",
-        Rsl::ChannelRequired(_) => "CHANNEL REQUIRED",
-        Rsl::ImmediateAssignCommand(_) => "IMMEDIATE ASSIGN COMMAND",
-        Rsl::ChannelActivation(_) => "CHANNEL ACTIVATION",
-        Rsl::ChannelActivationAck(_) => "CHANNEL ACTIVATION ACK",
-        Rsl::ChannelActivationNack(_) => "CHANNEL ACTIVATION NACK",
-        Rsl::ConnectionFailure(_) => "CONNECTION FAILURE",
-        Rsl::HandoverDetection(_) => "HANDOVER DETECTION",
-        Rsl::MeasurementResult(_) => "MEASUREMENT RESULT",
-        Rsl::RfChannelRelease(_) => "RF CHANNEL RELEASE",
-        Rsl::RfChannelReleaseAck(_) => "RF CHANNEL RELEASE ACK",
-    }
-}
-
-/// The name of an RSL message, or of why it isn't one.
-fn rsl_name(alloc: Global, body: &[u8]) -> Result<&'static str, Memory> {
-    match Rsl::read(alloc, body) {
-        Ok(message) => Ok(message_name(&message)),
-        Err(RslFault::Short) => Ok("fault S1"),
-        Err(RslFault::UnknownType) => Ok("fault S2"),
-        Err(RslFault::MissingElement(_)) => Ok("fault S3"),
-        Err(RslFault::BadChannel) => Ok("fault S4"),
-        Err(RslFault::Memory) => Err(Memory),
-        Err(RslFault::TooLong) => Ok("fault S6"),
-    }
-}
-
-/// The name of a CCM message, by its first octet.
-fn ccm_name(body: &[u8]) -> &'static str {
-    match body {
-        [0x00, ..] => "PING",
-        [0x01, ..] => "PONG",
-        _ => "CCM",
-    }
-}
-
-/// The name of what a frame carries.
-fn name_of(alloc: Global, frame: &Frame) -> Result<&'static str, Memory> {
-    match frame.stream {
-        0x00 => rsl_name(alloc, frame.body.as_slice()),
-        0xfe => Ok(ccm_name(frame.body.as_slice())),
-        0xff => Ok("OML"),
-        _ => Ok("unknown"),
-    }
-}
-
 /// Prints a line for each frame that is whole.
 fn print_frames<W: Write>(alloc: Global, framer: &mut Framer, output: &mut W) -> Result<(), Stop> {
     while let Some(frame) = framer.next()? {
         let stream = frame.stream;
-        let name = name_of(alloc, &frame)?;
+        let name = frame_name(alloc, &frame)?;
         writeln!(output, "{stream:02x} {name}")?;
     }
     Ok(())
@@ -237,11 +192,69 @@ mod tests {
         decodes(&rt, &[0x00, 0x00, 0x00], 0, "00 fault S1\n")?;
         decodes(
             &rt,
-            &[0x00, 0x00, 0xfe, 0x00, 0x00, 0xfd, 0x00, 0x00, 0xff],
+            &[
+                0x00, 0x00, 0xfe, 0x00, 0x00, 0xfd, 0x00, 0x00, 0xff, 0x00, 0x00, 0x01,
+            ],
             0,
-            "fe CCM\nfd unknown\nff OML\n",
+            "fe CCM\nfd fault A1\nff OML\n01 unknown\n",
         )?;
         decodes(&rt, &[], 0, "")
+    }
+
+    #[test]
+    fn frames_of_the_switch_link_are_named(rt: HostRuntime) -> Result<(), Fail> {
+        let rows: [(&[u8], &str); 9] = [
+            (
+                &[
+                    0x00, 0x1f, 0xfd, 0x01, 0x00, 0x00, 0x01, 0x02, 0x02, 0x04, 0x02, 0x42, 0xfe,
+                    0x0f, 0x12, 0x00, 0x10, 0x57, 0x05, 0x08, 0x00, 0x00, 0xf1, 0x10, 0x00, 0x01,
+                    0x00, 0x01, 0x17, 0x03, 0x05, 0x24, 0x71, 0x00,
+                ],
+                "fd CR\n",
+            ),
+            (
+                &[
+                    0x00, 0x09, 0xfd, 0x02, 0x00, 0x00, 0x01, 0x80, 0x00, 0x01, 0x02, 0x00,
+                ],
+                "fd CC\n",
+            ),
+            (
+                &[0x00, 0x06, 0xfd, 0x03, 0x00, 0x00, 0x01, 0x00, 0x00],
+                "fd CREF\n",
+            ),
+            (
+                &[
+                    0x00, 0x09, 0xfd, 0x04, 0x00, 0x00, 0x01, 0x80, 0x00, 0x01, 0x00, 0x00,
+                ],
+                "fd RLSD\n",
+            ),
+            (
+                &[0x00, 0x07, 0xfd, 0x05, 0x80, 0x00, 0x01, 0x00, 0x00, 0x01],
+                "fd RLC\n",
+            ),
+            (
+                &[
+                    0x00, 0x0c, 0xfd, 0x06, 0x00, 0x00, 0x01, 0x00, 0x01, 0x05, 0x01, 0x00, 0x02,
+                    0x83, 0x02,
+                ],
+                "fd DT1\n",
+            ),
+            (
+                &[
+                    0x00, 0x08, 0xfd, 0x06, 0x00, 0x00, 0x01, 0x01, 0x01, 0x01, 0x00,
+                ],
+                "fd fault A2\n",
+            ),
+            (
+                &[0x00, 0x07, 0xfd, 0x06, 0x00, 0x00, 0x01, 0x00, 0x00, 0x00],
+                "fd fault A4\n",
+            ),
+            (&[0x00, 0x00, 0xfd], "fd fault A1\n"),
+        ];
+        for (frame, line) in rows {
+            decodes(&rt, frame, 0, line)?;
+        }
+        Ok(())
     }
 
     #[test]

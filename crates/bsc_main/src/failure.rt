@@ -1,5 +1,6 @@
 ghost use Rattle.std.specs.Prelude.{◌≡◌};
-ghost use Rattle.bsc_main.specs.Status.{status_of};
+ghost use Rattle.bsc_main.specs.Status.{failure_of, status_of};
+ghost use Rattle.std.specs.IoError.{error_kind};
 ghost use Rattle.bsc_main.specs.declared.failure.Failure.TheVariants.{Memory as OutOfMemory};
 
 use octets::Memory;
@@ -36,6 +37,8 @@ impl Failure {
 }
 
 impl From<io::Error> for Failure {
+    ghost from_gives = { λ error failure. failure ≡ failure_of (error_kind error) };
+
     fn from(error: io::Error) -> Failure {
         match error.kind() {
             ErrorKind::OutOfMemory => Failure::Memory,

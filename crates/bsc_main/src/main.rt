@@ -13,6 +13,7 @@ use std::process::ExitCode;
 mod command_line;
 mod decode;
 mod failure;
+mod names;
 mod replay;
 mod report;
 mod script;

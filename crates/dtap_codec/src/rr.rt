@@ -44,7 +44,7 @@ impl Arfcn {
 /// Contracts see the number.
 #[derive(Clone, Copy, Debug)]
 pub struct ColourCode {
-    number: u8,
+    code: u8,
 }
 
 impl Model for ColourCode {
@@ -52,20 +52,20 @@ impl Model for ColourCode {
 
     ghost Value = { ℕ };
 
-    ghost view = { λ code. code.number };
+    ghost view = { λ colour. colour.code };
 
-    ghost inverse = { λ number. record { number = number } };
+    ghost inverse = { λ code. record { code = code } };
 
-    ghost invariant = { λ code. code.number < 8 };
+    ghost invariant = { λ colour. colour.code < 8 };
 }
 
 impl ColourCode {
     /// The code with this number.
-    pub fn new(number: u8) -> ColourCode
-        requires { number < 8 }
-        ensures { result ≡ number }
+    pub fn new(code: u8) -> ColourCode
+        requires { code < 8 }
+        ensures { result ≡ code }
     {
-        ColourCode { number }
+        ColourCode { code }
     }
 
     /// The number, below 8.
@@ -73,7 +73,7 @@ impl ColourCode {
         ensures number { result ≡ self }
         ensures three_bits { result < 8 }
     {
-        self.number
+        self.code
     }
 }
 
