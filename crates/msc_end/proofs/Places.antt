@@ -1,11 +1,13 @@
 -- Connections by their number.
-use Rattle.std.proofs.Common.{◌≡◌, ◌≢◌, ◌⊎◌, ℕ, zero, suc, ◌+◌, ◌-◌, ◌<◌, ◌≤◌, Bool, true, false, cond, eqb, List, [], ◌∷◌, ◌++◌, length, get_or, Option, Some, None, refl, sym, ap, ◌∙◌, arith, eq-eqb, inl, inr}
+use Rattle.std.proofs.Common.{◌≡◌, ◌≢◌, ◌⊎◌, ℕ, zero, suc, ◌-◌, ◌<◌, ◌≤◌, cond, List, [], ◌∷◌, length, get_or, Option, Some, None, refl, sym, ap, ◌∙◌, arith, eq-eqb, inl, inr}
 use Rattle.std.specs.Prelude.{slice_get, slice_set, option_to_list}
 use Rattle.std.proofs.lemmas.Bool.{ne_eqb}
 use Rattle.bssmap_codec.specs.declared.bssmap.Bssap.{Bssap}
 use Rattle.bssmap_codec.specs.declared.sccp.Sccp.{Sccp}
+use Rattle.bssmap_codec.specs.declared.sccp.Sccp.TheVariants.{DataForm1}
 use Rattle.msc_end.specs.declared.connection.Connection.{Connection}
-use Rattle.msc_end.specs.Switch.{base, connection_after, connection_of, heard_on, reply_of, reply_on}
+use Rattle.msc_end.specs.Switch.{after, base, connection_after, connection_of, heard, heard_on, reply_of, reply_on}
+use Rattle.msc_end.specs.SwitchState.{SwitchState}
 
 got : {X : Type 0} (xs : List X) (i : ℕ) (d : X) → i < length xs → slice_get xs i ≡ Some (get_or xs i d)
 got [] i d h = absurd (omega arith)
@@ -43,3 +45,12 @@ reply_is cs n d c m h reply is ne le at hm r =
 
 pub silent : (cs : List Connection) (n d : ℕ) (h : Option Bssap) → n ≡ d - base → (n ≡ 0) ⊎ (length cs < n) → [] ≡ reply_on (connection_of cs (d - base)) h
 silent cs n d h is no_one = sym (ap (λ o. reply_on o h) (nowhere cs n no_one)) ∙ ap (λ (k : ℕ). reply_on (connection_of cs k) h) is
+
+abbrev switch_with : ℕ → List Connection → SwitchState
+switch_with k cs = record { modulus = k; connections = cs }
+
+pub switch_is : (s : SwitchState) (k : ℕ) (cs : List Connection) (n d : ℕ) (c new : Connection) (m : Bssap) (user : List ℕ) → record { modulus = k; connections = cs } ≡ s → n ≡ d - base → n ≢ 0 → n ≤ length cs → c ≡ get_or cs (n - 1) c → heard user ≡ Some m → new ≡ connection_after c m
+    → record { modulus = k; connections = slice_set cs (n - 1) new } ≡ after s (DataForm1 d user)
+switch_is s k cs n d c new m user view is ne le at hm new_is =
+    ap (λ (xs : List Connection). switch_with k xs) (state_is cs n d c new m (heard user) is ne le at hm new_is)
+    ∙ ap (λ (x : SwitchState). after x (DataForm1 d user)) view

@@ -1,10 +1,10 @@
 -- When the switch end sends nothing.
-use Rattle.std.specs.Prelude.{◌≡◌, ◌⊎◌, Option, Some, None, Result, Ok, Err}
+use Rattle.std.specs.Prelude.{Option, Some, None}
 use Rattle.msc_end.specs.declared.connection.Connection.{Connection}
 use Rattle.msc_end.specs.declared.connection.Stage.{Stage}
 use Rattle.msc_end.specs.declared.connection.Stage.TheVariants.{Open, Clearing, Ended}
 use Rattle.msc_end.specs.declared.fault.MscFault.{MscFault}
-use Rattle.msc_end.specs.declared.fault.MscFault.TheVariants.{NoConnection, Closed, Memory}
+use Rattle.msc_end.specs.declared.fault.MscFault.TheVariants.{NoConnection, Closed}
 
 abbrev pub stage_fault : Stage → Option MscFault
 stage_fault Open = None

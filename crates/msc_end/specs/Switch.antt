@@ -3,12 +3,10 @@ use Rattle.std.specs.Prelude.{ℕ, ◌+◌, ◌-◌, nat_le, ◌==◌, if◌then
 use Rattle.std.specs.Result.{result_ok}
 use Rattle.bssmap_codec.specs.declared.bssmap.Bssap.{Bssap}
 use Rattle.bssmap_codec.specs.declared.bssmap.Bssap.TheVariants.{Management, Transfer}
-use Rattle.bssmap_codec.specs.declared.bssmap.Bssmap.{Bssmap}
 use Rattle.bssmap_codec.specs.declared.bssmap.Bssmap.TheVariants.{AssignmentRequest, ClearCommand, ClearComplete, ClearRequest, CompleteLayer3Information}
 use Rattle.bssmap_codec.specs.declared.fault.Refusal.{Refusal}
 use Rattle.bssmap_codec.specs.declared.sccp.Sccp.{Sccp}
 use Rattle.bssmap_codec.specs.declared.sccp.Sccp.TheVariants.{ConnectionRequest, ConnectionConfirm, ConnectionRefused, Released, DataForm1}
-use Rattle.bssmap_codec.specs.declared.values.Cause.{Cause}
 use Rattle.bssmap_codec.specs.BssapReading.{bssap_at, cause_of, channel_of}
 use Rattle.bssmap_codec.specs.BssapWritten.{bssap_refusal, bssap_text}
 use Rattle.dtap_codec.specs.declared.sapi.Sapi.{Sapi}
@@ -16,6 +14,7 @@ use Rattle.dtap_codec.specs.declared.sapi.Sapi.TheVariants.{Zero, Three}
 use Rattle.msc_end.specs.declared.connection.Connection.{Connection}
 use Rattle.msc_end.specs.declared.connection.Stage.{Stage}
 use Rattle.msc_end.specs.declared.connection.Stage.TheVariants.{Open, Clearing, Ended}
+use Rattle.msc_end.specs.SwitchState.{SwitchState}
 
 -- the message that octets are read as; None where they are refused
 abbrev pub heard : List ℕ → Option Bssap
@@ -98,10 +97,14 @@ reply_on (Some c) (Some message) = option_to_list (reply_of c message)
 reply_on _ _ = []
 
 -- the connections after a message from the base station controller, m being the modulus
-abbrev pub after : ℕ → List Connection → Sccp → List Connection
-after m connections (ConnectionRequest source user) = if nat_le limit (length connections) then connections else opened m connections source user
-after m connections (DataForm1 destination user) = heard_on connections (destination - base) (connection_of connections (destination - base)) (heard user)
-after m connections _ = connections
+abbrev pub connections_after : ℕ → List Connection → Sccp → List Connection
+connections_after m connections (ConnectionRequest source user) = if nat_le limit (length connections) then connections else opened m connections source user
+connections_after m connections (DataForm1 destination user) = heard_on connections (destination - base) (connection_of connections (destination - base)) (heard user)
+connections_after m connections _ = connections
+
+-- the switch end after it
+abbrev pub after : SwitchState → Sccp → SwitchState
+after switch message = record { modulus = switch.modulus; connections = connections_after switch.modulus switch.connections message }
 
 -- what is replied to it
 abbrev pub replies : List Connection → Sccp → List Sccp
@@ -130,3 +133,6 @@ sent_on (Some c) message = option_to_list (sent_to c.peer message)
 abbrev pub cleared : List Connection → ℕ → Option Connection → List Connection
 cleared connections n None = connections
 cleared connections n (Some c) = slice_set connections (n - 1) (with_stage c Clearing)
+
+abbrev pub cleared_in : SwitchState → ℕ → SwitchState
+cleared_in switch n = record { modulus = switch.modulus; connections = cleared switch.connections n (connection_of switch.connections n) }

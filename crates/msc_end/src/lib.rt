@@ -10,3 +10,5 @@ mod connection;
 mod fault;
 mod hearing;
 mod msc;
+#[cfg(test)]
+mod tests;

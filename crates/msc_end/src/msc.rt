@@ -5,7 +5,7 @@ ghost use Rattle.nsd_filter.specs.Accepted.{accepted, not_of_the_flow};
 ghost use Rattle.msc_end.specs.declared.connection.Stage.TheVariants.{Clearing};
 ghost use Rattle.msc_end.specs.declared.fault.MscFault.TheVariants.{Memory as OutOfMemory};
 ghost use Rattle.msc_end.specs.Refusal.{send_fault};
-ghost use Rattle.msc_end.specs.Switch.{after, replies, assignment, cleared, clearing, connection_of, dlci_for, initial, initial_of, sent_on, sent_to};
+ghost use Rattle.msc_end.specs.Switch.{after, replies, assignment, cleared_in, clearing, connection_of, dlci_for, initial, initial_of, sent_on, sent_to};
 
 use crate::hearing::{data, hear};
 use crate::{Connection, MscFault, Stage};
@@ -14,6 +14,7 @@ use dtap_codec::{Modulus, Sapi};
 use nsd_filter::Reception;
 use octets::{Memory, Octets};
 use std::alloc::Global;
+use std::marker::Model;
 
 /// How many connections the switch end gives out.
 const CONNECTION_LIMIT: usize = 0x7f_ffff;
@@ -29,11 +30,19 @@ pub struct MscEnd {
     connections: Vec<Connection>,
 }
 
+impl Model for MscEnd {
+    ghost use Rattle.dtap_codec.specs.Number.{count_of};
+    ghost use Rattle.msc_end.specs.SwitchState.{SwitchState};
+
+    ghost Value = { SwitchState };
+
+    ghost view = { λ switch. record { modulus = count_of switch.modulus; connections = switch.connections.items } };
+}
+
 impl MscEnd {
     /// A switch without connections. It takes no memory.
     pub fn new(alloc: Global, modulus: Modulus) -> MscEnd
-        ensures connections { result.connections.items ≡ [] }
-        ensures modulus { result.modulus ≡ modulus }
+        ensures { result ≡ record { modulus = count_of modulus; connections = [] } }
     {
         MscEnd {
             alloc,
@@ -44,10 +53,9 @@ impl MscEnd {
 
     /// Takes a message from the base station controller, and appends what is replied. An `Err` changes nothing.
     pub fn on_message(&mut self, message: &Sccp, out: &mut Vec<Sccp>) -> Result<(), Memory>
-        ensures state { OnOk result (self.new.connections.items ≡ after (count_of self.old.modulus) self.old.connections.items message.now) }
-        ensures replies { OnOk result (out.new.items ≡ out.old.items ++ replies self.old.connections.items message.now) }
-        ensures modulus { self.new.modulus ≡ self.old.modulus }
-        ensures unchanged { OnErr result (self.new.connections.items ≡ self.old.connections.items) }
+        ensures state { OnOk result (self.new ≡ after self.old message.now) }
+        ensures replies { OnOk result (out.new.items ≡ out.old.items ++ replies self.old.connections message.now) }
+        ensures unchanged { OnErr result (self.new ≡ self.old) }
         ensures unanswered { OnErr result (out.new.items ≡ out.old.items) }
     {
         match message {
@@ -64,10 +72,9 @@ impl MscEnd {
         data: &Option<Octets>,
         out: &mut Vec<Sccp>,
     ) -> Result<(), Memory>
-        ensures state { OnOk result (self.new.connections.items ≡ after (count_of self.old.modulus) self.old.connections.items (Sccp.ConnectionRequest source data.now)) }
-        ensures replies { OnOk result (out.new.items ≡ out.old.items ++ replies self.old.connections.items (Sccp.ConnectionRequest source data.now)) }
-        ensures modulus { self.new.modulus ≡ self.old.modulus }
-        ensures unchanged { OnErr result (self.new.connections.items ≡ self.old.connections.items) }
+        ensures state { OnOk result (self.new ≡ after self.old (Sccp.ConnectionRequest source data.now)) }
+        ensures replies { OnOk result (out.new.items ≡ out.old.items ++ replies self.old.connections (Sccp.ConnectionRequest source data.now)) }
+        ensures unchanged { OnErr result (self.new ≡ self.old) }
         ensures unanswered { OnErr result (out.new.items ≡ out.old.items) }
     {
         out.reserve(1)?;
@@ -101,10 +108,9 @@ impl MscEnd {
         data: &Octets,
         out: &mut Vec<Sccp>,
     ) -> Result<(), Memory>
-        ensures state { OnOk result (self.new.connections.items ≡ after (count_of self.old.modulus) self.old.connections.items (Sccp.DataForm1 destination data.now)) }
-        ensures replies { OnOk result (out.new.items ≡ out.old.items ++ replies self.old.connections.items (Sccp.DataForm1 destination data.now)) }
-        ensures modulus { self.new.modulus ≡ self.old.modulus }
-        ensures unchanged { OnErr result (self.new.connections.items ≡ self.old.connections.items) }
+        ensures state { OnOk result (self.new ≡ after self.old (Sccp.DataForm1 destination data.now)) }
+        ensures replies { OnOk result (out.new.items ≡ out.old.items ++ replies self.old.connections (Sccp.DataForm1 destination data.now)) }
+        ensures unchanged { OnErr result (self.new ≡ self.old) }
         ensures unanswered { OnErr result (out.new.items ≡ out.old.items) }
     {
         out.reserve(1)?;
@@ -134,9 +140,9 @@ impl MscEnd {
     ) -> Result<(), MscFault>
         requires some { 1 ≤ length message.now }
         requires few { length message.now ≤ 251 }
-        ensures ok { OnOk result (out.new.items ≡ out.old.items ++ sent_on (connection_of self.now.connections.items conn) (Bssap.Transfer (dlci_for sapi) message.now)) }
+        ensures ok { OnOk result (out.new.items ≡ out.old.items ++ sent_on (connection_of self.now.connections conn) (Bssap.Transfer (dlci_for sapi) message.now)) }
         ensures err { OnErr result (out.new.items ≡ out.old.items) }
-        ensures refused { RefusesBy OutOfMemory result (send_fault (connection_of self.now.connections.items conn)) }
+        ensures refused { RefusesBy OutOfMemory result (send_fault (connection_of self.now.connections conn)) }
     {
         let peer = self.open_peer(conn)?;
         let message = Bssap::Transfer {
@@ -149,9 +155,9 @@ impl MscEnd {
 
     /// Asks for a speech channel for a connection. An `Err` changes nothing: `NoConnection`, then `Closed`, then `Memory`.
     pub fn assign(&self, conn: u32, out: &mut Vec<Sccp>) -> Result<(), MscFault>
-        ensures ok { OnOk result (out.new.items ≡ out.old.items ++ sent_on (connection_of self.now.connections.items conn) assignment) }
+        ensures ok { OnOk result (out.new.items ≡ out.old.items ++ sent_on (connection_of self.now.connections conn) assignment) }
         ensures err { OnErr result (out.new.items ≡ out.old.items) }
-        ensures refused { RefusesBy OutOfMemory result (send_fault (connection_of self.now.connections.items conn)) }
+        ensures refused { RefusesBy OutOfMemory result (send_fault (connection_of self.now.connections conn)) }
     {
         let peer = self.open_peer(conn)?;
         let channel_type = ChannelType(Octets::copy(self.alloc, &[0x01, 0x08, 0x01])?);
@@ -162,12 +168,11 @@ impl MscEnd {
 
     /// Sends CLEAR COMMAND, cause call control, on a connection. An `Err` changes nothing: `NoConnection`, then `Closed`, then `Memory`.
     pub fn clear(&mut self, conn: u32, out: &mut Vec<Sccp>) -> Result<(), MscFault>
-        ensures ok { OnOk result (out.new.items ≡ out.old.items ++ sent_on (connection_of self.old.connections.items conn) clearing) }
-        ensures state { OnOk result (self.new.connections.items ≡ cleared self.old.connections.items conn (connection_of self.old.connections.items conn)) }
-        ensures modulus { self.new.modulus ≡ self.old.modulus }
+        ensures ok { OnOk result (out.new.items ≡ out.old.items ++ sent_on (connection_of self.old.connections conn) clearing) }
+        ensures state { OnOk result (self.new ≡ cleared_in self.old conn) }
         ensures err { OnErr result (out.new.items ≡ out.old.items) }
-        ensures unchanged { OnErr result (self.new.connections.items ≡ self.old.connections.items) }
-        ensures refused { RefusesBy OutOfMemory result (send_fault (connection_of self.old.connections.items conn)) }
+        ensures unchanged { OnErr result (self.new ≡ self.old) }
+        ensures refused { RefusesBy OutOfMemory result (send_fault (connection_of self.old.connections conn)) }
     {
         let peer = self.open_peer(conn)?;
         let cause = Cause::one(self.alloc, 0x09)?;
@@ -179,8 +184,7 @@ impl MscEnd {
 
     // Marks a connection as cleared.
     fn begin_clear(&mut self, conn: u32)
-        ensures state { self.new.connections.items ≡ cleared self.old.connections.items conn (connection_of self.old.connections.items conn) }
-        ensures modulus { self.new.modulus ≡ self.old.modulus }
+        ensures state { self.new ≡ cleared_in self.old conn }
     {
         let number = conn as usize;
         if number == 0 || number > self.connections.len() {
@@ -192,8 +196,8 @@ impl MscEnd {
 
     // The reference of the other end of a connection that is open.
     fn open_peer(&self, conn: u32) -> Result<Reference, MscFault>
-        ensures peer { IfOk result (λ peer. option_map (λ c. c.peer) (connection_of self.now.connections.items conn) ≡ Some peer) }
-        ensures refused { MatchResult result (λ _. send_fault (connection_of self.now.connections.items conn) ≡ None) (λ fault. send_fault (connection_of self.now.connections.items conn) ≡ Some fault) }
+        ensures peer { IfOk result (λ peer. option_map (λ c. c.peer) (connection_of self.now.connections conn) ≡ Some peer) }
+        ensures refused { MatchResult result (λ _. send_fault (connection_of self.now.connections conn) ≡ None) (λ fault. send_fault (connection_of self.now.connections conn) ≡ Some fault) }
     {
         match self.connection(conn) {
             None => Err(MscFault::NoConnection),
@@ -206,7 +210,7 @@ impl MscEnd {
 
     // The connection of this number.
     fn connection(&self, conn: u32) -> Option<&Connection>
-        ensures { option_map (λ c. c.now) result ≡ connection_of self.now.connections.items conn }
+        ensures { option_map (λ c. c.now) result ≡ connection_of self.now.connections conn }
     {
         if conn == 0 {
             return None;
@@ -217,7 +221,7 @@ impl MscEnd {
     /// All messages of the mobile that were taken on a connection up to the CLEAR COMPLETE, in order, the initial message
     /// first; none where there is no connection of that number.
     pub fn taken(&self, conn: u32) -> Option<&[Octets]>
-        ensures { option_map (λ v. v.now) result ≡ option_map (λ c. c.reception.taken) (connection_of self.now.connections.items conn) }
+        ensures { option_map (λ v. v.now) result ≡ option_map (λ c. c.reception.taken) (connection_of self.now.connections conn) }
     {
         match self.connection(conn) {
             Some(connection) => Some(connection.reception.taken()),
@@ -227,7 +231,7 @@ impl MscEnd {
 
     /// What was given up to the upper layers of the flow on a connection: the judgement over the messages taken, numbers cleared.
     pub fn accepted(&self, conn: u32) -> Option<&[Octets]>
-        ensures { option_map (λ v. v.now) result ≡ option_map (λ c. accepted c.reception.modulus c.reception.taken) (connection_of self.now.connections.items conn) }
+        ensures { option_map (λ v. v.now) result ≡ option_map (λ c. accepted c.reception.modulus c.reception.taken) (connection_of self.now.connections conn) }
     {
         match self.connection(conn) {
             Some(connection) => Some(connection.reception.accepted()),
@@ -237,7 +241,7 @@ impl MscEnd {
 
     /// The messages taken on a connection that carry no number, in order.
     pub fn unnumbered(&self, conn: u32) -> Option<&[Octets]>
-        ensures { option_map (λ v. v.now) result ≡ option_map (λ c. not_of_the_flow c.reception.taken) (connection_of self.now.connections.items conn) }
+        ensures { option_map (λ v. v.now) result ≡ option_map (λ c. not_of_the_flow c.reception.taken) (connection_of self.now.connections conn) }
     {
         match self.connection(conn) {
             Some(connection) => Some(connection.reception.unnumbered()),
@@ -313,53 +317,4 @@ fn send(alloc: Global, peer: Reference, message: &Bssap, out: &mut Vec<Sccp>) ->
         out.push_reserved(sent);
     }
     Ok(())
-}
-
-#[cfg(test)]
-mod tests {
-    use super::*;
-    use bssmap_codec::{read_sccp, write_sccp};
-    use std::test::Fail;
-
-    const CONNECTION_REQUEST: [u8; 31] = [
-        0x01, 0x00, 0x00, 0x01, 0x02, 0x02, 0x04, 0x02, 0x42, 0xfe, 0x0f, 0x12, 0x00, 0x10, 0x57,
-        0x05, 0x08, 0x00, 0x00, 0xf1, 0x10, 0x00, 0x01, 0x00, 0x01, 0x17, 0x03, 0x05, 0x24, 0x71,
-        0x00,
-    ];
-
-    #[test]
-    fn a_connection_is_confirmed_used_and_cleared(rt: HostRuntime) -> Result<(), Fail> {
-        let alloc = rt.alloc();
-        let mut switch = MscEnd::new(alloc, Modulus::Four);
-        let mut out = Vec::new(alloc);
-        let request = read_sccp(alloc, &CONNECTION_REQUEST)?;
-        switch.on_message(&request, &mut out)?;
-        switch.send_dtap(1, Sapi::Zero, &[0x83, 0x02], &mut out)?;
-        switch.clear(1, &mut out)?;
-        let mut text = Vec::new(alloc);
-        for message in &out {
-            write_sccp(alloc, message, &mut text)?;
-        }
-        let expected: [u8; 34] = [
-            0x02, 0x00, 0x00, 0x01, 0x80, 0x00, 0x01, 0x02, 0x00, 0x06, 0x00, 0x00, 0x01, 0x00,
-            0x01, 0x05, 0x01, 0x00, 0x02, 0x83, 0x02, 0x06, 0x00, 0x00, 0x01, 0x00, 0x01, 0x06,
-            0x00, 0x04, 0x20, 0x04, 0x01, 0x09,
-        ];
-        assert_eq!(rt; text.as_slice(), expected.as_slice());
-        let taken = switch.taken(1).ok_or("no connection")?;
-        assert_eq!(rt; taken.len(), 1);
-        assert_eq!(rt; taken[0].as_slice(), [0x05, 0x24, 0x71].as_slice());
-        let accepted = switch.accepted(1).ok_or("no connection")?;
-        assert_eq!(rt; accepted.len(), 1);
-        assert_eq!(rt; accepted[0].as_slice(), [0x05, 0x24, 0x71].as_slice());
-        assert!(rt;
-            switch.send_dtap(1, Sapi::Zero, &[0x83, 0x02], &mut out) == Err(MscFault::Closed)
-        );
-        assert!(rt;
-            switch.send_dtap(2, Sapi::Zero, &[0x83, 0x02], &mut out) == Err(MscFault::NoConnection)
-        );
-        assert!(rt; switch.assign(1, &mut out) == Err(MscFault::Closed));
-        assert!(rt; switch.unnumbered(2).is_none());
-        Ok(())
-    }
 }
