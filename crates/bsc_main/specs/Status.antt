@@ -7,6 +7,8 @@ use Rattle.ipa_framing.specs.declared.fault.FrameFault.TheVariants as faults
 use Rattle.bsc_main.specs.declared.decode.Stop.{Stop}
 use Rattle.bsc_main.specs.declared.decode.Stop.TheVariants.{TooLong, Failed}
 use Rattle.bsc_main.specs.declared.failure.Failure.{Failure}
+use Rattle.bsc_main.specs.declared.words.TaskFault.{TaskFault}
+use Rattle.bsc_main.specs.declared.words.TaskFault.TheVariants as task_faults
 use Rattle.bsc_main.specs.declared.failure.Failure.TheVariants.{Unsupported, BadEvent, Memory, Device}
 
 -- 2 for what was asked for, 3 for memory or a device
@@ -15,6 +17,11 @@ status_of Unsupported = 2
 status_of (BadEvent line) = 2
 status_of Memory = 3
 status_of Device = 3
+
+-- 2 for words that are no command, 3 for memory
+abbrev pub status_of_words : TaskFault → ℕ
+status_of_words task_faults.Words = 2
+status_of_words task_faults.Memory = 3
 
 -- a read or a write that wanted memory is told apart from a device that failed
 abbrev pub failure_of : ErrorKind → Failure

@@ -1,5 +1,6 @@
 //! `bsc decode`: names the frames of a link.
-ghost use Rattle.std.specs.Prelude.{◌≡◌, ◌⊎◌};
+ghost use Rattle.std.specs.Prelude.{◌≡◌, ◌⊎◌, OnOk};
+ghost use Rattle.std.specs.Io.KnownBytes.{IsAtEnd};
 ghost use Rattle.std.specs.IoError.{error_kind};
 ghost use Rattle.bsc_main.specs.Status.{failure_of, stop_of};
 ghost use Rattle.bsc_main.specs.declared.decode.Stop.TheVariants.{Failed};
@@ -7,7 +8,7 @@ ghost use Rattle.bsc_main.specs.declared.failure.Failure.TheVariants.{Memory as 
 
 use crate::failure::Failure;
 use crate::names::frame_name;
-use crate::script::READS;
+use crate::script::most_reads;
 use ipa_framing::{FrameFault, Framer};
 use octets::Memory;
 use std::alloc::{AllocError, Global};
@@ -71,14 +72,12 @@ fn print_frames<W: Write>(alloc: Global, framer: &mut Framer, output: &mut W) ->
 
 /// Prints the frames of the input to its end, and what remains of a started one. What was read is printed before more is
 /// read.
-fn print_stream<R: Read, W: Write>(
-    alloc: Global,
-    input: &mut R,
-    output: &mut W,
-) -> Result<(), Stop> {
+fn print_stream<R: Read, W: Write>(alloc: Global, input: &mut R, output: &mut W) -> Result<(), Stop>
+    ensures { OnOk result (IsAtEnd (R.remaining input.new)) }
+{
     let mut framer = Framer::new(alloc);
     let mut block = vec![in alloc; 0u8; BLOCK]?;
-    for _ in 0..READS {
+    for _ in 0..most_reads() {
         let count = match input.read(&mut block) {
             Ok(count) => count,
             Err(error) if error.kind() == ErrorKind::Interrupted => continue,
@@ -99,11 +98,9 @@ fn print_stream<R: Read, W: Write>(
 }
 
 /// Prints the stream, and a frame that is too long as its last line.
-fn print_all<R: Read, W: Write + Drop>(
-    alloc: Global,
-    input: &mut R,
-    output: W,
-) -> Result<(), Stop> {
+fn print_all<R: Read, W: Write + Drop>(alloc: Global, input: &mut R, output: W) -> Result<(), Stop>
+    ensures { OnOk result (IsAtEnd (R.remaining input.new)) }
+{
     let mut output = BufWriter::new(alloc, output)?;
     let printed = print_stream(alloc, input, &mut output);
     if printed == Err(Stop::TooLong) {
@@ -116,15 +113,17 @@ fn print_all<R: Read, W: Write + Drop>(
 /// Names each frame of the IPA stream on `input`, and gives the status that the program ends with: 0, or 3 where a frame
 /// is too long, memory was wanted or a device failed. The text of a status above 0 goes to `errors`, but for `fault F1`,
 /// the last line of the output where a frame is too long.
-pub fn decode<R: Read + Drop, W: Write + Drop, E: Write + Drop>(
+pub fn decode<R: Read, W: Write + Drop, E: Write + Drop>(
     alloc: Global,
-    mut input: R,
+    input: &mut R,
     output: W,
     mut errors: E,
 ) -> u8
-    ensures { (result ≡ 0) ⊎ (result ≡ 3) }
+    ensures status { (result ≡ 0) ⊎ (result ≡ 3) }
+    // It ends with 0 only where all octets were read.
+    ensures read { result ≡ 0 → IsAtEnd (R.remaining input.new) }
 {
-    match print_all(alloc, &mut input, output) {
+    match print_all(alloc, input, output) {
         Ok(()) => 0,
         Err(Stop::TooLong) => 3,
         Err(Stop::Failed(failure)) => {
@@ -174,7 +173,7 @@ mod tests {
         let mut output = Vec::new(rt.alloc());
         let mut errors = Vec::new(rt.alloc());
         assert_eq!(rt;
-            decode(rt.alloc(), octets, &mut output, &mut errors),
+            decode(rt.alloc(), &mut &*octets, &mut output, &mut errors),
             status
         );
         assert_eq!(rt; output.as_slice(), lines.as_bytes());
@@ -272,9 +271,12 @@ mod tests {
     fn a_device_that_fails_is_told(rt: HostRuntime) -> Result<(), Fail> {
         let mut output = Vec::new(rt.alloc());
         let mut errors = Vec::new(rt.alloc());
-        assert_eq!(rt; decode(rt.alloc(), NoReader, &mut output, &mut errors), 3);
-        let frame = [0x00, 0x00, 0x00].as_slice();
-        assert_eq!(rt; decode(rt.alloc(), frame, NoWriter, &mut errors), 3);
+        assert_eq!(rt;
+            decode(rt.alloc(), &mut NoReader, &mut output, &mut errors),
+            3
+        );
+        let mut frame = [0x00, 0x00, 0x00].as_slice();
+        assert_eq!(rt; decode(rt.alloc(), &mut frame, NoWriter, &mut errors), 3);
         assert_eq!(rt;
             errors.as_slice(),
             b"bsc: device failed\nbsc: device failed\n".as_slice()

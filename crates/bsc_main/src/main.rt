@@ -3,6 +3,7 @@
 
 use crate::command_line::task;
 use crate::decode::decode;
+use crate::failure::Failure;
 use crate::replay::replay;
 use crate::words::{Task, TaskFault};
 use std::alloc::AllocError;
@@ -27,13 +28,12 @@ const USAGE: &str =
 fn main(rt: HostRuntime) -> ExitCode {
     match asked(&rt) {
         Ok(task) => ExitCode::from(run(&rt, task)),
-        Err(TaskFault::Words) => {
-            let _ = eprintln!(rt; "{USAGE}");
-            ExitCode::from(2)
-        }
-        Err(TaskFault::Memory) => {
-            let _ = eprintln!(rt; "bsc: out of memory");
-            ExitCode::from(3)
+        Err(fault) => {
+            let _ = match fault {
+                TaskFault::Words => eprintln!(rt; "{USAGE}"),
+                TaskFault::Memory => eprintln!(rt; "bsc: {fault}"),
+            };
+            ExitCode::from(fault.status())
         }
     }
 }
@@ -56,14 +56,15 @@ fn run(rt: &HostRuntime, task: Task) -> u8 {
             rt.alloc(),
             settings.as_deref(),
             breaks.as_deref(),
-            rt.stdin(),
+            &mut rt.stdin(),
             rt.stdout(),
             rt.stderr(),
         ),
-        Task::Decode => decode(rt.alloc(), rt.stdin(), rt.stdout(), rt.stderr()),
+        Task::Decode => decode(rt.alloc(), &mut rt.stdin(), rt.stdout(), rt.stderr()),
         Task::Run(_) => {
-            let _ = eprintln!(rt; "bsc: not supported");
-            2
+            let failure = Failure::Unsupported;
+            let _ = eprintln!(rt; "bsc: {failure}");
+            failure.status()
         }
     }
 }

@@ -87,3 +87,100 @@ pub fn frame_name(alloc: Global, frame: &Frame) -> Result<&'static str, Memory> 
         _ => Ok("unknown"),
     }
 }
+
+#[cfg(test)]
+mod tests {
+    use super::*;
+    use octets::Octets;
+    use std::process::Abort;
+    use std::test::Fail;
+
+    /// Asserts the name of each body on a stream.
+    fn named(
+        rt: &(impl Abort + AllocGlobal),
+        stream: u8,
+        rows: &[(&[u8], &str)],
+    ) -> Result<(), Fail> {
+        for (body, name) in rows {
+            let frame = Frame {
+                stream,
+                body: Octets::copy(rt.alloc(), body)?,
+            };
+            assert_eq!(rt; frame_name(rt.alloc(), &frame)?, *name);
+        }
+        Ok(())
+    }
+
+    #[test]
+    fn each_message_of_a_station_is_named(rt: HostRuntime) -> Result<(), Fail> {
+        let rows: [(&[u8], &str); 19] = [
+            (
+                &[0x03, 0x01, 0x01, 0x41, 0x02, 0x00, 0x0b, 0x00, 0x01, 0x03],
+                "DATA REQUEST",
+            ),
+            (
+                &[0x03, 0x02, 0x01, 0x41, 0x02, 0x00, 0x0b, 0x00, 0x01, 0x03],
+                "DATA INDICATION",
+            ),
+            (&[0x02, 0x03, 0x01, 0x41, 0x02, 0x00], "ERROR INDICATION"),
+            (&[0x02, 0x04, 0x01, 0x41, 0x02, 0x00], "ESTABLISH REQUEST"),
+            (&[0x02, 0x05, 0x01, 0x41, 0x02, 0x00], "ESTABLISH CONFIRM"),
+            (
+                &[0x02, 0x06, 0x01, 0x41, 0x02, 0x00],
+                "ESTABLISH INDICATION",
+            ),
+            (
+                &[0x02, 0x07, 0x01, 0x41, 0x02, 0x00, 0x14, 0x00],
+                "RELEASE REQUEST",
+            ),
+            (&[0x02, 0x08, 0x01, 0x41, 0x02, 0x00], "RELEASE CONFIRM"),
+            (&[0x02, 0x09, 0x01, 0x41, 0x02, 0x00], "RELEASE INDICATION"),
+            (
+                &[0x0c, 0x13, 0x01, 0x88, 0x13, 0x7f, 0x01, 0x02, 0x11, 0x05],
+                "CHANNEL REQUIRED",
+            ),
+            (
+                &[0x0c, 0x16, 0x01, 0x90, 0x2b, 0x01, 0x2d],
+                "IMMEDIATE ASSIGN COMMAND",
+            ),
+            (
+                &[0x08, 0x21, 0x01, 0x41, 0x03, 0x00, 0x06, 0x01, 0x00],
+                "CHANNEL ACTIVATION",
+            ),
+            (&[0x08, 0x22, 0x01, 0x41], "CHANNEL ACTIVATION ACK"),
+            (&[0x08, 0x23, 0x01, 0x41], "CHANNEL ACTIVATION NACK"),
+            (&[0x08, 0x24, 0x01, 0x41], "CONNECTION FAILURE"),
+            (&[0x08, 0x27, 0x01, 0x41], "HANDOVER DETECTION"),
+            (&[0x08, 0x28, 0x01, 0x41, 0x1b, 0x05], "MEASUREMENT RESULT"),
+            (&[0x08, 0x2e, 0x01, 0x41], "RF CHANNEL RELEASE"),
+            (&[0x08, 0x33, 0x01, 0x41], "RF CHANNEL RELEASE ACK"),
+        ];
+        named(&rt, 0x00, &rows)
+    }
+
+    #[test]
+    fn each_fault_of_a_station_is_named(rt: HostRuntime) -> Result<(), Fail> {
+        let mut long = [0x33; 261];
+        let head = [0x03, 0x02, 0x01, 0x41, 0x02, 0x00, 0x0b, 0x00, 0xfc];
+        long[..9].copy_from_slice(&head);
+        let rows: [(&[u8], &str); 5] = [
+            (&[], "fault S1"),
+            (&[0x03, 0x99], "fault S2"),
+            (&[0x08, 0x28, 0x01, 0x41], "fault S3"),
+            (&[0x08, 0x33, 0x01, 0x00], "fault S4"),
+            (&long, "fault S6"),
+        ];
+        named(&rt, 0x00, &rows)
+    }
+
+    #[test]
+    fn other_streams_are_named_by_their_first_octet(rt: HostRuntime) -> Result<(), Fail> {
+        named(
+            &rt,
+            0xfe,
+            &[(&[0x00], "PING"), (&[0x01, 0x02], "PONG"), (&[0x02], "CCM")],
+        )?;
+        named(&rt, 0xff, &[(&[0x00], "OML")])?;
+        named(&rt, 0x01, &[(&[0x00], "unknown")])
+    }
+}

@@ -1,4 +1,6 @@
-ghost use Rattle.std.specs.Prelude.{◌≡◌, ◌⊎◌};
+ghost use Rattle.std.specs.Prelude.{◌≡◌, ◌≢◌, ◌⊎◌, Err, None, OnOk};
+ghost use Rattle.std.specs.Io.KnownBytes.{IsAtEnd};
+ghost use Rattle.bsc_main.specs.declared.failure.Failure.TheVariants.{Unsupported};
 
 use crate::failure::Failure;
 use crate::report::write_report;
@@ -14,17 +16,22 @@ const FIXED_CELLS: u16 = 1;
 /// Replays the script on `input` and writes the report to `output`, and gives the status that the program ends with: 0,
 /// 2 for a bad line or what isn't supported yet, 3 where memory was wanted or a device failed. The text of a status above
 /// 0 goes to `errors`. The whole script is read before any event is run.
-pub fn replay<R: Read + Drop, W: Write + Drop, E: Write + Drop>(
+pub fn replay<R: Read, W: Write + Drop, E: Write + Drop>(
     alloc: Global,
     settings: Option<&str>,
     breaks: Option<&str>,
-    mut input: R,
+    input: &mut R,
     output: W,
     mut errors: E,
 ) -> u8
-    ensures { (result ≡ 0) ⊎ (result ≡ 2) ⊎ (result ≡ 3) }
+    ensures status { (result ≡ 0) ⊎ (result ≡ 2) ⊎ (result ≡ 3) }
+    // The options aren't supported yet.
+    ensures settings { settings.entry ≢ None → result ≡ 2 }
+    ensures breaks { breaks.entry ≢ None → result ≡ 2 }
+    // It ends with 0 only where the whole script was read.
+    ensures read { result ≡ 0 → IsAtEnd (R.remaining input.new) }
 {
-    match try_replay(alloc, settings, breaks, &mut input, output) {
+    match try_replay(alloc, settings, breaks, input, output) {
         Ok(()) => 0,
         Err(failure) => {
             let _ = writeln!(errors, "bsc: {failure}");
@@ -39,7 +46,11 @@ fn try_replay<R: Read, W: Write + Drop>(
     breaks: Option<&str>,
     input: &mut R,
     output: W,
-) -> Result<(), Failure> {
+) -> Result<(), Failure>
+    ensures settings { settings.entry ≢ None → result ≡ Err Unsupported }
+    ensures breaks { breaks.entry ≢ None → result ≡ Err Unsupported }
+    ensures read { OnOk result (IsAtEnd (R.remaining input.new)) }
+{
     if settings.is_some() || breaks.is_some() {
         return Err(Failure::Unsupported);
     }

@@ -1,11 +1,11 @@
+ghost use Rattle.std.specs.Prelude.{◌≡◌, ◌^◌, OnOk};
+ghost use Rattle.std.specs.Io.KnownBytes.{IsAtEnd};
+
 use crate::failure::Failure;
 use std::alloc::Global;
 use std::io::{ErrorKind, Read};
 use std::{mem, str};
 use world::{Event, LineFault, read_line};
-
-/// The reads after which input counts as a device that fails.
-pub(crate) const READS: u64 = 1 << 40;
 
 /// The octets that one read asks for.
 const BLOCK: usize = 65536;
@@ -80,15 +80,24 @@ impl Script {
     }
 }
 
+/// The reads after which input counts as a device that fails.
+pub(crate) fn most_reads() -> u64
+    ensures { result ≡ 2 ^ 40 }
+{
+    1 << 40
+}
+
 /// Reads a script up to its end or its first bad line.
 pub(crate) fn read_script<R: Read>(
     alloc: Global,
     cells: u16,
     input: &mut R,
-) -> Result<Vec<Event>, Failure> {
+) -> Result<Vec<Event>, Failure>
+    ensures { OnOk result (IsAtEnd (R.remaining input.new)) }
+{
     let mut script = Script::new(alloc, cells);
     let mut block = vec![in alloc; 0u8; BLOCK]?;
-    for _ in 0..READS {
+    for _ in 0..most_reads() {
         let count = match input.read(&mut block) {
             Ok(count) => count,
             Err(error) if error.kind() == ErrorKind::Interrupted => continue,

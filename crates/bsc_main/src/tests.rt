@@ -1,4 +1,5 @@
 use crate::command_line::task;
+use crate::decode::decode;
 use crate::replay::replay;
 use crate::words::{Task, TaskFault};
 use std::io::{self, ErrorKind, Read, Write};
@@ -19,7 +20,14 @@ fn replays(
     let mut written = Vec::new(rt.alloc());
     let mut told = Vec::new(rt.alloc());
     assert_eq!(rt;
-        replay(rt.alloc(), None, None, script, &mut written, &mut told),
+        replay(
+            rt.alloc(),
+            None,
+            None,
+            &mut &*script,
+            &mut written,
+            &mut told
+        ),
         status,
         "{script:?}"
     );
@@ -155,6 +163,60 @@ fn bad_lines_are_told_by_their_number(rt: HostRuntime) -> Result<(), Fail> {
     replays(&rt, b"airup 1", 2, "", "bsc: line 1: bad event\n")
 }
 
+/// A reader that gives its octets some at a time.
+#[derive(Drop)]
+struct Pieces<'a> {
+    octets: &'a [u8],
+    size: usize,
+}
+
+impl Read for Pieces<'_> {
+    fn read(&mut self, buf: &mut [u8]) -> io::Result<usize> {
+        let count = self.octets.len().min(self.size).min(buf.len());
+        let (front, back) = self.octets.split_at(count);
+        buf[..count].copy_from_slice(front);
+        self.octets = back;
+        Ok(count)
+    }
+}
+
+#[test]
+fn input_in_pieces_is_read_as_one(rt: HostRuntime) -> Result<(), Fail> {
+    let script = b"upper 1 0 0305\nairup 1 0\nswitchtakes\nhandle";
+    let report =
+        "mobile 1 sent 1\n0305\nmobile 1 received 0\nconn 1 taken 1\n0305\nconn 1 accepted 1\n0305\n\
+        conn 1 unnumbered 0\nevents not taken 1\n";
+    let stream = [
+        0x00, 0x01, 0xfe, 0x00, 0x00, 0x0b, 0x00, 0x03, 0x02, 0x01, 0x41, 0x02, 0x00, 0x0b, 0x00,
+        0x02, 0x03, 0x45, 0x00, 0x01, 0xff,
+    ];
+    for size in [1, 2, 3, 7] {
+        let mut output = Vec::new(rt.alloc());
+        let mut errors = Vec::new(rt.alloc());
+        let mut input = Pieces {
+            octets: script.as_slice(),
+            size,
+        };
+        assert_eq!(rt;
+            replay(rt.alloc(), None, None, &mut input, &mut output, &mut errors),
+            0
+        );
+        assert_eq!(rt; output.as_slice(), report.as_bytes());
+        output.clear();
+        let mut input = Pieces {
+            octets: stream.as_slice(),
+            size,
+        };
+        assert_eq!(rt; decode(rt.alloc(), &mut input, &mut output, &mut errors), 0);
+        assert_eq!(rt;
+            output.as_slice(),
+            b"fe PING\n00 DATA INDICATION\nrest 3\n".as_slice()
+        );
+        assert!(rt; errors.is_empty());
+    }
+    Ok(())
+}
+
 /// A reader that gives its octets three at a time, and then fails.
 #[derive(Drop)]
 struct Breaking<'a>(&'a [u8]);
@@ -204,7 +266,7 @@ fn a_device_that_fails_in_mid_stream_is_told(rt: HostRuntime) -> Result<(), Fail
             rt.alloc(),
             None,
             None,
-            Breaking(script),
+            &mut Breaking(script),
             &mut output,
             &mut told
         ),
@@ -213,7 +275,10 @@ fn a_device_that_fails_in_mid_stream_is_told(rt: HostRuntime) -> Result<(), Fail
     assert!(rt; output.is_empty());
     for fails in [true, false] {
         let full = Full { room: 10, fails };
-        assert_eq!(rt; replay(rt.alloc(), None, None, script, full, &mut told), 3);
+        assert_eq!(rt;
+            replay(rt.alloc(), None, None, &mut &*script, full, &mut told),
+            3
+        );
     }
     let wanted = b"bsc: device failed\nbsc: device failed\nbsc: device failed\n";
     assert_eq!(rt; told.as_slice(), wanted.as_slice());
@@ -224,7 +289,7 @@ fn a_device_that_fails_in_mid_stream_is_told(rt: HostRuntime) -> Result<(), Fail
             rt.alloc(),
             None,
             None,
-            Breaking(b"bad\nhandle\n"),
+            &mut Breaking(b"bad\nhandle\n"),
             &mut output,
             &mut told
         ),

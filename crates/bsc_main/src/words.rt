@@ -1,4 +1,5 @@
 ghost use Rattle.std.specs.Prelude.{◌≡◌};
+ghost use Rattle.bsc_main.specs.Status.{status_of_words};
 ghost use Rattle.bsc_main.specs.declared.words.TaskFault.TheVariants.{Memory as OutOfMemory};
 
 use std::alloc::AllocError;
@@ -23,6 +24,18 @@ pub enum TaskFault {
     Words,
     #[error("out of memory")]
     Memory,
+}
+
+impl TaskFault {
+    /// The status that the program ends with.
+    pub fn status(&self) -> u8
+        ensures { result ≡ status_of_words self.now }
+    {
+        match self {
+            TaskFault::Words => 2,
+            TaskFault::Memory => 3,
+        }
+    }
 }
 
 impl From<AllocError> for TaskFault {

@@ -8,4 +8,5 @@ pub mod Sccp
 pub mod SccpReading
 pub mod SccpType
 pub mod SccpWritten
+pub mod Table
 pub mod Values

@@ -10,6 +10,7 @@ pub use reference::Reference;
 pub use sccp::{Sccp, SccpType};
 pub use sccp_reader::read_sccp;
 pub use sccp_writer::write_sccp;
+pub use standard::identifiers_are_the_standards;
 pub use values::{Cause, CellIdentifier, ChannelType, Dlci, RejectedDlci, RrCause};
 
 mod bssap_reader;
@@ -23,6 +24,7 @@ mod reference;
 mod sccp;
 mod sccp_reader;
 mod sccp_writer;
+mod standard;
 #[cfg(test)]
 mod tests;
 mod values;

@@ -54,7 +54,7 @@ impl Dlci {
     }
 }
 
-/// The data link connection identifier that a SAPI N REJECT names (TS 48.008 clause 3.2.2.26), which may have any SAPI.
+/// The data link connection identifier that a SAPI N REJECT names (TS 48.008 clause 3.2.2.25), which may have any SAPI.
 #[derive(Clone, Copy, Debug, PartialEq, Eq)]
 pub struct RejectedDlci(pub u8);
 

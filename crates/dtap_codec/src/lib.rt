@@ -15,6 +15,7 @@ pub use rr::{
 pub use rr_codec::rr_text_is_read;
 pub use rr_reader::RrRefusal;
 pub use sapi::Sapi;
+pub use standard::numbers_are_the_standards;
 
 mod bits;
 mod message;
@@ -24,3 +25,4 @@ mod rr;
 mod rr_codec;
 mod rr_reader;
 mod sapi;
+mod standard;

@@ -1,6 +1,7 @@
 ghost use Rattle.std.specs.Prelude.{◌≡◌, ◌++◌, OnErr, OnOk};
 ghost use Rattle.octets.specs.Refusal.{RefusesBy};
 ghost use Rattle.ipa_framing.specs.Frame.{frame_text, write_fault};
+ghost use Rattle.ipa_framing.specs.declared.frame.TheConstants.{MAX_BODY};
 
 use crate::FrameFault;
 use octets::Octets;
@@ -16,6 +17,11 @@ pub struct Frame {
     pub stream: u8,
     pub body: Octets,
 }
+
+/// Law: the limit that the definitions speak of is 2,048 octets.
+pub fn body_is_bounded()
+    ensures { MAX_BODY ≡ 2048 }
+{}
 
 /// Appends the octets of a frame: two octets of length, the stream, the body. A frame that is too long is refused
 /// before memory is wanted; a refusal appends nothing.

@@ -4,7 +4,6 @@ use Rattle.dtap_codec.specs.Message.{is_flow_protocol}
 use Rattle.dtap_codec.specs.declared.message.TheConstants.{MESSAGE_LIMIT, MOBILITY_MANAGEMENT, RADIO_RESOURCE, SHORT_MESSAGES}
 use Rattle.dtap_codec.specs.declared.sapi.Sapi.{Sapi}
 use Rattle.dtap_codec.specs.declared.sapi.Sapi.TheVariants.{Zero, Three}
-use Rattle.mobile_end.specs.declared.lawful.TheConstants.{INITIAL_LIMIT}
 
 -- of a protocol that numbers its messages, one has both octets of its header, and bits 8 and 7 of the second are clear
 abbrev pub has_clear_number : List ℕ → Bool
@@ -26,5 +25,5 @@ is_sendable sapi (first ∷ rest) =
 abbrev pub is_initial : List ℕ → Bool
 is_initial [] = false
 is_initial (first ∷ rest) =
-    nat_le (length (first ∷ rest)) INITIAL_LIMIT
+    nat_le (length (first ∷ rest)) 113
     && ((first % 16 == MOBILITY_MANAGEMENT) || (first % 16 == RADIO_RESOURCE)) && has_clear_number (first ∷ rest)

@@ -97,3 +97,20 @@ fn sends_unacknowledged_message_again(rt: HostRuntime) -> Result<(), Fail> {
     assert_eq!(rt; mobile.sent().len(), 2);
     Ok(())
 }
+
+#[test]
+fn an_initial_message_comes_first(rt: HostRuntime) -> Result<(), Fail> {
+    let alloc = rt.alloc();
+    let rows: [(&[u8], &[u8]); 2] = [
+        (&[0x05, 0x24, 0x71], &[0x03, 0x45]),
+        (&[0x06, 0x27, 0x71], &[0x03, 0x05]),
+    ];
+    for (initial, second) in rows {
+        let mut mobile = MobileEnd::new(alloc, Modulus::Four);
+        mobile.connect(Some(initial.to_vec(alloc)?))?;
+        mobile.send(Sapi::Zero, [0x03, 0x05].to_vec(alloc)?)?;
+        assert_eq!(rt; acked_frame(alloc, &mut mobile)?.as_slice(), initial);
+        assert_eq!(rt; acked_frame(alloc, &mut mobile)?.as_slice(), second);
+    }
+    Ok(())
+}

@@ -181,3 +181,36 @@ fn nothing_is_accepted_behind_a_gap(rt: HostRuntime) -> Result<(), Fail> {
     };
     accepts(&rt, &row)
 }
+
+#[test]
+fn a_channel_is_asked_for_and_a_request_to_clear_followed(rt: HostRuntime) -> Result<(), Fail> {
+    let alloc = rt.alloc();
+    let mut switch = MscEnd::new(alloc, Modulus::Four);
+    let mut out = Vec::new(alloc);
+    switch.on_message(&read_sccp(alloc, &CONNECTION_REQUEST)?, &mut out)?;
+    out.clear();
+    switch.assign(1, &mut out)?;
+    let clear_request = [
+        0x06, 0x80, 0x00, 0x01, 0x00, 0x01, 0x06, 0x00, 0x04, 0x22, 0x04, 0x01, 0x20,
+    ];
+    switch.on_message(&read_sccp(alloc, &clear_request)?, &mut out)?;
+    let clear_complete = [0x06, 0x80, 0x00, 0x01, 0x00, 0x01, 0x03, 0x00, 0x01, 0x21];
+    switch.on_message(&read_sccp(alloc, &clear_complete)?, &mut out)?;
+    let expected: [&[u8]; 3] = [
+        &[
+            0x06, 0x00, 0x00, 0x01, 0x00, 0x01, 0x08, 0x00, 0x06, 0x01, 0x0b, 0x03, 0x01, 0x08,
+            0x01,
+        ],
+        &[
+            0x06, 0x00, 0x00, 0x01, 0x00, 0x01, 0x06, 0x00, 0x04, 0x20, 0x04, 0x01, 0x20,
+        ],
+        &[0x04, 0x00, 0x00, 0x01, 0x80, 0x00, 0x01, 0x00, 0x00],
+    ];
+    assert_eq!(rt; out.len(), expected.len());
+    for (message, expected) in out.iter().zip(expected.iter()) {
+        let mut text = Vec::new(alloc);
+        write_sccp(alloc, message, &mut text)?;
+        assert_eq!(rt; text.as_slice(), *expected);
+    }
+    Ok(())
+}

@@ -2,4 +2,5 @@ pub mod Channel
 pub mod Fields
 pub mod Message
 pub mod Reading
+pub mod Table
 pub mod Text

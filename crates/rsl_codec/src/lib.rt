@@ -9,6 +9,7 @@ pub use fault::RslFault;
 pub use link::LinkId;
 pub use radio_link::{Data, ErrorReport, Establishment, Link, Release};
 pub use rsl::{Rsl, written_is_read};
+pub use standard::tables_are_the_standards;
 pub use values::{
     AccessDelay, ActivationType, BsPower, Cause, ChannelMode, FrameNumber, HandoverReference,
     L1Information, MeasurementNumber, ReleaseMode, RequestReference, RlmCause, UplinkMeasurements,
@@ -22,6 +23,7 @@ mod fault;
 mod link;
 mod radio_link;
 mod rsl;
+mod standard;
 mod table;
 #[cfg(test)]
 mod tests;

@@ -3,7 +3,7 @@
 #![tactic(auto)]
 
 pub use event::{Event, SwitchAction};
-pub use laws::keeps_order;
+pub use laws::{fixed_world_is_of_mobile_1, keeps_order};
 pub use script::read_line;
 pub use script_fault::LineFault;
 pub use world::World;
@@ -13,6 +13,8 @@ mod fixed;
 mod laws;
 mod script;
 mod script_fault;
+#[cfg(test)]
+mod tests;
 mod word;
 mod words;
 mod world;
