@@ -120,7 +120,7 @@ pub fn decode<R: Read, W: Write + Drop, E: Write + Drop>(
     mut errors: E,
 ) -> u8
     ensures status { (result ≡ 0) ⊎ (result ≡ 3) }
-    // It ends with 0 only where all octets were read.
+    // It ends with 0 only where all octets were read, if it is known which there are.
     ensures read { result ≡ 0 → IsAtEnd (R.remaining input.new) }
 {
     match print_all(alloc, input, output) {

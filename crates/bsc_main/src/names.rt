@@ -52,7 +52,7 @@ fn ccm_name(body: &[u8]) -> &'static str {
     }
 }
 
-/// The name of an SCCP message (Q.713 clause 2.1).
+/// The name of an SCCP message (Q.713 clause 4).
 fn sccp_message_name(message: &Sccp) -> &'static str {
     match message {
         Sccp::ConnectionRequest { .. } => "CR",

@@ -28,7 +28,7 @@ pub fn replay<R: Read, W: Write + Drop, E: Write + Drop>(
     // The options aren't supported yet.
     ensures settings { settings.entry ≢ None → result ≡ 2 }
     ensures breaks { breaks.entry ≢ None → result ≡ 2 }
-    // It ends with 0 only where the whole script was read.
+    // It ends with 0 only where the whole script was read, if its octets are known.
     ensures read { result ≡ 0 → IsAtEnd (R.remaining input.new) }
 {
     match try_replay(alloc, settings, breaks, input, output) {
