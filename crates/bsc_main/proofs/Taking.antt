@@ -1,7 +1,7 @@
 -- What `clap` says of a command is said of any command with the same rules.
-use Rattle.std.proofs.Common.{◌≡◌, ◌≢◌, ℕ, Bool, true, Option, Some, None, List, [], ◌∷◌, refl, sym, ap, ◌∙◌, option_map, unwrap_or, inl, inr}
+use Rattle.std.proofs.Common.{◌≡◌, ◌≢◌, ℕ, true, Option, Some, None, List, [], ◌∷◌, refl, sym, ap, ◌∙◌, option_map, unwrap_or, inl, inr}
 use Rattle.std.specs.Cmp.{first_so}
-use Rattle.clap.specs.Words.{App, Text, Row, HasMatchesOf, HasKind, Kinds, is_simple, is_simple_and_free, fault_of, kind_of, subcommand_of, subcommand_rows_of, subcommand_name_of}
+use Rattle.clap.specs.Words.{App, Text, Row, HasMatchesOf, HasKind, Kinds, is_simple_and_free, fault_of, kind_of, subcommand_of, subcommand_rows_of, subcommand_name_of}
 use Rattle.std.specs.Borrow.{Bor}
 use Rattle.clap.specs.declared.error.Error.{Error}
 use Rattle.clap.specs.declared.error.kind.ErrorKind.TheVariants.{OutOfMemory}

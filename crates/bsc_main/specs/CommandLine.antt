@@ -1,5 +1,5 @@
 -- The command line of the program, as `clap` sees it.
-use Rattle.std.specs.Prelude.{◌≡◌, ◌≢◌, ℕ, true, Option, Some, None, option_map, unwrap_or, List, [], codes, string_bytes}
+use Rattle.std.specs.Prelude.{◌≡◌, ◌≢◌, true, Option, Some, None, option_map, unwrap_or, List, [], codes, string_bytes}
 use Rattle.clap.specs.Words.{App, Rule, Row, Text, new_app, new_rule, with_rule, with_subcommand, first_of, fault_of}
 use Rattle.bsc_main.specs.declared.words.Task.{Task}
 use Rattle.bsc_main.specs.declared.words.Task.TheVariants.{Run, Replay, Decode}

@@ -1,2 +1,4 @@
 pub mod Status
 pub mod CommandLine
+pub mod Names
+pub mod Decoded

@@ -1,9 +1,11 @@
 //! `bsc decode`: names the frames of a link.
-ghost use Rattle.std.specs.Prelude.{◌≡◌, ◌⊎◌, OnOk};
-ghost use Rattle.std.specs.Io.KnownBytes.{IsAtEnd};
+ghost use Rattle.std.specs.Prelude.{◌≡◌, ◌≢◌, ◌⊎◌, [], Err, OnOk, codes};
+ghost use Rattle.std.specs.Io.KnownBytes.{Appends, IsAtEnd};
 ghost use Rattle.std.specs.IoError.{error_kind};
+ghost use Rattle.ipa_framing.specs.Frame.{IsPartial, IsTooLong};
+ghost use Rattle.bsc_main.specs.Decoded.{Decodes, PrintsFrames, RefusesWith, line_of, rest_line};
 ghost use Rattle.bsc_main.specs.Status.{failure_of, stop_of};
-ghost use Rattle.bsc_main.specs.declared.decode.Stop.TheVariants.{Failed};
+ghost use Rattle.bsc_main.specs.declared.decode.Stop.TheVariants.{Failed, TooLong};
 ghost use Rattle.bsc_main.specs.declared.failure.Failure.TheVariants.{Memory as OutOfMemory};
 
 use crate::failure::Failure;
@@ -12,7 +14,7 @@ use crate::script::most_reads;
 use ipa_framing::{FrameFault, Framer};
 use octets::Memory;
 use std::alloc::{AllocError, Global};
-use std::io::{self, BufWriter, ErrorKind, Read, Write};
+use std::io::{self, ErrorKind, Read, Write};
 
 /// The octets that one read asks for.
 const BLOCK: usize = 1 << 20;
@@ -60,12 +62,43 @@ impl From<FrameFault> for Stop {
     }
 }
 
+/// Prints a frame's line. It is put together of octets, since a formatter would take a third of the program's time.
+fn print_line<W: Write>(output: &mut W, stream: u8, name: &str) -> Result<(), Stop>
+    ensures ok { OnOk result (Appends (W.contents output.old) (W.contents output.new) (line_of stream name.now)) }
+    ensures err { result ≢ Err TooLong }
+{
+    let mut digits = [0; 2];
+    hex::encode_to_slice([stream], &mut digits).unwrap();
+    output.write_all(&digits)?;
+    output.write_all(b" ")?;
+    output.write_all(name.as_bytes())?;
+    output.write_all(b"\n")?;
+    Ok(())
+}
+
 /// Prints a line for each frame that is whole.
-fn print_frames<W: Write>(alloc: Global, framer: &mut Framer, output: &mut W) -> Result<(), Stop> {
+fn print_frames<W: Write>(alloc: Global, framer: &mut Framer, output: &mut W) -> Result<(), Stop>
+    ensures ok { OnOk result (PrintsFrames framer.old framer.new (W.contents output.old) (W.contents output.new) ×
+        IsPartial framer.new.octets × (framer.new.failed ≡ framer.old.failed)) }
+    ensures long { result ≡ Err TooLong →
+        PrintsFrames framer.old framer.new (W.contents output.old) (W.contents output.new) × IsTooLong framer.new.octets }
+{
     while let Some(frame) = framer.next()? {
-        let stream = frame.stream;
         let name = frame_name(alloc, &frame)?;
-        writeln!(output, "{stream:02x} {name}")?;
+        print_line(output, frame.stream, name)?;
+    }
+    Ok(())
+}
+
+/// Prints the count of the octets that remain of a started frame, where there are any.
+fn print_rest<W: Write>(framer: &Framer, output: &mut W) -> Result<(), Stop>
+    requires { IsPartial framer.now.octets }
+    ensures ok { OnOk result (Appends (W.contents output.old) (W.contents output.new) (rest_line framer.now.octets)) }
+    ensures err { result ≢ Err TooLong }
+{
+    let rest = framer.rest();
+    if rest > 0 {
+        writeln!(output, "rest {rest}")?;
     }
     Ok(())
 }
@@ -73,22 +106,22 @@ fn print_frames<W: Write>(alloc: Global, framer: &mut Framer, output: &mut W) ->
 /// Prints the frames of the input to its end, and what remains of a started one. What was read is printed before more is
 /// read.
 fn print_stream<R: Read, W: Write>(alloc: Global, input: &mut R, output: &mut W) -> Result<(), Stop>
-    ensures { OnOk result (IsAtEnd (R.remaining input.new)) }
+    ensures read { OnOk result (IsAtEnd (R.remaining input.new)) }
+    ensures printed { OnOk result (Decodes (R.remaining input.old) (W.contents output.old) (W.contents output.new)) }
+    ensures long { result ≡ Err TooLong →
+        RefusesWith [] (R.remaining input.old) (W.contents output.old) (W.contents output.new) }
 {
     let mut framer = Framer::new(alloc);
-    let mut block = vec![in alloc; 0u8; BLOCK]?;
+    let mut room = vec![in alloc; 0u8; BLOCK]?;
+    let block = room.as_mut_slice();
     for _ in 0..most_reads() {
-        let count = match input.read(&mut block) {
+        let count = match input.read(block) {
             Ok(count) => count,
             Err(error) if error.kind() == ErrorKind::Interrupted => continue,
             Err(error) => return Err(Stop::from(error)),
         };
         if count == 0 {
-            let rest = framer.rest();
-            if rest > 0 {
-                writeln!(output, "rest {rest}")?;
-            }
-            return Ok(());
+            return print_rest(&framer, output);
         }
         framer.feed(&block[..count])?;
         print_frames(alloc, &mut framer, output)?;
@@ -98,11 +131,13 @@ fn print_stream<R: Read, W: Write>(alloc: Global, input: &mut R, output: &mut W)
 }
 
 /// Prints the stream, and a frame that is too long as its last line.
-fn print_all<R: Read, W: Write + Drop>(alloc: Global, input: &mut R, output: W) -> Result<(), Stop>
-    ensures { OnOk result (IsAtEnd (R.remaining input.new)) }
+fn print_all<R: Read, W: Write>(alloc: Global, input: &mut R, output: &mut W) -> Result<(), Stop>
+    ensures read { OnOk result (IsAtEnd (R.remaining input.new)) }
+    ensures printed { OnOk result (Decodes (R.remaining input.old) (W.contents output.old) (W.contents output.new)) }
+    ensures long { result ≡ Err TooLong →
+        RefusesWith (codes "fault F1\n") (R.remaining input.old) (W.contents output.old) (W.contents output.new) }
 {
-    let mut output = BufWriter::new(alloc, output)?;
-    let printed = print_stream(alloc, input, &mut output);
+    let printed = print_stream(alloc, input, output);
     if printed == Err(Stop::TooLong) {
         writeln!(output, "fault F1")?;
     }
@@ -112,16 +147,18 @@ fn print_all<R: Read, W: Write + Drop>(alloc: Global, input: &mut R, output: W) 
 
 /// Names each frame of the IPA stream on `input`, and gives the status that the program ends with: 0, or 3 where a frame
 /// is too long, memory was wanted or a device failed. The text of a status above 0 goes to `errors`, but for `fault F1`,
-/// the last line of the output where a frame is too long.
-pub fn decode<R: Read, W: Write + Drop, E: Write + Drop>(
+/// the last line of the output where a frame is too long. The output is flushed after each read.
+pub fn decode<R: Read, W: Write, E: Write>(
     alloc: Global,
     input: &mut R,
-    output: W,
-    mut errors: E,
+    output: &mut W,
+    errors: &mut E,
 ) -> u8
     ensures status { (result ≡ 0) ⊎ (result ≡ 3) }
     // It ends with 0 only where all octets were read, if it is known which there are.
     ensures read { result ≡ 0 → IsAtEnd (R.remaining input.new) }
+    // What is printed then are the lines of the frames that the octets are, if it is known what an output holds.
+    ensures printed { result ≡ 0 → Decodes (R.remaining input.old) (W.contents output.old) (W.contents output.new) }
 {
     match print_all(alloc, input, output) {
         Ok(()) => 0,
@@ -276,7 +313,10 @@ mod tests {
             3
         );
         let mut frame = [0x00, 0x00, 0x00].as_slice();
-        assert_eq!(rt; decode(rt.alloc(), &mut frame, NoWriter, &mut errors), 3);
+        assert_eq!(rt;
+            decode(rt.alloc(), &mut frame, &mut NoWriter, &mut errors),
+            3
+        );
         assert_eq!(rt;
             errors.as_slice(),
             b"bsc: device failed\nbsc: device failed\n".as_slice()

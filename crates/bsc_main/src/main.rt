@@ -8,7 +8,7 @@ use crate::replay::replay;
 use crate::words::{Task, TaskFault};
 use std::alloc::AllocError;
 use std::env;
-use std::io::ErrorKind;
+use std::io::{BufWriter, ErrorKind};
 use std::process::ExitCode;
 
 mod command_line;
@@ -60,11 +60,16 @@ fn run(rt: &HostRuntime, task: Task) -> u8 {
             rt.stdout(),
             rt.stderr(),
         ),
-        Task::Decode => decode(rt.alloc(), &mut rt.stdin(), rt.stdout(), rt.stderr()),
-        Task::Run(_) => {
-            let failure = Failure::Unsupported;
-            let _ = eprintln!(rt; "bsc: {failure}");
-            failure.status()
-        }
+        Task::Decode => match BufWriter::new(rt.alloc(), rt.stdout()) {
+            Ok(mut output) => decode(rt.alloc(), &mut rt.stdin(), &mut output, &mut rt.stderr()),
+            Err(_) => failed(rt, Failure::Memory),
+        },
+        Task::Run(_) => failed(rt, Failure::Unsupported),
     }
+}
+
+/// Tells why the program ends, and gives the status that it ends with.
+fn failed(rt: &HostRuntime, failure: Failure) -> u8 {
+    let _ = eprintln!(rt; "bsc: {failure}");
+    failure.status()
 }

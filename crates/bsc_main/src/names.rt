@@ -1,4 +1,7 @@
 //! The names of what frames carry, as `bsc decode` prints them.
+ghost use Rattle.std.specs.Prelude.{◌≡◌, IfOk};
+ghost use Rattle.bsc_main.specs.Names.{ccm_name as ccm_name_of, name_of, rsl_message_name as rsl_message_name_of, rsl_name as rsl_name_of, sccp_message_name as sccp_message_name_of, sccp_name as sccp_name_of};
+
 use bssmap_codec::{InterfaceFault, Sccp, read_sccp};
 use ipa_framing::Frame;
 use octets::Memory;
@@ -6,7 +9,9 @@ use rsl_codec::{Rsl, RslFault};
 use std::alloc::Global;
 
 /// The name of an RSL message (TS 48.058 clause 8).
-fn rsl_message_name(message: &Rsl) -> &'static str {
+fn rsl_message_name(message: &Rsl) -> &'static str
+    ensures { result.now ≡ rsl_message_name_of message.now }
+{
     match message {
         Rsl::DataRequest(_) => "DATA REQUEST",
         Rsl::DataIndication(_) => "DATA INDICATION",
@@ -31,7 +36,9 @@ fn rsl_message_name(message: &Rsl) -> &'static str {
 }
 
 /// The name of an RSL message, or of why it isn't one.
-fn rsl_name(alloc: Global, body: &[u8]) -> Result<&'static str, Memory> {
+fn rsl_name(alloc: Global, body: &[u8]) -> Result<&'static str, Memory>
+    ensures { IfOk result (λ name. name.now ≡ rsl_name_of body.now) }
+{
     match Rsl::read(alloc, body) {
         Ok(message) => Ok(rsl_message_name(&message)),
         Err(RslFault::Short) => Ok("fault S1"),
@@ -44,7 +51,9 @@ fn rsl_name(alloc: Global, body: &[u8]) -> Result<&'static str, Memory> {
 }
 
 /// The name of a CCM message, by its first octet.
-fn ccm_name(body: &[u8]) -> &'static str {
+fn ccm_name(body: &[u8]) -> &'static str
+    ensures { result.now ≡ ccm_name_of body.now }
+{
     match body {
         [0x00, ..] => "PING",
         [0x01, ..] => "PONG",
@@ -53,7 +62,9 @@ fn ccm_name(body: &[u8]) -> &'static str {
 }
 
 /// The name of an SCCP message (Q.713 clause 4).
-fn sccp_message_name(message: &Sccp) -> &'static str {
+fn sccp_message_name(message: &Sccp) -> &'static str
+    ensures { result.now ≡ sccp_message_name_of message.now }
+{
     match message {
         Sccp::ConnectionRequest { .. } => "CR",
         Sccp::ConnectionConfirm { .. } => "CC",
@@ -65,7 +76,9 @@ fn sccp_message_name(message: &Sccp) -> &'static str {
 }
 
 /// The name of an SCCP message, or of why it isn't one. What it carries isn't read.
-fn sccp_name(alloc: Global, body: &[u8]) -> Result<&'static str, Memory> {
+fn sccp_name(alloc: Global, body: &[u8]) -> Result<&'static str, Memory>
+    ensures { IfOk result (λ name. name.now ≡ sccp_name_of body.now) }
+{
     match read_sccp(alloc, body) {
         Ok(message) => Ok(sccp_message_name(&message)),
         Err(InterfaceFault::Short) => Ok("fault A1"),
@@ -78,7 +91,9 @@ fn sccp_name(alloc: Global, body: &[u8]) -> Result<&'static str, Memory> {
 }
 
 /// The name of what a frame carries, by its stream.
-pub fn frame_name(alloc: Global, frame: &Frame) -> Result<&'static str, Memory> {
+pub fn frame_name(alloc: Global, frame: &Frame) -> Result<&'static str, Memory>
+    ensures { IfOk result (λ name. name.now ≡ name_of frame.now) }
+{
     match frame.stream {
         0x00 => rsl_name(alloc, frame.body.as_slice()),
         0xfd => sccp_name(alloc, frame.body.as_slice()),

@@ -1,4 +1,4 @@
-use Rattle.std.proofs.Common.{◌≡◌, ℕ, true, List, map, refl}
+use Rattle.std.proofs.Common.{◌≡◌, true, map, refl}
 use Rattle.clap.specs.Words.{app_of, is_simple_and_free}
 use Rattle.bsc_main.specs.CommandLine.{bsc}
 use Rattle.bsc_main.proofs.Taking.{taken_by, refused_by}

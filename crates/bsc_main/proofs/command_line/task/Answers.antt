@@ -1,5 +1,5 @@
-use Rattle.std.proofs.Common.{◌≡◌, ℕ, List, [], map, Option, Some, option_map, unwrap_or, refl, sym, ap, ◌∙◌, subst, codes, rules}
-use Rattle.clap.specs.Words.{found_of, rows_of, subcommand_of, first_of}
+use Rattle.std.proofs.Common.{◌≡◌, ℕ, List, [], map, Option, Some, unwrap_or, refl, sym, ap, ◌∙◌, subst, codes}
+use Rattle.clap.specs.Words.{found_of, rows_of, subcommand_of}
 use Rattle.std.specs.Borrow.{Bor}
 use Rattle.clap.proofs.WalkLemmas.{first_value-rows}
 use Rattle.bsc_main.specs.CommandLine.{bsc, IsTask}

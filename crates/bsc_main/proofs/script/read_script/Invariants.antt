@@ -1,4 +1,4 @@
-use Rattle.std.proofs.Common.{ℕ, ◌<◌, length}
+use Rattle.std.proofs.Common.{◌<◌, length}
 use Rattle.bsc_main.proofs.script.read_script.Given as goal
 
 abbrev pub invariant-loop : goal.invariant-loop

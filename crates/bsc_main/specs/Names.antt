@@ -1,0 +1,89 @@
+-- The names of what frames carry, as `decode` prints them.
+use Rattle.std.specs.Prelude.{ℕ, ◌==◌, if◌then◌else◌, List, [], ◌∷◌, codes, Result, Ok, Err}
+use Rattle.ipa_framing.specs.declared.frame.Frame.{Frame}
+use Rattle.rsl_codec.specs.declared.rsl.Rsl.{Rsl}
+use Rattle.rsl_codec.specs.declared.rsl.Rsl.TheVariants as messages
+use Rattle.rsl_codec.specs.declared.fault.RslFault.{RslFault}
+use Rattle.rsl_codec.specs.declared.fault.RslFault.TheVariants as faults
+use Rattle.rsl_codec.specs.Reading.{reading}
+use Rattle.bssmap_codec.specs.declared.sccp.Sccp.{Sccp}
+use Rattle.bssmap_codec.specs.declared.sccp.Sccp.TheVariants as connection
+use Rattle.bssmap_codec.specs.declared.fault.Refusal.{Refusal}
+use Rattle.bssmap_codec.specs.declared.fault.Refusal.TheVariants as refusals
+use Rattle.bssmap_codec.specs.SccpReading.{sccp_at}
+
+-- a message of a base station link (TS 48.058 clause 8)
+abbrev pub rsl_message_name : Rsl → List ℕ
+rsl_message_name (messages.DataRequest _) = codes "DATA REQUEST"
+rsl_message_name (messages.DataIndication _) = codes "DATA INDICATION"
+rsl_message_name (messages.ErrorIndication _) = codes "ERROR INDICATION"
+rsl_message_name (messages.EstablishRequest _) = codes "ESTABLISH REQUEST"
+rsl_message_name (messages.EstablishConfirm _) = codes "ESTABLISH CONFIRM"
+rsl_message_name (messages.EstablishIndication _) = codes "ESTABLISH INDICATION"
+rsl_message_name (messages.ReleaseRequest _) = codes "RELEASE REQUEST"
+rsl_message_name (messages.ReleaseConfirm _) = codes "RELEASE CONFIRM"
+rsl_message_name (messages.ReleaseIndication _) = codes "RELEASE INDICATION"
+rsl_message_name (messages.ChannelRequired _) = codes "CHANNEL REQUIRED"
+rsl_message_name (messages.ImmediateAssignCommand _) = codes "IMMEDIATE ASSIGN COMMAND"
+rsl_message_name (messages.ChannelActivation _) = codes "CHANNEL ACTIVATION"
+rsl_message_name (messages.ChannelActivationAck _) = codes "CHANNEL ACTIVATION ACK"
+rsl_message_name (messages.ChannelActivationNack _) = codes "CHANNEL ACTIVATION NACK"
+rsl_message_name (messages.ConnectionFailure _) = codes "CONNECTION FAILURE"
+rsl_message_name (messages.HandoverDetection _) = codes "HANDOVER DETECTION"
+rsl_message_name (messages.MeasurementResult _) = codes "MEASUREMENT RESULT"
+rsl_message_name (messages.RfChannelRelease _) = codes "RF CHANNEL RELEASE"
+rsl_message_name (messages.RfChannelReleaseAck _) = codes "RF CHANNEL RELEASE ACK"
+
+-- octets that are no such message, by the fault that stands first; reading has no want of memory, so S5 is never printed
+abbrev pub rsl_fault_name : RslFault → List ℕ
+rsl_fault_name faults.Short = codes "fault S1"
+rsl_fault_name faults.UnknownType = codes "fault S2"
+rsl_fault_name (faults.MissingElement id) = codes "fault S3"
+rsl_fault_name faults.BadChannel = codes "fault S4"
+rsl_fault_name faults.Memory = codes "fault S5"
+rsl_fault_name faults.TooLong = codes "fault S6"
+
+abbrev pub rsl_name_by : Result Rsl RslFault → List ℕ
+rsl_name_by (Ok message) = rsl_message_name message
+rsl_name_by (Err fault) = rsl_fault_name fault
+
+abbrev pub rsl_name : List ℕ → List ℕ
+rsl_name body = rsl_name_by (reading body)
+
+-- a message of the link's own management, by its first octet
+abbrev pub ccm_name : List ℕ → List ℕ
+ccm_name [] = codes "CCM"
+ccm_name (first ∷ _) = if first == 0x00 then codes "PING" else if first == 0x01 then codes "PONG" else codes "CCM"
+
+-- a message of the switch link (Q.713 clause 4)
+abbrev pub sccp_message_name : Sccp → List ℕ
+sccp_message_name (connection.ConnectionRequest _ _) = codes "CR"
+sccp_message_name (connection.ConnectionConfirm _ _) = codes "CC"
+sccp_message_name (connection.ConnectionRefused _) = codes "CREF"
+sccp_message_name (connection.Released _ _) = codes "RLSD"
+sccp_message_name (connection.ReleaseComplete _ _) = codes "RLC"
+sccp_message_name (connection.DataForm1 _ _) = codes "DT1"
+
+-- octets that are no such message, by the fault that stands first
+abbrev pub sccp_fault_name : Refusal → List ℕ
+sccp_fault_name refusals.Short = codes "fault A1"
+sccp_fault_name refusals.UnknownType = codes "fault A2"
+sccp_fault_name (refusals.MissingElement id) = codes "fault A3"
+sccp_fault_name refusals.BadPointer = codes "fault A4"
+sccp_fault_name refusals.TooLong = codes "fault A5"
+
+abbrev pub sccp_name_by : Result Sccp Refusal → List ℕ
+sccp_name_by (Ok message) = sccp_message_name message
+sccp_name_by (Err refusal) = sccp_fault_name refusal
+
+abbrev pub sccp_name : List ℕ → List ℕ
+sccp_name body = sccp_name_by (sccp_at body)
+
+-- what a frame carries, by its stream
+abbrev pub name_of : Frame → List ℕ
+name_of frame =
+    if frame.stream == 0x00 then rsl_name frame.body
+    else if frame.stream == 0xfd then sccp_name frame.body
+    else if frame.stream == 0xfe then ccm_name frame.body
+    else if frame.stream == 0xff then codes "OML"
+    else codes "unknown"
