@@ -1,18 +1,16 @@
 -- What is printed of a stream so far, and how a frame, a read and the end of the input carry it on.
-use Rattle.std.proofs.Common.{◌≡◌, ℕ, ◌<◌, ◌≤◌, List, [], ◌∷◌, ◌++◌, length, take, Option, Some, None, refl, sym, ap, subst, ◌∙◌, append_assoc, arith, inl, inr, true, false, Result, Ok, Err}
+use Rattle.std.proofs.Common.{◌≡◌, ℕ, ◌<◌, ◌≤◌, List, [], ◌∷◌, ◌++◌, length, take, Option, Some, None, refl, sym, ap, subst, ◌∙◌, append_assoc, arith, inl, inr, true, false, Result, Err}
 use Rattle.std.specs.Prelude.{codes, decimal}
 use Rattle.std.specs.List.{flat_map, AllByRecursion}
 use Rattle.std.specs.Io.KnownBytes.{Appends, Consumes, IsAtEnd, Keeps}
 use Rattle.std.proofs.KnownBytes.{Appends-nil, Appends-trans, Appends-kept, Consumes-nil, Consumes-trans, Consumes-kept, Consumes-whole}
 use Rattle.std.proofs.lemmas.List.{append-nil, flat_map_more}
 use Rattle.std.proofs.lemmas.Grind.{flat_map-append}
-use Rattle.std.specs.Result.{IsErrAnd}
 use Rattle.ipa_framing.specs.declared.frame.Frame.{Frame}
 use Rattle.ipa_framing.specs.Frame.{IsFrame, IsPartial, IsTooLong, Splits, frame_text}
 use Rattle.ipa_framing.specs.Held.{Held, BeginsWith, Feeds, nothing_held}
 use Rattle.ipa_framing.specs.declared.fault.FrameFault.{FrameFault}
 use Rattle.ipa_framing.specs.declared.fault.FrameFault.TheVariants as faults
-use Rattle.bsc_main.specs.declared.decode.Stop.{Stop}
 use Rattle.bsc_main.specs.declared.decode.Stop.TheVariants.{TooLong}
 use Rattle.bsc_main.specs.Status.{stop_of}
 use Rattle.bsc_main.specs.Decoded.{Decodes, IsDecoded, PrintsFrames, RefusesWith, frame_line, frame_lines, rest_line}
@@ -205,11 +203,3 @@ pub feeds_on : (X : Type 0) (P : Type 0) (held fed : Held) (piece : List ℕ) (f
     → TooLong ≡ stop_of fault → P
 feeds_on X P held fed piece faults.TooLong good feeds is = absurd (cc (good, feeds.0))
 feeds_on X P held fed piece faults.Memory good feeds is = absurd (cc is)
-
--- what is said of a refusal, of the one that it was
-stops_same : {X : Type 0} (a b : Stop) → (let x : Result X Stop = Err a in x) ≡ Err b → a ≡ b
-stops_same a b e = cc
-
-pub refused_as : {X : Type 0} (r : Result X Stop) (Said : Stop → Type 0) (stop : Stop) → IsErrAnd r Said → r ≡ Err stop → Said stop
-refused_as (Ok x) Said stop is same = absurd (cc same)
-refused_as (Err other) Said stop is same = subst Said (stops_same other stop same) is

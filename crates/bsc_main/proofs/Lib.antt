@@ -1,3 +1,6 @@
 pub mod Ends
 pub mod Taking
 pub mod Decoding
+pub mod Reporting
+pub mod Scripts
+pub mod Replaying

@@ -49,21 +49,21 @@ fn asked(rt: &HostRuntime) -> Result<Task, TaskFault> {
     task(rt.alloc(), &texts)
 }
 
-/// Does what is asked for, and gives the status that the program ends with.
+/// Does what is asked for, and gives the status that the program ends with. What it prints is buffered.
 fn run(rt: &HostRuntime, task: Task) -> u8 {
+    let Ok(mut output) = BufWriter::new(rt.alloc(), rt.stdout()) else {
+        return failed(rt, Failure::Memory);
+    };
     match task {
         Task::Replay(settings, breaks) => replay(
             rt.alloc(),
             settings.as_deref(),
             breaks.as_deref(),
             &mut rt.stdin(),
-            rt.stdout(),
-            rt.stderr(),
+            &mut output,
+            &mut rt.stderr(),
         ),
-        Task::Decode => match BufWriter::new(rt.alloc(), rt.stdout()) {
-            Ok(mut output) => decode(rt.alloc(), &mut rt.stdin(), &mut output, &mut rt.stderr()),
-            Err(_) => failed(rt, Failure::Memory),
-        },
+        Task::Decode => decode(rt.alloc(), &mut rt.stdin(), &mut output, &mut rt.stderr()),
         Task::Run(_) => failed(rt, Failure::Unsupported),
     }
 }

@@ -1,6 +1,8 @@
-ghost use Rattle.std.specs.Prelude.{◌≡◌, ◌≢◌, ◌⊎◌, Err, None, OnOk};
+ghost use Rattle.std.specs.Prelude.{◌≡◌, ◌≢◌, ◌⊎◌, ℕ, Err, IfSome, None, OnOk};
 ghost use Rattle.std.specs.Io.KnownBytes.{IsAtEnd};
-ghost use Rattle.bsc_main.specs.declared.failure.Failure.TheVariants.{Unsupported};
+ghost use Rattle.bsc_main.specs.Replayed.{Replays};
+ghost use Rattle.bsc_main.specs.Script.{IsBadScript};
+ghost use Rattle.bsc_main.specs.declared.failure.Failure.TheVariants.{BadEvent, Unsupported};
 
 use crate::failure::Failure;
 use crate::report::write_report;
@@ -16,13 +18,13 @@ const FIXED_CELLS: u16 = 1;
 /// Replays the script on `input` and writes the report to `output`, and gives the status that the program ends with: 0,
 /// 2 for a bad line or what isn't supported yet, 3 where memory was wanted or a device failed. The text of a status above
 /// 0 goes to `errors`. The whole script is read before any event is run.
-pub fn replay<R: Read, W: Write + Drop, E: Write + Drop>(
+pub fn replay<R: Read, W: Write, E: Write>(
     alloc: Global,
     settings: Option<&str>,
     breaks: Option<&str>,
     input: &mut R,
-    output: W,
-    mut errors: E,
+    output: &mut W,
+    errors: &mut E,
 ) -> u8
     ensures status { (result ≡ 0) ⊎ (result ≡ 2) ⊎ (result ≡ 3) }
     // The options aren't supported yet.
@@ -30,6 +32,12 @@ pub fn replay<R: Read, W: Write + Drop, E: Write + Drop>(
     ensures breaks { breaks.entry ≢ None → result ≡ 2 }
     // It ends with 0 only where the whole script was read, if its octets are known.
     ensures read { result ≡ 0 → IsAtEnd (R.remaining input.new) }
+    // What is printed then is the report of what the script's events make of the fixed world, if it is known what an output
+    // holds.
+    ensures printed { result ≡ 0 → Replays (R.remaining input.old) (W.contents output.old) (W.contents output.new) }
+    // Without options it ends with 2 only where a line of the script is bad, and then nothing is printed.
+    ensures bad { settings.entry ≡ None → breaks.entry ≡ None → result ≡ 2 →
+        IfSome (R.remaining input.old) (λ octets. (n : ℕ) × IsBadScript 1 octets n) × (output.new ≡ output.old) }
 {
     match try_replay(alloc, settings, breaks, input, output) {
         Ok(()) => 0,
@@ -40,16 +48,20 @@ pub fn replay<R: Read, W: Write + Drop, E: Write + Drop>(
     }
 }
 
-fn try_replay<R: Read, W: Write + Drop>(
+fn try_replay<R: Read, W: Write>(
     alloc: Global,
     settings: Option<&str>,
     breaks: Option<&str>,
     input: &mut R,
-    output: W,
+    output: &mut W,
 ) -> Result<(), Failure>
     ensures settings { settings.entry ≢ None → result ≡ Err Unsupported }
     ensures breaks { breaks.entry ≢ None → result ≡ Err Unsupported }
     ensures read { OnOk result (IsAtEnd (R.remaining input.new)) }
+    ensures printed { OnOk result (Replays (R.remaining input.old) (W.contents output.old) (W.contents output.new)) }
+    ensures supported { settings.entry ≡ None → breaks.entry ≡ None → result ≢ Err Unsupported }
+    ensures bad { (n : ℕ) → result ≡ Err (BadEvent n) → IfSome (R.remaining input.old) (λ octets. IsBadScript 1 octets n) }
+    ensures kept { (n : ℕ) → result ≡ Err (BadEvent n) → output.new ≡ output.old }
 {
     if settings.is_some() || breaks.is_some() {
         return Err(Failure::Unsupported);

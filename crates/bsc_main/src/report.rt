@@ -1,22 +1,30 @@
+ghost use Rattle.std.specs.Prelude.{◌≡◌, List, ℕ, IfErr, IfOk, OnOk};
+ghost use Rattle.std.specs.Io.KnownBytes.{Appends};
+ghost use Rattle.bsc_main.specs.Status.{status_of};
+ghost use Rattle.bsc_main.specs.Report.{IsReport, WritesIfSome, connection_text, counted, mobile_text};
+
 use crate::failure::Failure;
 use octets::Octets;
 use std::alloc::Global;
-use std::io::{BufWriter, Write};
+use std::io::Write;
 use world::World;
 
 /// Writes the report of a world: for each mobile what it sent and received, for each connection of the switch what was
 /// taken, accepted and without number, and how many events were not taken.
-pub(crate) fn write_report<W: Write + Drop>(
+pub(crate) fn write_report<W: Write>(
     alloc: Global,
     world: &World,
-    output: W,
-) -> Result<(), Failure> {
-    let mut output = BufWriter::new(alloc, output)?;
+    output: &mut W,
+) -> Result<(), Failure>
+    ensures ok { OnOk result ((text : List ℕ) × IsReport world.now text ×
+        Appends (W.contents output.old) (W.contents output.new) text) }
+    ensures err { IfErr result (λ failure. status_of failure ≡ 3) }
+{
     for mobile in 1..=u8::MAX {
-        write_mobile(alloc, world, mobile, &mut output)?;
+        write_mobile(alloc, world, mobile, output)?;
     }
     for connection in 1..=u32::MAX {
-        if !write_connection(alloc, world, connection, &mut output)? {
+        if !write_connection(alloc, world, connection, output)? {
             break;
         }
     }
@@ -32,13 +40,16 @@ fn write_mobile<W: Write>(
     world: &World,
     mobile: u8,
     output: &mut W,
-) -> Result<(), Failure> {
+) -> Result<(), Failure>
+    ensures ok { OnOk result (Appends (W.contents output.old) (W.contents output.new) (mobile_text world.now.scene mobile)) }
+    ensures err { IfErr result (λ failure. status_of failure ≡ 3) }
+{
     let (Some(sent), Some(received)) = (world.sent(mobile), world.received(mobile)) else {
         return Ok(());
     };
-    writeln!(output, "mobile {mobile} sent {}", sent.len())?;
+    write!(output, "mobile {mobile} sent ")?;
     write_messages(alloc, sent, output)?;
-    writeln!(output, "mobile {mobile} received {}", received.len())?;
+    write!(output, "mobile {mobile} received ")?;
     write_messages(alloc, received, output)
 }
 
@@ -48,7 +59,10 @@ fn write_connection<W: Write>(
     world: &World,
     connection: u32,
     output: &mut W,
-) -> Result<bool, Failure> {
+) -> Result<bool, Failure>
+    ensures ok { IfOk result (λ written. WritesIfSome written (connection_text world.now.scene connection) (W.contents output.old) (W.contents output.new)) }
+    ensures err { IfErr result (λ failure. status_of failure ≡ 3) }
+{
     let (Some(taken), Some(accepted), Some(unnumbered)) = (
         world.taken(connection),
         world.accepted(connection),
@@ -56,21 +70,25 @@ fn write_connection<W: Write>(
     ) else {
         return Ok(false);
     };
-    writeln!(output, "conn {connection} taken {}", taken.len())?;
+    write!(output, "conn {connection} taken ")?;
     write_messages(alloc, taken, output)?;
-    writeln!(output, "conn {connection} accepted {}", accepted.len())?;
+    write!(output, "conn {connection} accepted ")?;
     write_messages(alloc, accepted, output)?;
-    writeln!(output, "conn {connection} unnumbered {}", unnumbered.len())?;
+    write!(output, "conn {connection} unnumbered ")?;
     write_messages(alloc, unnumbered, output)?;
     Ok(true)
 }
 
-/// Writes each message as a line of lower-case hexadecimal digits.
+/// Ends a line with the count of the messages, and writes each as a line of lower-case hexadecimal digits.
 fn write_messages<W: Write>(
     alloc: Global,
     messages: &[Octets],
     output: &mut W,
-) -> Result<(), Failure> {
+) -> Result<(), Failure>
+    ensures ok { OnOk result (Appends (W.contents output.old) (W.contents output.new) (counted messages.now)) }
+    ensures err { IfErr result (λ failure. status_of failure ≡ 3) }
+{
+    writeln!(output, "{}", messages.len())?;
     for message in messages {
         let digits = hex::encode(alloc, message.as_slice())?;
         writeln!(output, "{digits}")?;

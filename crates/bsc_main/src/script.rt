@@ -1,7 +1,10 @@
-ghost use Rattle.std.specs.Prelude.{◌≡◌, ◌^◌, OnOk};
+ghost use Rattle.std.specs.Prelude.{◌≡◌, ◌≢◌, ℕ, ◌^◌, ◌++◌, [], Err, IfOk, IfSome, OnOk};
 ghost use Rattle.std.specs.Io.KnownBytes.{IsAtEnd};
+ghost use Rattle.bsc_main.specs.Script.{AddsLine, Finishes, IsBadScript, IsScript, Reads, RefusesAt, RefusesLine};
+ghost use Rattle.bsc_main.specs.declared.failure.Failure.TheVariants.{BadEvent, Unsupported};
 
 use crate::failure::Failure;
+use memchr::memchr;
 use std::alloc::Global;
 use std::io::{ErrorKind, Read};
 use std::{mem, str};
@@ -23,7 +26,12 @@ struct Script {
 }
 
 impl Script {
-    fn new(alloc: Global, cells: u16) -> Script {
+    fn new(alloc: Global, cells: u16) -> Script
+        ensures cells { result.cells ≡ cells }
+        ensures events { result.events.items ≡ [] }
+        ensures started { result.started.items ≡ [] }
+        ensures lines { result.lines ≡ 0 }
+    {
         Script {
             alloc,
             cells,
@@ -34,18 +42,27 @@ impl Script {
     }
 
     /// Reads the lines that end in this block, and keeps what is left of it.
-    fn feed(&mut self, block: &[u8]) -> Result<(), Failure> {
-        for part in block.split_inclusive(|octet| *octet == b'\n') {
-            match part {
-                [front @ .., b'\n'] => self.end_line(front)?,
-                _ => self.started.extend_from_slice(part)?,
-            }
+    fn feed(&mut self, block: &[u8]) -> Result<(), Failure>
+        ensures ok { OnOk result (Reads self.old self.new block.now) }
+        ensures bad { (n : ℕ) → result ≡ Err (BadEvent n) → RefusesAt self.old block.now n }
+        ensures supported { result ≢ Err Unsupported }
+    {
+        let mut rest = block;
+        while let Some(end) = memchr(b'\n', rest) {
+            self.end_line(&rest[..end])?;
+            rest = &rest[end + 1..];
         }
+        self.started.extend_from_slice(rest)?;
         Ok(())
     }
 
     /// Reads the line that ends with these octets.
-    fn end_line(&mut self, end: &[u8]) -> Result<(), Failure> {
+    fn end_line(&mut self, end: &[u8]) -> Result<(), Failure>
+        ensures line { OnOk result (AddsLine self.old self.new (self.old.started.items ++ end.now)) }
+        ensures started { OnOk result (self.new.started.items ≡ []) }
+        ensures bad { (n : ℕ) → result ≡ Err (BadEvent n) → RefusesLine self.old (self.old.started.items ++ end.now) n }
+        ensures supported { result ≢ Err Unsupported }
+    {
         if self.started.is_empty() {
             return self.line(end);
         }
@@ -55,7 +72,12 @@ impl Script {
     }
 
     /// Reads a whole line. One that isn't text is no event's.
-    fn line(&mut self, line: &[u8]) -> Result<(), Failure> {
+    fn line(&mut self, line: &[u8]) -> Result<(), Failure>
+        ensures line { OnOk result (AddsLine self.old self.new line.now) }
+        ensures started { self.new.started.items ≡ self.old.started.items }
+        ensures bad { (n : ℕ) → result ≡ Err (BadEvent n) → RefusesLine self.old line.now n }
+        ensures supported { result ≢ Err Unsupported }
+    {
         self.lines = self.lines.saturating_add(1);
         let bad_event = Failure::BadEvent(self.lines);
         let Ok(line) = str::from_utf8(line) else {
@@ -72,7 +94,12 @@ impl Script {
     }
 
     /// The events of the whole script. Its last line may lack its line feed.
-    fn finish(mut self) -> Result<Vec<Event>, Failure> {
+    fn finish(mut self) -> Result<Vec<Event>, Failure>
+        ensures ok { IfOk result (λ events. Finishes self events.items) }
+        ensures bad { (n : ℕ) → result ≡ Err (BadEvent n) →
+            (self.started.items ≢ []) × RefusesLine self self.started.items n }
+        ensures supported { result ≢ Err Unsupported }
+    {
         if !self.started.is_empty() {
             self.end_line(&[])?;
         }
@@ -93,12 +120,16 @@ pub(crate) fn read_script<R: Read>(
     cells: u16,
     input: &mut R,
 ) -> Result<Vec<Event>, Failure>
-    ensures { OnOk result (IsAtEnd (R.remaining input.new)) }
+    ensures read { OnOk result (IsAtEnd (R.remaining input.new)) }
+    ensures events { IfOk result (λ events. IfSome (R.remaining input.old) (λ octets. IsScript cells octets events.items)) }
+    ensures bad { (n : ℕ) → result ≡ Err (BadEvent n) → IfSome (R.remaining input.old) (λ octets. IsBadScript cells octets n) }
+    ensures supported { result ≢ Err Unsupported }
 {
     let mut script = Script::new(alloc, cells);
-    let mut block = vec![in alloc; 0u8; BLOCK]?;
+    let mut room = vec![in alloc; 0u8; BLOCK]?;
+    let block = room.as_mut_slice();
     for _ in 0..most_reads() {
-        let count = match input.read(&mut block) {
+        let count = match input.read(block) {
             Ok(count) => count,
             Err(error) if error.kind() == ErrorKind::Interrupted => continue,
             Err(error) => return Err(Failure::from(error)),

@@ -274,9 +274,9 @@ fn a_device_that_fails_in_mid_stream_is_told(rt: HostRuntime) -> Result<(), Fail
     );
     assert!(rt; output.is_empty());
     for fails in [true, false] {
-        let full = Full { room: 10, fails };
+        let mut full = Full { room: 10, fails };
         assert_eq!(rt;
-            replay(rt.alloc(), None, None, &mut &*script, full, &mut told),
+            replay(rt.alloc(), None, None, &mut &*script, &mut full, &mut told),
             3
         );
     }

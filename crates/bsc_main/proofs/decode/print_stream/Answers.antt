@@ -1,7 +1,7 @@
 use Rattle.std.proofs.Common.{arith, rules, take}
 use Rattle.std.proofs.lemmas.Result.{on_ok_weaker}
-use Rattle.bsc_main.proofs.Ends.{on_ok}
-use Rattle.bsc_main.proofs.Decoding.{decodes_all, decodes_kept, decodes_long, decodes_more, decodes_none, feeds_on, none_taken, refused_as}
+use Rattle.bsc_main.proofs.Ends.{error_as, on_ok}
+use Rattle.bsc_main.proofs.Decoding.{decodes_all, decodes_kept, decodes_long, decodes_more, decodes_none, feeds_on, none_taken}
 use Rattle.bsc_main.specs.declared.decode.Stop.TheVariants.{TooLong}
 use Rattle.bsc_main.proofs.decode.print_stream.Goals as goal
 
@@ -36,10 +36,10 @@ loop-preserved g c = (
 pub returns-in_err-feed-clause-long : goal.returns-in_err-feed-clause-long
 returns-in_err-feed-clause-long g c = λ long.
     feeds_on (Unit {0}) _ c.loop.framer c.feed.new.self (take c.in-Ok.count c.read.new.buf) c.in_err-feed.field-0.0 c.loop.invariant.1.2 c.in_err-feed.ensures
-    (refused_as c.from_residual-in_err-feed.result _ TooLong c.from_residual-in_err-feed.ensures.1 long)
+    (error_as c.from_residual-in_err-feed.result _ TooLong c.from_residual-in_err-feed.ensures.1 long)
 
 pub returns-in_err-print_frames-clause-long : goal.returns-in_err-print_frames-clause-long
 returns-in_err-print_frames-clause-long g c = λ long.
-    let same = refused_as c.from_residual-in_err-print_frames.result _ TooLong c.from_residual-in_err-print_frames.ensures.1 long in
+    let same = error_as c.from_residual-in_err-print_frames.result _ TooLong c.from_residual-in_err-print_frames.ensures.1 long in
     decodes_long (g.R.Read.remaining c.args.input.now) (g.R.Read.remaining c.loop.input) (g.R.Read.remaining c.read.new.self) (g.W.Write.contents c.args.output.now) (g.W.Write.contents c.loop.output) (g.W.Write.contents c.print_frames.new.output)
     c.loop.framer c.feed.new.self c.print_frames.new.framer _ c.loop.invariant.1 c.in-Ok.ensures.bytes.0 c.in_ok-feed.ensures (c.in_err-print_frames.ensures.long (cc same))
