@@ -1,5 +1,5 @@
 -- What is printed of a stream so far, and how a frame, a read and the end of the input carry it on.
-use Rattle.std.proofs.Common.{◌≡◌, ℕ, ◌<◌, ◌≤◌, List, [], ◌∷◌, ◌++◌, length, take, Option, Some, None, refl, sym, ap, subst, ◌∙◌, append_assoc, arith, inl, inr, true, false, Result, Err}
+use Rattle.std.proofs.Common.{◌≡◌, ℕ, ◌<◌, ◌≤◌, List, [], ◌∷◌, ◌++◌, length, Option, Some, None, refl, sym, ap, subst, ◌∙◌, append_assoc, arith, inl, inr, false, Result, Err}
 use Rattle.std.specs.Prelude.{codes, decimal}
 use Rattle.std.specs.List.{flat_map, AllByRecursion}
 use Rattle.std.specs.Io.KnownBytes.{Appends, Consumes, IsAtEnd, Keeps}
@@ -7,6 +7,7 @@ use Rattle.std.proofs.KnownBytes.{Appends-nil, Appends-trans, Appends-kept, Cons
 use Rattle.std.proofs.lemmas.List.{append-nil, flat_map_more}
 use Rattle.std.proofs.lemmas.Grind.{flat_map-append}
 use Rattle.ipa_framing.specs.declared.frame.Frame.{Frame}
+use Rattle.bsc_main.proofs.Pieces.{all_both}
 use Rattle.ipa_framing.specs.Frame.{IsFrame, IsPartial, IsTooLong, Splits, frame_text}
 use Rattle.ipa_framing.specs.Held.{Held, BeginsWith, Feeds, nothing_held}
 use Rattle.ipa_framing.specs.declared.fault.FrameFault.{FrameFault}
@@ -17,49 +18,16 @@ use Rattle.bsc_main.specs.Decoded.{Decodes, IsDecoded, PrintsFrames, RefusesWith
 
 -- ---- frames one behind the other
 
-all_more : {X : Type 0} (P : X → Type 0) (xs : List X) (x : X) → AllByRecursion P xs → P x → AllByRecursion P (xs ++ x ∷ [])
-all_more P [] x all is = (is, tt)
-all_more P (y ∷ xs) x all is = (all.0, all_more P xs x all.1 is)
-
-all_both : {X : Type 0} (P : X → Type 0) (xs ys : List X) → AllByRecursion P xs → AllByRecursion P ys → AllByRecursion P (xs ++ ys)
-all_both P [] ys first second = second
-all_both P (x ∷ xs) ys first second = (first.0, all_both P xs ys first.1 second)
-
-pub prints_none : (held : Held) (o : Option (List ℕ)) → PrintsFrames held held o o
-prints_none held o = record { frames = []; each = tt; whole = refl; printed = Appends-nil o }
-
 pub prints_more : (held between left : Held) (old mid new : Option (List ℕ)) (f : Frame) → PrintsFrames held between old mid
     → BeginsWith between.octets f left.octets → Appends mid new (frame_line f) → PrintsFrames held left old new
 prints_more held between left old mid new f some begins line = record {
   frames = some.frames ++ f ∷ [];
-  each = all_more IsFrame some.frames f some.each begins.0;
+  each = all_both IsFrame some.frames (f ∷ []) some.each (begins.0, tt);
   whole =
       some.whole ∙ ap (λ (xs : List ℕ). flat_map frame_text some.frames ++ xs) begins.1 ∙ sym (append_assoc (flat_map frame_text some.frames) (frame_text f) left.octets)
       ∙ ap (λ (xs : List ℕ). xs ++ left.octets) (flat_map_more frame_text [] some.frames f);
   printed = subst (Appends old new) (flat_map_more frame_line [] some.frames f) (Appends-trans old mid new (frame_lines some.frames) (frame_line f) some.printed line);
 }
-
-pub prints_to : (held between left : Held) (old new : Option (List ℕ)) → PrintsFrames held between old new → left.octets ≡ between.octets → PrintsFrames held left old new
-prints_to held between left old new some same = record {
-  frames = some.frames;
-  each = some.each;
-  whole = some.whole ∙ ap (λ (xs : List ℕ). flat_map frame_text some.frames ++ xs) (sym same);
-  printed = some.printed;
-}
-
--- the framer found no whole frame
-pub prints_all : (held between left : Held) (old new : Option (List ℕ)) → PrintsFrames held between old new × (between.failed ≡ held.failed) → IsPartial between.octets × (left ≡ between)
-    → PrintsFrames held left old new × IsPartial left.octets × (left.failed ≡ held.failed)
-prints_all held between left old new some ends =
-    let same : left.octets ≡ between.octets = ap (λ (h : Held). h.octets) ends.1 in
-    (prints_to held between left old new some.0 same, subst IsPartial (sym same) ends.0, ap (λ (h : Held). h.failed) ends.1 ∙ some.1)
-
--- the framer found one that is too long
-pub prints_long : (held between left : Held) (old new : Option (List ℕ)) → PrintsFrames held between old new → IsTooLong between.octets × (left ≡ record { octets = between.octets; failed = true })
-    → PrintsFrames held left old new × IsTooLong left.octets
-prints_long held between left old new some ends =
-    let same : left.octets ≡ between.octets = ap (λ (h : Held). h.octets) ends.1 in
-    (prints_to held between left old new some same, subst IsTooLong (sym same) ends.0)
 
 -- ---- the rest
 
@@ -132,10 +100,6 @@ decodes_more start now later old mid new last held fed left piece some read feed
       prints.1,
       prints.2 ∙ ap (λ (h : Held). h.failed) feeds.1,
     )
-
--- a read of no octets took none
-pub none_taken : (now end : Option (List ℕ)) (n : ℕ) (octets : List ℕ) → n ≡ 0 → Consumes now end (take n octets) → Consumes now end []
-none_taken now end n octets is read = subst (λ (m : ℕ). Consumes now end (take m octets)) is read
 
 pub decodes_all : (start now end old mid new : Option (List ℕ)) (held : Held) → DecodesSome start now held old mid → Consumes now end [] → IsAtEnd end
     → Appends mid new (rest_line held.octets) → Decodes start old new

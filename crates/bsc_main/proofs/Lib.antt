@@ -1,5 +1,6 @@
 pub mod Ends
 pub mod Taking
+pub mod Pieces
 pub mod Decoding
 pub mod Reporting
 pub mod Scripts

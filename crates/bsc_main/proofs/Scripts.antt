@@ -14,7 +14,8 @@ use Rattle.world.specs.Script.{IsLine}
 use Rattle.world.specs.declared.script_fault.LineFault.{LineFault}
 use Rattle.world.specs.declared.script_fault.LineFault.TheVariants.{BadEvent, Memory}
 use Rattle.bsc_main.specs.declared.script.Script.{Script}
-use Rattle.bsc_main.specs.Script.{AddsLine, AreTexts, Finishes, HasNoFeed, IsBadLine, IsBadScript, IsScript, Reads, RefusesAt, RefusesLine, counted, lines_text}
+use Rattle.bsc_main.proofs.Pieces.{all_both, none_taken}
+use Rattle.bsc_main.specs.Script.{AddsLine, AreTexts, Finishes, HasNoFeed, IsBadLine, IsBadScript, IsScript, Reads, RefusesAt, RefusesLine, line_count, lines_text}
 
 -- of the block all but the rest was read
 pub record ReadsSome (old new : Script) (block rest : List ℕ) : Type 0 where
@@ -23,10 +24,6 @@ pub record ReadsSome (old new : Script) (block rest : List ℕ) : Type 0 where
   pub reads : Reads old new read
 
 -- ---- lists
-
-all_both : {X : Type 0} (P : X → Type 0) (xs ys : List X) → AllByRecursion P xs → AllByRecursion P ys → AllByRecursion P (xs ++ ys)
-all_both P [] ys first second = second
-all_both P (x ∷ xs) ys first second = (first.0, all_both P xs ys first.1 second)
 
 texts_both : (cells : ℕ) (es fs : List Event) (ls ms : List (List ℕ)) → AreTexts cells es ls → AreTexts cells fs ms → AreTexts cells (es ++ fs) (ls ++ ms)
 texts_both cells [] fs [] ms first second = second
@@ -63,7 +60,7 @@ all_of xs k n is = take_all (n - k) (drop k xs) (omega (arith, is, length-drop k
 
 -- ---- counts
 
-counted_more : (n : ℕ) → counted (counted n + 1) ≡ counted (n + 1)
+counted_more : (n : ℕ) → line_count (line_count n + 1) ≡ line_count (n + 1)
 counted_more n = omega arith
 
 -- ---- what was read
@@ -81,7 +78,7 @@ reads_none script block = record {
         events = sym (append-nil script.events.items);
         parts = append-nil script.started.items;
         cells = refl;
-        count = λ n is. is ∙ ap counted (let same : n ≡ n + 0 = omega arith in same);
+        count = λ n is. is ∙ ap line_count (let same : n ≡ n + 0 = omega arith in same);
       };
 }
 
@@ -108,8 +105,8 @@ reads_line old mid new read end some none adds started =
           ∙ sym (line_text some.lines line) ∙ sym (append-nil (lines_text (some.lines ++ line ∷ []))) ∙ ap (λ (xs : List ℕ). lines_text (some.lines ++ line ∷ []) ++ xs) (sym started);
       cells = adds.cells ∙ some.cells;
       count = λ n is.
-          adds.lines ∙ ap (λ (m : ℕ). counted (m + 1)) (some.count n is) ∙ counted_more (n + length some.lines)
-          ∙ ap counted (let same : n + length some.lines + 1 ≡ n + length (some.lines ++ line ∷ []) = omega (arith, length-append some.lines (line ∷ [])) in same);
+          adds.lines ∙ ap (λ (m : ℕ). line_count (m + 1)) (some.count n is) ∙ counted_more (n + length some.lines)
+          ∙ ap line_count (let same : n + length some.lines + 1 ≡ n + length (some.lines ++ line ∷ []) = omega (arith, length-append some.lines (line ∷ [])) in same);
     }
 
 pub reads_more : (old mid new : Script) (block rest left : List ℕ) (n : ℕ) → ReadsSome old mid block rest → IsFirstByte (is_byte 10) rest (Some n) → AddsLine mid new (mid.started.items ++ take n rest) → new.started.items ≡ []
@@ -165,7 +162,7 @@ refuses_at old mid block rest n number some found refuses =
           ∙ append_assoc before start rest ∙ ap (λ (xs : List ℕ). before ++ (start ++ xs)) parted.parts
           ∙ ap (λ (xs : List ℕ). before ++ xs) (sym (append_assoc start (front ++ feed) behind) ∙ ap (λ (xs : List ℕ). xs ++ behind) (sym (append_assoc start front feed)));
       bad = subst (λ (cells : ℕ). IsBadLine cells (start ++ front)) some.reads.cells refuses.0;
-      is = λ k is. refuses.1 ∙ ap (λ (m : ℕ). counted (m + 1)) (some.reads.count k is) ∙ counted_more (k + length some.reads.lines);
+      is = λ k is. refuses.1 ∙ ap (λ (m : ℕ). line_count (m + 1)) (some.reads.count k is) ∙ counted_more (k + length some.reads.lines);
     }
 
 -- ---- the whole script
@@ -177,7 +174,7 @@ pub record ReadsScript (cells : ℕ) (start now : Option (List ℕ)) (script : S
   pub no_feeds : AllByRecursion HasNoFeed lines × HasNoFeed script.started.items
   pub read : Consumes start now (lines_text lines ++ script.started.items)
   pub cells_are : script.cells ≡ cells
-  pub count : script.lines ≡ counted (length lines)
+  pub count : script.lines ≡ line_count (length lines)
 
 pub script_none : (cells : ℕ) (start : Option (List ℕ)) (script : Script) → script.cells ≡ cells → script.events.items ≡ [] → script.started.items ≡ [] → script.lines ≡ 0 → ReadsScript cells start start script
 script_none cells start script is events started lines = record {
@@ -218,7 +215,7 @@ script_more cells start now later old new piece some read reads =
       no_feeds = (all_both HasNoFeed some.lines reads.lines some.no_feeds.0 feeds.0, feeds.1);
       read = subst (Consumes start later) whole (Consumes-trans start now later (first ++ old.started.items) piece some.read read);
       cells_are = reads.cells ∙ some.cells_are;
-      count = reads.count (length some.lines) some.count ∙ ap counted (sym (length-append some.lines reads.lines));
+      count = reads.count (length some.lines) some.count ∙ ap line_count (sym (length-append some.lines reads.lines));
     }
 
 script_is : (cells : ℕ) (start now : Option (List ℕ)) (script : Script) (events : List Event) (some : ReadsScript cells start now script) → Finishes script events → IsScript cells (lines_text some.lines ++ script.started.items) events
@@ -243,9 +240,8 @@ pub script_all : (cells : ℕ) (start now end : Option (List ℕ)) (n : ℕ) (bl
     → Finishes script events → IfSome start (λ octets. IsScript cells octets events)
 script_all cells start now end n block script events some none read at_end finishes =
     let octets : List ℕ = lines_text some.lines ++ script.started.items in
-    let nothing : Consumes now end [] = subst (λ (m : ℕ). Consumes now end (take m block)) none read in
     Consumes-whole start end octets (λ octets. IsScript cells octets events)
-    (subst (Consumes start end) (append-nil octets) (Consumes-trans start now end octets [] some.read nothing)) at_end (script_is cells start now script events some finishes)
+    (subst (Consumes start end) (append-nil octets) (Consumes-trans start now end octets [] some.read (none_taken now end n block none read))) at_end (script_is cells start now script events some finishes)
 
 -- the last line, which has no line feed, is bad
 bad_last : (cells : ℕ) (start now : Option (List ℕ)) (script : Script) (number : ℕ) (some : ReadsScript cells start now script) → script.started.items ≢ [] → RefusesLine script script.started.items number
@@ -259,16 +255,15 @@ bad_last cells start now script number some begun refuses = record {
   no_feeds = some.no_feeds;
   ended = inl (refl, begun);
   bad = subst (λ (n : ℕ). IsBadLine n script.started.items) some.cells_are refuses.0;
-  is = refuses.1 ∙ ap (λ (m : ℕ). counted (m + 1)) some.count ∙ counted_more (length some.lines);
+  is = refuses.1 ∙ ap (λ (m : ℕ). line_count (m + 1)) some.count ∙ counted_more (length some.lines);
 }
 
 pub script_bad_last : (cells : ℕ) (start now end : Option (List ℕ)) (n : ℕ) (block : List ℕ) (script : Script) (number : ℕ) → ReadsScript cells start now script → n ≡ 0 → Consumes now end (take n block) → IsAtEnd end
     → (script.started.items ≢ []) × RefusesLine script script.started.items number → IfSome start (λ octets. IsBadScript cells octets number)
 script_bad_last cells start now end n block script number some none read at_end refuses =
     let octets : List ℕ = lines_text some.lines ++ script.started.items in
-    let nothing : Consumes now end [] = subst (λ (m : ℕ). Consumes now end (take m block)) none read in
     Consumes-whole start end octets (λ octets. IsBadScript cells octets number)
-    (subst (Consumes start end) (append-nil octets) (Consumes-trans start now end octets [] some.read nothing)) at_end (bad_last cells start now script number some refuses.0 refuses.1)
+    (subst (Consumes start end) (append-nil octets) (Consumes-trans start now end octets [] some.read (none_taken now end n block none read))) at_end (bad_last cells start now script number some refuses.0 refuses.1)
 
 -- a line of the piece that was read is bad
 bad_at : (cells : ℕ) (start now : Option (List ℕ)) (script : Script) (piece later : List ℕ) (number : ℕ) (some : ReadsScript cells start now script) → RefusesAt script piece number
@@ -293,7 +288,7 @@ bad_at cells start now script piece later number some refuses =
           ∙ ap (λ (xs : List ℕ). lines_text (some.lines ++ refuses.lines) ++ xs) (append_assoc line refuses.behind later)
           );
       bad = subst (λ (n : ℕ). IsBadLine n refuses.line) some.cells_are refuses.bad;
-      is = refuses.is (length some.lines) some.count ∙ ap (λ (m : ℕ). counted (m + 1)) (sym (length-append some.lines refuses.lines));
+      is = refuses.is (length some.lines) some.count ∙ ap (λ (m : ℕ). line_count (m + 1)) (sym (length-append some.lines refuses.lines));
     }
 
 bad_by : (cells : ℕ) (start end : Option (List ℕ)) (octets : List ℕ) (number : ℕ) → Consumes start end octets → ((later : List ℕ) → IsBadScript cells (octets ++ later) number) → IfSome start (λ octets. IsBadScript cells octets number)

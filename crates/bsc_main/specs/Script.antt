@@ -31,8 +31,8 @@ abbrev pub IsBadLine : ℕ → List ℕ → Type 0
 IsBadLine cells line = (¬ (IsUtf8 line)) ⊎ ((event : Event) → ¬ (IsLine cells event line))
 
 -- how many lines there are, as far as the program counts
-abbrev pub counted : ℕ → ℕ
-counted lines = min lines (2 ^ 64 - 1)
+abbrev pub line_count : ℕ → ℕ
+line_count lines = min lines (2 ^ 64 - 1)
 
 -- The octets are lines of events and behind them one that is none's, with this number. The last may lack its line feed, and
 -- then it has octets.
@@ -45,7 +45,7 @@ pub record IsBadScript (cells : ℕ) (octets : List ℕ) (number : ℕ) : Type 0
   pub no_feeds : AllByRecursion HasNoFeed lines × HasNoFeed line
   pub ended : ((octets ≡ lines_text lines ++ line) × (line ≢ [])) ⊎ (octets ≡ lines_text lines ++ (line ++ codes "\n" ++ behind))
   pub bad : IsBadLine cells line
-  pub is : number ≡ counted (length lines + 1)
+  pub is : number ≡ line_count (length lines + 1)
 
 -- ---- what the reader's calls do
 
@@ -55,11 +55,11 @@ pub record AddsLine (old new : Script) (line : List ℕ) : Type 0 where
   pub text : IsLine old.cells event line
   pub events : new.events.items ≡ old.events.items ++ event ∷ []
   pub cells : new.cells ≡ old.cells
-  pub lines : new.lines ≡ counted (old.lines + 1)
+  pub lines : new.lines ≡ line_count (old.lines + 1)
 
 -- A line was refused as that of no event.
 abbrev pub RefusesLine : Script → List ℕ → ℕ → Type 0
-RefusesLine old line number = IsBadLine old.cells line × (number ≡ counted (old.lines + 1))
+RefusesLine old line number = IsBadLine old.cells line × (number ≡ line_count (old.lines + 1))
 
 -- The octets were read as the ends of lines, each of which is an event's, and the beginning of one.
 pub record Reads (old new : Script) (octets : List ℕ) : Type 0 where
@@ -70,7 +70,7 @@ pub record Reads (old new : Script) (octets : List ℕ) : Type 0 where
   pub events : new.events.items ≡ old.events.items ++ added
   pub parts : old.started.items ++ octets ≡ lines_text lines ++ new.started.items
   pub cells : new.cells ≡ old.cells
-  pub count : (n : ℕ) → old.lines ≡ counted n → new.lines ≡ counted (n + length lines)
+  pub count : (n : ℕ) → old.lines ≡ line_count n → new.lines ≡ line_count (n + length lines)
 
 -- The octets were read up to a line that is none's.
 pub record RefusesAt (old : Script) (octets : List ℕ) (number : ℕ) : Type 0 where
@@ -82,7 +82,7 @@ pub record RefusesAt (old : Script) (octets : List ℕ) (number : ℕ) : Type 0 
   pub no_feeds : HasNoFeed old.started.items → AllByRecursion HasNoFeed lines × HasNoFeed line
   pub parts : old.started.items ++ octets ≡ lines_text lines ++ (line ++ codes "\n" ++ behind)
   pub bad : IsBadLine old.cells line
-  pub is : (n : ℕ) → old.lines ≡ counted n → number ≡ counted (n + length lines + 1)
+  pub is : (n : ℕ) → old.lines ≡ line_count n → number ≡ line_count (n + length lines + 1)
 
 -- The events are those that were read, and that of a line without a line feed, where one was started.
 abbrev pub Finishes : Script → List Event → Type 0

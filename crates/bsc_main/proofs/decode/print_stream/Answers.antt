@@ -1,7 +1,8 @@
 use Rattle.std.proofs.Common.{arith, rules, take}
 use Rattle.std.proofs.lemmas.Result.{on_ok_weaker}
 use Rattle.bsc_main.proofs.Ends.{error_as, on_ok}
-use Rattle.bsc_main.proofs.Decoding.{decodes_all, decodes_kept, decodes_long, decodes_more, decodes_none, feeds_on, none_taken}
+use Rattle.bsc_main.proofs.Decoding.{decodes_all, decodes_kept, decodes_long, decodes_more, decodes_none, feeds_on}
+use Rattle.bsc_main.proofs.Pieces.{none_taken}
 use Rattle.bsc_main.specs.declared.decode.Stop.TheVariants.{TooLong}
 use Rattle.bsc_main.proofs.decode.print_stream.Goals as goal
 
