@@ -19,10 +19,10 @@ replays_by (Some octets) old new events world script is report =
     (events, report.0, script, subst (λ (w : WorldState). IsReport w report.0) is report.1, report.2)
 
 -- a status of 2 is that of what isn't supported, or of a bad line
-pub bad_by : (start : Option (List ℕ)) (Kept : Type 0) (failure : Failure) → status_of failure ≡ 2 → failure ≢ Unsupported → ((n : ℕ) → failure ≡ BadEvent n → IfSome start (λ octets. IsBadScript 1 octets n))
-    → ((n : ℕ) → failure ≡ BadEvent n → Kept) → IfSome start (λ octets. (n : ℕ) × IsBadScript 1 octets n) × Kept
-bad_by start Kept Unsupported status supported bad kept = absurd (supported refl)
-bad_by start Kept Memory status supported bad kept = absurd (cc status)
-bad_by start Kept Device status supported bad kept = absurd (cc status)
-bad_by None Kept (BadEvent n) status supported bad kept = (tt, kept n refl)
-bad_by (Some octets) Kept (BadEvent n) status supported bad kept = ((n, bad n refl), kept n refl)
+pub bad_by : (start : Option (List ℕ)) (failure : Failure) → status_of failure ≡ 2 → failure ≢ Unsupported → ((n : ℕ) → failure ≡ BadEvent n → IfSome start (λ octets. IsBadScript 1 octets n))
+    → IfSome start (λ octets. (n : ℕ) × IsBadScript 1 octets n)
+bad_by start Unsupported status supported bad = absurd (supported refl)
+bad_by start Memory status supported bad = absurd (cc status)
+bad_by start Device status supported bad = absurd (cc status)
+bad_by None (BadEvent n) status supported bad = tt
+bad_by (Some octets) (BadEvent n) status supported bad = (n, bad n refl)

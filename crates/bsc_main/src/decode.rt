@@ -62,7 +62,7 @@ impl From<FrameFault> for Stop {
     }
 }
 
-/// Prints a frame's line. It is put together of octets, since a formatter would take a third of the program's time.
+/// Prints a frame's line. It is put together of octets, since a formatter took over a quarter of the program's time.
 fn print_line<W: Write>(output: &mut W, stream: u8, name: &str) -> Result<(), Stop>
     ensures ok { OnOk result (Appends (W.contents output.old) (W.contents output.new) (line_of stream name.now)) }
     ensures err { result ≢ Err TooLong }

@@ -1,7 +1,8 @@
-ghost use Rattle.std.specs.Prelude.{◌≡◌, ◌≢◌, ◌⊎◌, ℕ, Err, IfSome, None, OnOk};
+ghost use Rattle.std.specs.Prelude.{◌≡◌, ◌≢◌, ◌⊎◌, ℕ, Err, IfErr, IfSome, None, OnOk};
 ghost use Rattle.std.specs.Io.KnownBytes.{IsAtEnd};
 ghost use Rattle.bsc_main.specs.Replayed.{Replays};
 ghost use Rattle.bsc_main.specs.Script.{IsBadScript};
+ghost use Rattle.bsc_main.specs.Status.{status_of};
 ghost use Rattle.bsc_main.specs.declared.failure.Failure.TheVariants.{BadEvent, Unsupported};
 
 use crate::failure::Failure;
@@ -35,9 +36,11 @@ pub fn replay<R: Read, W: Write, E: Write>(
     // What is printed then is the report of what the script's events make of the fixed world, if it is known what an output
     // holds.
     ensures printed { result ≡ 0 → Replays (R.remaining input.old) (W.contents output.old) (W.contents output.new) }
-    // Without options it ends with 2 only where a line of the script is bad, and then nothing is printed.
+    // Without options it ends with 2 only where a line of the script is bad.
     ensures bad { settings.entry ≡ None → breaks.entry ≡ None → result ≡ 2 →
-        IfSome (R.remaining input.old) (λ octets. (n : ℕ) × IsBadScript 1 octets n) × (output.new ≡ output.old) }
+        IfSome (R.remaining input.old) (λ octets. (n : ℕ) × IsBadScript 1 octets n) }
+    // Where it ends with 2 nothing is printed.
+    ensures kept { result ≡ 2 → output.new ≡ output.old }
 {
     match try_replay(alloc, settings, breaks, input, output) {
         Ok(()) => 0,
@@ -61,7 +64,7 @@ fn try_replay<R: Read, W: Write>(
     ensures printed { OnOk result (Replays (R.remaining input.old) (W.contents output.old) (W.contents output.new)) }
     ensures supported { settings.entry ≡ None → breaks.entry ≡ None → result ≢ Err Unsupported }
     ensures bad { (n : ℕ) → result ≡ Err (BadEvent n) → IfSome (R.remaining input.old) (λ octets. IsBadScript 1 octets n) }
-    ensures kept { (n : ℕ) → result ≡ Err (BadEvent n) → output.new ≡ output.old }
+    ensures kept { IfErr result (λ failure. status_of failure ≡ 2 → output.new ≡ output.old) }
 {
     if settings.is_some() || breaks.is_some() {
         return Err(Failure::Unsupported);

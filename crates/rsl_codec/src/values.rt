@@ -20,7 +20,7 @@ pub struct BsPower(pub u8);
 #[derive(Debug, Drop)]
 pub struct ChannelMode(pub Octets);
 
-/// The number of a TDMA frame, modulo 42432, as T1', T3 and T2 (TS 48.058 clause 9.3.8).
+/// The reduced number of a TDMA frame, its number modulo 42432 (TS 48.058 clause 9.3.8).
 #[derive(Clone, Copy, Debug, PartialEq, Eq)]
 pub struct FrameNumber(pub u16);
 
@@ -37,7 +37,7 @@ pub struct L1Information(pub u16);
 pub struct AccessDelay(pub u8);
 
 /// What a mobile sent on the RACH, and the frame in which it did (TS 48.058 clause 9.3.19): the random access
-/// information, and T1', T3 and T2 of the frame.
+/// information, and the reduced number of the frame.
 #[derive(Clone, Copy, Debug, PartialEq, Eq)]
 pub struct RequestReference {
     pub access: u8,

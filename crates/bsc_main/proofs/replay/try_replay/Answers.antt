@@ -1,8 +1,9 @@
-use Rattle.std.proofs.Common.{ap, refl, ◌∙◌}
-use Rattle.std.proofs.lemmas.Result.{on_ok_weaker}
+use Rattle.std.proofs.Common.{ap, refl, ◌≡◌, ◌∙◌}
+use Rattle.std.proofs.lemmas.Result.{IfErr-at_err, IfErr-weaker, on_ok_weaker}
 use Rattle.world.specs.World.{after_all, fixed_world}
 use Rattle.bsc_main.specs.declared.failure.Failure.TheVariants.{BadEvent, Unsupported}
-use Rattle.bsc_main.proofs.Ends.{error_as, error_if, no_device}
+use Rattle.bsc_main.proofs.Ends.{error_as, no_device}
+use Rattle.bsc_main.specs.Status.{status_of}
 use Rattle.bsc_main.proofs.Replaying.{replays_by}
 use Rattle.bsc_main.proofs.replay.try_replay.Goals as goal
 
@@ -14,10 +15,10 @@ returns-clause-printed g c =
     c.write_report.ensures.ok
 
 pub returns-clause-bad : goal.returns-clause-bad
-returns-clause-bad g c = λ n is. no_device n (BadEvent n) (error_if c.write_report.result _ (BadEvent n) c.write_report.ensures.err is) refl
+returns-clause-bad g c = λ n is. no_device (BadEvent n) (BadEvent n) (IfErr-at_err (λ failure. status_of failure ≡ 3) is c.write_report.ensures.err) refl refl
 
 pub returns-clause-kept : goal.returns-clause-kept
-returns-clause-kept g c = λ n is. no_device n (BadEvent n) (error_if c.write_report.result _ (BadEvent n) c.write_report.ensures.err is) refl
+returns-clause-kept g c = IfErr-weaker c.write_report.result _ _ (λ failure three two. no_device failure failure three refl two) c.write_report.ensures.err
 
 pub returns-in_err-events-clause-supported : goal.returns-in_err-events-clause-supported
 returns-in_err-events-clause-supported g c = λ settings breaks is.

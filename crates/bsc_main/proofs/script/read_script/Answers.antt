@@ -1,7 +1,7 @@
-use Rattle.std.proofs.Common.{arith, rules, take}
+use Rattle.std.proofs.Common.{arith, rules, take, refl}
 use Rattle.std.proofs.lemmas.Result.{IfOk-weaker}
 use Rattle.bsc_main.specs.declared.failure.Failure.TheVariants.{BadEvent, Unsupported}
-use Rattle.bsc_main.proofs.Ends.{error_as, is_supported, no_device, on_ok}
+use Rattle.bsc_main.proofs.Ends.{error_as, no_device, on_ok}
 use Rattle.bsc_main.proofs.Scripts.{script_all, script_bad_at, script_bad_last, script_kept, script_more, script_none}
 use Rattle.bsc_main.proofs.script.read_script.Goals as goal
 
@@ -35,7 +35,7 @@ returns-then-count-eq0-clause-bad g c = λ n is.
     c.in-Ok.ensures.bytes.0 (c.in-Ok.ensures.bytes.1 c.if-count-eq0.true (omega arith)) (c.finish.ensures.bad n is)
 
 pub returns-in-Err-2-clause-bad : goal.returns-in-Err-2-clause-bad
-returns-in-Err-2-clause-bad g c = λ n is. no_device n c.from.result c.from.ensures.1 (cc is)
+returns-in-Err-2-clause-bad g c = λ n is. no_device c.from.result (BadEvent n) c.from.ensures.1 (cc is) refl
 
 pub returns-in_err-feed-clause-bad : goal.returns-in_err-feed-clause-bad
 returns-in_err-feed-clause-bad g c = λ n is.
@@ -49,4 +49,4 @@ returns-in_err-feed-clause-supported g c = λ is.
     c.in_err-feed.ensures.supported (cc same)
 
 pub returns-in-Err-2-clause-supported : goal.returns-in-Err-2-clause-supported
-returns-in-Err-2-clause-supported g c = λ is. is_supported c.from.result c.from.ensures.1 (cc is)
+returns-in-Err-2-clause-supported g c = λ is. no_device c.from.result Unsupported c.from.ensures.1 (cc is) refl
