@@ -8,7 +8,8 @@ use Rattle.octets.specs.declared.element.Cut.{Cut}
 use Rattle.octets.specs.declared.element.Format.{Format}
 use Rattle.octets.specs.declared.element.Format.TheVariants.{Tv, Tlv, TlvE}
 use Rattle.octets.specs.Element.{Element, element, AreOctets, format_in, length_octets, HasSize, IsElement, Stops, BreaksOff, AreElements}
-use Rattle.octets.specs.Walk.{the_cut, width_of, size_by, split_at, element_at, front_by, front_of, Walked, walked_by, walk}
+use Rattle.octets.specs.Front.{split_at}
+use Rattle.octets.specs.Walk.{the_cut, width_of, size_by, element_at, front_by, front_of, Walked, walked_by, walk}
 use Rattle.octets.proofs.Walks.{front-shorter, walk-front}
 
 -- ---- octets of a list, and of its parts
@@ -76,14 +77,14 @@ length_is TlvE (a ∷ b ∷ c ∷ octets) long fits = absurd (omega arith)
 
 -- ---- what is there is split off
 
-split_again : (xs ys : List ℕ) (n : ℕ) → length xs ≡ n → split_at n (xs ++ ys) ≡ Ok (xs, ys)
+split_again : (xs ys : List ℕ) (n : ℕ) → length xs ≡ n → split_at the_cut n (xs ++ ys) ≡ Ok (xs, ys)
 split_again xs ys n long =
     rw (le-ltb (length (xs ++ ys)) n (omega (arith, length-append xs ys)), take_at xs ys n long, drop_at xs ys n long) refl
 
-split_short : (xs : List ℕ) (n : ℕ) → length xs < n → split_at n xs ≡ Err the_cut
+split_short : (xs : List ℕ) (n : ℕ) → length xs < n → split_at the_cut n xs ≡ Err the_cut
 split_short xs n lt = rw (lt-ltb (length xs) n lt) refl
 
-split_long : (xs : List ℕ) (n : ℕ) → n ≤ length xs → split_at n xs ≡ Ok (take n xs, drop n xs)
+split_long : (xs : List ℕ) (n : ℕ) → n ≤ length xs → split_at the_cut n xs ≡ Ok (take n xs, drop n xs)
 split_long xs n le = rw (le-ltb (length xs) n le) refl
 
 -- ---- the front, from the grammar

@@ -1,37 +1,20 @@
 -- A walk goes on behind the element at the front, however many steps it was given.
-use Rattle.std.proofs.Common.{◌≡◌, ℕ, zero, suc, ◌<◌, ◌≤◌, Bool, true, false, cond, ltb, List, [], ◌∷◌, length, take, drop, Option, Some, None, Result, Ok, Err, refl, sym, ap, ◌∙◌, arith, eqb, ◌≢◌, eq-eqb, option_map}
+use Rattle.std.proofs.Common.{◌≡◌, ℕ, zero, suc, ◌<◌, ◌≤◌, Bool, true, false, cond, List, [], ◌∷◌, length, Option, Some, None, Result, Ok, Err, refl, sym, ap, ◌∙◌, arith, eqb, ◌≢◌, eq-eqb, option_map}
 use Rattle.std.specs.List.{find}
-use Rattle.std.proofs.lemmas.Bool.{ltb-false, ne_eqb}
+use Rattle.std.proofs.lemmas.Bool.{ne_eqb}
 use Rattle.std.proofs.lemmas.List.{length-drop}
 use Rattle.octets.specs.declared.element.Entry.{Entry}
 use Rattle.octets.specs.declared.element.Format.{Format}
 use Rattle.octets.specs.declared.element.Cut.{Cut}
 use Rattle.octets.specs.Element.{Element, element, format_in}
-use Rattle.octets.specs.Walk.{◌>>=◌, the_cut, width_of, size_by, split_at, element_at, front_by, front_of, Walked, walked_by, walk_within, walk, first_of}
+use Rattle.octets.proofs.Steps.{bind_ok, split_ok}
+use Rattle.octets.specs.Answer.{◌>>=◌}
+use Rattle.octets.specs.Front.{split_at}
+use Rattle.octets.specs.Walk.{the_cut, width_of, size_by, element_at, front_by, front_of, Walked, walked_by, walk_within, walk, first_of}
 
--- the value of a step that was not cut
-pub bind_ok : {A B : Type 0} (r : Result A Cut) (f : A → Result B Cut) (y : B) → (r >>= f) ≡ Ok y → (x : A) × (r ≡ Ok x) × (f x ≡ Ok y)
-bind_ok (Ok x) f y e = (x, refl, e)
-bind_ok (Err d) f y e = absurd cc
-
--- what is split off is there
-pub record IsSplit (size : ℕ) (octets : List ℕ) (p : List ℕ × List ℕ) : Type 0 where
-  pub long : size ≤ length octets
-  pub front : take size octets ≡ p.0
-  pub back : drop size octets ≡ p.1
-
-guard : (b : Bool) (x y : List ℕ × List ℕ) → cond b (Err the_cut) (Ok x) ≡ Ok y → (b ≡ false) × (x ≡ y)
-guard true x y e = absurd cc
-guard false x y e = (refl, cc)
-
-pub split_ok : (size : ℕ) (octets : List ℕ) (p : List ℕ × List ℕ) → split_at size octets ≡ Ok p → IsSplit size octets p
-split_ok size octets p e =
-    let g = guard (ltb (length octets) size) (take size octets, drop size octets) p e in
-    record { long = ltb-false _ _ g.0; front = ap (λ (q : List ℕ × List ℕ). q.0) g.1; back = ap (λ (q : List ℕ × List ℕ). q.1) g.1 }
-
-split_rest : (size : ℕ) (octets : List ℕ) (p : List ℕ × List ℕ) → split_at size octets ≡ Ok p → length p.1 ≤ length octets
+split_rest : (size : ℕ) (octets : List ℕ) (p : List ℕ × List ℕ) → split_at the_cut size octets ≡ Ok p → length p.1 ≤ length octets
 split_rest size octets p e =
-    let s = split_ok size octets p e in
+    let s = split_ok the_cut size octets p e in
     omega (arith, length-drop size octets, ap length s.back)
 
 some_is : (f g : Element × List ℕ) → (let a : Result (Option (Element × List ℕ)) Cut = Ok (Some f) in a) ≡ Ok (Some g) → f ≡ g
@@ -39,8 +22,8 @@ some_is f g e = cc
 
 element_rest : (id : ℕ) (format : Format) (octets : List ℕ) (f : Element × List ℕ) → element_at id format octets ≡ Ok (Some f) → length f.1 ≤ length octets
 element_rest id format octets f e =
-    let a = bind_ok (split_at (width_of format) octets) (λ size. split_at (size_by format size.0) size.1 >>= λ value. Ok (Some (element id value.0, value.1))) (Some f) e in
-    let b = bind_ok (split_at (size_by format a.0.0) a.0.1) (λ value. Ok (Some (element id value.0, value.1))) (Some f) a.2 in
+    let a = bind_ok (split_at the_cut (width_of format) octets) (λ size. split_at the_cut (size_by format size.0) size.1 >>= λ value. Ok (Some (element id value.0, value.1))) (Some f) e in
+    let b = bind_ok (split_at the_cut (size_by format a.0.0) a.0.1) (λ value. Ok (Some (element id value.0, value.1))) (Some f) a.2 in
     let first = split_rest (width_of format) octets a.0 a.1 in
     let second = split_rest (size_by format a.0.0) a.0.1 b.0 b.1 in
     let is = some_is (element id b.0.0, b.0.1) f b.2 in

@@ -1,5 +1,7 @@
+pub mod Answer
 pub mod Element
 pub mod Field
+pub mod Front
 pub mod Lists
 pub mod Refusal
 pub mod Walk

@@ -1,11 +1,13 @@
 -- The elements of octets as a function: the walk from the front, an element a step.
-use Rattle.std.specs.Prelude.{ℕ, zero, suc, ◌+◌, ◌*◌, Bool, true, false, nat_lt, ◌==◌, if◌then◌else◌, List, [], ◌∷◌, length, take, drop, slice_index, Option, Some, None, option_map, Result, Ok, Err}
+use Rattle.std.specs.Prelude.{ℕ, zero, suc, ◌+◌, ◌*◌, Bool, true, false, ◌==◌, List, [], ◌∷◌, length, slice_index, Option, Some, None, option_map, Result, Ok, Err}
 use Rattle.std.specs.List.{find}
 use Rattle.octets.specs.declared.element.Entry.{Entry}
 use Rattle.octets.specs.declared.element.Cut.{Cut}
 use Rattle.octets.specs.declared.element.Format.{Format}
 use Rattle.octets.specs.declared.element.Format.TheVariants.{Tv, Tlv, TlvE}
+use Rattle.octets.specs.Answer.{◌>>=◌}
 use Rattle.octets.specs.Element.{Element, element, format_in}
+use Rattle.octets.specs.Front.{split_at}
 
 -- how many octets of length stand before the value
 abbrev pub width_of : Format → ℕ
@@ -19,27 +21,14 @@ size_by (Tv n) octets = n
 size_by Tlv octets = slice_index octets 0
 size_by TlvE octets = 256 * slice_index octets 0 + slice_index octets 1
 
-infixl 10 ◌>>=◌
-abbrev pub ◌>>=◌ : {A B : Type 0} → Result A Cut → (A → Result B Cut) → Result B Cut
-(Ok x) >>= f = f x
-(Err e) >>= f = Err e
-
-abbrev pub seen : {A B : Type 0} → (A → B) → Result A Cut → Result B Cut
-seen view (Ok x) = Ok (view x)
-seen view (Err e) = Err e
-
 abbrev pub the_cut : Cut
 the_cut = record {}
-
--- the first octets, this many, and those behind them
-abbrev pub split_at : ℕ → List ℕ → Result (List ℕ × List ℕ) Cut
-split_at size octets = if nat_lt (length octets) size then Err the_cut else Ok (take size octets, drop size octets)
 
 -- the element behind an identifier of this format
 abbrev pub element_at : ℕ → Format → List ℕ → Result (Option (Element × List ℕ)) Cut
 element_at id format octets = do
-  size ← split_at (width_of format) octets
-  value ← split_at (size_by format size.0) size.1
+  size ← split_at the_cut (width_of format) octets
+  value ← split_at the_cut (size_by format size.0) size.1
   Ok (Some (element id value.0, value.1))
 
 abbrev pub front_by : ℕ → Option Format → List ℕ → Result (Option (Element × List ℕ)) Cut

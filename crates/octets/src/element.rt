@@ -1,9 +1,11 @@
 ghost use Rattle.std.specs.Prelude.{◌≡◌, ◌++◌, ℕ, Bool, true, false, List, length, option_map, OnErr, OnOk};
 ghost use Rattle.octets.specs.Element.{AreElements, AreOctets, Element, HasLength, Stops, element, element_text, format_in};
 ghost use Rattle.octets.specs.Field.{AllFit, Carries, Field, IsSized, are_distinct, fields_text};
-ghost use Rattle.octets.specs.Walk.{width_of, size_by, split_at, front_of, seen, walk, walked, first_of};
+ghost use Rattle.octets.specs.Answer.{seen};
+ghost use Rattle.octets.specs.Walk.{width_of, size_by, front_of, walk, walked, first_of};
 
 use crate::Memory;
+use crate::front::split;
 
 /// The format of an information element behind its identifier (TS 24.007 clause 11.2.1.1).
 #[derive(Clone, Copy, Debug, PartialEq, Eq)]
@@ -24,11 +26,11 @@ pub struct Entry {
 }
 
 /// Octets that end within an element.
-#[derive(Clone, Copy, Debug, PartialEq, Eq)]
+#[derive(Clone, Copy)]
 struct Cut;
 
 /// An element at the front of octets, and the octets behind it.
-#[derive(Clone, Copy, Debug)]
+#[derive(Clone, Copy)]
 struct Found<'a> {
     id: u8,
     value: &'a [u8],
@@ -55,7 +57,7 @@ impl Format {
         match self {
             Format::Tv(size) => size as usize,
             Format::Tlv => length_octets[0] as usize,
-            Format::TlvE => 256 * length_octets[0] as usize + length_octets[1] as usize,
+            Format::TlvE => usize::from(u16::from_be_bytes([length_octets[0], length_octets[1]])),
         }
     }
 }
@@ -70,16 +72,6 @@ pub fn format_of(table: &[Entry], id: u8) -> Option<Format>
         .map(|entry| entry.format)
 }
 
-/// The first octets, this many, and those behind them.
-fn split(octets: &[u8], size: usize) -> Result<(&[u8], &[u8]), Cut>
-    ensures { seen (λ p. (p.0.now, p.1.now)) result ≡ split_at size octets.now }
-{
-    if octets.len() < size {
-        return Err(Cut);
-    }
-    Ok((&octets[..size], &octets[size..]))
-}
-
 /// The element at the front of the octets; none at their end, or at an identifier outside the table.
 fn front<'a>(table: &[Entry], octets: &'a [u8]) -> Result<Option<Found<'a>>, Cut>
     ensures { seen (option_map (λ f. (element f.id f.value.now, f.rest.now))) result ≡ front_of table.now octets.now }
@@ -90,8 +82,8 @@ fn front<'a>(table: &[Entry], octets: &'a [u8]) -> Result<Option<Found<'a>>, Cut
     let Some(format) = format_of(table, *id) else {
         return Ok(None);
     };
-    let (length_octets, rest) = split(rest, format.width())?;
-    let (value, rest) = split(rest, format.size(length_octets))?;
+    let (length_octets, rest) = split(rest, format.width(), Cut)?;
+    let (value, rest) = split(rest, format.size(length_octets), Cut)?;
     Ok(Some(Found {
         id: *id,
         value,
@@ -146,8 +138,9 @@ pub fn append(text: &mut Vec<u8>, format: Format, id: u8, value: &[u8]) -> Resul
         Format::Tv(_) => {}
         Format::Tlv => text.push_reserved(size as u8),
         Format::TlvE => {
-            text.push_reserved((size / 256) as u8);
-            text.push_reserved((size % 256) as u8);
+            let [high, low] = (size as u16).to_be_bytes();
+            text.push_reserved(high);
+            text.push_reserved(low);
         }
     }
     text.extend_from_slice(value)?;
@@ -172,40 +165,3 @@ pub fn written_fields_are_carried()
         AllFit table fields → are_distinct fields ≡ true → Stops table more →
         (es : List Element) × AreElements table (fields_text table fields ++ more) es false × Carries es fields }
 {}
-
-#[cfg(test)]
-mod tests {
-    use super::*;
-    use std::test::Fail;
-
-    const TABLE: [Entry; 3] = [
-        Entry {
-            id: 0x01,
-            format: Format::Tv(1),
-        },
-        Entry {
-            id: 0x0b,
-            format: Format::TlvE,
-        },
-        Entry {
-            id: 0x1a,
-            format: Format::Tlv,
-        },
-    ];
-
-    #[test]
-    fn elements_of_each_format_are_appended_and_found(rt: HostRuntime) -> Result<(), Fail> {
-        let mut text = Vec::new(rt.alloc());
-        append(&mut text, Format::Tv(1), 0x01, &[0x41])?;
-        append(&mut text, Format::TlvE, 0x0b, &[0x03, 0x45])?;
-        append(&mut text, Format::Tlv, 0x1a, &[0x60])?;
-        let octets = [0x01, 0x41, 0x0b, 0x00, 0x02, 0x03, 0x45, 0x1a, 0x01, 0x60];
-        assert_eq!(rt; text.as_slice(), octets.as_slice());
-
-        assert!(rt; first_value(&TABLE, &octets, 0x0b) == Some([0x03, 0x45].as_slice()));
-        assert!(rt; first_value(&TABLE, &octets, 0x02).is_none());
-        assert!(rt; !is_cut(&TABLE, &octets));
-        assert!(rt; is_cut(&TABLE, &octets[..9]));
-        Ok(())
-    }
-}

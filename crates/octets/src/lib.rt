@@ -5,5 +5,6 @@ pub use memory::Memory;
 pub use octets::Octets;
 
 pub mod element;
+pub mod front;
 mod memory;
 mod octets;

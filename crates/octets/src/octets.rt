@@ -1,4 +1,4 @@
-ghost use Rattle.std.specs.Prelude.{◌≡◌, ◌↔◌, [], length, IfOk, IsTrue};
+ghost use Rattle.std.specs.Prelude.{◌≡◌, ◌↔◌, [], length, option_map, IfOk, IsTrue};
 
 use crate::Memory;
 use std::alloc::Global;
@@ -35,6 +35,16 @@ impl Octets {
         })
     }
 
+    /// A copy of the octets of a slice that may be absent.
+    pub fn copy_optional(alloc: Global, octets: Option<&[u8]>) -> Result<Option<Octets>, Memory>
+        ensures { IfOk result (λ copy. copy ≡ option_map (λ o. o.now) octets.entry) }
+    {
+        match octets {
+            Some(octets) => Ok(Some(Octets::copy(alloc, octets)?)),
+            None => Ok(None),
+        }
+    }
+
     /// The octets, in order.
     pub fn as_slice(&self) -> &[u8]
         ensures { result.now ≡ self.now }
@@ -62,23 +72,5 @@ impl Octets {
     {
         let Octets { octets } = self;
         octets
-    }
-}
-
-#[cfg(test)]
-mod tests {
-    use super::*;
-    use std::test::Fail;
-
-    #[test]
-    fn octets_are_kept(rt: HostRuntime) -> Result<(), Fail> {
-        let message = Octets::copy(rt.alloc(), &[0x05, 0x24, 0x71])?;
-        assert_eq!(rt; message.as_slice(), [0x05, 0x24, 0x71].as_slice());
-        assert_eq!(rt; message.len(), 3);
-        assert!(rt; !message.is_empty());
-        let same = Octets::new(message.into_vec());
-        assert_eq!(rt; same.into_vec().as_slice(), [0x05, 0x24, 0x71].as_slice());
-        assert!(rt; Octets::new(Vec::new(rt.alloc())).is_empty());
-        Ok(())
     }
 }
