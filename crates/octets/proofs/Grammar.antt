@@ -9,7 +9,7 @@ use Rattle.octets.specs.declared.element.Format.{Format}
 use Rattle.octets.specs.declared.element.Format.TheVariants.{Tv, Tlv, TlvE}
 use Rattle.octets.specs.Element.{Element, element, AreOctets, format_in, length_octets, HasSize, IsElement, Stops, BreaksOff, AreElements}
 use Rattle.octets.specs.Front.{split_at}
-use Rattle.octets.specs.Walk.{the_cut, width_of, size_by, element_at, front_by, front_of, Walked, walked_by, walk}
+use Rattle.octets.specs.Walk.{the_cut, width_of, size_by, element_at, front_by, front_of, Finding, finding_by, walk}
 use Rattle.octets.proofs.Walks.{front-shorter, walk-front}
 
 -- ---- octets of a list, and of its parts
@@ -137,7 +137,7 @@ front_stops : (table : List Entry) (octets : List ℕ) → Stops table octets �
 front_stops table [] h = refl
 front_stops table (id ∷ octets) h = rw h refl
 
--- the octets that are these elements, cut or not, are walked so
+-- the octets that are these elements, cut or not, are finding so
 pub walk_only : (table : List Entry) (octets : List ℕ) (es : List Element) (is_cut : Bool) → AreElements table octets es is_cut → walk table octets ≡ record { elements = es; is_cut = is_cut }
 walk_only table octets [] true are = walk-front table octets (Err the_cut) (front_short table octets are)
 walk_only table octets [] false are = walk-front table octets (Ok None) (front_stops table octets are)
@@ -145,7 +145,7 @@ walk_only table octets (e ∷ es) is_cut are =
     let text = are.0 in
     let rest = are.1 in
     walk-front table octets (Ok (Some (e, rest))) (ap (front_of table) are.3 ∙ front_again table e text rest are.2)
-    ∙ ap (λ (w : Walked). record { elements = e ∷ w.elements; is_cut = w.is_cut }) (walk_only table rest es is_cut are.4)
+    ∙ ap (λ (w : Finding). record { elements = e ∷ w.elements; is_cut = w.is_cut }) (walk_only table rest es is_cut are.4)
 
 -- ---- the grammar, from the front
 
@@ -236,16 +236,16 @@ front_is table (id ∷ octets) fits = front_by_is table id octets (format_in tab
 -- what a walk found, by its front and the walk behind it
 found_by : (table : List Entry) (octets : List ℕ) (front : Result (Option (Element × List ℕ)) Cut) → FrontIs table octets front
     → ((f : Element × List ℕ) → front ≡ Ok (Some f) → AreElements table f.1 (walk table f.1).elements (walk table f.1).is_cut)
-    → AreElements table octets (walked_by front (walk table)).elements (walked_by front (walk table)).is_cut
+    → AreElements table octets (finding_by front (walk table)).elements (finding_by front (walk table)).is_cut
 found_by table octets (Err e) is behind = is
 found_by table octets (Ok None) is behind = is
 found_by table octets (Ok (Some f)) is behind = (is.0, f.1, is.1, is.2, behind f refl)
 
 found_within : (table : List Entry) (n : ℕ) (octets : List ℕ) → length octets ≤ n → AreOctets octets → AreElements table octets (walk table octets).elements (walk table octets).is_cut
-found_within table zero [] le fits = subst (λ (w : Walked). AreElements table [] w.elements w.is_cut) (sym (walk-front table [] (Ok None) refl)) tt
+found_within table zero [] le fits = subst (λ (w : Finding). AreElements table [] w.elements w.is_cut) (sym (walk-front table [] (Ok None) refl)) tt
 found_within table zero (x ∷ octets) le fits = absurd (omega arith)
 found_within table (suc n) octets le fits =
-    subst (λ (w : Walked). AreElements table octets w.elements w.is_cut) (sym (walk-front table octets (front_of table octets) refl))
+    subst (λ (w : Finding). AreElements table octets w.elements w.is_cut) (sym (walk-front table octets (front_of table octets) refl))
     (found_by table octets (front_of table octets) (front_is table octets fits)
     (λ f e.
     let lt = front-shorter table octets f e in

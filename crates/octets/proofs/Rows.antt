@@ -7,7 +7,7 @@ use Rattle.octets.specs.Element.{element}
 use Rattle.octets.specs.Field.{field, fields_text, are_distinct}
 use Rattle.octets.specs.Front.{octet_at, split_at, counted_at, counted_text}
 use Rattle.octets.specs.Refusal.{first_refusal}
-use Rattle.octets.specs.Walk.{walk, walked, first_of}
+use Rattle.octets.specs.Walk.{walk, finding, first_of}
 
 abbrev table : List Entry
 table = record { id = 0x01; format = Tv 1 } ∷ record { id = 0x0b; format = TlvE } ∷ record { id = 0x1a; format = Tlv } ∷ []
@@ -15,32 +15,32 @@ table = record { id = 0x01; format = Tv 1 } ∷ record { id = 0x0b; format = Tlv
 -- ---- the walk
 
 each_format : walk table (0x01 ∷ 0x41 ∷ 0x0b ∷ 0x00 ∷ 0x02 ∷ 0x03 ∷ 0x45 ∷ 0x1a ∷ 0x01 ∷ 0x60 ∷ []) ≡
-    walked (element 0x01 (0x41 ∷ []) ∷ element 0x0b (0x03 ∷ 0x45 ∷ []) ∷ element 0x1a (0x60 ∷ []) ∷ []) false
+    finding (element 0x01 (0x41 ∷ []) ∷ element 0x0b (0x03 ∷ 0x45 ∷ []) ∷ element 0x1a (0x60 ∷ []) ∷ []) false
 unfolding walk
 each_format = refl
 
-value_cut : walk table (0x01 ∷ 0x41 ∷ 0x1a ∷ 0x02 ∷ 0x60 ∷ []) ≡ walked (element 0x01 (0x41 ∷ []) ∷ []) true
+value_cut : walk table (0x01 ∷ 0x41 ∷ 0x1a ∷ 0x02 ∷ 0x60 ∷ []) ≡ finding (element 0x01 (0x41 ∷ []) ∷ []) true
 unfolding walk
 value_cut = refl
 
-length_cut : walk table (0x0b ∷ 0x00 ∷ []) ≡ walked [] true
+length_cut : walk table (0x0b ∷ 0x00 ∷ []) ≡ finding [] true
 unfolding walk
 length_cut = refl
 
-identifier_alone : walk table (0x01 ∷ []) ≡ walked [] true
+identifier_alone : walk table (0x01 ∷ []) ≡ finding [] true
 unfolding walk
 identifier_alone = refl
 
 -- the high octet of a length comes first: 258 octets are said to follow
-long_length : walk table (0x0b ∷ 0x01 ∷ 0x02 ∷ 0x03 ∷ []) ≡ walked [] true
+long_length : walk table (0x0b ∷ 0x01 ∷ 0x02 ∷ 0x03 ∷ []) ≡ finding [] true
 unfolding walk
 long_length = refl
 
-stops_at_unknown : walk table (0x1a ∷ 0x00 ∷ 0x02 ∷ 0x01 ∷ 0x41 ∷ []) ≡ walked (element 0x1a [] ∷ []) false
+stops_at_unknown : walk table (0x1a ∷ 0x00 ∷ 0x02 ∷ 0x01 ∷ 0x41 ∷ []) ≡ finding (element 0x1a [] ∷ []) false
 unfolding walk
 stops_at_unknown = refl
 
-nothing : walk table [] ≡ walked [] false
+nothing : walk table [] ≡ finding [] false
 unfolding walk
 nothing = refl
 

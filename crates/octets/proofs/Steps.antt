@@ -2,7 +2,8 @@
 use Rattle.std.proofs.Common.{◌≡◌, ◌⊎◌, ℕ, ◌≤◌, Bool, true, false, cond, ltb, List, [], ◌∷◌, length, take, drop, None, Result, Ok, Err, IfOk, refl, sym, ap, ◌∙◌, inl, inr}
 use Rattle.std.specs.Prelude.{IsOk}
 use Rattle.std.proofs.lemmas.Bool.{ltb-false}
-use Rattle.octets.specs.Answer.{◌>>=◌, seen, fault_of, Gives}
+use Rattle.std.specs.Result.{result_err}
+use Rattle.octets.specs.Answer.{◌>>=◌, result_map, Gives}
 use Rattle.octets.specs.Front.{octet_at, split_at, counted_at}
 use Rattle.octets.specs.Refusal.{RefusesBy}
 
@@ -14,9 +15,9 @@ bind_ok (Err fault) f y e = absurd cc
 pub ok_is : {A F : Type 0} (x y : A) → (let r : Result A F = Ok x in r) ≡ Ok y → x ≡ y
 ok_is x y e = cc
 
-pub seen_ok : {A B F : Type 0} (f : A → B) (r : Result A F) (y : B) → seen f r ≡ Ok y → (x : A) × (r ≡ Ok x) × (f x ≡ y)
-seen_ok {A} {B} {F} f (Ok x) y e = (x, refl, ok_is {A = B} {F = F} (f x) y e)
-seen_ok f (Err fault) y e = absurd cc
+pub result_map_ok : {A B F : Type 0} (f : A → B) (r : Result A F) (y : B) → result_map f r ≡ Ok y → (x : A) × (r ≡ Ok x) × (f x ≡ y)
+result_map_ok {A} {B} {F} f (Ok x) y e = (x, refl, ok_is {A = B} {F = F} (f x) y e)
+result_map_ok f (Err fault) y e = absurd cc
 
 -- what a test lets through
 pub guard : {A F : Type 0} (b : Bool) (fault : F) (r : Result A F) (y : A) → cond b (Err fault) r ≡ Ok y → (b ≡ false) × (r ≡ Ok y)
@@ -61,13 +62,13 @@ counted_ok fault octets p e =
 
 -- ---- what a call answers that gives what is read
 
-ok_none : {V F : Type 0} (read : Result V F) → IsOk read → fault_of read ≡ None
+ok_none : {V F : Type 0} (read : Result V F) → IsOk read → result_err read ≡ None
 ok_none (Ok v) h = refl
 ok_none (Err fault) h = absurd cc
 
-pub refused_by : {V F : Type 0} (memory : F) (r : Result V F) (read : Result V F) → Gives memory (λ v. v) r read → RefusesBy memory r (fault_of read)
-refused_by memory (Ok v) read g = ap fault_of g
-refused_by memory (Err fault) read (inl g) = inl (ap fault_of g)
+pub refused_by : {V F : Type 0} (memory : F) (r : Result V F) (read : Result V F) → Gives memory (λ v. v) r read → RefusesBy memory r (result_err read)
+refused_by memory (Ok v) read g = ap result_err g
+refused_by memory (Err fault) read (inl g) = inl (ap result_err g)
 refused_by memory (Err fault) read (inr g) = inr (g.0, ok_none read g.1)
 
 pub only_by : {V F : Type 0} (memory : F) (r : Result V F) (read : Result V F) (v : V) → read ≡ Ok v → Gives memory (λ v. v) r read → (r ≡ Ok v) ⊎ (r ≡ Err memory)

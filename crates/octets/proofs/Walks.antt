@@ -10,7 +10,7 @@ use Rattle.octets.specs.Element.{Element, element, format_in}
 use Rattle.octets.proofs.Steps.{bind_ok, split_ok}
 use Rattle.octets.specs.Answer.{◌>>=◌}
 use Rattle.octets.specs.Front.{split_at}
-use Rattle.octets.specs.Walk.{the_cut, width_of, size_by, element_at, front_by, front_of, Walked, walked_by, walk_within, walk, first_of}
+use Rattle.octets.specs.Walk.{the_cut, width_of, size_by, element_at, front_by, front_of, Finding, finding_by, walk_within, walk, first_of}
 
 split_rest : (size : ℕ) (octets : List ℕ) (p : List ℕ × List ℕ) → split_at the_cut size octets ≡ Ok p → length p.1 ≤ length octets
 split_rest size octets p e =
@@ -39,10 +39,10 @@ front-shorter table [] f e = absurd cc
 front-shorter table (id ∷ octets) f e = omega (arith, front_rest id (format_in table id) octets f e)
 
 -- two ways to go on that agree behind the front
-same_by : (front : Result (Option (Element × List ℕ)) Cut) (go on : List ℕ → Walked) → ((f : Element × List ℕ) → front ≡ Ok (Some f) → go f.1 ≡ on f.1) → walked_by front go ≡ walked_by front on
+same_by : (front : Result (Option (Element × List ℕ)) Cut) (go on : List ℕ → Finding) → ((f : Element × List ℕ) → front ≡ Ok (Some f) → go f.1 ≡ on f.1) → finding_by front go ≡ finding_by front on
 same_by (Err e) go on h = refl
 same_by (Ok None) go on h = refl
-same_by (Ok (Some f)) go on h = ap (λ (w : Walked). record { elements = f.0 ∷ w.elements; is_cut = w.is_cut }) (h f refl)
+same_by (Ok (Some f)) go on h = ap (λ (w : Finding). record { elements = f.0 ∷ w.elements; is_cut = w.is_cut }) (h f refl)
 
 -- steps enough are enough
 enough : (table : List Entry) (n m : ℕ) (octets : List ℕ) → length octets ≤ n → length octets ≤ m → walk_within table n octets ≡ walk_within table m octets
@@ -55,21 +55,21 @@ enough table (suc n) (suc m) octets le le' =
     same_by (front_of table octets) (walk_within table n) (walk_within table m)
     (λ f e. let lt = front-shorter table octets f e in enough table n m f.1 (omega arith) (omega arith))
 
-pub walk-front : (table : List Entry) (octets : List ℕ) (front : Result (Option (Element × List ℕ)) Cut) → front_of table octets ≡ front → walk table octets ≡ walked_by front (walk table)
+pub walk-front : (table : List Entry) (octets : List ℕ) (front : Result (Option (Element × List ℕ)) Cut) → front_of table octets ≡ front → walk table octets ≡ finding_by front (walk table)
 unfolding walk
-walk-front table [] front e = ap (λ r. walked_by r (λ rest. walk_within table (length rest) rest)) e
+walk-front table [] front e = ap (λ r. finding_by r (λ rest. walk_within table (length rest) rest)) e
 walk-front table (x ∷ octets) front e =
     same_by (front_of table (x ∷ octets)) (walk_within table (length octets)) (λ rest. walk_within table (length rest) rest)
     (λ f is. let lt = front-shorter table (x ∷ octets) f is in enough table (length octets) (length f.1) f.1 (omega arith) (omega arith))
-    ∙ ap (λ r. walked_by r (λ rest. walk_within table (length rest) rest)) e
+    ∙ ap (λ r. finding_by r (λ rest. walk_within table (length rest) rest)) e
 
 -- ---- what the two loops keep
 
-pub cut-front : (table : List Entry) (octets : List ℕ) (front : Result (Option (Element × List ℕ)) Cut) (total : Bool) → front ≡ front_of table octets → (walk table octets).is_cut ≡ total → (walked_by front (walk table)).is_cut ≡ total
-cut-front table octets front total e so_far = sym (ap (λ (w : Walked). w.is_cut) (walk-front table octets front (sym e))) ∙ so_far
+pub cut-front : (table : List Entry) (octets : List ℕ) (front : Result (Option (Element × List ℕ)) Cut) (total : Bool) → front ≡ front_of table octets → (walk table octets).is_cut ≡ total → (finding_by front (walk table)).is_cut ≡ total
+cut-front table octets front total e so_far = sym (ap (λ (w : Finding). w.is_cut) (walk-front table octets front (sym e))) ∙ so_far
 
-pub first-front : (table : List Entry) (octets : List ℕ) (front : Result (Option (Element × List ℕ)) Cut) (id : ℕ) (total : Option (List ℕ)) → front ≡ front_of table octets → first_of id (walk table octets).elements ≡ total → first_of id (walked_by front (walk table)).elements ≡ total
-first-front table octets front id total e so_far = sym (ap (λ (w : Walked). first_of id w.elements) (walk-front table octets front (sym e))) ∙ so_far
+pub first-front : (table : List Entry) (octets : List ℕ) (front : Result (Option (Element × List ℕ)) Cut) (id : ℕ) (total : Option (List ℕ)) → front ≡ front_of table octets → first_of id (walk table octets).elements ≡ total → first_of id (finding_by front (walk table)).elements ≡ total
+first-front table octets front id total e so_far = sym (ap (λ (w : Finding). first_of id w.elements) (walk-front table octets front (sym e))) ∙ so_far
 
 first_by : (b : Bool) (e : Element) (es : List Element) (id : ℕ) → eqb e.id id ≡ b → first_of id (e ∷ es) ≡ cond b (Some e.value) (first_of id es)
 first_by true e es id h = ap (λ b. option_map (λ (x : Element). x.value) (cond b (Some e) (find (λ (x : Element). eqb x.id id) es))) h

@@ -41,24 +41,24 @@ front_of table [] = Ok None
 front_of table (id ∷ octets) = front_by id (format_in table id) octets
 
 -- what a walk finds: the elements that are whole, and whether one is cut behind them
-pub record Walked : Type 0 where
+pub record Finding : Type 0 where
   pub elements : List Element
   pub is_cut : Bool
 
-abbrev pub walked : List Element → Bool → Walked
-walked es is_cut = record { elements = es; is_cut = is_cut }
+abbrev pub finding : List Element → Bool → Finding
+finding es is_cut = record { elements = es; is_cut = is_cut }
 
-abbrev pub walked_by : Result (Option (Element × List ℕ)) Cut → (List ℕ → Walked) → Walked
-walked_by (Err e) go = record { elements = []; is_cut = true }
-walked_by (Ok None) go = record { elements = []; is_cut = false }
-walked_by (Ok (Some f)) go = record { elements = f.0 ∷ (go f.1).elements; is_cut = (go f.1).is_cut }
+abbrev pub finding_by : Result (Option (Element × List ℕ)) Cut → (List ℕ → Finding) → Finding
+finding_by (Err e) go = record { elements = []; is_cut = true }
+finding_by (Ok None) go = record { elements = []; is_cut = false }
+finding_by (Ok (Some f)) go = record { elements = f.0 ∷ (go f.1).elements; is_cut = (go f.1).is_cut }
 
 -- no more steps than this
-abbrev pub walk_within : List Entry → ℕ → List ℕ → Walked
+abbrev pub walk_within : List Entry → ℕ → List ℕ → Finding
 walk_within table zero octets = record { elements = []; is_cut = false }
-walk_within table (suc n) octets = walked_by (front_of table octets) (walk_within table n)
+walk_within table (suc n) octets = finding_by (front_of table octets) (walk_within table n)
 
-unfoldable pub walk : List Entry → List ℕ → Walked
+unfoldable pub walk : List Entry → List ℕ → Finding
 walk table octets = walk_within table (length octets) octets
 
 -- the value of the first element with this identifier

@@ -1,8 +1,8 @@
 ghost use Rattle.std.specs.Prelude.{◌≡◌, ◌++◌, ℕ, Bool, true, false, List, length, option_map, OnErr, OnOk};
 ghost use Rattle.octets.specs.Element.{AreElements, AreOctets, Element, HasLength, Stops, element, element_text, format_in};
 ghost use Rattle.octets.specs.Field.{AllFit, Carries, Field, IsSized, are_distinct, fields_text};
-ghost use Rattle.octets.specs.Answer.{seen};
-ghost use Rattle.octets.specs.Walk.{width_of, size_by, front_of, walk, walked, first_of};
+ghost use Rattle.octets.specs.Answer.{result_map};
+ghost use Rattle.octets.specs.Walk.{width_of, size_by, front_of, walk, finding, first_of};
 
 use crate::Memory;
 use crate::front::split;
@@ -74,7 +74,7 @@ pub fn format_of(table: &[Entry], id: u8) -> Option<Format>
 
 /// The element at the front of the octets; none at their end, or at an identifier outside the table.
 fn front<'a>(table: &[Entry], octets: &'a [u8]) -> Result<Option<Found<'a>>, Cut>
-    ensures { seen (option_map (λ f. (element f.id f.value.now, f.rest.now))) result ≡ front_of table.now octets.now }
+    ensures { result_map (option_map (λ f. (element f.id f.value.now, f.rest.now))) result ≡ front_of table.now octets.now }
 {
     let Some((id, rest)) = octets.split_first() else {
         return Ok(None);
@@ -153,7 +153,7 @@ pub fn elements_are_one()
     ensures found { (table : List Entry) (octets : List ℕ) → AreOctets octets →
         AreElements table octets (walk table octets).elements (walk table octets).is_cut }
     ensures only { (table : List Entry) (octets : List ℕ) (es : List Element) (is_cut : Bool) →
-        AreElements table octets es is_cut → walk table octets ≡ walked es is_cut }
+        AreElements table octets es is_cut → walk table octets ≡ finding es is_cut }
     ensures sized { (table : List Entry) (octets : List ℕ) (es : List Element) (is_cut : Bool) (id : ℕ) (value : List ℕ) →
         AreOctets octets → AreElements table octets es is_cut → first_of id es ≡ Some value → IsSized table id value }
 {}

@@ -1,5 +1,5 @@
 ghost use Rattle.std.specs.Prelude.{◌≡◌, ◌++◌, ◌<◌, length, OnOk};
-ghost use Rattle.octets.specs.Answer.{seen};
+ghost use Rattle.octets.specs.Answer.{result_map};
 ghost use Rattle.octets.specs.Front.{octet_at, split_at, counted_at, counted_text};
 
 use crate::{Memory, Octets};
@@ -7,7 +7,7 @@ use crate::{Memory, Octets};
 /// The octet at the front, and the octets behind it; `fault` where there is none.
 #[tactic(auto, unfolding(crate::specs::Front::octet_at))]
 pub fn octet<F: Copy>(octets: &[u8], fault: F) -> Result<(u8, &[u8]), F>
-    ensures { seen (λ p. (p.0, p.1.now)) result ≡ octet_at fault octets.now }
+    ensures { result_map (λ p. (p.0, p.1.now)) result ≡ octet_at fault octets.now }
 {
     match octets.split_first() {
         Some((octet, rest)) => Ok((*octet, rest)),
@@ -17,7 +17,7 @@ pub fn octet<F: Copy>(octets: &[u8], fault: F) -> Result<(u8, &[u8]), F>
 
 /// The octets at the front, this many, and the octets behind them; `fault` where they are fewer.
 pub fn split<F: Copy>(octets: &[u8], size: usize, fault: F) -> Result<(&[u8], &[u8]), F>
-    ensures { seen (λ p. (p.0.now, p.1.now)) result ≡ split_at fault size octets.now }
+    ensures { result_map (λ p. (p.0.now, p.1.now)) result ≡ split_at fault size octets.now }
 {
     if octets.len() < size {
         return Err(fault);
@@ -28,7 +28,7 @@ pub fn split<F: Copy>(octets: &[u8], size: usize, fault: F) -> Result<(&[u8], &[
 /// The value at the front that a length octet before it counts, and the octets behind it; `fault` where it is cut.
 #[tactic(auto, unfolding(crate::specs::Front::counted_at))]
 pub fn counted<F: Copy>(octets: &[u8], fault: F) -> Result<(&[u8], &[u8]), F>
-    ensures { seen (λ p. (p.0.now, p.1.now)) result ≡ counted_at fault octets.now }
+    ensures { result_map (λ p. (p.0.now, p.1.now)) result ≡ counted_at fault octets.now }
 {
     let (size, rest) = octet(octets, fault)?;
     split(rest, usize::from(size), fault)
