@@ -6,8 +6,8 @@ use Rattle.std.proofs.lemmas.Option.{slice_get_within, get_or_from_slice_get}
 use Rattle.std.specs.Prelude.{filter}
 use Rattle.octets.proofs.ListLemmas.{slice_get-append, slice_get-append_seam}
 use Rattle.dtap_codec.specs.Message.{is_flow_message}
-use Rattle.dtap_codec.specs.Number.{numbered}
-use Rattle.dtap_codec.specs.Places.{numbered_from, IsClear, AreClear, Carries, Rise}
+use Rattle.dtap_codec.specs.Number.{with_number}
+use Rattle.dtap_codec.specs.Places.{with_numbers_from, IsClear, AreClear, Carries, Rise}
 use Rattle.dtap_codec.specs.Places.Rise.{over, other, next, again}
 
 -- the messages up to a place, and the one there, are those up to the next place
@@ -47,23 +47,23 @@ Rise-cut (x ∷ xs) ys (again e c rise) = let cut = Rise-cut xs ys rise in (cut.
 
 -- Where the messages of the flow in xs are those sent after the first ones, each with its number, their places rise to
 -- the end of the sent list.
-pub Rise-numbered_from : (m : ℕ) (sent : List (List ℕ)) (xs before after : List (List ℕ)) (n : ℕ) → before ++ after ≡ sent → length before ≡ n → AreClear after → filter is_flow_message xs ≡ numbered_from m n after → Rise m sent n xs (length sent)
-Rise-numbered_from m sent [] before [] n split place clear is =
+pub Rise-with_numbers_from : (m : ℕ) (sent : List (List ℕ)) (xs before after : List (List ℕ)) (n : ℕ) → before ++ after ≡ sent → length before ≡ n → AreClear after → filter is_flow_message xs ≡ with_numbers_from m n after → Rise m sent n xs (length sent)
+Rise-with_numbers_from m sent [] before [] n split place clear is =
     let end : n ≡ length sent = omega (arith, ap length split, length-append before []) in
     subst (λ (k : ℕ). Rise m sent n [] k) end (over n)
-Rise-numbered_from m sent [] before (y ∷ ys) n split place clear is = cc
-Rise-numbered_from m sent (x ∷ xs) before [] n split place clear is =
+Rise-with_numbers_from m sent [] before (y ∷ ys) n split place clear is = cc
+Rise-with_numbers_from m sent (x ∷ xs) before [] n split place clear is =
     elim (cases_Bool (is_flow_message x)) [
       | inl flow ↦ let none : x ∷ filter is_flow_message xs ≡ [] = sym (cond-true (is_flow_message x) _ _ flow) ∙ is in cc
-      | inr flow ↦ other flow (Rise-numbered_from m sent xs before [] n split place clear (sym (cond-false (is_flow_message x) _ _ flow) ∙ is))
+      | inr flow ↦ other flow (Rise-with_numbers_from m sent xs before [] n split place clear (sym (cond-false (is_flow_message x) _ _ flow) ∙ is))
     ]
-Rise-numbered_from m sent (x ∷ xs) before (y ∷ ys) n split place clear is =
+Rise-with_numbers_from m sent (x ∷ xs) before (y ∷ ys) n split place clear is =
     elim (cases_Bool (is_flow_message x)) [
       | inl flow ↦
-          let first : x ∷ filter is_flow_message xs ≡ numbered (n % m) y ∷ numbered_from m (n + 1) ys = sym (cond-true (is_flow_message x) _ _ flow) ∙ is in
+          let first : x ∷ filter is_flow_message xs ≡ with_number (n % m) y ∷ with_numbers_from m (n + 1) ys = sym (cond-true (is_flow_message x) _ _ flow) ∙ is in
           let here : slice_get sent n ≡ Some y = ap (λ (list : List (List ℕ)). slice_get list n) (sym split) ∙ ap (λ (k : ℕ). slice_get (before ++ y ∷ ys) k) (sym place) ∙ slice_get-append_seam before y ys in
           let regrouped : (before ++ y ∷ []) ++ ys ≡ sent = append_assoc before (y ∷ []) ys ∙ split in
           let longer : length (before ++ y ∷ []) ≡ n + 1 = length-append before (y ∷ []) ∙ ap (λ (k : ℕ). k + 1) place in
-          next (record { message = y; is_sent = here; is_clear = clear.0; carries = cc }) (Rise-numbered_from m sent xs (before ++ y ∷ []) ys (n + 1) regrouped longer clear.1 cc)
-      | inr flow ↦ other flow (Rise-numbered_from m sent xs before (y ∷ ys) n split place clear (sym (cond-false (is_flow_message x) _ _ flow) ∙ is))
+          next (record { message = y; is_sent = here; is_clear = clear.0; carries = cc }) (Rise-with_numbers_from m sent xs (before ++ y ∷ []) ys (n + 1) regrouped longer clear.1 cc)
+      | inr flow ↦ other flow (Rise-with_numbers_from m sent xs before (y ∷ ys) n split place clear (sym (cond-false (is_flow_message x) _ _ flow) ∙ is))
     ]

@@ -14,10 +14,10 @@ number_in m (first ∷ second ∷ rest) = if is_flow_protocol (first % 16) then 
 number_in m _ = None
 
 -- the message with this number: bits 6 to 1 of the second octet and all other octets stay
-abbrev pub numbered : ℕ → List ℕ → List ℕ
-numbered number (first ∷ second ∷ rest) = first ∷ (second % 64 + 64 * number) ∷ rest
-numbered number message = message
+abbrev pub with_number : ℕ → List ℕ → List ℕ
+with_number number (first ∷ second ∷ rest) = first ∷ (second % 64 + 64 * number) ∷ rest
+with_number number message = message
 
 -- the message with the bits of the number cleared
-abbrev pub unnumbered : List ℕ → List ℕ
-unnumbered message = numbered 0 message
+abbrev pub without_number : List ℕ → List ℕ
+without_number message = with_number 0 message

@@ -2,17 +2,17 @@
 -- at place k carries the number k modulo m (TS 24.007 clause 11.2.3.2.3). Here sent is that list, numbers cleared.
 use Rattle.std.specs.Prelude.{◌≡◌, ℕ, ◌+◌, ◌%◌, true, false, Some, List, [], ◌∷◌, slice_get}
 use Rattle.dtap_codec.specs.Message.{is_flow_message}
-use Rattle.dtap_codec.specs.Number.{numbered, unnumbered}
+use Rattle.dtap_codec.specs.Number.{with_number, without_number}
 
 -- these messages, which stand from place k on, each with its place modulo m
-abbrev pub numbered_from : ℕ → ℕ → List (List ℕ) → List (List ℕ)
-numbered_from m k [] = []
-numbered_from m k (message ∷ messages) = numbered (k % m) message ∷ numbered_from m (k + 1) messages
+abbrev pub with_numbers_from : ℕ → ℕ → List (List ℕ) → List (List ℕ)
+with_numbers_from m k [] = []
+with_numbers_from m k (message ∷ messages) = with_number (k % m) message ∷ with_numbers_from m (k + 1) messages
 
 -- a message of the flow whose number is cleared
 pub record IsClear (message : List ℕ) : Type 0 where
   pub is_flow : is_flow_message message ≡ true
-  pub cleared : unnumbered message ≡ message
+  pub cleared : without_number message ≡ message
 
 -- each message is of the flow, its number cleared
 abbrev pub AreClear : List (List ℕ) → Type 0
@@ -24,7 +24,7 @@ pub record Carries (m : ℕ) (sent : List (List ℕ)) (k : ℕ) (x : List ℕ) :
   pub message : List ℕ
   pub is_sent : slice_get sent k ≡ Some message
   pub is_clear : IsClear message
-  pub carries : x ≡ numbered (k % m) message
+  pub carries : x ≡ with_number (k % m) message
 
 -- The messages of the flow in xs carry places that rise by steps of 0 or 1, from n or the one before it up to k,
 -- which it doesn't reach: one that is not of the flow may stand anywhere, then the next place comes, or the last one again.

@@ -1,6 +1,6 @@
 ghost use Rattle.std.specs.Prelude.{◌≡◌, ◌<◌, IfOk, true};
 ghost use Rattle.dtap_codec.specs.Message.{is_flow_message};
-ghost use Rattle.dtap_codec.specs.Number.{count_of, number_in, numbered, unnumbered};
+ghost use Rattle.dtap_codec.specs.Number.{count_of, number_in, with_number, without_number};
 
 use crate::is_flow;
 use octets::Memory;
@@ -43,7 +43,7 @@ pub fn with_number(
 ) -> Result<Vec<u8>, Memory>
     requires flow { is_flow_message message.now ≡ true }
     requires number { number < count_of modulus }
-    ensures { IfOk result (λ copy. copy.items ≡ numbered number message.now) }
+    ensures { IfOk result (λ copy. copy.items ≡ with_number number message.now) }
 {
     let mut copy = Vec::from_slice(alloc, message)?;
     copy[1] = copy[1] & 0x3f | number << 6;
@@ -53,7 +53,7 @@ pub fn with_number(
 /// The message with the bits of its send sequence number cleared, as the network sends it, all other bits as they were.
 pub fn without_number(alloc: Global, message: &[u8], modulus: Modulus) -> Result<Vec<u8>, Memory>
     requires { is_flow_message message.now ≡ true }
-    ensures { IfOk result (λ copy. copy.items ≡ unnumbered message.now) }
+    ensures { IfOk result (λ copy. copy.items ≡ without_number message.now) }
 {
     let _ = modulus;
     let mut copy = Vec::from_slice(alloc, message)?;

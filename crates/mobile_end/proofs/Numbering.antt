@@ -4,11 +4,11 @@ use Rattle.std.proofs.lemmas.Bool.{cond-true, cond-false, cond_both, ltb-true}
 use Rattle.std.proofs.lemmas.List.{append-nil}
 use Rattle.std.proofs.lemmas.List.Elements.{filter-append}
 use Rattle.dtap_codec.specs.Message.{is_flow_message, is_flow_protocol}
-use Rattle.dtap_codec.specs.Number.{numbered}
-use Rattle.dtap_codec.specs.Places.{numbered_from, IsClear, AreClear}
+use Rattle.dtap_codec.specs.Number.{with_number}
+use Rattle.dtap_codec.specs.Places.{with_numbers_from, IsClear, AreClear}
 use Rattle.dtap_codec.specs.declared.sapi.Sapi.{Sapi}
 use Rattle.dtap_codec.specs.declared.sapi.Sapi.TheVariants.{Zero, Three}
-use Rattle.dtap_codec.proofs.Numbers.{is_flow-numbered, numbered_from-append, AreClear-push}
+use Rattle.dtap_codec.proofs.Numbers.{is_flow-with_number, with_numbers_from-append, AreClear-push}
 use Rattle.link_model.specs.AirLink.{offered}
 use Rattle.link_model.specs.declared.air_link.Air.{Air}
 use Rattle.link_model.specs.declared.air_link.Air.TheVariants.{Empty, Given, Reached}
@@ -53,12 +53,12 @@ IsClear-flow (first ∷ second ∷ rest) clear flow =
     record { is_flow = flow; cleared = ap (λ (octet : ℕ). first ∷ octet ∷ rest) low }
 
 -- one more message of the flow
-numbers-flow : (m b : ℕ) (front after : List (List ℕ)) (message : List ℕ) → is_flow_message message ≡ true → filter is_flow_message front ≡ numbered_from m b after → filter is_flow_message (front ++ numbered ((b + length after) % m) message ∷ []) ≡ numbered_from m b (after ++ message ∷ [])
+numbers-flow : (m b : ℕ) (front after : List (List ℕ)) (message : List ℕ) → is_flow_message message ≡ true → filter is_flow_message front ≡ with_numbers_from m b after → filter is_flow_message (front ++ with_number ((b + length after) % m) message ∷ []) ≡ with_numbers_from m b (after ++ message ∷ [])
 numbers-flow m b front after message flow is =
-    let last : List ℕ = numbered ((b + length after) % m) message in
-    let kept : filter is_flow_message (last ∷ []) ≡ last ∷ [] = cond-true (is_flow_message last) (last ∷ []) [] (is_flow-numbered ((b + length after) % m) message ∙ flow) in
+    let last : List ℕ = with_number ((b + length after) % m) message in
+    let kept : filter is_flow_message (last ∷ []) ≡ last ∷ [] = cond-true (is_flow_message last) (last ∷ []) [] (is_flow-with_number ((b + length after) % m) message ∙ flow) in
     filter-append is_flow_message front (last ∷ []) ∙ ap (λ (xs : List (List ℕ)). xs ++ filter is_flow_message (last ∷ [])) is
-    ∙ ap (λ (ys : List (List ℕ)). numbered_from m b after ++ ys) kept ∙ sym (numbered_from-append m b after (message ∷ []))
+    ∙ ap (λ (ys : List (List ℕ)). with_numbers_from m b after ++ ys) kept ∙ sym (with_numbers_from-append m b after (message ∷ []))
 
 -- one more message of another protocol
 numbers-other : (front numbers : List (List ℕ)) (message : List ℕ) → is_flow_message message ≡ false → filter is_flow_message front ≡ numbers → filter is_flow_message (front ++ message ∷ []) ≡ numbers
@@ -72,7 +72,7 @@ numbers-other front numbers message apart is =
 pub record IsNumbered (before : List (List ℕ)) (mobile : MobileState) (taken : List (List ℕ)) : Type 0 where
   pub after : List (List ℕ)
   pub parts : before ++ after ≡ mobile.sent
-  pub numbers : filter is_flow_message (taken ++ to_be_taken mobile.zero) ≡ numbered_from mobile.modulus (length before) after
+  pub numbers : filter is_flow_message (taken ++ to_be_taken mobile.zero) ≡ with_numbers_from mobile.modulus (length before) after
   pub clear : AreClear mobile.sent
 
 -- a message of the flow that waits
@@ -84,8 +84,8 @@ IsNumbered-numbering before mobile taken message clear so_far =
       after = so_far.after ++ message ∷ [];
       parts = sym (append_assoc before so_far.after (message ∷ [])) ∙ ap (λ (xs : List (List ℕ)). xs ++ message ∷ []) so_far.parts;
       numbers =
-          ap (filter is_flow_message) (to_be_taken-one_more taken mobile.zero (numbered (length mobile.sent % mobile.modulus) message))
-          ∙ ap (λ (n : ℕ). filter is_flow_message ((taken ++ to_be_taken mobile.zero) ++ numbered (n % mobile.modulus) message ∷ [])) (sym place)
+          ap (filter is_flow_message) (to_be_taken-one_more taken mobile.zero (with_number (length mobile.sent % mobile.modulus) message))
+          ∙ ap (λ (n : ℕ). filter is_flow_message ((taken ++ to_be_taken mobile.zero) ++ with_number (n % mobile.modulus) message ∷ [])) (sym place)
           ∙ one_more;
       clear = AreClear-push mobile.sent message so_far.clear clear;
     }
@@ -100,7 +100,7 @@ IsNumbered-waiting before mobile taken Zero message apart so_far = record {
 }
 IsNumbered-waiting before mobile taken Three message apart so_far = record { after = so_far.after; parts = so_far.parts; numbers = so_far.numbers; clear = so_far.clear }
 
--- a message that waits leaves what the station took, and what it can take, numbered
+-- a message that waits leaves what the station took, and what it can take, with_number
 pub IsNumbered-queueing : (before : List (List ℕ)) (mobile : MobileState) (taken : List (List ℕ)) (sapi : Sapi) (message : List ℕ) → has_clear_number message ≡ true → IsNumbered before mobile taken → IsNumbered before (queueing mobile sapi message) taken
 IsNumbered-queueing before mobile taken sapi message clear so_far =
     cond_both (is_flow_message message) (numbering mobile message) (with_link mobile sapi (waits (link_of mobile sapi) message))

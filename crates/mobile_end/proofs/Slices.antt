@@ -5,15 +5,15 @@ use Rattle.std.proofs.lemmas.List.{take-append-drop, take_at, drop_at}
 use Rattle.std.proofs.lemmas.List.Folds.{drop_split}
 use Rattle.octets.proofs.ListLemmas.{slice_get-append_seam}
 use Rattle.dtap_codec.specs.Message.{is_flow_message}
-use Rattle.dtap_codec.specs.Number.{numbered}
-use Rattle.dtap_codec.specs.Places.{numbered_from, AreClear, Rise}
+use Rattle.dtap_codec.specs.Number.{with_number}
+use Rattle.dtap_codec.specs.Places.{with_numbers_from, AreClear, Rise}
 use Rattle.dtap_codec.specs.Places.Rise.{over, other, again}
-use Rattle.dtap_codec.proofs.Rising.{Rise-grow, Rise-append, Rise-numbered_from}
+use Rattle.dtap_codec.proofs.Rising.{Rise-grow, Rise-append, Rise-with_numbers_from}
 use Rattle.mobile_end.specs.OneRepeat.{IsSlice, OneRepeat}
 use Rattle.mobile_end.specs.OneRepeat.OneRepeat.{over as ended, goes_on, repeats}
 
 -- a part of the sent list, as a slice
-pub IsSlice-of_parts : (m : ℕ) (sent before part rest xs : List (List ℕ)) (e : ℕ) → before ++ (part ++ rest) ≡ sent → filter is_flow_message xs ≡ numbered_from m (length before) part → e ≡ length before + length part → IsSlice m sent (length before) e xs
+pub IsSlice-of_parts : (m : ℕ) (sent before part rest xs : List (List ℕ)) (e : ℕ) → before ++ (part ++ rest) ≡ sent → filter is_flow_message xs ≡ with_numbers_from m (length before) part → e ≡ length before + length part → IsSlice m sent (length before) e xs
 IsSlice-of_parts m sent before part rest xs e parts taken end =
     let whole : length sent ≡ length before + (length part + length rest) = sym (ap length parts) ∙ length-append before (part ++ rest) ∙ ap (λ (n : ℕ). length before + n) (length-append part rest) in
     let long : length part ≡ e - length before = omega arith in
@@ -22,7 +22,7 @@ IsSlice-of_parts m sent before part rest xs e parts taken end =
     record {
       begins = omega arith;
       ends = omega (arith, whole, end);
-      taken = taken ∙ ap (numbered_from m (length before)) (sym here);
+      taken = taken ∙ ap (with_numbers_from m (length before)) (sym here);
     }
 
 -- the sent list in three parts, the slice in the middle
@@ -44,7 +44,7 @@ IsSlice-grow m sent more b e xs slice =
     let longer : take b sent ++ (slice_range sent b e ++ (drop e sent ++ more)) ≡ sent ++ more =
     ap (λ (ys : List (List ℕ)). take b sent ++ ys) (sym (append_assoc (slice_range sent b e) (drop e sent) more))
     ∙ sym (append_assoc (take b sent) (slice_range sent b e ++ drop e sent) more) ∙ ap (λ (ys : List (List ℕ)). ys ++ more) halves.0 in
-    let grown = IsSlice-of_parts m (sent ++ more) (take b sent) (slice_range sent b e) (drop e sent ++ more) xs e longer (slice.taken ∙ ap (λ (k : ℕ). numbered_from m k (slice_range sent b e)) (sym halves.1)) (halves.2 ∙ ap (λ (k : ℕ). k + length (slice_range sent b e)) (sym halves.1)) in
+    let grown = IsSlice-of_parts m (sent ++ more) (take b sent) (slice_range sent b e) (drop e sent ++ more) xs e longer (slice.taken ∙ ap (λ (k : ℕ). with_numbers_from m k (slice_range sent b e)) (sym halves.1)) (halves.2 ∙ ap (λ (k : ℕ). k + length (slice_range sent b e)) (sym halves.1)) in
     subst (λ (k : ℕ). IsSlice m (sent ++ more) k e xs) halves.1 grown
 
 -- of a list in two parts, each has its share of what is clear
@@ -53,9 +53,9 @@ AreClear-split [] ys clear = (tt, clear)
 AreClear-split (x ∷ xs) ys clear = let rest = AreClear-split xs ys clear.1 in ((clear.0, rest.0), rest.1)
 
 -- the places of a part rise
-Rise-part : (m : ℕ) (sent before part rest xs : List (List ℕ)) → before ++ (part ++ rest) ≡ sent → AreClear part → filter is_flow_message xs ≡ numbered_from m (length before) part → Rise m sent (length before) xs (length before + length part)
+Rise-part : (m : ℕ) (sent before part rest xs : List (List ℕ)) → before ++ (part ++ rest) ≡ sent → AreClear part → filter is_flow_message xs ≡ with_numbers_from m (length before) part → Rise m sent (length before) xs (length before + length part)
 Rise-part m sent before part rest xs parts clear taken =
-    let front = Rise-numbered_from m (before ++ part) xs before part (length before) refl refl clear taken in
+    let front = Rise-with_numbers_from m (before ++ part) xs before part (length before) refl refl clear taken in
     let grown = Rise-grow rest front in
     let same : (before ++ part) ++ rest ≡ sent = append_assoc before part rest ∙ parts in
     subst (λ (k : ℕ). Rise m sent (length before) xs k) (length-append before part) (subst (λ (list : List (List ℕ)). Rise m list (length before) xs (length (before ++ part))) same grown)
@@ -70,18 +70,18 @@ Rise-apart m sent (x ∷ xs) n none =
     ]
 
 -- the places of a part whose first message comes again
-Rise-again : (m : ℕ) (sent before : List (List ℕ)) (y : List ℕ) (part rest xs : List (List ℕ)) → before ++ ((y ∷ part) ++ rest) ≡ sent → AreClear (y ∷ part) → filter is_flow_message xs ≡ numbered_from m (length before) (y ∷ part) → Rise m sent (length before + 1) xs (length before + 1 + length part)
+Rise-again : (m : ℕ) (sent before : List (List ℕ)) (y : List ℕ) (part rest xs : List (List ℕ)) → before ++ ((y ∷ part) ++ rest) ≡ sent → AreClear (y ∷ part) → filter is_flow_message xs ≡ with_numbers_from m (length before) (y ∷ part) → Rise m sent (length before + 1) xs (length before + 1 + length part)
 Rise-again m sent before y part rest [] parts clear taken = absurd cc
 Rise-again m sent before y part rest (x ∷ xs) parts clear taken =
     elim (cases_Bool (is_flow_message x)) [
       | inl flow ↦
-          let first : x ∷ filter is_flow_message xs ≡ numbered (length before % m) y ∷ numbered_from m (length before + 1) part = sym (cond-true (is_flow_message x) _ _ flow) ∙ taken in
-          let x_is : x ≡ numbered (length before % m) y = cc in
-          let behind : filter is_flow_message xs ≡ numbered_from m (length before + 1) part = cc in
+          let first : x ∷ filter is_flow_message xs ≡ with_number (length before % m) y ∷ with_numbers_from m (length before + 1) part = sym (cond-true (is_flow_message x) _ _ flow) ∙ taken in
+          let x_is : x ≡ with_number (length before % m) y = cc in
+          let behind : filter is_flow_message xs ≡ with_numbers_from m (length before + 1) part = cc in
           let place : length (before ++ y ∷ []) ≡ length before + 1 = length-append before (y ∷ []) in
           let regrouped : (before ++ y ∷ []) ++ (part ++ rest) ≡ sent = append_assoc before (y ∷ []) (part ++ rest) ∙ parts in
           let here = subst (λ (list : List (List ℕ)). slice_get list (length before) ≡ Some y) parts (slice_get-append_seam before y (part ++ rest)) in
-          let later = Rise-part m sent (before ++ y ∷ []) part rest xs regrouped clear.1 (behind ∙ ap (λ (k : ℕ). numbered_from m k part) (sym place)) in
+          let later = Rise-part m sent (before ++ y ∷ []) part rest xs regrouped clear.1 (behind ∙ ap (λ (k : ℕ). with_numbers_from m k part) (sym place)) in
           again refl (record { message = y; is_sent = here; is_clear = clear.0; carries = x_is }) (subst (λ (k : ℕ). Rise m sent k xs (k + length part)) place later)
       | inr apart ↦ other apart (Rise-again m sent before y part rest xs parts clear (sym (cond-false (is_flow_message x) _ _ apart) ∙ taken))
     ]
@@ -94,7 +94,7 @@ IsAt n b = (n ≡ b) ⊎ (n ≡ b + 1)
 abbrev pub ComesTo : ℕ → ℕ → ℕ → Type 0
 ComesTo b e n = (n ≡ e) ⊎ ((n ≡ e + 1) × (e ≡ b))
 
-Rise-slice_by : (m : ℕ) (sent before part rest xs : List (List ℕ)) (n : ℕ) → before ++ (part ++ rest) ≡ sent → AreClear part → filter is_flow_message xs ≡ numbered_from m (length before) part → IsAt n (length before) → (k : ℕ) × Rise m sent n xs k × ComesTo (length before) (length before + length part) k
+Rise-slice_by : (m : ℕ) (sent before part rest xs : List (List ℕ)) (n : ℕ) → before ++ (part ++ rest) ≡ sent → AreClear part → filter is_flow_message xs ≡ with_numbers_from m (length before) part → IsAt n (length before) → (k : ℕ) × Rise m sent n xs k × ComesTo (length before) (length before + length part) k
 Rise-slice_by m sent before part rest xs n parts clear taken (inl at) =
     (length before + length part, subst (λ (k : ℕ). Rise m sent k xs (length before + length part)) (sym at) (Rise-part m sent before part rest xs parts clear taken), inl refl)
 Rise-slice_by m sent before [] rest xs n parts clear taken (inr further) =
@@ -111,7 +111,7 @@ Rise-slice m sent xs b e n clear slice at =
     let behind = (AreClear-split (take b sent) (slice_range sent b e ++ drop e sent) split).1 in
     let middle = (AreClear-split (slice_range sent b e) (drop e sent) behind).0 in
     let made = Rise-slice_by m sent (take b sent) (slice_range sent b e) (drop e sent) xs n parts.0 middle
-    (slice.taken ∙ ap (λ (k : ℕ). numbered_from m k (slice_range sent b e)) (sym parts.1)) (subst (IsAt n) (sym parts.1) at) in
+    (slice.taken ∙ ap (λ (k : ℕ). with_numbers_from m k (slice_range sent b e)) (sym parts.1)) (subst (IsAt n) (sym parts.1) at) in
     let end : length (take b sent) + length (slice_range sent b e) ≡ e = ap (λ (k : ℕ). k + length (slice_range sent b e)) parts.1 ∙ sym parts.2 in
     (made.0, made.1, subst (λ (k : ℕ). ComesTo k e made.0) parts.1 (subst (λ (k : ℕ). ComesTo (length (take b sent)) k made.0) end made.2))
 

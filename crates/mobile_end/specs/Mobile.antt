@@ -1,10 +1,10 @@
--- What the calls of a mobile do. Messages of the flow are numbered when the upper layers send them: the one at place k of
+-- What the calls of a mobile do. Messages of the flow are with_number when the upper layers send them: the one at place k of
 -- the sent list carries k modulo m (TS 24.007 clause 11.2.3.2.3). At a change of channel the message that wasn't acknowledged
 -- is sent again, with its number, behind the control message of the new channel (TS 44.006 clause 5.4.3).
 use Rattle.std.specs.Prelude.{ℕ, ◌%◌, Bool, true, false, ◌&&◌, Option, Some, None, Result, Ok, Err, List, [], ◌∷◌, ◌++◌, length, if◌then◌else◌}
 use Rattle.octets.specs.Refusal.{first_refusal}
 use Rattle.dtap_codec.specs.Message.{is_flow_message}
-use Rattle.dtap_codec.specs.Number.{numbered}
+use Rattle.dtap_codec.specs.Number.{with_number}
 use Rattle.dtap_codec.specs.declared.sapi.Sapi.{Sapi}
 use Rattle.dtap_codec.specs.declared.sapi.Sapi.TheVariants.{Zero, Three}
 use Rattle.link_model.specs.AirLink.{is_reached}
@@ -42,7 +42,7 @@ abbrev pub numbering : MobileState → List ℕ → MobileState
 numbering mobile message =
     record mobile {
       sent = mobile.sent ++ message ∷ [];
-      zero = waits mobile.zero (numbered (length mobile.sent % mobile.modulus) message);
+      zero = waits mobile.zero (with_number (length mobile.sent % mobile.modulus) message);
     }
 
 -- the mobile once a message of the upper layers waits

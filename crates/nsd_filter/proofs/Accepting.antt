@@ -4,10 +4,10 @@ use Rattle.std.proofs.Math.Nat.{mod-lt, add-mod_right, mod-add-mod, mod_self, mo
 use Rattle.std.proofs.lemmas.List.{append-nil}
 use Rattle.std.proofs.lemmas.Bool.{cond-true, cond-false, ne_eqb}
 use Rattle.dtap_codec.specs.Message.{is_flow_message}
-use Rattle.dtap_codec.specs.Number.{number_in, numbered, unnumbered}
+use Rattle.dtap_codec.specs.Number.{number_in, with_number, without_number}
 use Rattle.dtap_codec.specs.Places.{Carries, Rise}
 use Rattle.dtap_codec.specs.Places.Rise.{over, other, next, again}
-use Rattle.dtap_codec.proofs.Numbers.{number_in-numbered, number_in-other, unnumbered-numbered}
+use Rattle.dtap_codec.proofs.Numbers.{number_in-with_number, number_in-other, without_number-with_number}
 use Rattle.dtap_codec.proofs.Rising.{take_next}
 use Rattle.nsd_filter.specs.Judgement.{judgement, progress_by}
 use Rattle.nsd_filter.specs.Accepted.{verdict_on, given_up, progress_past, accepted_from, progress_from}
@@ -21,7 +21,7 @@ verdict_on-other m progress x apart = ap (option_map (judgement m progress)) (nu
 -- the verdict on a message at a place is that on the place's number
 verdict_on-carried : {m p : ℕ} {sent : List (List ℕ)} {x : List ℕ} (progress : Option ℕ) → 2 ≤ m → Carries m sent p x → verdict_on m progress x ≡ Some (judgement m progress (p % m))
 verdict_on-carried {m} {p} progress two c =
-    ap (option_map (judgement m progress)) (ap (number_in m) c.carries ∙ number_in-numbered m (p % m) c.message (mod-lt p (omega arith)) c.is_clear.is_flow)
+    ap (option_map (judgement m progress)) (ap (number_in m) c.carries ∙ number_in-with_number m (p % m) c.message (mod-lt p (omega arith)) c.is_clear.is_flow)
 
 -- two places next to each other have different numbers
 mod-suc_differs : (m p : ℕ) → 2 ≤ m → p % m ≡ (p + 1) % m → ⊥
@@ -58,8 +58,8 @@ progress_from-by : (m n : ℕ) (x : List ℕ) (xs : List (List ℕ)) (v : Option
 progress_from-by m n x xs v is = ap (λ (v : Option Verdict). progress_from m (progress_past v (Some n)) xs) is
 
 -- the number has no part in what is given up
-carried : {m k : ℕ} {sent : List (List ℕ)} {x : List ℕ} (c : Carries m sent k x) → unnumbered x ≡ c.message
-carried {m} {k} c = ap unnumbered c.carries ∙ unnumbered-numbered (k % m) c.message ∙ c.is_clear.cleared
+carried : {m k : ℕ} {sent : List (List ℕ)} {x : List ℕ} (c : Carries m sent k x) → without_number x ≡ c.message
+carried {m} {k} c = ap without_number c.carries ∙ without_number-with_number (k % m) c.message ∙ c.is_clear.cleared
 
 -- Of messages whose places rise from n to k, what is accepted is what was sent between these places.
 pub accepted_from-rise : {m : ℕ} {sent : List (List ℕ)} {n k : ℕ} {xs : List (List ℕ)} → 2 ≤ m → Rise m sent n xs k → take n sent ++ accepted_from m (Some n) xs ≡ take k sent
@@ -68,7 +68,7 @@ accepted_from-rise {m} {sent} {n} two (other {x} {xs} flow rise) =
     ap (λ (more : List (List ℕ)). take n sent ++ more) (accepted_from-by m n x xs None (verdict_on-other m (Some n) x flow)) ∙ accepted_from-rise two rise
 accepted_from-rise {m} {sent} {n} two (next {x} {xs} c rise) =
     ap (λ (more : List (List ℕ)). take n sent ++ more) (accepted_from-by m n x xs (Some Accept) (verdict_on-next two c))
-    ∙ sym (append_assoc (take n sent) (unnumbered x ∷ []) (accepted_from m (Some (n + 1)) xs))
+    ∙ sym (append_assoc (take n sent) (without_number x ∷ []) (accepted_from m (Some (n + 1)) xs))
     ∙ ap (λ (front : List (List ℕ)). front ++ accepted_from m (Some (n + 1)) xs) (ap (λ (y : List ℕ). take n sent ++ y ∷ []) (carried c) ∙ sym (take_next c))
     ∙ accepted_from-rise two rise
 accepted_from-rise {m} {sent} {n} two (again {x} {xs} e c rise) =

@@ -4,7 +4,7 @@ use Rattle.std.proofs.lemmas.Bool.{cases_Bool, cond-true, cond-false}
 use Rattle.std.proofs.lemmas.List.{append-nil}
 use Rattle.std.proofs.lemmas.List.Elements.{filter-append}
 use Rattle.dtap_codec.specs.Message.{is_flow_message, is_flow_protocol}
-use Rattle.dtap_codec.specs.Number.{number_in, unnumbered}
+use Rattle.dtap_codec.specs.Number.{number_in, without_number}
 use Rattle.dtap_codec.proofs.Numbers.{number_in-other}
 use Rattle.nsd_filter.specs.Judgement.{judgement, progress_after}
 use Rattle.nsd_filter.specs.Filter.{FilterState, StandsFor}
@@ -46,7 +46,7 @@ not_of_the_flow-push taken message b is =
     ∙ ap (λ (b : Bool). not_of_the_flow taken ++ filter (λ _. not b) (message ∷ [])) is
 
 -- a message of the flow was judged
-pub IsKept-numbered : (m : ℕ) (old new : FilterState) (taken accepted_list others : List (List ℕ)) (message : List ℕ) (number : ℕ) (verdict : Verdict) → number_in m message ≡ Some number → IsKept m old taken accepted_list others → ((p : Option ℕ) → StandsFor old p → verdict ≡ judgement old.modulus p number) → ((p : Option ℕ) → StandsFor old p → StandsFor new (progress_after old.modulus p number)) → new.modulus ≡ old.modulus → IsKept m new (taken ++ message ∷ []) (accepted_list ++ where_accepted verdict (unnumbered message)) others
+pub IsKept-numbered : (m : ℕ) (old new : FilterState) (taken accepted_list others : List (List ℕ)) (message : List ℕ) (number : ℕ) (verdict : Verdict) → number_in m message ≡ Some number → IsKept m old taken accepted_list others → ((p : Option ℕ) → StandsFor old p → verdict ≡ judgement old.modulus p number) → ((p : Option ℕ) → StandsFor old p → StandsFor new (progress_after old.modulus p number)) → new.modulus ≡ old.modulus → IsKept m new (taken ++ message ∷ []) (accepted_list ++ where_accepted verdict (without_number message)) others
 IsKept-numbered m old new taken accepted_list others message number verdict is kept judges goes_on same_modulus =
     let judged : verdict ≡ judgement m (progress m taken) number = judges (progress m taken) kept.stands ∙ ap (λ (n : ℕ). judgement n (progress m taken) number) kept.modulus in
     let stands : StandsFor new (progress_after m (progress m taken) number) = subst (λ (n : ℕ). StandsFor new (progress_after n (progress m taken) number)) kept.modulus (goes_on (progress m taken) kept.stands) in
@@ -55,8 +55,8 @@ IsKept-numbered m old new taken accepted_list others message number verdict is k
       modulus = same_modulus ∙ kept.modulus;
       stands = subst (StandsFor new) (sym (progress-push m taken message _ on)) stands;
       accepts =
-          ap (λ (xs : List (List ℕ)). xs ++ where_accepted verdict (unnumbered message)) kept.accepts
-          ∙ ap (λ (v : Verdict). accepted m taken ++ where_accepted v (unnumbered message)) judged
+          ap (λ (xs : List (List ℕ)). xs ++ where_accepted verdict (without_number message)) kept.accepts
+          ∙ ap (λ (v : Verdict). accepted m taken ++ where_accepted v (without_number message)) judged
           ∙ sym (accepted-push m taken message _ on);
       passes = kept.passes ∙ sym (not_of_the_flow-push taken message true (is_flow_by_number m message number is) ∙ append-nil (not_of_the_flow taken));
     }

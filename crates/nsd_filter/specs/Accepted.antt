@@ -1,7 +1,7 @@
 -- What the network gives up to its upper layers of the messages of a connection, in the order in which they came.
 use Rattle.std.specs.Prelude.{ℕ, Option, Some, None, option_map, List, [], ◌∷◌, ◌++◌, filter, not}
 use Rattle.dtap_codec.specs.Message.{is_flow_message}
-use Rattle.dtap_codec.specs.Number.{number_in, unnumbered}
+use Rattle.dtap_codec.specs.Number.{number_in, without_number}
 use Rattle.nsd_filter.specs.Judgement.{judgement, progress_by}
 use Rattle.nsd_filter.specs.declared.verdict.Verdict.{Verdict}
 use Rattle.nsd_filter.specs.declared.verdict.Verdict.TheVariants.{Accept, Duplicate, Gap}
@@ -18,7 +18,7 @@ where_accepted Gap message = []
 
 -- what is given up of a message: one that was accepted, its number cleared
 abbrev pub given_up : Option Verdict → List ℕ → List (List ℕ)
-given_up (Some verdict) message = where_accepted verdict (unnumbered message)
+given_up (Some verdict) message = where_accepted verdict (without_number message)
 given_up None message = []
 
 abbrev pub progress_past : Option Verdict → Option ℕ → Option ℕ

@@ -24,14 +24,14 @@ use Rattle.world.specs.FixedState.{FixedState}
 use Rattle.world.specs.Queues.{first_of}
 use Rattle.world.specs.Fixed.{fixed_beginning, with_mobile, sent_unless, frame_in, air_up_with, taking_from, after_upper, after_air_up, after_air_ack, after_switch_takes, frame_up}
 
--- What was taken of the mobile stands at the switch and in its outbox, numbered by the modulus of both.
+-- What was taken of the mobile stands at the switch and in its outbox, with_number by the modulus of both.
 pub record IsFixedKept (world : FixedState) : Type 0 where
-  pub numbered : IsNumbered [] world.mobile (world.switch.taken ++ world.outbox)
+  pub with_number : IsNumbered [] world.mobile (world.switch.taken ++ world.outbox)
   pub modulus : world.switch.modulus ≡ world.mobile.modulus
   pub two : 2 ≤ world.mobile.modulus
 
 pub IsFixedKept-beginning : (m : ℕ) → 2 ≤ m → IsFixedKept (fixed_beginning m)
-IsFixedKept-beginning m two = let new = IsNumbered-new m in record { numbered = record { after = new.after; parts = new.parts; numbers = new.numbers; clear = new.clear }; modulus = refl; two = two }
+IsFixedKept-beginning m two = let new = IsNumbered-new m in record { with_number = record { after = new.after; parts = new.parts; numbers = new.numbers; clear = new.clear }; modulus = refl; two = two }
 
 -- calls of the mobile keep its modulus
 modulus-with_link : (mobile : MobileState) (sapi : Sapi) (link : DataLinkState) → (with_link mobile sapi link).modulus ≡ mobile.modulus
@@ -75,7 +75,7 @@ pub upper-step : (world : FixedState) (sapi : Sapi) (message : List ℕ) → Fix
 upper-step world sapi message =
     sent_unless-step (is_sendable sapi message) (refusal_before_connect world.mobile.stage) world (with_mobile world (queueing world.mobile sapi message))
     (λ lawful. FixedStep-mobile world (queueing world.mobile sapi message) (λ kept. record {
-      numbered = IsNumbered-queueing [] world.mobile (world.switch.taken ++ world.outbox) sapi message (is_sendable-clear sapi message lawful) kept.numbered;
+      with_number = IsNumbered-queueing [] world.mobile (world.switch.taken ++ world.outbox) sapi message (is_sendable-clear sapi message lawful) kept.numbered;
       modulus = kept.modulus ∙ sym (modulus-queueing world.mobile sapi message);
       two = subst (λ (m : ℕ). 2 ≤ m) (sym (modulus-queueing world.mobile sapi message)) kept.two;
     }))
@@ -89,7 +89,7 @@ air_up_with-step world (Ok (Some frame)) is = record {
       let lent_is : (world.switch.taken ++ world.outbox) ++ frame_lent (framed world.mobile Zero) ≡ world.switch.taken ++ (world.outbox ++ frame ∷ []) =
       ap (λ (answer : Result (Option (List ℕ)) MobileFault). (world.switch.taken ++ world.outbox) ++ frame_lent answer) is ∙ append_assoc world.switch.taken world.outbox (frame ∷ []) in
       record {
-        numbered = subst (λ (xs : List (List ℕ)). IsNumbered [] (after_frame world.mobile Zero) xs) lent_is next;
+        with_number = subst (λ (xs : List (List ℕ)). IsNumbered [] (after_frame world.mobile Zero) xs) lent_is next;
         modulus = kept.modulus ∙ sym (modulus-after_frame world.mobile.stage world.mobile.place world.mobile);
         two = subst (λ (m : ℕ). 2 ≤ m) (sym (modulus-after_frame world.mobile.stage world.mobile.place world.mobile)) kept.two;
       };
@@ -103,7 +103,7 @@ air_up-step world = air_up_with-step world (framed world.mobile Zero) refl
 air_ack_by-step : (world : FixedState) (acknowledged : Bool) → FixedStep world (unwrap_or (cond acknowledged (Some (with_mobile world (after_acked world.mobile Zero))) None) world) [] []
 air_ack_by-step world false = FixedStep-none world
 air_ack_by-step world true = FixedStep-mobile world (after_acked world.mobile Zero) (λ kept. record {
-  numbered = IsNumbered-acked [] world.mobile.place world.mobile (world.switch.taken ++ world.outbox) Zero kept.numbered;
+  with_number = IsNumbered-acked [] world.mobile.place world.mobile (world.switch.taken ++ world.outbox) Zero kept.numbered;
   modulus = kept.modulus ∙ sym (modulus-after_acked world.mobile.place world.mobile);
   two = subst (λ (m : ℕ). 2 ≤ m) (sym (modulus-after_acked world.mobile.place world.mobile)) kept.two;
 })
@@ -115,7 +115,7 @@ taking_from-step : (world : FixedState) (messages : List (List ℕ)) → world.o
 taking_from-step world [] is = FixedStep-none world
 taking_from-step world (first ∷ others) is = record {
   kept = λ kept. record {
-    numbered = subst (λ (xs : List (List ℕ)). IsNumbered [] world.mobile xs) (ap (λ (xs : List (List ℕ)). world.switch.taken ++ xs) is ∙ sym (append_assoc world.switch.taken (first ∷ []) others)) kept.numbered;
+    with_number = subst (λ (xs : List (List ℕ)). IsNumbered [] world.mobile xs) (ap (λ (xs : List (List ℕ)). world.switch.taken ++ xs) is ∙ sym (append_assoc world.switch.taken (first ∷ []) others)) kept.numbered;
     modulus = kept.modulus;
     two = kept.two;
   };

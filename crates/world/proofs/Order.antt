@@ -5,7 +5,7 @@ use Rattle.std.proofs.lemmas.List.{take-append-drop}
 use Rattle.std.proofs.lemmas.Option.{cond_some}
 use Rattle.octets.specs.Lists.{IsPrefix}
 use Rattle.dtap_codec.specs.Places.{AreClear, Rise}
-use Rattle.dtap_codec.proofs.Rising.{Rise-cut, Rise-numbered_from}
+use Rattle.dtap_codec.proofs.Rising.{Rise-cut, Rise-with_numbers_from}
 use Rattle.nsd_filter.specs.Accepted.{accepted, progress}
 use Rattle.nsd_filter.proofs.Accepting.{accepted_from-rise, progress_from-rise}
 use Rattle.mobile_end.specs.DataLink.{to_be_taken}
@@ -40,7 +40,7 @@ taken-rise world kept =
     let sent = world.mobile.sent in
     let behind : List (List ℕ) = world.outbox ++ to_be_taken world.mobile.zero in
     let clear = subst AreClear (sym kept.numbered.parts) kept.numbered.clear in
-    let whole = Rise-numbered_from world.mobile.modulus sent _ [] kept.numbered.after 0 kept.numbered.parts refl clear kept.numbered.numbers in
+    let whole = Rise-with_numbers_from world.mobile.modulus sent _ [] kept.numbered.after 0 kept.numbered.parts refl clear kept.numbered.numbers in
     let regrouped = subst (λ (xs : List (List ℕ)). Rise world.mobile.modulus sent 0 xs (length sent)) (append_assoc world.switch.taken world.outbox (to_be_taken world.mobile.zero)) whole in
     let cut = Rise-cut world.switch.taken behind regrouped in
     (cut.0, cut.1)
