@@ -1,43 +1,29 @@
 -- The steps of reading a message, from their values.
-use Rattle.std.proofs.Common.{◌≡◌, ℕ, suc, ◌+◌, ◌*◌, ◌/◌, ◌%◌, ◌<◌, ◌≤◌, Bool, true, false, cond, ltb, List, [], ◌∷◌, length, Option, Some, None, Result, Ok, Err, option_map, refl, sym, ap, subst, ◌∙◌, arith}
+use Rattle.std.proofs.Common.{◌≡◌, ℕ, suc, ◌+◌, ◌*◌, ◌/◌, ◌%◌, ◌<◌, true, ltb, List, [], ◌∷◌, length, Option, Some, None, Ok, option_map, refl, sym, ap, subst, ◌∙◌, arith}
 use Rattle.std.proofs.lemmas.Bool.{ltb-false, le-ltb}
 use Rattle.octets.specs.declared.element.Format.{Format}
 use Rattle.octets.specs.declared.element.Format.TheVariants.{Tv}
 use Rattle.octets.specs.Element.{Element, AreOctets, HasSize, format_in}
 use Rattle.octets.specs.Field.{IsSized}
+use Rattle.octets.specs.Walk.{first_of}
+use Rattle.octets.proofs.Steps.{bind_ok, guard, ok_is, passed}
 use Rattle.rsl_codec.specs.declared.fault.RslFault.{RslFault}
 use Rattle.rsl_codec.specs.declared.fault.RslFault.TheVariants as faults
-use Rattle.rsl_codec.specs.declared.table.TheConstants.{ELEMENTS}
-use Rattle.rsl_codec.specs.declared.elements.TheConstants.{MAX_L3}
-use Rattle.rsl_codec.specs.Channel.{is_channel}
+use Rattle.rsl_codec.specs.declared.identifiers.TheConstants.{CHANNEL_NUMBER, ELEMENTS}
+use Rattle.rsl_codec.specs.declared.fields.TheConstants.{L3_LIMIT}
+use Rattle.rsl_codec.specs.ChannelNumber.{is_channel}
 use Rattle.rsl_codec.specs.Fields.{number_value, octet_value, reference_value}
-use Rattle.rsl_codec.specs.Reading.{◌>>=◌, channel_at, first_of, found_or, l3_at, needed_at, number_of, octet_of, optional_l3_at, reference_of, seen}
-use Rattle.rsl_codec.specs.Text.{IsL3}
-
--- ---- chains
-
-pub bind_ok : {A B : Type 0} (r : Result A RslFault) (f : A → Result B RslFault) (y : B) → (r >>= f) ≡ Ok y → (x : A) × (r ≡ Ok x) × (f x ≡ Ok y)
-bind_ok (Ok x) f y e = (x, refl, e)
-bind_ok (Err d) f y e = absurd cc
-
-abbrev pub done : {A : Type 0} → A → Result A RslFault
-done x = Ok x
-
-pub ok_is : {A : Type 0} (x y : A) → done x ≡ done y → x ≡ y
-ok_is x y e = cc
-
-pub seen_ok : {A B : Type 0} (f : A → B) (r : Result A RslFault) (y : B) → seen f r ≡ Ok y → (x : A) × (r ≡ Ok x) × (f x ≡ y)
-seen_ok f (Ok x) y e = (x, refl, ok_is (f x) y e)
-seen_ok f (Err d) y e = absurd cc
+use Rattle.rsl_codec.specs.RslReading.{channel_at, value_or_missing, l3_at, needed_value, number_of, octet_of, optional_l3_at, reference_of}
+use Rattle.rsl_codec.specs.Rsl.{IsL3}
 
 -- ---- elements
 
-found_ok : (id : ℕ) (o : Option (List ℕ)) (v : List ℕ) → found_or id o ≡ Ok v → o ≡ Some v
+found_ok : (id : ℕ) (o : Option (List ℕ)) (v : List ℕ) → value_or_missing id o ≡ Ok v → o ≡ Some v
 found_ok id None v e = absurd cc
-found_ok id (Some w) v e = ap (λ (x : List ℕ). Some x) (ok_is w v e)
+found_ok id (Some w) v e = ap (λ (x : List ℕ). Some x) (ok_is {A = List ℕ} {F = RslFault} w v e)
 
-pub needed_ok : (id : ℕ) (es : List Element) (v : List ℕ) → needed_at id es ≡ Ok v → first_of id es ≡ Some v
-needed_ok id es v e = found_ok id (first_of id es) v e
+pub needed_value_ok : (id : ℕ) (es : List Element) (v : List ℕ) → needed_value id es ≡ Ok v → first_of id es ≡ Some v
+needed_value_ok id es v e = found_ok id (first_of id es) v e
 
 -- the values of elements have sizes of their formats
 abbrev pub AreSized : List Element → Type 0
@@ -80,9 +66,9 @@ pub reference_is : (id : ℕ) (es : List Element) → format_in ELEMENTS id ≡ 
 reference_is id es known all v e = let is = all id v e in three_is v (sized_as id (Tv 3) v known is) is.octets
 
 -- an element that the message needs is the field of its value
-pub field_is : {X : Type 0} (id : ℕ) (es : List Element) (f : List ℕ → X) (g : X → List ℕ) → ((v : List ℕ) → first_of id es ≡ Some v → g (f v) ≡ v) → (v : List ℕ) → needed_at id es ≡ Ok v → first_of id es ≡ Some (g (f v))
+pub field_is : {X : Type 0} (id : ℕ) (es : List Element) (f : List ℕ → X) (g : X → List ℕ) → ((v : List ℕ) → first_of id es ≡ Some v → g (f v) ≡ v) → (v : List ℕ) → needed_value id es ≡ Ok v → first_of id es ≡ Some (g (f v))
 field_is id es f g back v e =
-    let there = needed_ok id es v e in
+    let there = needed_value_ok id es v e in
     there ∙ ap (λ (x : List ℕ). Some x) (sym (back v there))
 
 -- and so is one that may be absent
@@ -103,45 +89,41 @@ number_again n = omega arith
 
 -- ---- the channel number
 
-channel_by_ok : (b : Bool) (n channel : ℕ) → is_channel n ≡ b → cond b (done n) (Err faults.BadChannel) ≡ done channel → (n ≡ channel) × (is_channel channel ≡ true)
-channel_by_ok true n channel is e = let same = ok_is n channel e in (same, subst (λ (m : ℕ). is_channel m ≡ true) same is)
-channel_by_ok false n channel is e = absurd cc
-
 channel_ok : (v : List ℕ) (channel : ℕ) → channel_at v ≡ Ok channel → (octet_of v ≡ channel) × (is_channel channel ≡ true)
 channel_ok [] channel e = absurd cc
-channel_ok (n ∷ v) channel e = channel_by_ok (is_channel n) n channel refl e
+channel_ok (n ∷ v) channel e =
+    let there = passed {A = ℕ} {F = RslFault} (is_channel n) faults.BadChannel (Ok n) channel e in
+    let same = ok_is {A = ℕ} {F = RslFault} n channel there.1 in
+    (same, subst (λ (m : ℕ). is_channel m ≡ true) same there.0)
 
 -- the channel is that of its element, and there is such a channel
-pub channel_is : (es : List Element) → AreSized es → (v : List ℕ) (channel : ℕ) → needed_at 0x01 es ≡ Ok v → channel_at v ≡ Ok channel → (first_of 0x01 es ≡ Some (octet_value channel)) × (is_channel channel ≡ true)
+pub channel_is : (es : List Element) → AreSized es → (v : List ℕ) (channel : ℕ) → needed_value CHANNEL_NUMBER es ≡ Ok v → channel_at v ≡ Ok channel → (first_of CHANNEL_NUMBER es ≡ Some (octet_value channel)) × (is_channel channel ≡ true)
 channel_is es all v channel e h =
     let is = channel_ok v channel h in
-    (field_is 0x01 es octet_of octet_value (octet_is 0x01 es refl all) v e ∙ ap (λ (n : ℕ). Some (octet_value n)) is.0, is.1)
+    (field_is CHANNEL_NUMBER es octet_of octet_value (octet_is CHANNEL_NUMBER es refl all) v e ∙ ap (λ (n : ℕ). Some (octet_value n)) is.0, is.1)
 
 pub channel_again : (channel : ℕ) → is_channel channel ≡ true → channel_at (octet_value channel) ≡ Ok channel
 channel_again channel is = rw is refl
 
 -- ---- L3 information
 
-l3_by_ok : (b : Bool) (xs l3 : List ℕ) → ltb MAX_L3 (length xs) ≡ b → cond b (Err faults.TooLong) (done xs) ≡ done l3 → (xs ≡ l3) × (length xs ≤ MAX_L3)
-l3_by_ok true xs l3 is e = absurd cc
-l3_by_ok false xs l3 is e = (ok_is xs l3 e, ltb-false _ _ is)
-
 pub l3_ok : (v l3 : List ℕ) → l3_at v ≡ Ok l3 → (v ≡ l3) × IsL3 (Some l3)
 l3_ok [] l3 e = absurd cc
 l3_ok (x ∷ xs) l3 e =
-    let is = l3_by_ok (ltb MAX_L3 (length (x ∷ xs))) (x ∷ xs) l3 refl e in
-    (is.0, subst (λ (ys : List ℕ). IsL3 (Some ys)) is.0 (omega arith, is.1))
+    let short = guard {A = List ℕ} {F = RslFault} (ltb L3_LIMIT (length (x ∷ xs))) faults.TooLong (Ok (x ∷ xs)) l3 e in
+    let same = ok_is {A = List ℕ} {F = RslFault} (x ∷ xs) l3 short.1 in
+    (same, subst (λ (ys : List ℕ). IsL3 (Some ys)) same (omega arith, ltb-false _ _ short.0))
 
 pub l3_again : (l3 : List ℕ) → IsL3 (Some l3) → l3_at l3 ≡ Ok l3
 l3_again [] is = absurd (omega arith)
-l3_again (x ∷ xs) is = rw (le-ltb MAX_L3 (length (x ∷ xs)) is.1) refl
+l3_again (x ∷ xs) is = rw (le-ltb L3_LIMIT (length (x ∷ xs)) is.1) refl
 
 pub optional_l3_ok : (o l3 : Option (List ℕ)) → optional_l3_at o ≡ Ok l3 → (o ≡ l3) × IsL3 l3
-optional_l3_ok None l3 e = let same = ok_is None l3 e in (same, subst IsL3 same tt)
+optional_l3_ok None l3 e = let same = ok_is {A = Option (List ℕ)} {F = RslFault} None l3 e in (same, subst IsL3 same tt)
 optional_l3_ok (Some v) l3 e =
     let a = bind_ok (l3_at v) (λ x. Ok (Some x)) l3 e in
     let is = l3_ok v a.0 a.1 in
-    let same = ok_is (Some a.0) l3 a.2 in
+    let same = ok_is {A = Option (List ℕ)} {F = RslFault} (Some a.0) l3 a.2 in
     (ap (λ (x : List ℕ). Some x) is.0 ∙ same, subst IsL3 same is.1)
 
 pub optional_l3_again : (o : Option (List ℕ)) → IsL3 o → optional_l3_at o ≡ Ok o

@@ -1,6 +1,6 @@
-pub mod Channel
+pub mod ChannelNumber
 pub mod Fields
-pub mod Message
-pub mod Reading
-pub mod Table
-pub mod Text
+pub mod Rsl
+pub mod RslReading
+pub mod RslText
+pub mod RslType

@@ -1,9 +1,8 @@
 use octets::Memory;
-use std::alloc::AllocError;
 use thiserror::Error;
 
 /// Why octets aren't read as a message, or a message isn't written.
-#[derive(Clone, Copy, Debug, PartialEq, Eq, Error)]
+#[derive(Clone, Copy, Debug, Error)]
 pub enum RslFault {
     /// The message ends before its type, or within an element, or its L3 information is empty.
     #[error("message too short")]
@@ -23,17 +22,6 @@ pub enum RslFault {
     /// L3 information has more than 251 octets, or a value doesn't fit the octet of its length.
     #[error("message too long")]
     TooLong,
-}
-
-impl From<AllocError> for RslFault {
-    ghost use Rattle.std.specs.Prelude.{◌≡◌};
-    ghost use Rattle.rsl_codec.specs.declared.fault.RslFault.TheVariants as faults;
-
-    ghost from_gives = { λ _ fault. fault ≡ faults.Memory };
-
-    fn from(_error: AllocError) -> RslFault {
-        RslFault::Memory
-    }
 }
 
 impl From<Memory> for RslFault {

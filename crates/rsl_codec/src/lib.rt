@@ -2,29 +2,27 @@
 //! and written to octets.
 #![tactic(auto)]
 
-pub use channel::ChanNo;
-pub use common::{ChannelRequired, ImmediateAssignment};
-pub use dedicated::{Activation, ActivationAck, Detection, Failure, MeasurementResult};
+pub use channel_number::ChanNo;
+pub use common_channel::{ChannelRequired, ImmediateAssignment};
+pub use dedicated_channel::{Activation, ActivationAck, Detection, Failure, MeasurementResult};
 pub use fault::RslFault;
-pub use link::LinkId;
+pub use link_identifier::LinkId;
 pub use radio_link::{Data, ErrorReport, Establishment, Link, Release};
-pub use rsl::{Rsl, written_is_read};
-pub use standard::tables_are_the_standards;
+pub use rsl::{Rsl, rsl_text_is_read};
+pub use rsl_type::RslType;
 pub use values::{
     AccessDelay, ActivationType, BsPower, Cause, ChannelMode, FrameNumber, HandoverReference,
     L1Information, MeasurementNumber, ReleaseMode, RequestReference, RlmCause, UplinkMeasurements,
 };
 
-mod channel;
-mod common;
-mod dedicated;
-mod elements;
+mod channel_number;
+mod common_channel;
+mod dedicated_channel;
 mod fault;
-mod link;
+mod fields;
+mod identifiers;
+mod link_identifier;
 mod radio_link;
 mod rsl;
-mod standard;
-mod table;
-#[cfg(test)]
-mod tests;
+mod rsl_type;
 mod values;

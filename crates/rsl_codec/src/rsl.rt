@@ -1,17 +1,21 @@
 ghost use Rattle.std.specs.Prelude.{◌≡◌, ◌++◌, ◌⊎◌, ℕ, List, None, IfOk, OnErr, OnOk, option_map};
+ghost use Rattle.std.specs.Result.{result_err};
+ghost use Rattle.octets.specs.Answer.{Gives};
 ghost use Rattle.octets.specs.Element.{Stops};
 ghost use Rattle.octets.specs.Refusal.{RefusesBy};
 ghost use Rattle.rsl_codec.specs.declared.rsl.Rsl.{Rsl as RslValue};
-ghost use Rattle.rsl_codec.specs.declared.table.TheConstants.{ELEMENTS};
-ghost use Rattle.rsl_codec.specs.Fields.{channel_fields, written_fields};
-ghost use Rattle.rsl_codec.specs.Reading.{Gives, channel_only_at, elements_of, first_fault, message_of, reading};
-ghost use Rattle.rsl_codec.specs.Text.{IsLawful, IsText, fields, l3_of, row_of, value_of, write_fault, written};
+ghost use Rattle.rsl_codec.specs.declared.identifiers.TheConstants.{ELEMENTS};
+ghost use Rattle.rsl_codec.specs.Rsl.{IsLawful, IsRsl, fields, l3_of};
+ghost use Rattle.rsl_codec.specs.RslReading.{elements_of, message_at, rsl_reading};
+ghost use Rattle.rsl_codec.specs.RslText.{rsl_fields_text, rsl_text, rsl_write_fault, value_of};
+ghost use Rattle.rsl_codec.specs.RslType.{type_of};
 
-use crate::elements::{MAX_L3, channel, is_cut, needed, put};
-use crate::table::{self, Kind, Row};
+use crate::dedicated_channel::{put_channel, read_channel};
+use crate::fields::{L3_LIMIT, VALUE_LIMIT, is_cut};
 use crate::{
     Activation, ActivationAck, ChanNo, ChannelRequired, Data, Detection, ErrorReport,
     Establishment, Failure, ImmediateAssignment, Link, MeasurementResult, Release, RslFault,
+    RslType,
 };
 use octets::{Memory, Octets};
 use std::alloc::Global;
@@ -20,7 +24,7 @@ use std::alloc::Global;
 ///
 /// It is an octet with the message discriminator, an octet with the message type, and elements in any order, each an
 /// identifier with its value.
-#[derive(Debug, Drop)]
+#[derive(Drop)]
 pub enum Rsl {
     DataRequest(Data),
     DataIndication(Data),
@@ -45,54 +49,45 @@ pub enum Rsl {
     RfChannelReleaseAck(ChanNo),
 }
 
-/// The channel number of a message that has no other element.
-#[tactic(auto, unfolding(crate::specs::Reading::channel_only_at))]
-fn channel_only(body: &[u8]) -> Result<ChanNo, RslFault>
-    ensures { result ≡ channel_only_at (elements_of body.now) }
-{
-    let number = needed(body, 0x01)?;
-    channel(number)
-}
-
-/// The message of this kind that the elements make.
-#[tactic(auto, unfolding(crate::specs::Reading::message_of))]
-fn message(alloc: Global, kind: Kind, body: &[u8]) -> Result<Rsl, RslFault>
-    ensures { Gives (λ v. v) result (message_of kind (elements_of body.now)) }
+/// The message of this type that the elements make.
+#[tactic(auto, unfolding(crate::specs::RslReading::message_at))]
+fn message(alloc: Global, kind: RslType, body: &[u8]) -> Result<Rsl, RslFault>
+    ensures { Gives RslFault.Memory (λ v. v) result (message_at kind (elements_of body.now)) }
 {
     Ok(match kind {
-        Kind::DataRequest => Rsl::DataRequest(Data::read(alloc, body)?),
-        Kind::DataIndication => Rsl::DataIndication(Data::read(alloc, body)?),
-        Kind::ErrorIndication => Rsl::ErrorIndication(ErrorReport::read(alloc, body)?),
-        Kind::EstablishRequest => Rsl::EstablishRequest(Link::read(body)?),
-        Kind::EstablishConfirm => Rsl::EstablishConfirm(Link::read(body)?),
-        Kind::EstablishIndication => Rsl::EstablishIndication(Establishment::read(alloc, body)?),
-        Kind::ReleaseRequest => Rsl::ReleaseRequest(Release::read(body)?),
-        Kind::ReleaseConfirm => Rsl::ReleaseConfirm(Link::read(body)?),
-        Kind::ReleaseIndication => Rsl::ReleaseIndication(Link::read(body)?),
-        Kind::ChannelRequired => Rsl::ChannelRequired(ChannelRequired::read(body)?),
-        Kind::ImmediateAssignCommand => {
+        RslType::DataRequest => Rsl::DataRequest(Data::read(alloc, body)?),
+        RslType::DataIndication => Rsl::DataIndication(Data::read(alloc, body)?),
+        RslType::ErrorIndication => Rsl::ErrorIndication(ErrorReport::read(alloc, body)?),
+        RslType::EstablishRequest => Rsl::EstablishRequest(Link::read(body)?),
+        RslType::EstablishConfirm => Rsl::EstablishConfirm(Link::read(body)?),
+        RslType::EstablishIndication => Rsl::EstablishIndication(Establishment::read(alloc, body)?),
+        RslType::ReleaseRequest => Rsl::ReleaseRequest(Release::read(body)?),
+        RslType::ReleaseConfirm => Rsl::ReleaseConfirm(Link::read(body)?),
+        RslType::ReleaseIndication => Rsl::ReleaseIndication(Link::read(body)?),
+        RslType::ChannelRequired => Rsl::ChannelRequired(ChannelRequired::read(body)?),
+        RslType::ImmediateAssignCommand => {
             Rsl::ImmediateAssignCommand(ImmediateAssignment::read(alloc, body)?)
         }
-        Kind::ChannelActivation => Rsl::ChannelActivation(Activation::read(alloc, body)?),
-        Kind::ChannelActivationAck => Rsl::ChannelActivationAck(ActivationAck::read(body)?),
-        Kind::ChannelActivationNack => Rsl::ChannelActivationNack(Failure::read(alloc, body)?),
-        Kind::ConnectionFailure => Rsl::ConnectionFailure(Failure::read(alloc, body)?),
-        Kind::HandoverDetection => Rsl::HandoverDetection(Detection::read(body)?),
-        Kind::MeasurementResult => Rsl::MeasurementResult(MeasurementResult::read(alloc, body)?),
-        Kind::RfChannelRelease => Rsl::RfChannelRelease(channel_only(body)?),
-        Kind::RfChannelReleaseAck => Rsl::RfChannelReleaseAck(channel_only(body)?),
+        RslType::ChannelActivation => Rsl::ChannelActivation(Activation::read(alloc, body)?),
+        RslType::ChannelActivationAck => Rsl::ChannelActivationAck(ActivationAck::read(body)?),
+        RslType::ChannelActivationNack => Rsl::ChannelActivationNack(Failure::read(alloc, body)?),
+        RslType::ConnectionFailure => Rsl::ConnectionFailure(Failure::read(alloc, body)?),
+        RslType::HandoverDetection => Rsl::HandoverDetection(Detection::read(body)?),
+        RslType::MeasurementResult => Rsl::MeasurementResult(MeasurementResult::read(alloc, body)?),
+        RslType::RfChannelRelease => Rsl::RfChannelRelease(read_channel(body)?),
+        RslType::RfChannelReleaseAck => Rsl::RfChannelReleaseAck(read_channel(body)?),
     })
 }
 
 /// What the octets are read as.
-#[tactic(auto, unfolding(crate::specs::Reading::reading))]
+#[tactic(auto, unfolding(crate::specs::RslReading::rsl_reading))]
 fn read_all(alloc: Global, octets: &[u8]) -> Result<Rsl, RslFault>
-    ensures { Gives (λ v. v) result (reading octets.now) }
+    ensures { Gives RslFault.Memory (λ v. v) result (rsl_reading octets.now) }
 {
-    let [discriminator, message_type, body @ ..] = octets else {
+    let [discriminator, octet, body @ ..] = octets else {
         return Err(RslFault::Short);
     };
-    let Some(kind) = table::kind_of(*discriminator, *message_type) else {
+    let Some(kind) = RslType::of_octets(*discriminator, *octet) else {
         return Err(RslFault::UnknownType);
     };
     if is_cut(body) {
@@ -109,37 +104,42 @@ impl Rsl {
     /// element that is cut, a missing element in the order of the message's line, a bad channel number, L3 information
     /// without octets, one of more than 251, and want of memory.
     pub fn read(alloc: Global, octets: &[u8]) -> Result<Rsl, RslFault>
-        ensures found { IfOk result (λ v. IsText octets.now v) }
-        ensures only { (v : RslValue) → IsText octets.now v → ((result ≡ Ok v) ⊎ (result ≡ Err RslFault.Memory)) }
-        ensures refused { RefusesBy RslFault.Memory result (first_fault octets.now) }
+        // What is answered is what the octets are read as.
+        ensures reads { Gives RslFault.Memory (λ v. v) result (rsl_reading octets.now) }
+        // What is read is what the octets are a text of.
+        ensures found { IfOk result (λ v. IsRsl octets.now v) }
+        // What the octets are a text of is read, unless memory runs out.
+        ensures only { (v : RslValue) → IsRsl octets.now v → ((result ≡ Ok v) ⊎ (result ≡ Err RslFault.Memory)) }
+        // A refusal is the first fault, and memory runs out only where there is none.
+        ensures refused { RefusesBy RslFault.Memory result (result_err (rsl_reading octets.now)) }
     {
         read_all(alloc, octets)
     }
 
-    /// The line of the table.
-    fn row(&self) -> Row
-        ensures { result ≡ row_of self.now }
+    /// The type of the message.
+    pub fn kind(&self) -> RslType
+        ensures { result ≡ type_of self.now }
     {
         match self {
-            Rsl::DataRequest(_) => table::DATA_REQUEST,
-            Rsl::DataIndication(_) => table::DATA_INDICATION,
-            Rsl::ErrorIndication(_) => table::ERROR_INDICATION,
-            Rsl::EstablishRequest(_) => table::ESTABLISH_REQUEST,
-            Rsl::EstablishConfirm(_) => table::ESTABLISH_CONFIRM,
-            Rsl::EstablishIndication(_) => table::ESTABLISH_INDICATION,
-            Rsl::ReleaseRequest(_) => table::RELEASE_REQUEST,
-            Rsl::ReleaseConfirm(_) => table::RELEASE_CONFIRM,
-            Rsl::ReleaseIndication(_) => table::RELEASE_INDICATION,
-            Rsl::ChannelRequired(_) => table::CHANNEL_REQUIRED,
-            Rsl::ImmediateAssignCommand(_) => table::IMMEDIATE_ASSIGN_COMMAND,
-            Rsl::ChannelActivation(_) => table::CHANNEL_ACTIVATION,
-            Rsl::ChannelActivationAck(_) => table::CHANNEL_ACTIVATION_ACK,
-            Rsl::ChannelActivationNack(_) => table::CHANNEL_ACTIVATION_NACK,
-            Rsl::ConnectionFailure(_) => table::CONNECTION_FAILURE,
-            Rsl::HandoverDetection(_) => table::HANDOVER_DETECTION,
-            Rsl::MeasurementResult(_) => table::MEASUREMENT_RESULT,
-            Rsl::RfChannelRelease(_) => table::RF_CHANNEL_RELEASE,
-            Rsl::RfChannelReleaseAck(_) => table::RF_CHANNEL_RELEASE_ACK,
+            Rsl::DataRequest(_) => RslType::DataRequest,
+            Rsl::DataIndication(_) => RslType::DataIndication,
+            Rsl::ErrorIndication(_) => RslType::ErrorIndication,
+            Rsl::EstablishRequest(_) => RslType::EstablishRequest,
+            Rsl::EstablishConfirm(_) => RslType::EstablishConfirm,
+            Rsl::EstablishIndication(_) => RslType::EstablishIndication,
+            Rsl::ReleaseRequest(_) => RslType::ReleaseRequest,
+            Rsl::ReleaseConfirm(_) => RslType::ReleaseConfirm,
+            Rsl::ReleaseIndication(_) => RslType::ReleaseIndication,
+            Rsl::ChannelRequired(_) => RslType::ChannelRequired,
+            Rsl::ImmediateAssignCommand(_) => RslType::ImmediateAssignCommand,
+            Rsl::ChannelActivation(_) => RslType::ChannelActivation,
+            Rsl::ChannelActivationAck(_) => RslType::ChannelActivationAck,
+            Rsl::ChannelActivationNack(_) => RslType::ChannelActivationNack,
+            Rsl::ConnectionFailure(_) => RslType::ConnectionFailure,
+            Rsl::HandoverDetection(_) => RslType::HandoverDetection,
+            Rsl::MeasurementResult(_) => RslType::MeasurementResult,
+            Rsl::RfChannelRelease(_) => RslType::RfChannelRelease,
+            Rsl::RfChannelReleaseAck(_) => RslType::RfChannelReleaseAck,
         }
     }
 
@@ -172,26 +172,26 @@ impl Rsl {
     }
 
     /// Why the message can't be written.
-    #[tactic(auto, unfolding(crate::specs::Text::write_fault))]
+    #[tactic(auto, unfolding(crate::specs::RslText::rsl_write_fault))]
     fn refusal(&self) -> Option<RslFault>
-        ensures { result ≡ write_fault self.now }
+        ensures { result ≡ rsl_write_fault self.now }
     {
         if self.l3().is_some_and(|l3| l3.len() == 0) {
             return Some(RslFault::Short);
         }
-        if self.l3().is_some_and(|l3| l3.len() > MAX_L3)
-            || self.value().is_some_and(|value| value.len() > 255)
+        if self.l3().is_some_and(|l3| l3.len() > L3_LIMIT)
+            || self.value().is_some_and(|value| value.len() > VALUE_LIMIT)
         {
             return Some(RslFault::TooLong);
         }
         None
     }
 
-    /// Appends the elements in the order of the message's line.
-    #[tactic(auto, unfolding(crate::specs::Text::write_fault))]
+    /// Appends the elements that are there, in written order.
+    #[tactic(auto, unfolding(crate::specs::RslText::rsl_write_fault))]
     fn put(&self, text: &mut Vec<u8>) -> Result<(), Memory>
-        requires { write_fault self.now ≡ None }
-        ensures { OnOk result (text.new.items ≡ text.old.items ++ written_fields (fields self.now)) }
+        requires { rsl_write_fault self.now ≡ None }
+        ensures { OnOk result (text.new.items ≡ text.old.items ++ rsl_fields_text (fields self.now)) }
     {
         match self {
             Rsl::DataRequest(data) => data.put(text),
@@ -211,33 +211,36 @@ impl Rsl {
             Rsl::ConnectionFailure(failure) => failure.put(text),
             Rsl::HandoverDetection(detection) => detection.put(text),
             Rsl::MeasurementResult(report) => report.put(text),
-            Rsl::RfChannelRelease(channel) => put(text, 0x01, &[channel.octet()]),
-            Rsl::RfChannelReleaseAck(channel) => put(text, 0x01, &[channel.octet()]),
+            Rsl::RfChannelRelease(channel) => put_channel(text, *channel),
+            Rsl::RfChannelReleaseAck(channel) => put_channel(text, *channel),
         }
     }
 
     /// Appends the written text of the message. An empty L3 information is refused as `Short`, then what is too long,
     /// then want of memory; a refusal appends nothing.
     pub fn write(&self, alloc: Global, out: &mut Vec<u8>) -> Result<(), RslFault>
-        ensures ok { OnOk result (out.new.items ≡ out.old.items ++ written self.now) }
-        ensures refused { RefusesBy RslFault.Memory result (write_fault self.now) }
+        ensures ok { OnOk result (out.new.items ≡ out.old.items ++ rsl_text self.now) }
         ensures err { OnErr result (out.new.items ≡ out.old.items) }
+        ensures refused { RefusesBy RslFault.Memory result (rsl_write_fault self.now) }
     {
         if let Some(fault) = self.refusal() {
             return Err(fault);
         }
-        let row = self.row();
-        let mut text = Vec::from_slice(alloc, &[row.discriminator, row.message_type])?;
+        let kind = self.kind();
+        let mut text = Vec::from_slice(alloc, &[kind.discriminator(), kind.octet()]).map_err(
+            Memory::from,
+        )?;
         self.put(&mut text)?;
-        out.extend_from_slice(text.as_slice())?;
+        out.extend_from_slice(text.as_slice())
+            .map_err(Memory::from)?;
         Ok(())
     }
 }
 
 /// Law: what is written of a lawful message is a text of it, and is read as it, whatever follows that begins with no
 /// identifier of the table.
-pub fn written_is_read()
-    ensures text { (v : RslValue) (more : List ℕ) → IsLawful v → write_fault v ≡ None → Stops ELEMENTS more →
-        IsText (written v ++ more) v }
-    ensures read { (v : RslValue) (octets : List ℕ) → IsText octets v → reading octets ≡ Ok v }
+pub fn rsl_text_is_read()
+    ensures text { (v : RslValue) (more : List ℕ) → IsLawful v → rsl_write_fault v ≡ None → Stops ELEMENTS more →
+        IsRsl (rsl_text v ++ more) v }
+    ensures read { (v : RslValue) (octets : List ℕ) → IsRsl octets v → rsl_reading octets ≡ Ok v }
 {}

@@ -1,5 +1,5 @@
 ghost use Rattle.std.specs.Prelude.{◌≡◌};
-ghost use Rattle.rsl_codec.specs.Channel.{channel_by};
+ghost use Rattle.rsl_codec.specs.ChannelNumber.{channel_by};
 
 use crate::RslFault;
 use std::marker::Model;
@@ -8,14 +8,14 @@ use std::marker::Model;
 ///
 /// The octets are `08` to `0F` TCH/F, `10` to `1F` TCH/H, `20` to `3F` SDCCH/4, `40` to `7F` SDCCH/8, `88` RACH and
 /// `90` PCH and AGCH.
-#[derive(Clone, Copy, Debug, PartialEq, Eq)]
+#[derive(Clone, Copy, PartialEq, Eq)]
 pub struct ChanNo {
     octet: u8,
 }
 
 impl Model for ChanNo {
     ghost use Rattle.std.specs.Prelude.{◌≡◌, ℕ, true};
-    ghost use Rattle.rsl_codec.specs.Channel.{is_channel};
+    ghost use Rattle.rsl_codec.specs.ChannelNumber.{is_channel};
 
     ghost Value = { ℕ };
 

@@ -1,18 +1,24 @@
-ghost use Rattle.std.specs.Prelude.{◌≡◌, ◌++◌, ◌<◌, length, option_map, IfOk, OnOk};
+ghost use Rattle.std.specs.Prelude.{◌≡◌, ◌++◌, ◌≤◌, length, option_map, OnOk};
 ghost use Rattle.std.specs.Option.{ForSome};
-ghost use Rattle.rsl_codec.specs.Fields.{element_of, optional_of, octet_value, number_value, reference_value};
-ghost use Rattle.rsl_codec.specs.Reading.{Gives, breaks_off, channel_at, elements_of, first_of, l3_at, needed_at, number_of, octet_of, optional_l3_at, reference_of, seen};
+ghost use Rattle.octets.specs.Answer.{Gives, result_map};
+ghost use Rattle.octets.specs.Walk.{first_of};
+ghost use Rattle.rsl_codec.specs.Fields.{octet_value, number_value, reference_value};
+ghost use Rattle.rsl_codec.specs.RslReading.{breaks_off, channel_at, elements_of, l3_at, needed_value as needed_value_of, number_of, octet_of, optional_l3_at, reference_of};
+ghost use Rattle.rsl_codec.specs.RslText.{rsl_element_text, rsl_field_text};
 
-use crate::table::ELEMENTS;
+use crate::identifiers::ELEMENTS;
 use crate::{ChanNo, RequestReference, RslFault};
 use octets::{Memory, Octets, element};
 use std::alloc::Global;
 
 /// The most octets that L3 information has.
-pub(crate) const MAX_L3: usize = 251;
+pub const L3_LIMIT: usize = 251;
+
+/// The most octets that a value has whose length stands in one octet.
+pub const VALUE_LIMIT: usize = 255;
 
 /// Whether the elements behind a message's type end within one of them.
-#[tactic(auto, unfolding(crate::specs::Reading::breaks_off))]
+#[tactic(auto, unfolding(crate::specs::RslReading::breaks_off))]
 pub(crate) fn is_cut(body: &[u8]) -> bool
     ensures { result ≡ breaks_off body.now }
 {
@@ -20,7 +26,7 @@ pub(crate) fn is_cut(body: &[u8]) -> bool
 }
 
 /// The value of the first element with this identifier.
-#[tactic(auto, unfolding(crate::specs::Reading::elements_of))]
+#[tactic(auto, unfolding(crate::specs::RslReading::elements_of))]
 pub(crate) fn value(body: &[u8], id: u8) -> Option<&[u8]>
     ensures { option_map (λ v. v.now) result ≡ first_of id (elements_of body.now) }
 {
@@ -28,8 +34,8 @@ pub(crate) fn value(body: &[u8], id: u8) -> Option<&[u8]>
 }
 
 /// The value of the first element with this identifier, which the message needs.
-pub(crate) fn needed(body: &[u8], id: u8) -> Result<&[u8], RslFault>
-    ensures { seen (λ v. v.now) result ≡ needed_at id (elements_of body.now) }
+pub(crate) fn needed_value(body: &[u8], id: u8) -> Result<&[u8], RslFault>
+    ensures { result_map (λ v. v.now) result ≡ needed_value_of id (elements_of body.now) }
 {
     match value(body, id) {
         Some(value) => Ok(value),
@@ -38,7 +44,7 @@ pub(crate) fn needed(body: &[u8], id: u8) -> Result<&[u8], RslFault>
 }
 
 /// The channel number in a value of one octet.
-pub(crate) fn channel(value: &[u8]) -> Result<ChanNo, RslFault>
+pub(crate) fn channel_number(value: &[u8]) -> Result<ChanNo, RslFault>
     ensures { result ≡ channel_at value.now }
 {
     match value {
@@ -62,7 +68,7 @@ pub(crate) fn number(value: &[u8]) -> u16
     ensures { result ≡ number_of value.now }
 {
     match value {
-        [high, low, ..] => 256 * *high as u16 + *low as u16,
+        [high, low, ..] => u16::from_be_bytes([*high, *low]),
         _ => 0,
     }
 }
@@ -85,12 +91,12 @@ pub(crate) fn reference(value: &[u8]) -> RequestReference
 
 /// A copy of an L3 information: 1 to 251 octets.
 pub(crate) fn l3(alloc: Global, value: &[u8]) -> Result<Octets, RslFault>
-    ensures { Gives (λ x. x) result (l3_at value.now) }
+    ensures { Gives RslFault.Memory (λ x. x) result (l3_at value.now) }
 {
     if value.is_empty() {
         return Err(RslFault::Short);
     }
-    if value.len() > MAX_L3 {
+    if value.len() > L3_LIMIT {
         return Err(RslFault::TooLong);
     }
     Ok(Octets::copy(alloc, value)?)
@@ -98,7 +104,7 @@ pub(crate) fn l3(alloc: Global, value: &[u8]) -> Result<Octets, RslFault>
 
 /// A copy of an L3 information that may be absent.
 pub(crate) fn optional_l3(alloc: Global, value: Option<&[u8]>) -> Result<Option<Octets>, RslFault>
-    ensures { Gives (λ x. x) result (optional_l3_at (option_map (λ v. v.now) value.entry)) }
+    ensures { Gives RslFault.Memory (λ x. x) result (optional_l3_at (option_map (λ v. v.now) value.entry)) }
 {
     match value {
         Some(value) => Ok(Some(l3(alloc, value)?)),
@@ -106,21 +112,11 @@ pub(crate) fn optional_l3(alloc: Global, value: Option<&[u8]>) -> Result<Option<
     }
 }
 
-/// A copy of a value that may be absent.
-pub(crate) fn optional_octets(alloc: Global, value: Option<&[u8]>) -> Result<Option<Octets>, Memory>
-    ensures { IfOk result (λ o. o ≡ option_map (λ v. v.now) value.entry) }
-{
-    match value {
-        Some(value) => Ok(Some(Octets::copy(alloc, value)?)),
-        None => Ok(None),
-    }
-}
-
 /// Appends an element, in the format that the table has for it.
-#[tactic(auto, unfolding(crate::specs::Fields::element_of))]
+#[tactic(auto, unfolding(crate::specs::RslText::rsl_element_text))]
 pub(crate) fn put(text: &mut Vec<u8>, id: u8, value: &[u8]) -> Result<(), Memory>
-    requires { length value.now < 256 }
-    ensures { OnOk result (text.new.items ≡ text.old.items ++ element_of id value.now) }
+    requires { length value.now ≤ VALUE_LIMIT }
+    ensures { OnOk result (text.new.items ≡ text.old.items ++ rsl_element_text id value.now) }
 {
     if let Some(format) = element::format_of(&ELEMENTS, id) {
         element::append(text, format, id, value)?;
@@ -130,7 +126,7 @@ pub(crate) fn put(text: &mut Vec<u8>, id: u8, value: &[u8]) -> Result<(), Memory
 
 /// Appends an element of one octet, where it is there.
 pub(crate) fn put_octet(text: &mut Vec<u8>, id: u8, octet: Option<u8>) -> Result<(), Memory>
-    ensures { OnOk result (text.new.items ≡ text.old.items ++ optional_of id (option_map octet_value octet)) }
+    ensures { OnOk result (text.new.items ≡ text.old.items ++ rsl_field_text id (option_map octet_value octet)) }
 {
     match octet {
         Some(octet) => put(text, id, &[octet]),
@@ -140,18 +136,18 @@ pub(crate) fn put_octet(text: &mut Vec<u8>, id: u8, octet: Option<u8>) -> Result
 
 /// Appends an element of two octets, where it is there.
 pub(crate) fn put_number(text: &mut Vec<u8>, id: u8, number: Option<u16>) -> Result<(), Memory>
-    ensures { OnOk result (text.new.items ≡ text.old.items ++ optional_of id (option_map number_value number)) }
+    ensures { OnOk result (text.new.items ≡ text.old.items ++ rsl_field_text id (option_map number_value number)) }
 {
     match number {
-        Some(number) => put(text, id, &[(number / 256) as u8, (number % 256) as u8]),
+        Some(number) => put(text, id, &number.to_be_bytes()),
         None => Ok(()),
     }
 }
 
 /// Appends an element of octets, where it is there.
 pub(crate) fn put_octets(text: &mut Vec<u8>, id: u8, octets: Option<&Octets>) -> Result<(), Memory>
-    requires { ForSome octets (λ o. length o.now < 256) }
-    ensures { OnOk result (text.new.items ≡ text.old.items ++ optional_of id (option_map (λ o. o.now) octets.entry)) }
+    requires { ForSome octets (λ o. length o.now ≤ VALUE_LIMIT) }
+    ensures { OnOk result (text.new.items ≡ text.old.items ++ rsl_field_text id (option_map (λ o. o.now) octets.entry)) }
 {
     match octets {
         Some(octets) => put(text, id, octets.as_slice()),
@@ -165,12 +161,8 @@ pub(crate) fn put_reference(
     id: u8,
     reference: RequestReference,
 ) -> Result<(), Memory>
-    ensures { OnOk result (text.new.items ≡ text.old.items ++ element_of id (reference_value reference)) }
+    ensures { OnOk result (text.new.items ≡ text.old.items ++ rsl_element_text id (reference_value reference)) }
 {
-    let frame = reference.frame;
-    put(
-        text,
-        id,
-        &[reference.access, (frame / 256) as u8, (frame % 256) as u8],
-    )
+    let [high, low] = reference.frame.to_be_bytes();
+    put(text, id, &[reference.access, high, low])
 }

@@ -4,7 +4,7 @@ use std::marker::Model;
 
 /// A link identifier (TS 48.058 clause 9.3.2): bits 8 and 7 are 00 on the main signalling channel and 01 on the SACCH,
 /// bits 3 to 1 are the SAPI. It holds every octet as it was read.
-#[derive(Clone, Copy, Debug, PartialEq, Eq)]
+#[derive(Clone, Copy)]
 pub struct LinkId {
     octet: u8,
 }

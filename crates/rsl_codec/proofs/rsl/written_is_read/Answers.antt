@@ -1,8 +1,0 @@
-use Rattle.rsl_codec.proofs.Messages.{text_is_read, written_is_text}
-use Rattle.rsl_codec.proofs.rsl.written_is_read.Goals as goal
-
-pub returns-clause-text : goal.returns-clause-text
-returns-clause-text c = written_is_text
-
-pub returns-clause-read : goal.returns-clause-read
-returns-clause-read c = λ v octets text. text_is_read octets v text

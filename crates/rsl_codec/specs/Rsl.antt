@@ -1,0 +1,84 @@
+-- When octets are a text of a message: the grammar.
+use Rattle.std.specs.Prelude.{◌≡◌, ℕ, ◌<◌, ◌≤◌, true, false, List, ◌∷◌, length, Option, Some, None}
+use Rattle.octets.specs.Element.{Element, AreElements}
+use Rattle.octets.specs.Field.{Field, Carries}
+use Rattle.rsl_codec.specs.declared.fields.TheConstants.{L3_LIMIT}
+use Rattle.rsl_codec.specs.declared.identifiers.TheConstants.{ELEMENTS}
+use Rattle.rsl_codec.specs.declared.rsl.Rsl.{Rsl}
+use Rattle.rsl_codec.specs.declared.rsl.Rsl.TheVariants.{DataRequest, DataIndication, ErrorIndication, EstablishRequest, EstablishConfirm, EstablishIndication, ReleaseRequest, ReleaseConfirm, ReleaseIndication, ChannelRequired, ImmediateAssignCommand, ChannelActivation, ChannelActivationAck, ChannelActivationNack, ConnectionFailure, HandoverDetection, MeasurementResult, RfChannelRelease, RfChannelReleaseAck}
+use Rattle.rsl_codec.specs.ChannelNumber.{is_channel}
+use Rattle.rsl_codec.specs.Fields.{channel_fields, link_fields, data_fields, error_fields, establishment_fields, release_fields, channel_required_fields, assignment_fields, activation_fields, activation_ack_fields, failure_fields, detection_fields, measurement_result_fields}
+use Rattle.rsl_codec.specs.RslType.{rsl_type, type_of}
+
+-- its elements, in written order
+abbrev pub fields : Rsl → List Field
+fields (DataRequest m) = data_fields m
+fields (DataIndication m) = data_fields m
+fields (ErrorIndication m) = error_fields m
+fields (EstablishRequest m) = link_fields m
+fields (EstablishConfirm m) = link_fields m
+fields (EstablishIndication m) = establishment_fields m
+fields (ReleaseRequest m) = release_fields m
+fields (ReleaseConfirm m) = link_fields m
+fields (ReleaseIndication m) = link_fields m
+fields (ChannelRequired m) = channel_required_fields m
+fields (ImmediateAssignCommand m) = assignment_fields m
+fields (ChannelActivation m) = activation_fields m
+fields (ChannelActivationAck m) = activation_ack_fields m
+fields (ChannelActivationNack m) = failure_fields m
+fields (ConnectionFailure m) = failure_fields m
+fields (HandoverDetection m) = detection_fields m
+fields (MeasurementResult m) = measurement_result_fields m
+fields (RfChannelRelease channel) = channel_fields channel
+fields (RfChannelReleaseAck channel) = channel_fields channel
+
+abbrev pub channel_of : Rsl → ℕ
+channel_of (DataRequest m) = m.channel
+channel_of (DataIndication m) = m.channel
+channel_of (ErrorIndication m) = m.channel
+channel_of (EstablishRequest m) = m.channel
+channel_of (EstablishConfirm m) = m.channel
+channel_of (EstablishIndication m) = m.channel
+channel_of (ReleaseRequest m) = m.channel
+channel_of (ReleaseConfirm m) = m.channel
+channel_of (ReleaseIndication m) = m.channel
+channel_of (ChannelRequired m) = m.channel
+channel_of (ImmediateAssignCommand m) = m.channel
+channel_of (ChannelActivation m) = m.channel
+channel_of (ChannelActivationAck m) = m.channel
+channel_of (ChannelActivationNack m) = m.channel
+channel_of (ConnectionFailure m) = m.channel
+channel_of (HandoverDetection m) = m.channel
+channel_of (MeasurementResult m) = m.channel
+channel_of (RfChannelRelease channel) = channel
+channel_of (RfChannelReleaseAck channel) = channel
+
+-- its L3 information
+abbrev pub l3_of : Rsl → Option (List ℕ)
+l3_of (DataRequest m) = Some m.l3
+l3_of (DataIndication m) = Some m.l3
+l3_of (EstablishIndication m) = m.l3
+l3_of (MeasurementResult m) = m.l3
+l3_of _ = None
+
+-- L3 information has 1 to 251 octets
+abbrev pub IsL3 : Option (List ℕ) → Type 0
+IsL3 None = Unit {0}
+IsL3 (Some l3) = (0 < length l3) × (length l3 ≤ L3_LIMIT)
+
+-- the message is on a channel, and its L3 information has 1 to 251 octets
+abbrev pub IsLawful : Rsl → Type 0
+IsLawful v = (is_channel (channel_of v) ≡ true) × IsL3 (l3_of v)
+
+-- The octets are a text of the message: the discriminator, whatever its bit 1, and the octet of its type, then elements of
+-- which the first with each identifier of its fields has the field's value.
+pub record IsRsl (octets : List ℕ) (v : Rsl) : Type 0 where
+  pub discriminator : ℕ
+  pub octet : ℕ
+  pub body : List ℕ
+  pub es : List Element
+  pub is : octets ≡ discriminator ∷ octet ∷ body
+  pub names : rsl_type discriminator octet ≡ Some (type_of v)
+  pub are : AreElements ELEMENTS body es false
+  pub carries : Carries es (fields v)
+  pub lawful : IsLawful v

@@ -1,0 +1,55 @@
+-- The text that is written of a message, and why one can't be written.
+use Rattle.std.specs.Prelude.{ℕ, Bool, false, ◌||◌, ◌==◌, nat_lt, List, [], ◌∷◌, ◌++◌, length, Option, Some, None, option_map, if◌then◌else◌}
+use Rattle.octets.specs.Field.{Field, field_text}
+use Rattle.rsl_codec.specs.declared.fault.RslFault.{RslFault}
+use Rattle.rsl_codec.specs.declared.fault.RslFault.TheVariants.{Short, TooLong}
+use Rattle.rsl_codec.specs.declared.fields.TheConstants.{L3_LIMIT, VALUE_LIMIT}
+use Rattle.rsl_codec.specs.declared.identifiers.TheConstants.{ELEMENTS}
+use Rattle.rsl_codec.specs.declared.rsl.Rsl.{Rsl}
+use Rattle.rsl_codec.specs.declared.rsl.Rsl.TheVariants.{ErrorIndication, ImmediateAssignCommand, ChannelActivation, ChannelActivationNack, ConnectionFailure, MeasurementResult}
+use Rattle.rsl_codec.specs.Rsl.{fields, l3_of}
+use Rattle.rsl_codec.specs.RslType.{rsl_discriminator, rsl_octet, type_of}
+
+-- an element in the format of the table
+unfoldable pub rsl_element_text : ℕ → List ℕ → List ℕ
+rsl_element_text id value = field_text ELEMENTS id (Some value)
+
+abbrev pub rsl_field_text : ℕ → Option (List ℕ) → List ℕ
+rsl_field_text id None = []
+rsl_field_text id (Some value) = rsl_element_text id value
+
+-- the elements one behind the other
+abbrev pub rsl_fields_text : List Field → List ℕ
+rsl_fields_text [] = []
+rsl_fields_text (f ∷ fs) = rsl_field_text f.id f.value ++ rsl_fields_text fs
+
+-- the written text: discriminator and octet of its type, and the elements that are there in written order
+abbrev pub rsl_text : Rsl → List ℕ
+rsl_text v = rsl_discriminator (type_of v) ∷ rsl_octet (type_of v) ∷ rsl_fields_text (fields v)
+
+-- ---- refused
+
+-- its value whose length stands in one octet: no message has two
+abbrev pub value_of : Rsl → Option (List ℕ)
+value_of (ErrorIndication m) = option_map (λ c. c.0) m.cause
+value_of (ImmediateAssignCommand m) = Some m.information
+value_of (ChannelActivation m) = Some m.mode.0
+value_of (ChannelActivationNack m) = option_map (λ c. c.0) m.cause
+value_of (ConnectionFailure m) = option_map (λ c. c.0) m.cause
+value_of (MeasurementResult m) = option_map (λ u. u.0) m.uplink
+value_of _ = None
+
+abbrev pub is_empty : Option (List ℕ) → Bool
+is_empty None = false
+is_empty (Some l3) = length l3 == 0
+
+abbrev pub is_over : ℕ → Option (List ℕ) → Bool
+is_over most None = false
+is_over most (Some value) = nat_lt most (length value)
+
+-- why a message can't be written: first an empty L3 information, then what is too long
+unfoldable pub rsl_write_fault : Rsl → Option RslFault
+rsl_write_fault v =
+    if is_empty (l3_of v) then Some Short
+    else if (is_over L3_LIMIT (l3_of v) || is_over VALUE_LIMIT (value_of v)) then Some TooLong
+    else None
