@@ -4,6 +4,7 @@ use Rattle.std.specs.Int.{from_be_bytes, w128}
 use Rattle.dtap_codec.specs.Bits.{Field, field, number_of, Fit}
 use Rattle.dtap_codec.specs.declared.report.Neighbour.{Neighbour}
 use Rattle.dtap_codec.specs.declared.report.Report.{Report}
+use Rattle.dtap_codec.specs.declared.report.TheConstants.{REPORT_LENGTH}
 
 -- one bit, 1 for true
 abbrev pub bit : Bool → ℕ
@@ -36,8 +37,8 @@ pub record Writes (number : ℕ) (r : Report) : Type 0 where
 
 -- The first 16 octets are the text of this report.
 pub record IsReport (octets : List ℕ) (r : Report) : Type 0 where
-  pub enough : 16 ≤ length octets
-  pub value : Writes (from_be_bytes w128 (take 16 octets)) r
+  pub enough : REPORT_LENGTH ≤ length octets
+  pub value : Writes (from_be_bytes w128 (take REPORT_LENGTH octets)) r
 
 -- the first NO-NCELL entries count, and none where that is 7
 abbrev pub neighbours_of : Report → List Neighbour
