@@ -1,5 +1,5 @@
 -- Definitions against literal octets.
-use Rattle.std.proofs.Common.{◌≡◌, ℕ, List, [], ◌∷◌, Bool, true, false, map, Option, Some, None, Result, Ok, Err, refl, arith}
+use Rattle.std.proofs.Common.{◌≡◌, ℕ, List, [], ◌∷◌, true, false, map, Some, None, Result, Ok, Err, refl, arith}
 use Rattle.octets.specs.Front.{octet_at}
 use Rattle.dtap_codec.specs.declared.message.TheConstants.{CALL_CONTROL, MESSAGE_LIMIT, MOBILITY_MANAGEMENT, RADIO_RESOURCE, SHORT_MESSAGES, SUPPLEMENTARY_SERVICES}
 use Rattle.dtap_codec.specs.declared.report.Neighbour.{Neighbour}
@@ -11,7 +11,6 @@ use Rattle.dtap_codec.specs.declared.rr.RrMessage.{RrMessage}
 use Rattle.dtap_codec.specs.declared.rr.RrMessage.TheVariants.{HandoverCommand, AssignmentCommand, HandoverComplete, HandoverFailure, AssignmentComplete, AssignmentFailure, ChannelRelease, ImmediateAssignment, MeasurementReport, PagingResponse}
 use Rattle.dtap_codec.specs.declared.rr_fault.RrFault.{RrFault}
 use Rattle.dtap_codec.specs.declared.rr_fault.RrFault.TheVariants.{Short, UnknownRr}
-use Rattle.dtap_codec.specs.declared.rr_type.RrType.{RrType}
 use Rattle.dtap_codec.specs.declared.rr_type.RrType.TheVariants as types
 use Rattle.dtap_codec.specs.declared.rr_type.TheConstants.{PSEUDO_LENGTH}
 use Rattle.dtap_codec.specs.declared.number.Modulus.TheVariants.{Four}

@@ -1,12 +1,11 @@
 -- Messages of radio resource management are read as the grammar has them.
-use Rattle.std.proofs.Common.{◌≡◌, ◌≢◌, ℕ, suc, ◌+◌, ◌*◌, ◌/◌, ◌%◌, ◌<◌, ◌≤◌, Bool, true, false, cond, eqb, List, [], ◌∷◌, ◌++◌, length, take, drop, Option, Some, None, Result, Ok, Err, refl, sym, ap, subst, ◌∙◌, arith, eq-eqb, inl, inr, append-nil}
+use Rattle.std.proofs.Common.{◌≡◌, ℕ, suc, ◌+◌, ◌*◌, ◌/◌, ◌%◌, ◌<◌, ◌≤◌, Bool, true, false, cond, eqb, List, [], ◌∷◌, ◌++◌, length, take, drop, Option, Some, None, Result, Ok, refl, sym, ap, subst, ◌∙◌, arith, eq-eqb, inl, inr, append-nil}
 use Rattle.std.specs.List.{find}
 use Rattle.std.proofs.lemmas.Bool.{cases_eq, ne_eqb, le-ltb, eqb-true}
-use Rattle.std.proofs.lemmas.List.{take_at, drop_at, take-append-drop, length-append, length-take}
-use Rattle.octets.specs.Answer.{◌>>=◌}
+use Rattle.std.proofs.lemmas.List.{take_at, take-append-drop, length-append, length-take}
 use Rattle.octets.specs.Element.{AreOctets}
 use Rattle.octets.specs.Front.{octet_at, split_at}
-use Rattle.octets.proofs.Steps.{bind_ok, ok_is, passed, octet_ok, IsSplit, split_ok}
+use Rattle.octets.proofs.Steps.{bind_ok, ok_is, passed, octet_ok, split_ok}
 use Rattle.dtap_codec.specs.declared.message.TheConstants.{RADIO_RESOURCE}
 use Rattle.dtap_codec.specs.declared.report.TheConstants.{REPORT_LENGTH}
 use Rattle.dtap_codec.specs.declared.rr.CellDescription.{CellDescription}

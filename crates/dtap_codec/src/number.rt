@@ -55,8 +55,5 @@ pub fn without_number(alloc: Global, message: &[u8], modulus: Modulus) -> Result
     requires { is_flow_message message.now ≡ true }
     ensures { IfOk result (λ copy. copy.items ≡ without_number message.now) }
 {
-    let _ = modulus;
-    let mut copy = Vec::from_slice(alloc, message)?;
-    copy[1] &= 0x3f;
-    Ok(copy)
+    with_number(alloc, message, 0, modulus)
 }

@@ -10,6 +10,9 @@ use crate::rr_fault::RrFault;
 /// The octets of a report's value.
 pub const REPORT_LENGTH: usize = 16;
 
+/// The entries of neighbour cells that a report has.
+pub const REPORT_ENTRIES: usize = 6;
+
 /// What a report says of one neighbour cell.
 #[derive(Clone, Copy)]
 pub struct Neighbour {
@@ -41,7 +44,7 @@ pub struct Report {
     /// NO-NCELL: how many entries count, from the first on; 7 says that there is no result of any neighbour.
     pub no_ncell: u8,
     /// The six entries of neighbour cells, those that don't count too.
-    pub entries: [Neighbour; 6],
+    pub entries: [Neighbour; REPORT_ENTRIES],
 }
 
 impl Report {
@@ -65,9 +68,11 @@ impl Report {
     pub fn neighbours(&self) -> &[Neighbour]
         ensures { result.now ≡ neighbours_of self.now }
     {
-        match self.no_ncell {
-            0..=6 => &self.entries[..usize::from(self.no_ncell)],
-            _ => &[],
+        let count = usize::from(self.no_ncell);
+        if count <= REPORT_ENTRIES {
+            &self.entries[..count]
+        } else {
+            &[]
         }
     }
 }
@@ -109,7 +114,7 @@ fn take_report(mut bits: Bits) -> Report
 }
 
 // Reads the six entries of neighbour cells, the last 102 bits.
-fn take_entries(mut bits: Bits) -> [Neighbour; 6]
+fn take_entries(mut bits: Bits) -> [Neighbour; REPORT_ENTRIES]
     requires { bits.left ≡ 102 }
     ensures { Begin (entries_fields result) bits.left bits.number 0 0 }
 {
