@@ -16,7 +16,8 @@ use Rattle.dtap_codec.specs.declared.rr_type.TheConstants.{PSEUDO_LENGTH}
 use Rattle.dtap_codec.specs.declared.number.Modulus.TheVariants.{Four}
 use Rattle.dtap_codec.specs.Message.{discriminator, is_flow_message}
 use Rattle.dtap_codec.specs.Number.{count_of, number_in, with_number, without_number}
-use Rattle.dtap_codec.specs.Places.{with_numbers_from}
+use Rattle.dtap_codec.specs.Places.{with_numbers_from, Carries, Rise}
+use Rattle.dtap_codec.specs.Places.Rise.{over, other, next, again}
 use Rattle.dtap_codec.specs.Report.{IsReport, neighbours_of}
 use Rattle.dtap_codec.specs.RrReading.{three_at, handover_command_at, assignment_command_at, cause_at, immediate_assignment_at, measurement_report_at, typed_at, pseudo_at, rr_reading}
 use Rattle.dtap_codec.specs.RrText.{rr_text}
@@ -80,6 +81,19 @@ cleared_1 = refl
 
 places_wrap : with_numbers_from 4 3 ((0x05 ∷ 0x24 ∷ 0x71 ∷ []) ∷ (0x03 ∷ 0x05 ∷ []) ∷ (0x03 ∷ 0x01 ∷ []) ∷ []) ≡ (0x05 ∷ 0xe4 ∷ 0x71 ∷ []) ∷ (0x03 ∷ 0x05 ∷ []) ∷ (0x03 ∷ 0x41 ∷ []) ∷ []
 places_wrap = refl
+
+abbrev sent : List (List ℕ)
+sent = (0x05 ∷ 0x24 ∷ 0x71 ∷ []) ∷ (0x03 ∷ 0x05 ∷ []) ∷ []
+
+at_0 : Carries 4 sent 0 (0x05 ∷ 0x24 ∷ 0x71 ∷ [])
+at_0 = record { message = 0x05 ∷ 0x24 ∷ 0x71 ∷ []; is_sent = refl; is_clear = record { is_flow = refl; cleared = refl }; carries = refl }
+
+at_1 : Carries 4 sent 1 (0x03 ∷ 0x45 ∷ [])
+at_1 = record { message = 0x03 ∷ 0x05 ∷ []; is_sent = refl; is_clear = record { is_flow = refl; cleared = refl }; carries = refl }
+
+-- both messages in turn, the second twice, with one between them that isn't of the flow
+rising : Rise 4 sent 0 ((0x05 ∷ 0x24 ∷ 0x71 ∷ []) ∷ (0x06 ∷ 0x27 ∷ []) ∷ (0x03 ∷ 0x45 ∷ []) ∷ (0x03 ∷ 0x45 ∷ []) ∷ []) 2
+rising = next at_0 (other refl (next at_1 (again refl at_1 (over 2))))
 
 -- ---- types
 
