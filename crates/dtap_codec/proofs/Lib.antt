@@ -2,4 +2,5 @@ pub mod Fields
 pub mod Numbers
 pub mod Reports
 pub mod Rising
+mod Rows
 pub mod RrGrammar

@@ -1,5 +1,5 @@
 -- Laws of places that rise, over plain lists and for any number m of numbers.
-use Rattle.std.proofs.Common.{◌≡◌, ℕ, ◌+◌, ◌%◌, ◌<◌, ◌≤◌, Bool, true, false, Some, None, List, [], ◌∷◌, ◌++◌, length, take, drop, refl, sym, ap, ◌∙◌, subst, arith, slice_get, inl, inr, length-append, append_assoc}
+use Rattle.std.proofs.Common.{◌≡◌, ℕ, ◌+◌, ◌%◌, Some, List, [], ◌∷◌, ◌++◌, length, take, sym, ap, ◌∙◌, subst, arith, slice_get, inl, inr, length-append, append_assoc}
 use Rattle.std.proofs.lemmas.Bool.{cases_Bool, cond-true, cond-false}
 use Rattle.std.proofs.lemmas.List.{take_more}
 use Rattle.std.proofs.lemmas.Option.{slice_get_within, get_or_from_slice_get}
@@ -7,7 +7,7 @@ use Rattle.std.specs.Prelude.{filter}
 use Rattle.octets.proofs.ListLemmas.{slice_get-append, slice_get-append_seam}
 use Rattle.dtap_codec.specs.Message.{is_flow_message}
 use Rattle.dtap_codec.specs.Number.{with_number}
-use Rattle.dtap_codec.specs.Places.{with_numbers_from, IsClear, AreClear, Carries, Rise}
+use Rattle.dtap_codec.specs.Places.{with_numbers_from, AreClear, Carries, Rise}
 use Rattle.dtap_codec.specs.Places.Rise.{over, other, next, again}
 
 -- the messages up to a place, and the one there, are those up to the next place

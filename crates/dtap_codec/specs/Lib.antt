@@ -5,4 +5,5 @@ pub mod Places
 pub mod Report
 pub mod Rr
 pub mod RrReading
+pub mod RrText
 pub mod RrType

@@ -4,6 +4,7 @@ use Rattle.std.specs.Int.{from_be_bytes, w128}
 use Rattle.dtap_codec.specs.Bits.{Field, field, number_of, Fit}
 use Rattle.dtap_codec.specs.declared.report.Neighbour.{Neighbour}
 use Rattle.dtap_codec.specs.declared.report.Report.{Report}
+use Rattle.dtap_codec.specs.declared.report.TheConstants.{REPORT_ENTRIES, REPORT_LENGTH}
 
 -- one bit, 1 for true
 abbrev pub bit : Bool → ℕ
@@ -30,15 +31,15 @@ report_fields second third r =
 pub record Writes (number : ℕ) (r : Report) : Type 0 where
   pub second : ℕ
   pub third : ℕ
-  pub six : length r.entries ≡ 6
+  pub six : length r.entries ≡ REPORT_ENTRIES
   pub fit : Fit (report_fields second third r)
   pub text : number ≡ number_of (report_fields second third r)
 
 -- The first 16 octets are the text of this report.
 pub record IsReport (octets : List ℕ) (r : Report) : Type 0 where
-  pub enough : 16 ≤ length octets
-  pub value : Writes (from_be_bytes w128 (take 16 octets)) r
+  pub enough : REPORT_LENGTH ≤ length octets
+  pub value : Writes (from_be_bytes w128 (take REPORT_LENGTH octets)) r
 
--- the first NO-NCELL entries count, and none where that is 7
+-- the first NO-NCELL entries count, and none where that is more than there are
 abbrev pub neighbours_of : Report → List Neighbour
-neighbours_of r = if nat_le r.no_ncell 6 then take r.no_ncell r.entries else []
+neighbours_of r = if nat_le r.no_ncell REPORT_ENTRIES then take r.no_ncell r.entries else []

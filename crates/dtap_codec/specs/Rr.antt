@@ -1,11 +1,14 @@
 -- Messages of radio resource management, octet by octet (TS 44.018 clause 9.1).
-use Rattle.std.specs.Prelude.{◌≡◌, ℕ, ◌+◌, ◌*◌, ◌/◌, ◌%◌, ◌<◌, List, [], ◌∷◌, ◌++◌, length}
+use Rattle.std.specs.Prelude.{◌≡◌, ℕ, ◌+◌, ◌*◌, ◌/◌, ◌%◌, ◌<◌, ◌≤◌, List, [], ◌∷◌, ◌++◌, length}
+use Rattle.dtap_codec.specs.declared.message.TheConstants.{RADIO_RESOURCE}
+use Rattle.dtap_codec.specs.declared.report.TheConstants.{REPORT_LENGTH}
 use Rattle.dtap_codec.specs.declared.rr.CellDescription.{CellDescription}
 use Rattle.dtap_codec.specs.declared.rr.ChannelDescription.{ChannelDescription}
 use Rattle.dtap_codec.specs.declared.rr.RrCause.{RrCause}
 use Rattle.dtap_codec.specs.declared.rr.RrMessage.{RrMessage}
 use Rattle.dtap_codec.specs.declared.rr.RrMessage.TheVariants.{HandoverCommand, AssignmentCommand, HandoverComplete, HandoverFailure, AssignmentComplete, AssignmentFailure, ChannelRelease, ImmediateAssignment, MeasurementReport, PagingResponse}
-use Rattle.dtap_codec.specs.declared.rr.TheConstants.{PSEUDO_LENGTH, IMMEDIATE_ASSIGNMENT}
+use Rattle.dtap_codec.specs.declared.rr.TheConstants.{IMMEDIATE_END_LENGTH}
+use Rattle.dtap_codec.specs.declared.rr_type.TheConstants.{PSEUDO_LENGTH, HANDOVER_COMMAND, ASSIGNMENT_COMMAND, HANDOVER_COMPLETE, HANDOVER_FAILURE, ASSIGNMENT_COMPLETE, ASSIGNMENT_FAILURE, CHANNEL_RELEASE, IMMEDIATE_ASSIGNMENT, MEASUREMENT_REPORT, PAGING_RESPONSE}
 
 -- two high bits of the ARFCN, three of the NCC, three of the BCC; the low eight bits of the ARFCN (clause 10.5.2.2)
 abbrev pub cell_text : CellDescription → List ℕ
@@ -29,7 +32,7 @@ pub record IsHandoverCommand (octets : List ℕ) (cell : CellDescription) (chann
   pub bits : ℕ
   pub power : ℕ
   pub more : List ℕ
-  pub is : octets ≡ 0x06 ∷ 0x2b ∷ (cell_text cell ++ (channel_text bits channel ++ reference ∷ power ∷ more))
+  pub is : octets ≡ RADIO_RESOURCE ∷ HANDOVER_COMMAND ∷ (cell_text cell ++ (channel_text bits channel ++ reference ∷ power ∷ more))
   pub three_bits : bits < 8
   pub cell_fits : CellFits cell
   pub channel_fits : ChannelFits channel
@@ -38,67 +41,50 @@ pub record IsAssignmentCommand (octets : List ℕ) (channel : ChannelDescription
   pub bits : ℕ
   pub power : ℕ
   pub more : List ℕ
-  pub is : octets ≡ 0x06 ∷ 0x2e ∷ (channel_text bits channel ++ power ∷ more)
+  pub is : octets ≡ RADIO_RESOURCE ∷ ASSIGNMENT_COMMAND ∷ (channel_text bits channel ++ power ∷ more)
   pub three_bits : bits < 8
   pub channel_fits : ChannelFits channel
 
 -- a message of this type that has a cause alone
 pub record IsCauseOf (kind : ℕ) (octets : List ℕ) (cause : RrCause) : Type 0 where
   pub more : List ℕ
-  pub is : octets ≡ 0x06 ∷ kind ∷ cause.0 ∷ more
+  pub is : octets ≡ RADIO_RESOURCE ∷ kind ∷ cause.0 ∷ more
 
--- page mode, channel, request reference, timing advance below two bits, and the last twelve of the 23 octets
-pub record IsImmediate (octets : List ℕ) (channel : ChannelDescription) (request : List ℕ) (advance : ℕ) : Type 0 where
+-- page mode, channel, request reference, timing advance below two bits, and the last octets
+pub record IsImmediateAssignment (octets : List ℕ) (channel : ChannelDescription) (request : List ℕ) (advance : ℕ) : Type 0 where
   pub page_mode : ℕ
   pub bits : ℕ
   pub high : ℕ
   pub last : List ℕ
-  pub is : octets ≡ PSEUDO_LENGTH ∷ 0x06 ∷ IMMEDIATE_ASSIGNMENT ∷ page_mode ∷ (channel_text bits channel ++ (request ++ (high * 64 + advance) ∷ last))
+  pub is : octets ≡ PSEUDO_LENGTH ∷ RADIO_RESOURCE ∷ IMMEDIATE_ASSIGNMENT ∷ page_mode ∷ (channel_text bits channel ++ (request ++ (high * 64 + advance) ∷ last))
   pub three_bits : bits < 8
   pub channel_fits : ChannelFits channel
   pub three : length request ≡ 3
   pub six_bits : advance < 64
-  pub whole : 11 < length last
+  pub whole : IMMEDIATE_END_LENGTH ≤ length last
 
-pub record IsReport (octets value : List ℕ) : Type 0 where
+pub record IsMeasurementReport (octets value : List ℕ) : Type 0 where
   pub more : List ℕ
-  pub is : octets ≡ 0x06 ∷ 0x15 ∷ (value ++ more)
-  pub sixteen : length value ≡ 16
+  pub is : octets ≡ RADIO_RESOURCE ∷ MEASUREMENT_REPORT ∷ (value ++ more)
+  pub whole : length value ≡ REPORT_LENGTH
 
 -- The octets are a text of the message; what follows its parts isn't looked at.
 abbrev pub IsRr : List ℕ → RrMessage → Type 0
 IsRr octets (HandoverCommand cell channel reference) = IsHandoverCommand octets cell channel reference
 IsRr octets (AssignmentCommand channel) = IsAssignmentCommand octets channel
-IsRr octets (HandoverComplete cause) = IsCauseOf 0x2c octets cause
-IsRr octets (HandoverFailure cause) = IsCauseOf 0x28 octets cause
-IsRr octets (AssignmentComplete cause) = IsCauseOf 0x29 octets cause
-IsRr octets (AssignmentFailure cause) = IsCauseOf 0x2f octets cause
-IsRr octets (ChannelRelease cause) = IsCauseOf 0x0d octets cause
-IsRr octets (ImmediateAssignment channel request advance) = IsImmediate octets channel request advance
-IsRr octets (MeasurementReport value) = IsReport octets value
-IsRr octets (PagingResponse rest) = octets ≡ 0x06 ∷ 0x27 ∷ rest
-
--- what an IMMEDIATE ASSIGNMENT ends with: no mobile allocation, and padding
-abbrev pub immediate_end : List ℕ
-immediate_end = 0x00 ∷ 0x2b ∷ 0x2b ∷ 0x2b ∷ 0x2b ∷ 0x2b ∷ 0x2b ∷ 0x2b ∷ 0x2b ∷ 0x2b ∷ 0x2b ∷ 0x2b ∷ []
-
--- The text in which a message is written.
-abbrev pub rr_text : RrMessage → List ℕ
-rr_text (HandoverCommand cell channel reference) = 0x06 ∷ 0x2b ∷ (cell_text cell ++ (channel_text 0 channel ++ reference ∷ 0 ∷ []))
-rr_text (AssignmentCommand channel) = 0x06 ∷ 0x2e ∷ (channel_text 0 channel ++ 0 ∷ [])
-rr_text (HandoverComplete cause) = 0x06 ∷ 0x2c ∷ cause.0 ∷ []
-rr_text (HandoverFailure cause) = 0x06 ∷ 0x28 ∷ cause.0 ∷ []
-rr_text (AssignmentComplete cause) = 0x06 ∷ 0x29 ∷ cause.0 ∷ []
-rr_text (AssignmentFailure cause) = 0x06 ∷ 0x2f ∷ cause.0 ∷ []
-rr_text (ChannelRelease cause) = 0x06 ∷ 0x0d ∷ cause.0 ∷ []
-rr_text (ImmediateAssignment channel request advance) = PSEUDO_LENGTH ∷ 0x06 ∷ IMMEDIATE_ASSIGNMENT ∷ 0 ∷ (channel_text 0 channel ++ (request ++ advance ∷ immediate_end))
-rr_text (MeasurementReport value) = 0x06 ∷ 0x15 ∷ value
-rr_text (PagingResponse rest) = 0x06 ∷ 0x27 ∷ rest
+IsRr octets (HandoverComplete cause) = IsCauseOf HANDOVER_COMPLETE octets cause
+IsRr octets (HandoverFailure cause) = IsCauseOf HANDOVER_FAILURE octets cause
+IsRr octets (AssignmentComplete cause) = IsCauseOf ASSIGNMENT_COMPLETE octets cause
+IsRr octets (AssignmentFailure cause) = IsCauseOf ASSIGNMENT_FAILURE octets cause
+IsRr octets (ChannelRelease cause) = IsCauseOf CHANNEL_RELEASE octets cause
+IsRr octets (ImmediateAssignment channel request advance) = IsImmediateAssignment octets channel request advance
+IsRr octets (MeasurementReport value) = IsMeasurementReport octets value
+IsRr octets (PagingResponse rest) = octets ≡ RADIO_RESOURCE ∷ PAGING_RESPONSE ∷ rest
 
 -- the numbers of a message fit their bits
 abbrev pub RrFits : RrMessage → Type 0
 RrFits (HandoverCommand cell channel reference) = CellFits cell × ChannelFits channel
 RrFits (AssignmentCommand channel) = ChannelFits channel
 RrFits (ImmediateAssignment channel request advance) = ChannelFits channel × (length request ≡ 3) × (advance < 64)
-RrFits (MeasurementReport value) = length value ≡ 16
+RrFits (MeasurementReport value) = length value ≡ REPORT_LENGTH
 RrFits _ = Unit {0}

@@ -1,21 +1,37 @@
--- The types of messages that begin with the discriminator of radio resource management (TS 44.018 clause 10.4).
+-- The types of messages of radio resource management (TS 44.018 clause 10.4).
 use Rattle.std.specs.Prelude.{ℕ, ◌==◌, Option}
 use Rattle.std.specs.List.{find}
-use Rattle.dtap_codec.specs.declared.rr.RrType.{RrType}
-use Rattle.dtap_codec.specs.declared.rr.RrType.TheVariants.{HandoverCommand, AssignmentCommand, HandoverComplete, HandoverFailure, AssignmentComplete, AssignmentFailure, ChannelRelease, MeasurementReport, PagingResponse}
-use Rattle.dtap_codec.specs.declared.rr.TheConstants.{RR_TYPES}
+use Rattle.dtap_codec.specs.declared.rr.RrMessage.{RrMessage}
+use Rattle.dtap_codec.specs.declared.rr.RrMessage.TheVariants.{HandoverCommand, AssignmentCommand, HandoverComplete, HandoverFailure, AssignmentComplete, AssignmentFailure, ChannelRelease, ImmediateAssignment, MeasurementReport, PagingResponse}
+use Rattle.dtap_codec.specs.declared.rr_type.RrType.{RrType}
+use Rattle.dtap_codec.specs.declared.rr_type.RrType.TheVariants as types
+use Rattle.dtap_codec.specs.declared.rr_type.TheConstants.{RR_TYPES, HANDOVER_COMMAND, ASSIGNMENT_COMMAND, HANDOVER_COMPLETE, HANDOVER_FAILURE, ASSIGNMENT_COMPLETE, ASSIGNMENT_FAILURE, CHANNEL_RELEASE, IMMEDIATE_ASSIGNMENT, MEASUREMENT_REPORT, PAGING_RESPONSE}
 
 abbrev pub rr_octet : RrType → ℕ
-rr_octet HandoverCommand = 0x2b
-rr_octet AssignmentCommand = 0x2e
-rr_octet HandoverComplete = 0x2c
-rr_octet HandoverFailure = 0x28
-rr_octet AssignmentComplete = 0x29
-rr_octet AssignmentFailure = 0x2f
-rr_octet ChannelRelease = 0x0d
-rr_octet MeasurementReport = 0x15
-rr_octet PagingResponse = 0x27
+rr_octet types.HandoverCommand = HANDOVER_COMMAND
+rr_octet types.AssignmentCommand = ASSIGNMENT_COMMAND
+rr_octet types.HandoverComplete = HANDOVER_COMPLETE
+rr_octet types.HandoverFailure = HANDOVER_FAILURE
+rr_octet types.AssignmentComplete = ASSIGNMENT_COMPLETE
+rr_octet types.AssignmentFailure = ASSIGNMENT_FAILURE
+rr_octet types.ChannelRelease = CHANNEL_RELEASE
+rr_octet types.ImmediateAssignment = IMMEDIATE_ASSIGNMENT
+rr_octet types.MeasurementReport = MEASUREMENT_REPORT
+rr_octet types.PagingResponse = PAGING_RESPONSE
 
 -- the type with this octet, where it is known
 unfoldable pub rr_type : ℕ → Option RrType
 rr_type octet = find (λ kind. rr_octet kind == octet) RR_TYPES
+
+-- the type of a message
+abbrev pub type_of : RrMessage → RrType
+type_of (HandoverCommand cell channel reference) = types.HandoverCommand
+type_of (AssignmentCommand channel) = types.AssignmentCommand
+type_of (HandoverComplete cause) = types.HandoverComplete
+type_of (HandoverFailure cause) = types.HandoverFailure
+type_of (AssignmentComplete cause) = types.AssignmentComplete
+type_of (AssignmentFailure cause) = types.AssignmentFailure
+type_of (ChannelRelease cause) = types.ChannelRelease
+type_of (ImmediateAssignment channel request advance) = types.ImmediateAssignment
+type_of (MeasurementReport value) = types.MeasurementReport
+type_of (PagingResponse rest) = types.PagingResponse

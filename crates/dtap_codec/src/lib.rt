@@ -7,22 +7,23 @@ pub use message::{
     SUPPLEMENTARY_SERVICES, is_flow, pd_of,
 };
 pub use number::{Modulus, number_of, with_number, without_number};
-pub use report::{Neighbour, Report, RrFault};
+pub use report::{Neighbour, Report};
 pub use rr::{
     Arfcn, CellDescription, ChannelDescription, ChannelOctet, ColourCode, RrCause, RrMessage,
-    RrType, TimingAdvance,
+    TimingAdvance,
 };
-pub use rr_codec::rr_text_is_read;
-pub use rr_reader::RrRefusal;
+pub use rr_fault::RrFault;
+pub use rr_type::RrType;
+pub use rr_writer::rr_text_is_read;
 pub use sapi::Sapi;
-pub use standard::numbers_are_the_standards;
 
 mod bits;
 mod message;
 mod number;
 mod report;
 mod rr;
-mod rr_codec;
+mod rr_fault;
 mod rr_reader;
+mod rr_type;
+mod rr_writer;
 mod sapi;
-mod standard;

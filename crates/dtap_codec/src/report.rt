@@ -5,24 +5,16 @@ ghost use Rattle.dtap_codec.specs.Bits.{Begin};
 ghost use Rattle.dtap_codec.specs.Report.{IsReport, Writes, entry_fields, entries_fields, neighbours_of};
 
 use crate::bits::Bits;
-use thiserror::Error;
+use crate::rr_fault::RrFault;
 
-/// Why octets aren't read as a message of radio resource management.
-#[derive(Clone, Copy, Debug, PartialEq, Eq, Error)]
-pub enum RrFault {
-    /// There are fewer octets than the message has.
-    #[error("message too short")]
-    Short,
-    /// The discriminator or the type isn't that of a message that is known.
-    #[error("unknown message of radio resource management")]
-    UnknownRr,
-    /// There was no memory for what was read.
-    #[error("out of memory")]
-    Memory,
-}
+/// The octets of a report's value.
+pub const REPORT_LENGTH: usize = 16;
+
+/// The entries of neighbour cells that a report has.
+pub const REPORT_ENTRIES: usize = 6;
 
 /// What a report says of one neighbour cell.
-#[derive(Clone, Copy, Debug, PartialEq, Eq)]
+#[derive(Clone, Copy)]
 pub struct Neighbour {
     /// RXLEV-NCELL: the level received from the cell, 0 to 63, in steps of 1 dB from -110 dBm.
     pub rxlev: u8,
@@ -33,7 +25,7 @@ pub struct Neighbour {
 }
 
 /// The value of a MEASUREMENT REPORT, the measurement results of TS 44.018 clause 10.5.2.20.
-#[derive(Clone, Copy, Debug, PartialEq, Eq)]
+#[derive(Clone, Copy)]
 pub struct Report {
     /// BA-USED: the number, 0 or 1, of the list of neighbour frequencies that the mobile measured.
     pub ba_used: u8,
@@ -52,7 +44,7 @@ pub struct Report {
     /// NO-NCELL: how many entries count, from the first on; 7 says that there is no result of any neighbour.
     pub no_ncell: u8,
     /// The six entries of neighbour cells, those that don't count too.
-    pub entries: [Neighbour; 6],
+    pub entries: [Neighbour; REPORT_ENTRIES],
 }
 
 impl Report {
@@ -66,9 +58,9 @@ impl Report {
         ensures found { IfOk result (λ report. IsReport octets.now report) }
         // What the octets are the text of is read, so they are the text of one report at most.
         ensures only { (report : ReportValue) → IsReport octets.now report → result ≡ Ok report }
-        ensures refused { IfErr result (λ fault. (fault ≡ RrFault.Short) × (length octets.now < 16)) }
+        ensures refused { IfErr result (λ fault. (fault ≡ RrFault.Short) × (length octets.now < REPORT_LENGTH)) }
     {
-        let value = octets.first_chunk::<16>().ok_or(RrFault::Short)?;
+        let value = octets.first_chunk::<REPORT_LENGTH>().ok_or(RrFault::Short)?;
         Ok(report_of(*value))
     }
 
@@ -76,15 +68,17 @@ impl Report {
     pub fn neighbours(&self) -> &[Neighbour]
         ensures { result.now ≡ neighbours_of self.now }
     {
-        match self.no_ncell {
-            0..=6 => &self.entries[..usize::from(self.no_ncell)],
-            _ => &[],
+        let count = usize::from(self.no_ncell);
+        if count <= REPORT_ENTRIES {
+            &self.entries[..count]
+        } else {
+            &[]
         }
     }
 }
 
 // The report that 16 octets write.
-fn report_of(value: [u8; 16]) -> Report
+fn report_of(value: [u8; REPORT_LENGTH]) -> Report
     ensures { Writes (from_be_bytes w128 value) result }
 {
     take_report(Bits::of_octets(value))
@@ -120,7 +114,7 @@ fn take_report(mut bits: Bits) -> Report
 }
 
 // Reads the six entries of neighbour cells, the last 102 bits.
-fn take_entries(mut bits: Bits) -> [Neighbour; 6]
+fn take_entries(mut bits: Bits) -> [Neighbour; REPORT_ENTRIES]
     requires { bits.left ≡ 102 }
     ensures { Begin (entries_fields result) bits.left bits.number 0 0 }
 {
@@ -146,50 +140,5 @@ fn take_neighbour(bits: &mut Bits) -> Neighbour
         rxlev,
         bcch_freq,
         bsic,
-    }
-}
-
-#[cfg(test)]
-mod tests {
-    use super::*;
-    use std::test::Fail;
-
-    // Serving level 20, quality 0, and one neighbour: level 23, place 0, BSIC 18.
-    const ONE_NEIGHBOUR: [u8; 16] = [
-        0x14, 0x14, 0x00, 0x57, 0x02, 0x40, 0, 0, 0, 0, 0, 0, 0, 0, 0, 0,
-    ];
-
-    #[test]
-    fn a_report_is_read_bit_by_bit(rt: HostRuntime) -> Result<(), Fail> {
-        let report = Report::read(&ONE_NEIGHBOUR)?;
-        assert!(rt; report.valid);
-        assert_eq!(rt; report.rxlev_full, 20);
-        assert_eq!(rt; report.rxlev_sub, 20);
-        assert_eq!(rt; report.rxqual_full, 0);
-        let neighbour = Neighbour {
-            rxlev: 23,
-            bcch_freq: 0,
-            bsic: 18,
-        };
-        assert_eq!(rt; report.neighbours(), [neighbour].as_slice());
-        assert_eq!(rt;
-            Report::read(&ONE_NEIGHBOUR[..15]).err(),
-            Some(RrFault::Short)
-        );
-        Ok(())
-    }
-
-    #[test]
-    fn neither_validity_nor_the_missing_list_refuses(rt: HostRuntime) -> Result<(), Fail> {
-        let mut invalid = ONE_NEIGHBOUR;
-        invalid[1] = 0x54;
-        assert!(rt; !Report::read(&invalid)?.valid);
-        let mut no_list = ONE_NEIGHBOUR;
-        no_list[2] = 0x01;
-        no_list[3] = 0xd7;
-        let report = Report::read(&no_list)?;
-        assert_eq!(rt; report.no_ncell, 7);
-        assert!(rt; report.neighbours().is_empty());
-        Ok(())
     }
 }

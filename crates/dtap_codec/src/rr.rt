@@ -1,11 +1,12 @@
 ghost use Rattle.std.specs.Prelude.{◌≡◌, ◌<◌};
-ghost use Rattle.dtap_codec.specs.RrType.{rr_octet, rr_type};
 
+use crate::report::REPORT_LENGTH;
+use crate::rr_type::RrType;
 use octets::Octets;
 use std::marker::Model;
 
 /// An absolute radio frequency channel number, ARFCN, of 10 bits. Contracts see the number.
-#[derive(Clone, Copy, Debug)]
+#[derive(Clone, Copy)]
 pub struct Arfcn {
     number: u16,
 }
@@ -42,7 +43,7 @@ impl Arfcn {
 
 /// A code of three bits: a training sequence code, TSC, a network colour code, NCC, or a base station colour code, BCC.
 /// Contracts see the number.
-#[derive(Clone, Copy, Debug)]
+#[derive(Clone, Copy)]
 pub struct ColourCode {
     code: u8,
 }
@@ -78,7 +79,7 @@ impl ColourCode {
 }
 
 /// A timing advance of 6 bits, in steps of 48/13 microseconds. Contracts see the number.
-#[derive(Clone, Copy, Debug)]
+#[derive(Clone, Copy)]
 pub struct TimingAdvance {
     steps: u8,
 }
@@ -114,15 +115,15 @@ impl TimingAdvance {
 }
 
 /// The octet of a channel number: channel type, subchannel and timeslot. It takes every octet.
-#[derive(Clone, Copy, Debug, PartialEq, Eq)]
+#[derive(Clone, Copy)]
 pub struct ChannelOctet(pub u8);
 
 /// An RR cause (TS 44.018 clause 10.5.2.31). It takes every octet.
-#[derive(Clone, Copy, Debug, PartialEq, Eq)]
+#[derive(Clone, Copy)]
 pub struct RrCause(pub u8);
 
 /// A channel without frequency hopping (TS 44.018 clause 10.5.2.5).
-#[derive(Clone, Copy, Debug)]
+#[derive(Clone, Copy)]
 pub struct ChannelDescription {
     pub channel: ChannelOctet,
     pub tsc: ColourCode,
@@ -130,15 +131,46 @@ pub struct ChannelDescription {
 }
 
 /// A cell, by the channel that carries its broadcast and its base station identity code (TS 44.018 clause 10.5.2.2).
-#[derive(Clone, Copy, Debug)]
+#[derive(Clone, Copy)]
 pub struct CellDescription {
     pub arfcn: Arfcn,
     pub ncc: ColourCode,
     pub bcc: ColourCode,
 }
 
+/// Power command at which the mobile sends with the highest power of its class (TS 44.018 clause 10.5.2.28).
+pub const HIGHEST_POWER: u8 = 0x00;
+
+/// Page mode of normal paging (TS 44.018 clause 10.5.2.26).
+pub const NORMAL_PAGING: u8 = 0x00;
+
+/// The length octet of a mobile allocation without octets (TS 44.018 clause 10.5.2.21).
+pub const NO_MOBILE_ALLOCATION: u8 = 0x00;
+
+/// The octet of padding (TS 44.006 clause 5.2).
+pub const PADDING: u8 = 0x2b;
+
+/// The octets of an IMMEDIATE ASSIGNMENT behind its timing advance.
+pub const IMMEDIATE_END_LENGTH: usize = 12;
+
+/// What an IMMEDIATE ASSIGNMENT ends with where it is written: no mobile allocation, and padding.
+pub const IMMEDIATE_END: [u8; IMMEDIATE_END_LENGTH] = [
+    NO_MOBILE_ALLOCATION,
+    PADDING,
+    PADDING,
+    PADDING,
+    PADDING,
+    PADDING,
+    PADDING,
+    PADDING,
+    PADDING,
+    PADDING,
+    PADDING,
+    PADDING,
+];
+
 /// A message of radio resource management (TS 44.018 clause 9.1).
-#[derive(Debug, Drop)]
+#[derive(Drop)]
 pub enum RrMessage {
     HandoverCommand {
         cell: CellDescription,
@@ -171,7 +203,7 @@ pub enum RrMessage {
     },
     /// The value of the report is kept as it is; `Report::read` reads it.
     MeasurementReport {
-        value: [u8; 16],
+        value: [u8; REPORT_LENGTH],
     },
     /// What follows the type isn't looked at.
     PagingResponse {
@@ -179,62 +211,25 @@ pub enum RrMessage {
     },
 }
 
-/// The type of a message that begins with the discriminator (TS 44.018 clause 10.4).
-#[derive(Clone, Copy, Debug, PartialEq, Eq)]
-pub enum RrType {
-    HandoverCommand,
-    AssignmentCommand,
-    HandoverComplete,
-    HandoverFailure,
-    AssignmentComplete,
-    AssignmentFailure,
-    ChannelRelease,
-    MeasurementReport,
-    PagingResponse,
-}
+impl RrMessage {
+    ghost use Rattle.std.specs.Prelude.{◌≡◌};
+    ghost use Rattle.dtap_codec.specs.RrType.{type_of};
 
-/// The types that are known.
-pub const RR_TYPES: [RrType; 9] = [
-    RrType::HandoverCommand,
-    RrType::AssignmentCommand,
-    RrType::HandoverComplete,
-    RrType::HandoverFailure,
-    RrType::AssignmentComplete,
-    RrType::AssignmentFailure,
-    RrType::ChannelRelease,
-    RrType::MeasurementReport,
-    RrType::PagingResponse,
-];
-
-/// The pseudo length that stands before an IMMEDIATE ASSIGNMENT (TS 44.018 clause 10.5.2.19).
-pub const PSEUDO_LENGTH: u8 = 0x2d;
-
-/// The type of an IMMEDIATE ASSIGNMENT.
-pub const IMMEDIATE_ASSIGNMENT: u8 = 0x3f;
-
-impl RrType {
-    /// The octet of this type.
-    pub fn octet(self) -> u8
-        ensures { result ≡ rr_octet self }
+    /// The type of the message.
+    pub fn kind(&self) -> RrType
+        ensures { result ≡ type_of self.now }
     {
         match self {
-            RrType::HandoverCommand => 0x2b,
-            RrType::AssignmentCommand => 0x2e,
-            RrType::HandoverComplete => 0x2c,
-            RrType::HandoverFailure => 0x28,
-            RrType::AssignmentComplete => 0x29,
-            RrType::AssignmentFailure => 0x2f,
-            RrType::ChannelRelease => 0x0d,
-            RrType::MeasurementReport => 0x15,
-            RrType::PagingResponse => 0x27,
+            RrMessage::HandoverCommand { .. } => RrType::HandoverCommand,
+            RrMessage::AssignmentCommand { .. } => RrType::AssignmentCommand,
+            RrMessage::HandoverComplete { .. } => RrType::HandoverComplete,
+            RrMessage::HandoverFailure { .. } => RrType::HandoverFailure,
+            RrMessage::AssignmentComplete { .. } => RrType::AssignmentComplete,
+            RrMessage::AssignmentFailure { .. } => RrType::AssignmentFailure,
+            RrMessage::ChannelRelease { .. } => RrType::ChannelRelease,
+            RrMessage::ImmediateAssignment { .. } => RrType::ImmediateAssignment,
+            RrMessage::MeasurementReport { .. } => RrType::MeasurementReport,
+            RrMessage::PagingResponse { .. } => RrType::PagingResponse,
         }
-    }
-
-    /// The type with this octet; none where it isn't known.
-    #[tactic(auto, unfolding(crate::specs::RrType::rr_type))]
-    pub fn of_octet(octet: u8) -> Option<RrType>
-        ensures { result ≡ rr_type octet }
-    {
-        RR_TYPES.iter().copied().find(|kind| kind.octet() == octet)
     }
 }

@@ -1,7 +1,7 @@
 ghost use Rattle.std.specs.Prelude.{◌≡◌, ◌≤◌, ◌+◌, ◌-◌, ◌∷◌, [], ◌++◌, length, Some, None, OnOk, OnErr, IfOk, MatchResult, option_map, option_to_list, slice_set};
 ghost use Rattle.octets.specs.Refusal.{RefusesBy};
 ghost use Rattle.dtap_codec.specs.Number.{count_of};
-ghost use Rattle.nsd_filter.specs.Accepted.{accepted, not_of_the_flow};
+ghost use Rattle.nsd_filter.specs.AcceptedList.{accepted_list, not_of_the_flow};
 ghost use Rattle.msc_end.specs.declared.connection.Stage.TheVariants.{Clearing};
 ghost use Rattle.msc_end.specs.declared.fault.MscFault.TheVariants.{Memory as OutOfMemory};
 ghost use Rattle.msc_end.specs.Refusal.{send_fault};
@@ -231,7 +231,7 @@ impl MscEnd {
 
     /// What was given up to the upper layers of the flow on a connection: the judgement over the messages taken, numbers cleared.
     pub fn accepted(&self, conn: u32) -> Option<&[Octets]>
-        ensures { option_map (λ v. v.now) result ≡ option_map (λ c. accepted c.reception.modulus c.reception.taken) (connection_of self.now.connections conn) }
+        ensures { option_map (λ v. v.now) result ≡ option_map (λ c. accepted_list c.reception.modulus c.reception.taken) (connection_of self.now.connections conn) }
     {
         match self.connection(conn) {
             Some(connection) => Some(connection.reception.accepted()),

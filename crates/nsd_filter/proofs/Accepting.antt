@@ -1,18 +1,18 @@
 -- What is accepted of messages whose places rise.
-use Rattle.std.proofs.Common.{◌≡◌, ◌≢◌, ℕ, ◌+◌, ◌-◌, ◌%◌, ◌<◌, ◌≤◌, true, false, Option, Some, None, List, [], ◌∷◌, ◌++◌, length, take, refl, sym, ap, ◌∙◌, arith, append_assoc, nat_eq, option_map, eq-eqb, inl, inr}
+use Rattle.std.proofs.Common.{◌≡◌, ℕ, ◌+◌, ◌-◌, ◌%◌, ◌<◌, ◌≤◌, false, Option, Some, None, List, [], ◌∷◌, ◌++◌, take, refl, sym, ap, ◌∙◌, arith, append_assoc, nat_eq, option_map, eq-eqb, inl, inr}
 use Rattle.std.proofs.Math.Nat.{mod-lt, add-mod_right, mod-add-mod, mod_self, mod-eq_of_lt, eq-or-lt_of_le}
 use Rattle.std.proofs.lemmas.List.{append-nil}
 use Rattle.std.proofs.lemmas.Bool.{cond-true, cond-false, ne_eqb}
 use Rattle.dtap_codec.specs.Message.{is_flow_message}
-use Rattle.dtap_codec.specs.Number.{number_in, with_number, without_number}
+use Rattle.dtap_codec.specs.Number.{number_in, without_number}
 use Rattle.dtap_codec.specs.Places.{Carries, Rise}
 use Rattle.dtap_codec.specs.Places.Rise.{over, other, next, again}
 use Rattle.dtap_codec.proofs.Numbers.{number_in-with_number, number_in-other, without_number-with_number}
 use Rattle.dtap_codec.proofs.Rising.{take_next}
-use Rattle.nsd_filter.specs.Judgement.{judgement, progress_by}
-use Rattle.nsd_filter.specs.Accepted.{verdict_on, given_up, progress_past, accepted_from, progress_from}
+use Rattle.nsd_filter.specs.Judgement.{judgement}
+use Rattle.nsd_filter.specs.AcceptedList.{verdict_on, delivery_of, progress_past, accepted_list_from, progress_from}
 use Rattle.nsd_filter.specs.declared.verdict.Verdict.{Verdict}
-use Rattle.nsd_filter.specs.declared.verdict.Verdict.TheVariants.{Accept, Duplicate, Gap}
+use Rattle.nsd_filter.specs.declared.verdict.Verdict.TheVariants.{Accept, Duplicate}
 
 -- a message that isn't of the flow has no verdict
 pub verdict_on-other : (m : ℕ) (progress : Option ℕ) (x : List ℕ) → is_flow_message x ≡ false → verdict_on m progress x ≡ None
@@ -51,8 +51,8 @@ verdict_on-again {m} {n} {p} two e c =
     verdict_on-carried (Some n) two c ∙ ap Some (cond-false (nat_eq (p % m) (n % m)) _ _ differs ∙ cond-true (nat_eq (p % m) ((n + (m - 1)) % m)) _ _ (eq-eqb (p % m) ((n + (m - 1)) % m) before))
 
 -- what is accepted of a message and of those behind it, by the verdict on it
-accepted_from-by : (m n : ℕ) (x : List ℕ) (xs : List (List ℕ)) (v : Option Verdict) → verdict_on m (Some n) x ≡ v → accepted_from m (Some n) (x ∷ xs) ≡ given_up v x ++ accepted_from m (progress_past v (Some n)) xs
-accepted_from-by m n x xs v is = ap (λ (v : Option Verdict). given_up v x ++ accepted_from m (progress_past v (Some n)) xs) is
+accepted_list_from-by : (m n : ℕ) (x : List ℕ) (xs : List (List ℕ)) (v : Option Verdict) → verdict_on m (Some n) x ≡ v → accepted_list_from m (Some n) (x ∷ xs) ≡ delivery_of v x ++ accepted_list_from m (progress_past v (Some n)) xs
+accepted_list_from-by m n x xs v is = ap (λ (v : Option Verdict). delivery_of v x ++ accepted_list_from m (progress_past v (Some n)) xs) is
 
 progress_from-by : (m n : ℕ) (x : List ℕ) (xs : List (List ℕ)) (v : Option Verdict) → verdict_on m (Some n) x ≡ v → progress_from m (Some n) (x ∷ xs) ≡ progress_from m (progress_past v (Some n)) xs
 progress_from-by m n x xs v is = ap (λ (v : Option Verdict). progress_from m (progress_past v (Some n)) xs) is
@@ -62,17 +62,17 @@ carried : {m k : ℕ} {sent : List (List ℕ)} {x : List ℕ} (c : Carries m sen
 carried {m} {k} c = ap without_number c.carries ∙ without_number-with_number (k % m) c.message ∙ c.is_clear.cleared
 
 -- Of messages whose places rise from n to k, what is accepted is what was sent between these places.
-pub accepted_from-rise : {m : ℕ} {sent : List (List ℕ)} {n k : ℕ} {xs : List (List ℕ)} → 2 ≤ m → Rise m sent n xs k → take n sent ++ accepted_from m (Some n) xs ≡ take k sent
-accepted_from-rise {sent} two (over n) = append-nil (take n sent)
-accepted_from-rise {m} {sent} {n} two (other {x} {xs} flow rise) =
-    ap (λ (more : List (List ℕ)). take n sent ++ more) (accepted_from-by m n x xs None (verdict_on-other m (Some n) x flow)) ∙ accepted_from-rise two rise
-accepted_from-rise {m} {sent} {n} two (next {x} {xs} c rise) =
-    ap (λ (more : List (List ℕ)). take n sent ++ more) (accepted_from-by m n x xs (Some Accept) (verdict_on-next two c))
-    ∙ sym (append_assoc (take n sent) (without_number x ∷ []) (accepted_from m (Some (n + 1)) xs))
-    ∙ ap (λ (front : List (List ℕ)). front ++ accepted_from m (Some (n + 1)) xs) (ap (λ (y : List ℕ). take n sent ++ y ∷ []) (carried c) ∙ sym (take_next c))
-    ∙ accepted_from-rise two rise
-accepted_from-rise {m} {sent} {n} two (again {x} {xs} e c rise) =
-    ap (λ (more : List (List ℕ)). take n sent ++ more) (accepted_from-by m n x xs (Some Duplicate) (verdict_on-again two e c)) ∙ accepted_from-rise two rise
+pub accepted_list_from-rise : {m : ℕ} {sent : List (List ℕ)} {n k : ℕ} {xs : List (List ℕ)} → 2 ≤ m → Rise m sent n xs k → take n sent ++ accepted_list_from m (Some n) xs ≡ take k sent
+accepted_list_from-rise {sent} two (over n) = append-nil (take n sent)
+accepted_list_from-rise {m} {sent} {n} two (other {x} {xs} flow rise) =
+    ap (λ (more : List (List ℕ)). take n sent ++ more) (accepted_list_from-by m n x xs None (verdict_on-other m (Some n) x flow)) ∙ accepted_list_from-rise two rise
+accepted_list_from-rise {m} {sent} {n} two (next {x} {xs} c rise) =
+    ap (λ (more : List (List ℕ)). take n sent ++ more) (accepted_list_from-by m n x xs (Some Accept) (verdict_on-next two c))
+    ∙ sym (append_assoc (take n sent) (without_number x ∷ []) (accepted_list_from m (Some (n + 1)) xs))
+    ∙ ap (λ (front : List (List ℕ)). front ++ accepted_list_from m (Some (n + 1)) xs) (ap (λ (y : List ℕ). take n sent ++ y ∷ []) (carried c) ∙ sym (take_next c))
+    ∙ accepted_list_from-rise two rise
+accepted_list_from-rise {m} {sent} {n} two (again {x} {xs} e c rise) =
+    ap (λ (more : List (List ℕ)). take n sent ++ more) (accepted_list_from-by m n x xs (Some Duplicate) (verdict_on-again two e c)) ∙ accepted_list_from-rise two rise
 
 -- no gap is found in them
 pub progress_from-rise : {m : ℕ} {sent : List (List ℕ)} {n k : ℕ} {xs : List (List ℕ)} → 2 ≤ m → Rise m sent n xs k → progress_from m (Some n) xs ≡ Some k
@@ -82,12 +82,12 @@ progress_from-rise {m} {n} two (next {x} {xs} c rise) = progress_from-by m n x x
 progress_from-rise {m} {n} two (again {x} {xs} e c rise) = progress_from-by m n x xs (Some Duplicate) (verdict_on-again two e c) ∙ progress_from-rise two rise
 
 -- what is accepted of a list that goes on
-pub accepted_from-append : (m : ℕ) (p : Option ℕ) (xs ys : List (List ℕ)) → accepted_from m p (xs ++ ys) ≡ accepted_from m p xs ++ accepted_from m (progress_from m p xs) ys
-accepted_from-append m p [] ys = refl
-accepted_from-append m p (x ∷ xs) ys =
+pub accepted_list_from-append : (m : ℕ) (p : Option ℕ) (xs ys : List (List ℕ)) → accepted_list_from m p (xs ++ ys) ≡ accepted_list_from m p xs ++ accepted_list_from m (progress_from m p xs) ys
+accepted_list_from-append m p [] ys = refl
+accepted_list_from-append m p (x ∷ xs) ys =
     let verdict : Option Verdict = verdict_on m p x in
-    ap (λ (more : List (List ℕ)). given_up verdict x ++ more) (accepted_from-append m (progress_past verdict p) xs ys)
-    ∙ sym (append_assoc (given_up verdict x) (accepted_from m (progress_past verdict p) xs) (accepted_from m (progress_from m (progress_past verdict p) xs) ys))
+    ap (λ (more : List (List ℕ)). delivery_of verdict x ++ more) (accepted_list_from-append m (progress_past verdict p) xs ys)
+    ∙ sym (append_assoc (delivery_of verdict x) (accepted_list_from m (progress_past verdict p) xs) (accepted_list_from m (progress_from m (progress_past verdict p) xs) ys))
 
 -- how far the flow has come after a list that goes on
 pub progress_from-append : (m : ℕ) (p : Option ℕ) (xs ys : List (List ℕ)) → progress_from m p (xs ++ ys) ≡ progress_from m (progress_from m p xs) ys

@@ -1,6 +1,6 @@
 -- What the network's end of a connection keeps, message by message.
 use Rattle.std.proofs.Common.{◌≡◌, ℕ, ◌/◌, ◌%◌, Bool, true, false, Option, Some, None, List, [], ◌∷◌, ◌++◌, refl, sym, ap, ◌∙◌, subst, not, filter, option_map, inl, inr}
-use Rattle.std.proofs.lemmas.Bool.{cases_Bool, cond-true, cond-false}
+use Rattle.std.proofs.lemmas.Bool.{cases_Bool, cond-true}
 use Rattle.std.proofs.lemmas.List.{append-nil}
 use Rattle.std.proofs.lemmas.List.Elements.{filter-append}
 use Rattle.dtap_codec.specs.Message.{is_flow_message, is_flow_protocol}
@@ -8,10 +8,10 @@ use Rattle.dtap_codec.specs.Number.{number_in, without_number}
 use Rattle.dtap_codec.proofs.Numbers.{number_in-other}
 use Rattle.nsd_filter.specs.Judgement.{judgement, progress_after}
 use Rattle.nsd_filter.specs.Filter.{FilterState, StandsFor}
-use Rattle.nsd_filter.specs.Accepted.{verdict_on, given_up, where_accepted, progress_past, accepted, progress, not_of_the_flow}
+use Rattle.nsd_filter.specs.AcceptedList.{verdict_on, delivery_of, delivery_by, progress_past, accepted_list, progress, not_of_the_flow}
 use Rattle.nsd_filter.specs.Reception.{IsKept}
 use Rattle.nsd_filter.specs.declared.verdict.Verdict.{Verdict}
-use Rattle.nsd_filter.proofs.Accepting.{accepted_from-append, progress_from-append}
+use Rattle.nsd_filter.proofs.Accepting.{accepted_list_from-append, progress_from-append}
 
 -- a message with a number is of the flow, and one without isn't
 is_flow_by_number : (m : ℕ) (message : List ℕ) (number : ℕ) → number_in m message ≡ Some number → is_flow_message message ≡ true
@@ -31,10 +31,10 @@ apart_by_number m (first ∷ second ∷ rest) is =
     ]
 
 -- the accepted list with one more message
-accepted-push : (m : ℕ) (taken : List (List ℕ)) (message : List ℕ) (v : Option Verdict) → verdict_on m (progress m taken) message ≡ v → accepted m (taken ++ message ∷ []) ≡ accepted m taken ++ given_up v message
-accepted-push m taken message v is =
-    accepted_from-append m (Some 0) taken (message ∷ [])
-    ∙ ap (λ (more : List (List ℕ)). accepted m taken ++ more) (append-nil (given_up (verdict_on m (progress m taken) message) message) ∙ ap (λ (v : Option Verdict). given_up v message) is)
+accepted_list-push : (m : ℕ) (taken : List (List ℕ)) (message : List ℕ) (v : Option Verdict) → verdict_on m (progress m taken) message ≡ v → accepted_list m (taken ++ message ∷ []) ≡ accepted_list m taken ++ delivery_of v message
+accepted_list-push m taken message v is =
+    accepted_list_from-append m (Some 0) taken (message ∷ [])
+    ∙ ap (λ (more : List (List ℕ)). accepted_list m taken ++ more) (append-nil (delivery_of (verdict_on m (progress m taken) message) message) ∙ ap (λ (v : Option Verdict). delivery_of v message) is)
 
 progress-push : (m : ℕ) (taken : List (List ℕ)) (message : List ℕ) (v : Option Verdict) → verdict_on m (progress m taken) message ≡ v → progress m (taken ++ message ∷ []) ≡ progress_past v (progress m taken)
 progress-push m taken message v is =
@@ -46,8 +46,8 @@ not_of_the_flow-push taken message b is =
     ∙ ap (λ (b : Bool). not_of_the_flow taken ++ filter (λ _. not b) (message ∷ [])) is
 
 -- a message of the flow was judged
-pub IsKept-numbered : (m : ℕ) (old new : FilterState) (taken accepted_list others : List (List ℕ)) (message : List ℕ) (number : ℕ) (verdict : Verdict) → number_in m message ≡ Some number → IsKept m old taken accepted_list others → ((p : Option ℕ) → StandsFor old p → verdict ≡ judgement old.modulus p number) → ((p : Option ℕ) → StandsFor old p → StandsFor new (progress_after old.modulus p number)) → new.modulus ≡ old.modulus → IsKept m new (taken ++ message ∷ []) (accepted_list ++ where_accepted verdict (without_number message)) others
-IsKept-numbered m old new taken accepted_list others message number verdict is kept judges goes_on same_modulus =
+pub IsKept-numbered : (m : ℕ) (old new : FilterState) (taken accepted others : List (List ℕ)) (message : List ℕ) (number : ℕ) (verdict : Verdict) → number_in m message ≡ Some number → IsKept m old taken accepted others → ((p : Option ℕ) → StandsFor old p → verdict ≡ judgement old.modulus p number) → ((p : Option ℕ) → StandsFor old p → StandsFor new (progress_after old.modulus p number)) → new.modulus ≡ old.modulus → IsKept m new (taken ++ message ∷ []) (accepted ++ delivery_by verdict (without_number message)) others
+IsKept-numbered m old new taken accepted others message number verdict is kept judges goes_on same_modulus =
     let judged : verdict ≡ judgement m (progress m taken) number = judges (progress m taken) kept.stands ∙ ap (λ (n : ℕ). judgement n (progress m taken) number) kept.modulus in
     let stands : StandsFor new (progress_after m (progress m taken) number) = subst (λ (n : ℕ). StandsFor new (progress_after n (progress m taken) number)) kept.modulus (goes_on (progress m taken) kept.stands) in
     let on : verdict_on m (progress m taken) message ≡ Some (judgement m (progress m taken) number) = ap (option_map (judgement m (progress m taken))) is in
@@ -55,19 +55,19 @@ IsKept-numbered m old new taken accepted_list others message number verdict is k
       modulus = same_modulus ∙ kept.modulus;
       stands = subst (StandsFor new) (sym (progress-push m taken message _ on)) stands;
       accepts =
-          ap (λ (xs : List (List ℕ)). xs ++ where_accepted verdict (without_number message)) kept.accepts
-          ∙ ap (λ (v : Verdict). accepted m taken ++ where_accepted v (without_number message)) judged
-          ∙ sym (accepted-push m taken message _ on);
+          ap (λ (xs : List (List ℕ)). xs ++ delivery_by verdict (without_number message)) kept.accepts
+          ∙ ap (λ (v : Verdict). accepted_list m taken ++ delivery_by v (without_number message)) judged
+          ∙ sym (accepted_list-push m taken message _ on);
       passes = kept.passes ∙ sym (not_of_the_flow-push taken message true (is_flow_by_number m message number is) ∙ append-nil (not_of_the_flow taken));
     }
 
 -- a message without a number was passed on
-pub IsKept-unnumbered : (m : ℕ) (state : FilterState) (taken accepted_list others : List (List ℕ)) (message : List ℕ) → number_in m message ≡ None → IsKept m state taken accepted_list others → IsKept m state (taken ++ message ∷ []) accepted_list (others ++ message ∷ [])
-IsKept-unnumbered m state taken accepted_list others message is kept =
+pub IsKept-unnumbered : (m : ℕ) (state : FilterState) (taken accepted others : List (List ℕ)) (message : List ℕ) → number_in m message ≡ None → IsKept m state taken accepted others → IsKept m state (taken ++ message ∷ []) accepted (others ++ message ∷ [])
+IsKept-unnumbered m state taken accepted others message is kept =
     let on : verdict_on m (progress m taken) message ≡ None = ap (option_map (judgement m (progress m taken))) is in
     record {
       modulus = kept.modulus;
       stands = subst (StandsFor state) (sym (progress-push m taken message None on)) kept.stands;
-      accepts = kept.accepts ∙ sym (accepted-push m taken message None on ∙ append-nil (accepted m taken));
+      accepts = kept.accepts ∙ sym (accepted_list-push m taken message None on ∙ append-nil (accepted_list m taken));
       passes = ap (λ (xs : List (List ℕ)). xs ++ message ∷ []) kept.passes ∙ sym (not_of_the_flow-push taken message false (apart_by_number m message is));
     }

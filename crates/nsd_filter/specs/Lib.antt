@@ -1,4 +1,4 @@
 pub mod Judgement
 pub mod Filter
-pub mod Accepted
+pub mod AcceptedList
 pub mod Reception

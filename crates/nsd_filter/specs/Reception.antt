@@ -1,6 +1,6 @@
 -- What the network's end of a connection keeps.
 use Rattle.std.specs.Prelude.{◌≡◌, ℕ, List}
-use Rattle.nsd_filter.specs.Accepted.{accepted, progress, not_of_the_flow}
+use Rattle.nsd_filter.specs.AcceptedList.{accepted_list, progress, not_of_the_flow}
 use Rattle.nsd_filter.specs.Filter.{FilterState, StandsFor}
 
 -- how many numbers there are, and all messages taken, in order
@@ -9,8 +9,8 @@ pub record ReceptionState : Type 0 where
   pub taken : List (List ℕ)
 
 -- the filter and both lists are those of the messages taken
-pub record IsKept (m : ℕ) (filter : FilterState) (taken accepted_list others : List (List ℕ)) : Type 0 where
+pub record IsKept (m : ℕ) (filter : FilterState) (taken accepted others : List (List ℕ)) : Type 0 where
   pub modulus : filter.modulus ≡ m
   pub stands : StandsFor filter (progress m taken)
-  pub accepts : accepted_list ≡ accepted m taken
+  pub accepts : accepted ≡ accepted_list m taken
   pub passes : others ≡ not_of_the_flow taken

@@ -1,6 +1,6 @@
 ghost use Rattle.std.specs.Prelude.{◌≡◌, [], ◌∷◌, ◌++◌, ◌<◌, OnOk, OnErr, Some, None, vec_len, vec_capacity};
 ghost use Rattle.dtap_codec.specs.Number.{count_of, number_in};
-ghost use Rattle.nsd_filter.specs.Accepted.{accepted, not_of_the_flow, where_accepted};
+ghost use Rattle.nsd_filter.specs.AcceptedList.{accepted_list, delivery_by, not_of_the_flow};
 
 use crate::{Filter, Verdict};
 use dtap_codec::{Modulus, number_of, without_number};
@@ -95,7 +95,7 @@ impl Reception {
 
     /// The accepted list: what was given up to the upper layers of the flow, in order, with numbers cleared.
     pub fn accepted(&self) -> &[Octets]
-        ensures { result.now ≡ accepted self.now.modulus self.now.taken }
+        ensures { result.now ≡ accepted_list self.now.modulus self.now.taken }
     {
         self.accepted.as_slice()
     }
@@ -111,48 +111,10 @@ impl Reception {
 /// Adds a message to those given up, where it is accepted.
 fn give_up(accepted: &mut Vec<Octets>, verdict: Verdict, message: Octets)
     requires { vec_len accepted.old < vec_capacity accepted.old }
-    ensures { accepted.new.items ≡ accepted.old.items ++ where_accepted verdict message }
+    ensures { accepted.new.items ≡ accepted.old.items ++ delivery_by verdict message }
 {
     match verdict {
         Verdict::Accept => accepted.push_reserved(message),
         Verdict::Duplicate | Verdict::Gap => {}
-    }
-}
-
-#[cfg(test)]
-mod tests {
-    use super::*;
-    use Verdict::{Accept, Duplicate, Gap};
-    use std::test::Fail;
-
-    #[test]
-    fn numbers_are_judged(rt: HostRuntime) {
-        let mut filter = Filter::new(Modulus::Four);
-        assert_eq!(rt; filter.judge(3), Duplicate, "3 before anything else");
-        assert_eq!(rt; filter.judge(0), Accept);
-        assert_eq!(rt; filter.judge(0), Duplicate);
-        assert_eq!(rt; filter.judge(1), Accept);
-        assert!(rt; !filter.is_broken());
-        assert_eq!(rt; filter.judge(3), Gap);
-        assert!(rt; filter.is_broken());
-        assert_eq!(rt; filter.judge(2), Gap, "after a gap");
-    }
-
-    #[test]
-    fn the_flow_and_the_rest_are_told_apart(rt: HostRuntime) -> Result<(), Fail> {
-        let mut reception = Reception::new(rt.alloc(), Modulus::Four);
-        reception.take(Octets::copy(rt.alloc(), &[0x06, 0x27, 0x71])?)?;
-        reception.take(Octets::copy(rt.alloc(), &[0x05, 0x24, 0x71])?)?;
-        reception.take(Octets::copy(rt.alloc(), &[0x03, 0x45])?)?;
-        reception.take(Octets::copy(rt.alloc(), &[0x03, 0x45])?)?;
-        assert_eq!(rt; reception.taken().len(), 4);
-        let accepted = reception.accepted();
-        assert_eq!(rt; accepted.len(), 2);
-        assert_eq!(rt; accepted[0].as_slice(), [0x05, 0x24, 0x71].as_slice());
-        assert_eq!(rt; accepted[1].as_slice(), [0x03, 0x05].as_slice());
-        let unnumbered = reception.unnumbered();
-        assert_eq!(rt; unnumbered.len(), 1);
-        assert_eq!(rt; unnumbered[0].as_slice(), [0x06, 0x27, 0x71].as_slice());
-        Ok(())
     }
 }

@@ -1,5 +1,5 @@
 /// What the number of a message says of it.
-#[derive(Clone, Copy, Debug, PartialEq, Eq)]
+#[derive(Clone, Copy)]
 pub enum Verdict {
     /// It is the next message.
     Accept,

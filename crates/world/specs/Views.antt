@@ -1,6 +1,6 @@
 -- What is seen of a world, by the number of a mobile or of a connection of the switch; None where there is none.
 use Rattle.std.specs.Prelude.{ℕ, ◌==◌, Option, Some, None, List, [], if◌then◌else◌}
-use Rattle.nsd_filter.specs.Accepted.{accepted, progress, not_of_the_flow}
+use Rattle.nsd_filter.specs.AcceptedList.{accepted_list, progress, not_of_the_flow}
 use Rattle.world.specs.declared.fixed.TheConstants.{FIXED_MOBILE, FIXED_CONNECTION}
 use Rattle.world.specs.declared.world.Scene.{Scene}
 use Rattle.world.specs.declared.world.Scene.TheVariants.{Fixed}
@@ -20,7 +20,7 @@ taken_in (Fixed world) connection = if connection == FIXED_CONNECTION then Some 
 -- the accepted list of a connection
 abbrev pub accepted_in : Scene → ℕ → Option (List (List ℕ))
 accepted_in (Fixed world) connection =
-    if connection == FIXED_CONNECTION then Some (accepted world.switch.modulus world.switch.taken) else None
+    if connection == FIXED_CONNECTION then Some (accepted_list world.switch.modulus world.switch.taken) else None
 
 -- the messages without numbers of a connection
 abbrev pub unnumbered_in : Scene → ℕ → Option (List (List ℕ))

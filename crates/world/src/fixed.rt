@@ -1,6 +1,6 @@
 ghost use Rattle.std.specs.Prelude.{◌≡◌, [], IfOk};
 ghost use Rattle.dtap_codec.specs.Number.{count_of};
-ghost use Rattle.nsd_filter.specs.Accepted.{accepted, not_of_the_flow};
+ghost use Rattle.nsd_filter.specs.AcceptedList.{accepted_list, not_of_the_flow};
 ghost use Rattle.world.specs.Takes.{Takes};
 ghost use Rattle.world.specs.Fixed.{fixed_beginning, after_upper, after_air_up, after_air_ack, after_switch_takes, fixed_after};
 
@@ -148,7 +148,7 @@ impl FixedWorld {
     }
 
     pub(crate) fn accepted(&self) -> &[Octets]
-        ensures { result.now ≡ accepted self.now.switch.modulus self.now.switch.taken }
+        ensures { result.now ≡ accepted_list self.now.switch.modulus self.now.switch.taken }
     {
         self.switch.accepted()
     }

@@ -1,6 +1,6 @@
-use Rattle.std.proofs.Common.{◌≡◌, ℕ, None, List, [], ◌∷◌, ◌++◌, sym, ap, subst, rules}
+use Rattle.std.proofs.Common.{◌≡◌, ℕ, None, [], ◌∷◌, ◌++◌, sym, ap, subst, rules}
 use Rattle.dtap_codec.specs.Number.{count_of, number_in}
-use Rattle.nsd_filter.specs.Reception.{ReceptionState, IsKept}
+use Rattle.nsd_filter.specs.Reception.{ReceptionState}
 use Rattle.nsd_filter.proofs.Keeping.{IsKept-unnumbered}
 use Rattle.nsd_filter.proofs.reception.Reception.take_unnumbered.Goals as goal
 

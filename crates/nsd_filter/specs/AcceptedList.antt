@@ -11,26 +11,26 @@ abbrev pub verdict_on : ℕ → Option ℕ → List ℕ → Option Verdict
 verdict_on m progress message = option_map (judgement m progress) (number_in m message)
 
 -- a message, where it is accepted
-abbrev pub where_accepted : Verdict → List ℕ → List (List ℕ)
-where_accepted Accept message = message ∷ []
-where_accepted Duplicate message = []
-where_accepted Gap message = []
+abbrev pub delivery_by : Verdict → List ℕ → List (List ℕ)
+delivery_by Accept message = message ∷ []
+delivery_by Duplicate message = []
+delivery_by Gap message = []
 
 -- what is given up of a message: one that was accepted, its number cleared
-abbrev pub given_up : Option Verdict → List ℕ → List (List ℕ)
-given_up (Some verdict) message = where_accepted verdict (without_number message)
-given_up None message = []
+abbrev pub delivery_of : Option Verdict → List ℕ → List (List ℕ)
+delivery_of (Some verdict) message = delivery_by verdict (without_number message)
+delivery_of None message = []
 
 abbrev pub progress_past : Option Verdict → Option ℕ → Option ℕ
 progress_past (Some verdict) progress = progress_by verdict progress
 progress_past None progress = progress
 
 -- what is accepted of these messages, when the flow has come so far
-abbrev pub accepted_from : ℕ → Option ℕ → List (List ℕ) → List (List ℕ)
-accepted_from m progress [] = []
-accepted_from m progress (message ∷ messages) =
-    given_up (verdict_on m progress message) message
-    ++ accepted_from m (progress_past (verdict_on m progress message) progress) messages
+abbrev pub accepted_list_from : ℕ → Option ℕ → List (List ℕ) → List (List ℕ)
+accepted_list_from m progress [] = []
+accepted_list_from m progress (message ∷ messages) =
+    delivery_of (verdict_on m progress message) message
+    ++ accepted_list_from m (progress_past (verdict_on m progress message) progress) messages
 
 -- how far the flow has come after these messages
 abbrev pub progress_from : ℕ → Option ℕ → List (List ℕ) → Option ℕ
@@ -39,8 +39,8 @@ progress_from m progress (message ∷ messages) =
     progress_from m (progress_past (verdict_on m progress message) progress) messages
 
 -- the accepted list: what is accepted of all messages of a connection
-abbrev pub accepted : ℕ → List (List ℕ) → List (List ℕ)
-accepted m messages = accepted_from m (Some 0) messages
+abbrev pub accepted_list : ℕ → List (List ℕ) → List (List ℕ)
+accepted_list m messages = accepted_list_from m (Some 0) messages
 
 -- how far the flow has come after all messages of a connection; None where a gap was found
 abbrev pub progress : ℕ → List (List ℕ) → Option ℕ

@@ -1,0 +1,267 @@
+-- Definitions against literal octets.
+use Rattle.std.proofs.Common.{◌≡◌, ℕ, List, [], ◌∷◌, true, false, map, Some, None, Result, Ok, Err, refl, arith}
+use Rattle.octets.specs.Front.{octet_at}
+use Rattle.dtap_codec.specs.declared.message.TheConstants.{CALL_CONTROL, MESSAGE_LIMIT, MOBILITY_MANAGEMENT, RADIO_RESOURCE, SHORT_MESSAGES, SUPPLEMENTARY_SERVICES}
+use Rattle.dtap_codec.specs.declared.report.Neighbour.{Neighbour}
+use Rattle.dtap_codec.specs.declared.report.Report.{Report}
+use Rattle.dtap_codec.specs.declared.rr.CellDescription.{CellDescription}
+use Rattle.dtap_codec.specs.declared.rr.ChannelDescription.{ChannelDescription}
+use Rattle.dtap_codec.specs.declared.rr.RrCause.{RrCause}
+use Rattle.dtap_codec.specs.declared.rr.RrMessage.{RrMessage}
+use Rattle.dtap_codec.specs.declared.rr.RrMessage.TheVariants.{HandoverCommand, AssignmentCommand, HandoverComplete, HandoverFailure, AssignmentComplete, AssignmentFailure, ChannelRelease, ImmediateAssignment, MeasurementReport, PagingResponse}
+use Rattle.dtap_codec.specs.declared.rr_fault.RrFault.{RrFault}
+use Rattle.dtap_codec.specs.declared.rr_fault.RrFault.TheVariants.{Short, UnknownRr}
+use Rattle.dtap_codec.specs.declared.rr_type.RrType.TheVariants as types
+use Rattle.dtap_codec.specs.declared.rr_type.TheConstants.{PSEUDO_LENGTH}
+use Rattle.dtap_codec.specs.declared.number.Modulus.TheVariants.{Four}
+use Rattle.dtap_codec.specs.Message.{discriminator, is_flow_message}
+use Rattle.dtap_codec.specs.Number.{count_of, number_in, with_number, without_number}
+use Rattle.dtap_codec.specs.Places.{with_numbers_from, Carries, Rise}
+use Rattle.dtap_codec.specs.Places.Rise.{over, other, next, again}
+use Rattle.dtap_codec.specs.Report.{IsReport, neighbours_of}
+use Rattle.dtap_codec.specs.RrReading.{three_at, handover_command_at, assignment_command_at, cause_at, immediate_assignment_at, measurement_report_at, typed_at, pseudo_at, rr_reading}
+use Rattle.dtap_codec.specs.RrText.{rr_text}
+use Rattle.dtap_codec.specs.RrType.{rr_octet, rr_type}
+
+-- ---- numbers of the standards
+
+protocols : CALL_CONTROL ∷ MOBILITY_MANAGEMENT ∷ RADIO_RESOURCE ∷ SHORT_MESSAGES ∷ SUPPLEMENTARY_SERVICES ∷ [] ≡ 0x03 ∷ 0x05 ∷ 0x06 ∷ 0x09 ∷ 0x0b ∷ []
+protocols = refl
+
+limit : MESSAGE_LIMIT ≡ 251
+limit = refl
+
+pseudo_length : PSEUDO_LENGTH ≡ 0x2d
+pseudo_length = refl
+
+-- ---- messages of the flow
+
+discriminators : map discriminator ([] ∷ (0x03 ∷ []) ∷ (0x83 ∷ 0x05 ∷ []) ∷ (0xf4 ∷ 0x45 ∷ []) ∷ (0x06 ∷ 0x45 ∷ []) ∷ []) ≡ None ∷ Some 0x3 ∷ Some 0x3 ∷ Some 0x4 ∷ Some 0x6 ∷ []
+discriminators = refl
+
+of_the_flow : map is_flow_message ((0x05 ∷ 0x24 ∷ 0x71 ∷ []) ∷ (0x03 ∷ 0x05 ∷ []) ∷ (0x0b ∷ 0x3a ∷ 0xff ∷ []) ∷ (0x83 ∷ 0x05 ∷ []) ∷ []) ≡ true ∷ true ∷ true ∷ true ∷ []
+of_the_flow = refl
+
+not_of_the_flow : map is_flow_message ([] ∷ (0x03 ∷ []) ∷ (0x06 ∷ 0x45 ∷ []) ∷ (0x09 ∷ 0x45 ∷ []) ∷ (0xf4 ∷ 0x45 ∷ []) ∷ []) ≡ false ∷ false ∷ false ∷ false ∷ false ∷ []
+not_of_the_flow = refl
+
+-- ---- send sequence numbers
+
+four : count_of Four ≡ 4
+four = refl
+
+numbers : map (number_in 4) ((0x05 ∷ 0x24 ∷ 0x71 ∷ []) ∷ (0x03 ∷ 0x45 ∷ []) ∷ (0x03 ∷ 0x8f ∷ []) ∷ (0x03 ∷ 0xc1 ∷ []) ∷ (0x0b ∷ 0xfa ∷ 0xff ∷ []) ∷ (0x83 ∷ 0x45 ∷ []) ∷ []) ≡
+    Some 0 ∷ Some 1 ∷ Some 2 ∷ Some 3 ∷ Some 3 ∷ Some 1 ∷ []
+numbers = refl
+
+no_numbers : map (number_in 4) ([] ∷ (0x03 ∷ []) ∷ (0x06 ∷ 0x45 ∷ []) ∷ (0x09 ∷ 0x45 ∷ []) ∷ (0xf4 ∷ 0x45 ∷ []) ∷ []) ≡ None ∷ None ∷ None ∷ None ∷ None ∷ []
+no_numbers = refl
+
+numbered_0 : with_number 0 (0x05 ∷ 0x24 ∷ 0x71 ∷ []) ≡ 0x05 ∷ 0x24 ∷ 0x71 ∷ []
+numbered_0 = refl
+
+numbered_1 : with_number 1 (0x83 ∷ 0x05 ∷ []) ≡ 0x83 ∷ 0x45 ∷ []
+numbered_1 = refl
+
+numbered_2 : with_number 2 (0x03 ∷ 0x0f ∷ []) ≡ 0x03 ∷ 0x8f ∷ []
+numbered_2 = refl
+
+numbered_3 : with_number 3 (0x0b ∷ 0x3a ∷ 0xff ∷ []) ≡ 0x0b ∷ 0xfa ∷ 0xff ∷ []
+numbered_3 = refl
+
+-- the number that stood there goes
+numbered_anew : with_number 1 (0x03 ∷ 0xc1 ∷ []) ≡ 0x03 ∷ 0x41 ∷ []
+numbered_anew = refl
+
+cleared_3 : without_number (0x0b ∷ 0xfa ∷ 0xff ∷ []) ≡ 0x0b ∷ 0x3a ∷ 0xff ∷ []
+cleared_3 = refl
+
+cleared_1 : without_number (0x03 ∷ 0x45 ∷ []) ≡ 0x03 ∷ 0x05 ∷ []
+cleared_1 = refl
+
+places_wrap : with_numbers_from 4 3 ((0x05 ∷ 0x24 ∷ 0x71 ∷ []) ∷ (0x03 ∷ 0x05 ∷ []) ∷ (0x03 ∷ 0x01 ∷ []) ∷ []) ≡ (0x05 ∷ 0xe4 ∷ 0x71 ∷ []) ∷ (0x03 ∷ 0x05 ∷ []) ∷ (0x03 ∷ 0x41 ∷ []) ∷ []
+places_wrap = refl
+
+abbrev sent : List (List ℕ)
+sent = (0x05 ∷ 0x24 ∷ 0x71 ∷ []) ∷ (0x03 ∷ 0x05 ∷ []) ∷ []
+
+at_0 : Carries 4 sent 0 (0x05 ∷ 0x24 ∷ 0x71 ∷ [])
+at_0 = record { message = 0x05 ∷ 0x24 ∷ 0x71 ∷ []; is_sent = refl; is_clear = record { is_flow = refl; cleared = refl }; carries = refl }
+
+at_1 : Carries 4 sent 1 (0x03 ∷ 0x45 ∷ [])
+at_1 = record { message = 0x03 ∷ 0x05 ∷ []; is_sent = refl; is_clear = record { is_flow = refl; cleared = refl }; carries = refl }
+
+-- both messages in turn, the second twice, with one between them that isn't of the flow
+rising : Rise 4 sent 0 ((0x05 ∷ 0x24 ∷ 0x71 ∷ []) ∷ (0x06 ∷ 0x27 ∷ []) ∷ (0x03 ∷ 0x45 ∷ []) ∷ (0x03 ∷ 0x45 ∷ []) ∷ []) 2
+rising = next at_0 (other refl (next at_1 (again refl at_1 (over 2))))
+
+-- ---- types
+
+octets_of_types : map rr_octet (types.HandoverCommand ∷ types.AssignmentCommand ∷ types.HandoverComplete ∷ types.HandoverFailure ∷ types.AssignmentComplete ∷ types.AssignmentFailure ∷ types.ChannelRelease ∷ types.ImmediateAssignment ∷ types.MeasurementReport ∷ types.PagingResponse ∷ []) ≡
+    0x2b ∷ 0x2e ∷ 0x2c ∷ 0x28 ∷ 0x29 ∷ 0x2f ∷ 0x0d ∷ 0x3f ∷ 0x15 ∷ 0x27 ∷ []
+octets_of_types = refl
+
+types_of_octets : map rr_type (0x2b ∷ 0x2e ∷ 0x2c ∷ 0x28 ∷ 0x29 ∷ 0x2f ∷ 0x0d ∷ 0x3f ∷ 0x15 ∷ 0x27 ∷ 0x99 ∷ 0x2d ∷ []) ≡
+    Some types.HandoverCommand ∷ Some types.AssignmentCommand ∷ Some types.HandoverComplete ∷ Some types.HandoverFailure ∷ Some types.AssignmentComplete ∷ Some types.AssignmentFailure ∷ Some types.ChannelRelease ∷ Some types.ImmediateAssignment ∷ Some types.MeasurementReport ∷ Some types.PagingResponse ∷ None ∷ None ∷ []
+unfolding rr_type
+types_of_octets = refl
+
+-- ---- values
+
+-- the high bits 11 and the low octet 1E of the ARFCN, 010 of the NCC, 101 of the BCC
+abbrev the_cell : CellDescription
+the_cell = record { arfcn = 0x31e; ncc = 2; bcc = 5 }
+
+-- SDCCH/8 of subchannel 0 on timeslot 1; 110 of the TSC, the high bits 10 and the low octet 14 of the ARFCN
+abbrev the_channel : ChannelDescription
+the_channel = record { channel = record { 0 = 0x41 }; tsc = 6; arfcn = 0x214 }
+
+abbrev cause : ℕ → RrCause
+cause octet = record { 0 = octet }
+
+abbrev sixteen : List ℕ
+sixteen = 0xe1 ∷ 0xac ∷ 0x2b ∷ 0x8a ∷ 0x0a ∷ 0x4a ∷ 0x89 ∷ 0xb8 ∷ 0x09 ∷ 0x25 ∷ 0x68 ∷ 0xb7 ∷ 0x68 ∷ 0x6d ∷ 0xff ∷ 0xc9 ∷ []
+
+abbrev refused : RrFault → Result RrMessage RrFault
+refused fault = Err fault
+
+-- ---- what octets are read as; power command, hopping and spare bits, page mode and the end aren't looked at
+
+handover_command : rr_reading (0x06 ∷ 0x2b ∷ 0xd5 ∷ 0x1e ∷ 0x41 ∷ 0xc2 ∷ 0x14 ∷ 0x5c ∷ 0x00 ∷ []) ≡ Ok (HandoverCommand the_cell the_channel 0x5c)
+unfolding rr_reading typed_at rr_type handover_command_at three_at octet_at
+handover_command = refl
+
+handover_command_with_spare_bits : rr_reading (0x06 ∷ 0x2b ∷ 0xd5 ∷ 0x1e ∷ 0x41 ∷ 0xde ∷ 0x14 ∷ 0x5c ∷ 0x07 ∷ 0x99 ∷ []) ≡ Ok (HandoverCommand the_cell the_channel 0x5c)
+unfolding rr_reading typed_at rr_type handover_command_at three_at octet_at
+handover_command_with_spare_bits = refl
+
+handover_command_cut : rr_reading (0x06 ∷ 0x2b ∷ 0xd5 ∷ 0x1e ∷ 0x41 ∷ 0xc2 ∷ 0x14 ∷ 0x5c ∷ []) ≡ refused Short
+unfolding rr_reading typed_at rr_type handover_command_at three_at octet_at
+handover_command_cut = refl
+
+assignment_command : rr_reading (0x06 ∷ 0x2e ∷ 0x41 ∷ 0xc2 ∷ 0x14 ∷ 0x07 ∷ []) ≡ Ok (AssignmentCommand the_channel)
+unfolding rr_reading typed_at rr_type assignment_command_at three_at octet_at
+assignment_command = refl
+
+assignment_command_cut : rr_reading (0x06 ∷ 0x2e ∷ 0x41 ∷ 0xc2 ∷ 0x14 ∷ []) ≡ refused Short
+unfolding rr_reading typed_at rr_type assignment_command_at three_at octet_at
+assignment_command_cut = refl
+
+handover_complete : rr_reading (0x06 ∷ 0x2c ∷ 0x00 ∷ []) ≡ Ok (HandoverComplete (cause 0x00))
+unfolding rr_reading typed_at rr_type cause_at octet_at
+handover_complete = refl
+
+handover_complete_cut : rr_reading (0x06 ∷ 0x2c ∷ []) ≡ refused Short
+unfolding rr_reading typed_at rr_type cause_at octet_at
+handover_complete_cut = refl
+
+handover_failure : rr_reading (0x06 ∷ 0x28 ∷ 0x03 ∷ 0x99 ∷ []) ≡ Ok (HandoverFailure (cause 0x03))
+unfolding rr_reading typed_at rr_type cause_at octet_at
+handover_failure = refl
+
+assignment_complete : rr_reading (0x06 ∷ 0x29 ∷ 0x01 ∷ []) ≡ Ok (AssignmentComplete (cause 0x01))
+unfolding rr_reading typed_at rr_type cause_at octet_at
+assignment_complete = refl
+
+assignment_failure : rr_reading (0x06 ∷ 0x2f ∷ 0x6f ∷ []) ≡ Ok (AssignmentFailure (cause 0x6f))
+unfolding rr_reading typed_at rr_type cause_at octet_at
+assignment_failure = refl
+
+channel_release : rr_reading (0x06 ∷ 0x0d ∷ 0xff ∷ []) ≡ Ok (ChannelRelease (cause 0xff))
+unfolding rr_reading typed_at rr_type cause_at octet_at
+channel_release = refl
+
+-- the 23 octets of an IMMEDIATE ASSIGNMENT
+immediate_assignment : rr_reading (0x2d ∷ 0x06 ∷ 0x3f ∷ 0x05 ∷ 0x41 ∷ 0xde ∷ 0x14 ∷ 0x7f ∷ 0x01 ∷ 0x02 ∷ 0xc5 ∷ 0x11 ∷ 0x12 ∷ 0x13 ∷ 0x14 ∷ 0x15 ∷ 0x16 ∷ 0x17 ∷ 0x18 ∷ 0x19 ∷ 0x1a ∷ 0x1b ∷ 0x1c ∷ []) ≡
+    Ok (ImmediateAssignment the_channel (0x7f ∷ 0x01 ∷ 0x02 ∷ []) 5)
+unfolding rr_reading pseudo_at immediate_assignment_at three_at octet_at
+immediate_assignment = refl
+
+immediate_assignment_cut : rr_reading (0x2d ∷ 0x06 ∷ 0x3f ∷ 0x05 ∷ 0x41 ∷ 0xde ∷ 0x14 ∷ 0x7f ∷ 0x01 ∷ 0x02 ∷ 0xc5 ∷ 0x11 ∷ 0x12 ∷ 0x13 ∷ 0x14 ∷ 0x15 ∷ 0x16 ∷ 0x17 ∷ 0x18 ∷ 0x19 ∷ 0x1a ∷ 0x1b ∷ []) ≡ refused Short
+unfolding rr_reading pseudo_at immediate_assignment_at three_at octet_at
+immediate_assignment_cut = refl
+
+measurement_report : rr_reading (0x06 ∷ 0x15 ∷ 0xe1 ∷ 0xac ∷ 0x2b ∷ 0x8a ∷ 0x0a ∷ 0x4a ∷ 0x89 ∷ 0xb8 ∷ 0x09 ∷ 0x25 ∷ 0x68 ∷ 0xb7 ∷ 0x68 ∷ 0x6d ∷ 0xff ∷ 0xc9 ∷ 0x99 ∷ []) ≡ Ok (MeasurementReport sixteen)
+unfolding rr_reading typed_at rr_type measurement_report_at octet_at
+measurement_report = refl
+
+measurement_report_cut : rr_reading (0x06 ∷ 0x15 ∷ 0xe1 ∷ 0xac ∷ 0x2b ∷ 0x8a ∷ 0x0a ∷ 0x4a ∷ 0x89 ∷ 0xb8 ∷ 0x09 ∷ 0x25 ∷ 0x68 ∷ 0xb7 ∷ 0x68 ∷ 0x6d ∷ 0xff ∷ []) ≡ refused Short
+unfolding rr_reading typed_at rr_type measurement_report_at octet_at
+measurement_report_cut = refl
+
+paging_response : rr_reading (0x06 ∷ 0x27 ∷ 0x71 ∷ 0x08 ∷ []) ≡ Ok (PagingResponse (0x71 ∷ 0x08 ∷ []))
+unfolding rr_reading typed_at rr_type octet_at
+paging_response = refl
+
+paging_response_of_nothing : rr_reading (0x06 ∷ 0x27 ∷ []) ≡ Ok (PagingResponse [])
+unfolding rr_reading typed_at rr_type octet_at
+paging_response_of_nothing = refl
+
+-- ---- faults, and which comes first
+
+short : map rr_reading ([] ∷ (0x06 ∷ []) ∷ (0x2d ∷ []) ∷ (0x2d ∷ 0x06 ∷ []) ∷ (0x2d ∷ 0x06 ∷ 0x3f ∷ []) ∷ []) ≡ refused Short ∷ refused Short ∷ refused Short ∷ refused Short ∷ refused Short ∷ []
+unfolding rr_reading typed_at pseudo_at immediate_assignment_at octet_at
+short = refl
+
+other_discriminators : map rr_reading ((0x03 ∷ []) ∷ (0x16 ∷ 0x29 ∷ 0x00 ∷ []) ∷ (0x2d ∷ 0x03 ∷ []) ∷ (0x2d ∷ 0x16 ∷ 0x3f ∷ []) ∷ (0x2d ∷ 0x2d ∷ []) ∷ []) ≡ refused UnknownRr ∷ refused UnknownRr ∷ refused UnknownRr ∷ refused UnknownRr ∷ refused UnknownRr ∷ []
+unfolding rr_reading typed_at pseudo_at octet_at
+other_discriminators = refl
+
+-- the type 3F without a pseudo length, and other types behind one
+other_types : map rr_reading ((0x06 ∷ 0x99 ∷ []) ∷ (0x06 ∷ 0x3f ∷ 0x00 ∷ []) ∷ (0x2d ∷ 0x06 ∷ 0x29 ∷ 0x00 ∷ []) ∷ (0x2d ∷ 0x06 ∷ 0x99 ∷ []) ∷ []) ≡ refused UnknownRr ∷ refused UnknownRr ∷ refused UnknownRr ∷ refused UnknownRr ∷ []
+unfolding rr_reading typed_at rr_type pseudo_at octet_at
+other_types = refl
+
+-- ---- the texts that are written
+
+handover_command_text : rr_text (HandoverCommand the_cell the_channel 0x5c) ≡ 0x06 ∷ 0x2b ∷ 0xd5 ∷ 0x1e ∷ 0x41 ∷ 0xc2 ∷ 0x14 ∷ 0x5c ∷ 0x00 ∷ []
+handover_command_text = refl
+
+assignment_command_text : rr_text (AssignmentCommand the_channel) ≡ 0x06 ∷ 0x2e ∷ 0x41 ∷ 0xc2 ∷ 0x14 ∷ 0x00 ∷ []
+assignment_command_text = refl
+
+cause_texts : map rr_text (HandoverComplete (cause 0x00) ∷ HandoverFailure (cause 0x03) ∷ AssignmentComplete (cause 0x01) ∷ AssignmentFailure (cause 0x6f) ∷ ChannelRelease (cause 0xff) ∷ []) ≡
+    (0x06 ∷ 0x2c ∷ 0x00 ∷ []) ∷ (0x06 ∷ 0x28 ∷ 0x03 ∷ []) ∷ (0x06 ∷ 0x29 ∷ 0x01 ∷ []) ∷ (0x06 ∷ 0x2f ∷ 0x6f ∷ []) ∷ (0x06 ∷ 0x0d ∷ 0xff ∷ []) ∷ []
+cause_texts = refl
+
+immediate_assignment_text : rr_text (ImmediateAssignment the_channel (0x7f ∷ 0x01 ∷ 0x02 ∷ []) 5) ≡
+    0x2d ∷ 0x06 ∷ 0x3f ∷ 0x00 ∷ 0x41 ∷ 0xc2 ∷ 0x14 ∷ 0x7f ∷ 0x01 ∷ 0x02 ∷ 0x05 ∷ 0x00 ∷ 0x2b ∷ 0x2b ∷ 0x2b ∷ 0x2b ∷ 0x2b ∷ 0x2b ∷ 0x2b ∷ 0x2b ∷ 0x2b ∷ 0x2b ∷ 0x2b ∷ []
+immediate_assignment_text = refl
+
+measurement_report_text : rr_text (MeasurementReport sixteen) ≡ 0x06 ∷ 0x15 ∷ 0xe1 ∷ 0xac ∷ 0x2b ∷ 0x8a ∷ 0x0a ∷ 0x4a ∷ 0x89 ∷ 0xb8 ∷ 0x09 ∷ 0x25 ∷ 0x68 ∷ 0xb7 ∷ 0x68 ∷ 0x6d ∷ 0xff ∷ 0xc9 ∷ []
+measurement_report_text = refl
+
+paging_response_text : rr_text (PagingResponse (0x71 ∷ 0x08 ∷ [])) ≡ 0x06 ∷ 0x27 ∷ 0x71 ∷ 0x08 ∷ []
+paging_response_text = refl
+
+-- ---- reports
+
+abbrev entry : ℕ → ℕ → ℕ → Neighbour
+entry rxlev bcch_freq bsic = record { rxlev = rxlev; bcch_freq = bcch_freq; bsic = bsic }
+
+abbrev six_entries : List Neighbour
+six_entries = entry 10 1 18 ∷ entry 21 2 27 ∷ entry 32 4 36 ∷ entry 43 8 45 ∷ entry 54 16 54 ∷ entry 63 31 9 ∷ []
+
+abbrev a_report : ℕ → Report
+a_report no_ncell = record { ba_used = 1; dtx_used = true; rxlev_full = 33; valid = true; rxlev_sub = 44; rxqual_full = 2; rxqual_sub = 5; no_ncell = no_ncell; entries = six_entries }
+
+-- a valid report: the bit of MEAS-VALID is 0
+valid_report : IsReport sixteen (a_report 6)
+valid_report = record {
+  enough = omega arith;
+  value = record { second = 1; third = 0; six = refl; fit = search arith; text = refl };
+}
+
+abbrev nothing : Neighbour
+nothing = entry 0 0 0
+
+-- a report that isn't valid, without a list of neighbours
+invalid_report : IsReport (0x14 ∷ 0x55 ∷ 0xf3 ∷ 0xd7 ∷ 0x02 ∷ 0x40 ∷ 0x00 ∷ 0x00 ∷ 0x00 ∷ 0x00 ∷ 0x00 ∷ 0x00 ∷ 0x00 ∷ 0x00 ∷ 0x00 ∷ 0x00 ∷ 0x99 ∷ [])
+    (record { ba_used = 0; dtx_used = false; rxlev_full = 20; valid = false; rxlev_sub = 21; rxqual_full = 7; rxqual_sub = 1; no_ncell = 7; entries = entry 23 0 18 ∷ nothing ∷ nothing ∷ nothing ∷ nothing ∷ nothing ∷ [] })
+invalid_report = record {
+  enough = omega arith;
+  value = record { second = 0; third = 1; six = refl; fit = search arith; text = refl };
+}
+
+neighbours : map (λ no_ncell. neighbours_of (a_report no_ncell)) (0 ∷ 1 ∷ 6 ∷ 7 ∷ []) ≡ [] ∷ (entry 10 1 18 ∷ []) ∷ six_entries ∷ [] ∷ []
+neighbours = refl

@@ -1,8 +1,0 @@
-use Rattle.dtap_codec.proofs.RrGrammar.{rr_again, rr_written}
-use Rattle.dtap_codec.proofs.rr_codec.rr_text_is_read.Goals as goal
-
-pub returns-clause-text : goal.returns-clause-text
-returns-clause-text c = rr_written
-
-pub returns-clause-read : goal.returns-clause-read
-returns-clause-read c = λ message fits. rr_again _ message (rr_written message fits)
