@@ -2,9 +2,9 @@ pub mod BssapTexts
 pub mod Bssaps
 pub mod Contents
 pub mod Fronts
+pub mod Layer3s
 pub mod Options
 pub mod OptionsGrammar
-pub mod Refusals
+mod Rows
 pub mod SccpTexts
 pub mod Sccps
-pub mod Steps

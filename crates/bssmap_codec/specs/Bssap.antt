@@ -1,16 +1,19 @@
 -- Messages of BSSAP and BSSMAP, octet by octet (TS 48.006 clause 9.3, TS 48.008 clause 3.2).
-use Rattle.std.specs.Prelude.{◌≡◌, ℕ, ◌<◌, ◌≤◌, true, false, List, [], ◌∷◌, ◌++◌, length, Option, Some, None, option_map}
+use Rattle.std.specs.Prelude.{◌≡◌, ℕ, ◌≤◌, true, false, List, [], ◌∷◌, ◌++◌, length, Option, Some, option_map}
 use Rattle.octets.specs.Element.{Element, AreElements}
 use Rattle.octets.specs.Field.{Field, field, Carries}
-use Rattle.bssmap_codec.specs.declared.bssmap.Bssap.{Bssap}
-use Rattle.bssmap_codec.specs.declared.bssmap.Bssap.TheVariants.{Management, Transfer}
+use Rattle.octets.specs.Front.{counted_text}
+use Rattle.bssmap_codec.specs.declared.bssap.Bssap.{Bssap}
+use Rattle.bssmap_codec.specs.declared.bssap.Bssap.TheVariants.{Management, Transfer}
 use Rattle.bssmap_codec.specs.declared.bssmap.Bssmap.{Bssmap}
 use Rattle.bssmap_codec.specs.declared.bssmap.Bssmap.TheVariants.{AssignmentRequest, AssignmentComplete, AssignmentFailure, HandoverPerformed, ClearCommand, ClearComplete, ClearRequest, SapiNReject, CipherModeCommand, CompleteLayer3Information, CipherModeReject}
-use Rattle.bssmap_codec.specs.declared.bssmap.TheConstants.{BSSMAP_TABLE, CAUSE, CELL_IDENTIFIER, CHANNEL_TYPE, RR_CAUSE, LAYER_3_INFORMATION, DLCI}
+use Rattle.bssmap_codec.specs.declared.bssap.TheConstants.{MANAGEMENT, TRANSFER}
+use Rattle.bssmap_codec.specs.declared.identifiers.TheConstants.{ELEMENTS, CAUSE, CELL_IDENTIFIER, CHANNEL_TYPE, RR_CAUSE, LAYER_3_INFORMATION, DLCI}
+use Rattle.bssmap_codec.specs.declared.limits.TheConstants.{LENGTH_LIMIT}
 use Rattle.bssmap_codec.specs.declared.values.Cause.{Cause}
 use Rattle.bssmap_codec.specs.declared.values.RrCause.{RrCause}
 use Rattle.bssmap_codec.specs.BssmapType.{bssmap_octet, type_of}
-use Rattle.bssmap_codec.specs.Sccp.{counted_text}
+use Rattle.bssmap_codec.specs.Layer3.{IsLayer3}
 use Rattle.bssmap_codec.specs.Values.{is_dlci}
 
 abbrev pub cause_field : Cause → Field
@@ -33,10 +36,7 @@ fields CipherModeCommand = []
 fields (CompleteLayer3Information cell layer3) = field CELL_IDENTIFIER (Some cell.0) ∷ field LAYER_3_INFORMATION (Some layer3) ∷ []
 fields (CipherModeReject cause) = cause_field cause ∷ []
 
--- a layer 3 message has 1 to 251 octets
-abbrev pub IsLayer3 : List ℕ → Type 0
-IsLayer3 message = (1 ≤ length message) × (length message ≤ 251)
-
+-- its layer 3 message, where it has one
 abbrev pub HasLayer3 : Bssmap → Type 0
 HasLayer3 (CompleteLayer3Information cell layer3) = IsLayer3 layer3
 HasLayer3 _ = Unit {0}
@@ -46,22 +46,22 @@ pub record IsBssmap (octets : List ℕ) (message : Bssmap) : Type 0 where
   pub elements : List ℕ
   pub is : octets ≡ bssmap_octet (type_of message) ∷ elements
   pub found : List Element
-  pub are : AreElements BSSMAP_TABLE elements found false
+  pub are : AreElements ELEMENTS elements found false
   pub carries : Carries found (fields message)
   pub layer3 : HasLayer3 message
 
--- 00, a length, and a message of BSSMAP of that length
+-- the first octet, a length, and a message of BSSMAP of that length
 pub record IsManagement (octets : List ℕ) (message : Bssmap) : Type 0 where
   pub body : List ℕ
   pub more : List ℕ
-  pub is : octets ≡ 0 ∷ (counted_text body ++ more)
-  pub short : length body < 256
+  pub is : octets ≡ MANAGEMENT ∷ (counted_text body ++ more)
+  pub short : length body ≤ LENGTH_LIMIT
   pub text : IsBssmap body message
 
--- 01, a DLCI, a length, and a layer 3 message of that length
+-- the first octet, a DLCI, a length, and a layer 3 message of that length
 pub record IsTransfer (octets : List ℕ) (dlci : ℕ) (message : List ℕ) : Type 0 where
   pub more : List ℕ
-  pub is : octets ≡ 1 ∷ dlci ∷ (counted_text message ++ more)
+  pub is : octets ≡ TRANSFER ∷ dlci ∷ (counted_text message ++ more)
   pub link : is_dlci dlci ≡ true
   pub layer3 : IsLayer3 message
 

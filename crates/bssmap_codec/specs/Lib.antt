@@ -1,12 +1,11 @@
 pub mod Bssap
 pub mod BssapReading
-pub mod BssapWritten
+pub mod BssapText
 pub mod BssmapType
-pub mod Front
-pub mod Refused
+pub mod Layer3
+pub mod Reference
 pub mod Sccp
 pub mod SccpReading
+pub mod SccpText
 pub mod SccpType
-pub mod SccpWritten
-pub mod Table
 pub mod Values

@@ -1,18 +1,28 @@
--- The types of the messages of SCCP (Q.713 clause 4.1).
+-- The types of the messages of SCCP (Q.713 clause 2.1).
 use Rattle.std.specs.Prelude.{ℕ, ◌==◌, Option}
 use Rattle.std.specs.List.{find}
-use Rattle.bssmap_codec.specs.declared.sccp.SccpType.{SccpType}
-use Rattle.bssmap_codec.specs.declared.sccp.SccpType.TheVariants.{ConnectionRequest, ConnectionConfirm, ConnectionRefused, Released, ReleaseComplete, DataForm1}
-use Rattle.bssmap_codec.specs.declared.sccp.TheConstants.{SCCP_TYPES}
+use Rattle.bssmap_codec.specs.declared.sccp.Sccp.{Sccp}
+use Rattle.bssmap_codec.specs.declared.sccp.Sccp.TheVariants as messages
+use Rattle.bssmap_codec.specs.declared.sccp_type.SccpType.{SccpType}
+use Rattle.bssmap_codec.specs.declared.sccp_type.SccpType.TheVariants.{ConnectionRequest, ConnectionConfirm, ConnectionRefused, Released, ReleaseComplete, DataForm1}
+use Rattle.bssmap_codec.specs.declared.sccp_type.TheConstants as octets
 
 abbrev pub sccp_octet : SccpType → ℕ
-sccp_octet ConnectionRequest = 1
-sccp_octet ConnectionConfirm = 2
-sccp_octet ConnectionRefused = 3
-sccp_octet Released = 4
-sccp_octet ReleaseComplete = 5
-sccp_octet DataForm1 = 6
+sccp_octet ConnectionRequest = octets.CONNECTION_REQUEST
+sccp_octet ConnectionConfirm = octets.CONNECTION_CONFIRM
+sccp_octet ConnectionRefused = octets.CONNECTION_REFUSED
+sccp_octet Released = octets.RELEASED
+sccp_octet ReleaseComplete = octets.RELEASE_COMPLETE
+sccp_octet DataForm1 = octets.DATA_FORM_1
 
 -- the type with this octet, where it is known
 unfoldable pub sccp_type : ℕ → Option SccpType
-sccp_type octet = find (λ kind. sccp_octet kind == octet) SCCP_TYPES
+sccp_type octet = find (λ kind. sccp_octet kind == octet) octets.SCCP_TYPES
+
+abbrev pub type_of : Sccp → SccpType
+type_of (messages.ConnectionRequest source user) = ConnectionRequest
+type_of (messages.ConnectionConfirm destination source) = ConnectionConfirm
+type_of (messages.ConnectionRefused destination) = ConnectionRefused
+type_of (messages.Released destination source) = Released
+type_of (messages.ReleaseComplete destination source) = ReleaseComplete
+type_of (messages.DataForm1 destination user) = DataForm1

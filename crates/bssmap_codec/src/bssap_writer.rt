@@ -1,21 +1,22 @@
-ghost use Rattle.std.specs.Prelude.{◌≡◌, ◌≤◌, ◌<◌, ◌∷◌, [], ◌++◌, IfOk, OnOk, OnErr, None, length, min, ◌^◌, ◌-◌, option_map};
+ghost use Rattle.std.specs.Prelude.{◌≡◌, ◌≤◌, ◌<◌, ◌∷◌, [], ◌++◌, IfOk, OnOk, OnErr, None, length, min, ◌^◌, ◌-◌};
 ghost use Rattle.octets.specs.Field.{field_text, fields_text};
+ghost use Rattle.octets.specs.Front.{counted_text};
 ghost use Rattle.octets.specs.Refusal.{RefusesBy, first_refusal};
-ghost use Rattle.bssmap_codec.specs.declared.bssmap.TheConstants.{BSSMAP_TABLE};
 ghost use Rattle.bssmap_codec.specs.declared.fault.InterfaceFault.TheVariants.{Memory as OutOfMemory};
+ghost use Rattle.bssmap_codec.specs.declared.identifiers.TheConstants.{ELEMENTS};
+ghost use Rattle.bssmap_codec.specs.declared.limits.TheConstants.{LENGTH_LIMIT};
 ghost use Rattle.bssmap_codec.specs.Bssap.{fields, rr_cause_field};
-ghost use Rattle.bssmap_codec.specs.BssapWritten.{bssap_text, bssap_refusal, bssmap_text, bssmap_size, content_refusal, layer3_refusal, rr_cause_size};
-ghost use Rattle.bssmap_codec.specs.Refused.{fault_of};
-ghost use Rattle.bssmap_codec.specs.Sccp.{counted_text};
-ghost use Rattle.bssmap_codec.specs.SccpWritten.{size_refusal};
+ghost use Rattle.bssmap_codec.specs.BssapText.{bssap_text, bssap_write_fault, bssmap_text, bssmap_size, content_fault, rr_cause_size};
+ghost use Rattle.bssmap_codec.specs.SccpText.{size_fault};
 
-use crate::bssap_reader::LAYER_3_LIMIT;
-use crate::bssmap::{
-    Bssap, Bssmap, CAUSE, CELL_IDENTIFIER, CHANNEL_TYPE, DLCI, LAYER_3_INFORMATION, RR_CAUSE,
+use crate::bssap::{MANAGEMENT, TRANSFER};
+use crate::identifiers::{
+    CAUSE, CELL_IDENTIFIER, CHANNEL_TYPE, DLCI, LAYER_3_INFORMATION, RR_CAUSE,
 };
-use crate::values::RrCause;
-use crate::{InterfaceFault, Refusal};
+use crate::limits::LENGTH_LIMIT;
+use crate::{Bssap, Bssmap, InterfaceFault, RrCause, layer3};
 use octets::element::{Format, append};
+use octets::front::put_counted;
 use octets::{Memory, Octets};
 use std::alloc::Global;
 
@@ -24,55 +25,43 @@ use std::alloc::Global;
 pub fn write_bssap(alloc: Global, message: &Bssap, text: &mut Vec<u8>) -> Result<(), InterfaceFault>
     ensures ok { OnOk result (text.new.items ≡ text.old.items ++ bssap_text message.now) }
     ensures err { OnErr result (text.new.items ≡ text.old.items) }
-    ensures refused { RefusesBy OutOfMemory result (option_map fault_of (bssap_refusal message.now)) }
+    ensures refused { RefusesBy OutOfMemory result (bssap_write_fault message.now) }
 {
-    if let Some(refusal) = refusal(message) {
-        return Err(refusal.into());
+    if let Some(fault) = refusal(message) {
+        return Err(fault);
     }
-    let written = written(alloc, message)?;
-    text.extend_from_slice(written.as_slice())
+    let whole = text_of(alloc, message)?;
+    text.extend_from_slice(whole.as_slice())
         .map_err(Memory::from)?;
     Ok(())
 }
 
 // Why the message isn't written, where it isn't.
-fn refusal(message: &Bssap) -> Option<Refusal>
-    ensures { result ≡ bssap_refusal message.now }
+fn refusal(message: &Bssap) -> Option<InterfaceFault>
+    ensures { result ≡ bssap_write_fault message.now }
 {
     match message {
         Bssap::Management(message) => management_refusal(message),
-        Bssap::Transfer { message, .. } => layer3_fault(message),
+        Bssap::Transfer { message, .. } => layer3::refusal(message.as_slice()),
     }
 }
 
-fn management_refusal(message: &Bssmap) -> Option<Refusal>
-    ensures { result ≡ first_refusal (content_refusal message.now) (size_refusal (bssmap_size message.now)) }
+fn management_refusal(message: &Bssmap) -> Option<InterfaceFault>
+    ensures { result ≡ first_refusal (content_fault message.now) (size_fault (bssmap_size message.now)) }
 {
-    match content_fault(message) {
-        Some(refusal) => Some(refusal),
-        None if size(message) > 255 => Some(Refusal::TooLong),
+    match content_refusal(message) {
+        Some(fault) => Some(fault),
+        None if size(message) > LENGTH_LIMIT => Some(InterfaceFault::TooLong),
         None => None,
     }
 }
 
-fn content_fault(message: &Bssmap) -> Option<Refusal>
-    ensures { result ≡ content_refusal message.now }
+fn content_refusal(message: &Bssmap) -> Option<InterfaceFault>
+    ensures { result ≡ content_fault message.now }
 {
     match message {
-        Bssmap::CompleteLayer3Information { layer3, .. } => layer3_fault(layer3),
+        Bssmap::CompleteLayer3Information { layer3, .. } => layer3::refusal(layer3.as_slice()),
         _ => None,
-    }
-}
-
-fn layer3_fault(message: &Octets) -> Option<Refusal>
-    ensures { result ≡ layer3_refusal message.now }
-{
-    if message.len() == 0 {
-        Some(Refusal::Short)
-    } else if message.len() > LAYER_3_LIMIT {
-        Some(Refusal::TooLong)
-    } else {
-        None
     }
 }
 
@@ -113,19 +102,19 @@ fn optional_size(rr_cause: Option<RrCause>) -> usize
 }
 
 // The text of a message.
-fn written(alloc: Global, message: &Bssap) -> Result<Vec<u8>, Memory>
-    requires { bssap_refusal message.now ≡ None }
+fn text_of(alloc: Global, message: &Bssap) -> Result<Vec<u8>, Memory>
+    requires { bssap_write_fault message.now ≡ None }
     ensures { IfOk result (λ text. text.items ≡ bssap_text message.now) }
 {
     let mut text = Vec::new(alloc);
     match message {
         Bssap::Management(message) => {
             let body = management_text(alloc, message)?;
-            text.push(0x00)?;
+            text.push(MANAGEMENT)?;
             put_counted(&mut text, body.as_slice())?;
         }
         Bssap::Transfer { dlci, message } => {
-            text.push(0x01)?;
+            text.push(TRANSFER)?;
             text.push(dlci.octet())?;
             put_counted(&mut text, message.as_slice())?;
         }
@@ -133,20 +122,10 @@ fn written(alloc: Global, message: &Bssap) -> Result<Vec<u8>, Memory>
     Ok(text)
 }
 
-// A value with its length before it.
-fn put_counted(text: &mut Vec<u8>, value: &[u8]) -> Result<(), Memory>
-    requires { length value.now < 256 }
-    ensures { OnOk result (text.new.items ≡ text.old.items ++ counted_text value.now) }
-{
-    text.push(value.len() as u8)?;
-    text.extend_from_slice(value)?;
-    Ok(())
-}
-
 // The text of a message of BSSMAP, which a length octet can count.
 fn management_text(alloc: Global, message: &Bssmap) -> Result<Vec<u8>, Memory>
-    requires { bssmap_size message.now ≤ 255 }
-    ensures text { IfOk result (λ text. text.items ≡ bssmap_text message.now) }
+    requires { bssmap_size message.now ≤ LENGTH_LIMIT }
+    ensures { IfOk result (λ text. text.items ≡ bssmap_text message.now) }
 {
     let mut text = Vec::new(alloc);
     text.push(message.kind().octet())?;
@@ -156,8 +135,8 @@ fn management_text(alloc: Global, message: &Bssmap) -> Result<Vec<u8>, Memory>
 
 // The elements of a message.
 fn put_fields(text: &mut Vec<u8>, message: &Bssmap) -> Result<(), Memory>
-    requires { bssmap_size message.now ≤ 255 }
-    ensures { OnOk result (text.new.items ≡ text.old.items ++ fields_text BSSMAP_TABLE (fields message.now)) }
+    requires { bssmap_size message.now ≤ LENGTH_LIMIT }
+    ensures { OnOk result (text.new.items ≡ text.old.items ++ fields_text ELEMENTS (fields message.now)) }
 {
     match message {
         Bssmap::AssignmentRequest { channel_type } => {
@@ -190,7 +169,7 @@ fn put_fields(text: &mut Vec<u8>, message: &Bssmap) -> Result<(), Memory>
 
 // An element with a length octet.
 fn put_value(text: &mut Vec<u8>, id: u8, value: &Octets) -> Result<(), Memory>
-    requires { length value.now < 256 }
+    requires { length value.now ≤ LENGTH_LIMIT }
     ensures { OnOk result (text.new.items ≡ text.old.items ++ id ∷ counted_text value.now) }
 {
     append(text, Format::Tlv, id, value.as_slice())
@@ -198,7 +177,7 @@ fn put_value(text: &mut Vec<u8>, id: u8, value: &Octets) -> Result<(), Memory>
 
 // The element of an RR cause, where there is one.
 fn put_rr_cause(text: &mut Vec<u8>, rr_cause: Option<RrCause>) -> Result<(), Memory>
-    ensures { OnOk result (text.new.items ≡ text.old.items ++ field_text BSSMAP_TABLE RR_CAUSE (rr_cause_field rr_cause).value) }
+    ensures { OnOk result (text.new.items ≡ text.old.items ++ field_text ELEMENTS RR_CAUSE (rr_cause_field rr_cause).value) }
 {
     match rr_cause {
         Some(RrCause(octet)) => append(text, Format::Tv(1), RR_CAUSE, &[octet]),

@@ -2,7 +2,7 @@ use octets::Memory;
 use thiserror::Error;
 
 /// Why octets of the A interface aren't read, or a message isn't written.
-#[derive(Clone, Copy, Debug, PartialEq, Eq, Error)]
+#[derive(Clone, Copy, Debug, Error)]
 pub enum InterfaceFault {
     /// The octets end too early, or what may not be empty is empty.
     #[error("message too short")]
@@ -22,33 +22,6 @@ pub enum InterfaceFault {
     /// There was no memory.
     #[error("out of memory")]
     Memory,
-}
-
-/// A cause for which octets are refused whatever memory there is.
-#[derive(Clone, Copy, Debug, PartialEq, Eq)]
-pub enum Refusal {
-    Short,
-    UnknownType,
-    MissingElement(u8),
-    BadPointer,
-    TooLong,
-}
-
-impl From<Refusal> for InterfaceFault {
-    ghost use Rattle.std.specs.Prelude.{◌≡◌};
-    ghost use Rattle.bssmap_codec.specs.Refused.{fault_of};
-
-    ghost from_gives = { λ refusal fault. fault ≡ fault_of refusal };
-
-    fn from(refusal: Refusal) -> InterfaceFault {
-        match refusal {
-            Refusal::Short => InterfaceFault::Short,
-            Refusal::UnknownType => InterfaceFault::UnknownType,
-            Refusal::MissingElement(id) => InterfaceFault::MissingElement(id),
-            Refusal::BadPointer => InterfaceFault::BadPointer,
-            Refusal::TooLong => InterfaceFault::TooLong,
-        }
-    }
 }
 
 impl From<Memory> for InterfaceFault {

@@ -1,11 +1,11 @@
 ghost use Rattle.std.specs.Prelude.{◌≡◌};
-ghost use Rattle.bssmap_codec.specs.SccpType.{sccp_octet, sccp_type};
+ghost use Rattle.bssmap_codec.specs.SccpType.{type_of};
 
-use crate::Reference;
+use crate::{Reference, SccpType};
 use octets::Octets;
 
 /// A message of SCCP for a connection of class 2 (Q.713 clause 4).
-#[derive(Debug, Drop)]
+#[derive(Drop)]
 pub enum Sccp {
     /// CR, connection request: asks for a connection, which its sender calls `source`.
     ConnectionRequest {
@@ -40,50 +40,18 @@ pub enum Sccp {
     },
 }
 
-/// The type of a message of SCCP, its first octet (Q.713 clause 4.1).
-#[derive(Clone, Copy, Debug, PartialEq, Eq)]
-pub enum SccpType {
-    ConnectionRequest,
-    ConnectionConfirm,
-    ConnectionRefused,
-    Released,
-    ReleaseComplete,
-    DataForm1,
-}
-
-/// The types that are known.
-pub const SCCP_TYPES: [SccpType; 6] = [
-    SccpType::ConnectionRequest,
-    SccpType::ConnectionConfirm,
-    SccpType::ConnectionRefused,
-    SccpType::Released,
-    SccpType::ReleaseComplete,
-    SccpType::DataForm1,
-];
-
-impl SccpType {
-    /// The octet of this type.
-    pub fn octet(self) -> u8
-        ensures { result ≡ sccp_octet self }
+impl Sccp {
+    /// The type of the message.
+    pub fn kind(&self) -> SccpType
+        ensures { result ≡ type_of self.now }
     {
         match self {
-            SccpType::ConnectionRequest => 0x01,
-            SccpType::ConnectionConfirm => 0x02,
-            SccpType::ConnectionRefused => 0x03,
-            SccpType::Released => 0x04,
-            SccpType::ReleaseComplete => 0x05,
-            SccpType::DataForm1 => 0x06,
+            Sccp::ConnectionRequest { .. } => SccpType::ConnectionRequest,
+            Sccp::ConnectionConfirm { .. } => SccpType::ConnectionConfirm,
+            Sccp::ConnectionRefused { .. } => SccpType::ConnectionRefused,
+            Sccp::Released { .. } => SccpType::Released,
+            Sccp::ReleaseComplete { .. } => SccpType::ReleaseComplete,
+            Sccp::DataForm1 { .. } => SccpType::DataForm1,
         }
-    }
-
-    /// The type with this octet; none where it isn't known.
-    #[tactic(auto, unfolding(crate::specs::SccpType::sccp_type))]
-    pub fn of_octet(octet: u8) -> Option<SccpType>
-        ensures { result ≡ sccp_type octet }
-    {
-        SCCP_TYPES
-            .iter()
-            .copied()
-            .find(|kind| kind.octet() == octet)
     }
 }

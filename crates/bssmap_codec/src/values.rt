@@ -7,7 +7,7 @@ use std::marker::Model;
 
 /// The data link connection identifier of a DTAP message (TS 48.006 clause 9.3.2): bits 3 to 1 are the SAPI, 0 or 3;
 /// bits 8 and 7 name the channel, and are kept as they are, as are the others. Contracts see its octet.
-#[derive(Clone, Copy, Debug)]
+#[derive(Clone, Copy)]
 pub struct Dlci {
     octet: u8,
 }
@@ -55,15 +55,15 @@ impl Dlci {
 }
 
 /// The data link connection identifier that a SAPI N REJECT names (TS 48.008 clause 3.2.2.25), which may have any SAPI.
-#[derive(Clone, Copy, Debug, PartialEq, Eq)]
+#[derive(Clone, Copy)]
 pub struct RejectedDlci(pub u8);
 
 /// A cause of radio resource management (TS 44.018 clause 10.5.2.31), in one octet.
-#[derive(Clone, Copy, Debug, PartialEq, Eq)]
+#[derive(Clone, Copy)]
 pub struct RrCause(pub u8);
 
 /// The value of a cause (TS 48.008 clause 3.2.2.5), as many octets as its length says.
-#[derive(Debug, Drop)]
+#[derive(Drop)]
 pub struct Cause(pub Octets);
 
 impl Cause {
@@ -76,11 +76,11 @@ impl Cause {
 }
 
 /// The value of a cell identifier (TS 48.008 clause 3.2.2.17), as many octets as its length says.
-#[derive(Debug, Drop)]
+#[derive(Drop)]
 pub struct CellIdentifier(pub Octets);
 
 /// The value of a channel type (TS 48.008 clause 3.2.2.11), as many octets as its length says.
-#[derive(Debug, Drop)]
+#[derive(Drop)]
 pub struct ChannelType(pub Octets);
 
 impl ChannelType {

@@ -2,10 +2,10 @@ use Rattle.std.proofs.Common.{sym}
 use Rattle.bssmap_codec.proofs.Options.{option-shorter, data-kept, data-here, data-on}
 use Rattle.bssmap_codec.proofs.pointers.data.Goals as goal
 
-pub returns-then-found-eq-DATA : goal.returns-then-found-eq-DATA
-returns-then-found-eq-DATA c =
+pub returns-then-found-eq-USER_DATA : goal.returns-then-found-eq-USER_DATA
+returns-then-found-eq-USER_DATA c =
     let is = rw c.in-Ok-Some.field-0-is at c.in-Ok-Some.ensures in
-    data-here _ _ _ _ _ is c.loop-found.invariant c.if-found-eq-DATA.true
+    data-here _ _ _ _ _ is c.loop-found.invariant c.if-found-eq-USER_DATA.true
 
 pub loop-found-smaller : goal.loop-found-smaller
 loop-found-smaller c =
@@ -15,7 +15,7 @@ loop-found-smaller c =
 pub loop-found-preserved : goal.loop-found-preserved
 loop-found-preserved c =
     let is = rw c.in-Ok-Some.field-0-is at c.in-Ok-Some.ensures in
-    data-on _ _ _ _ _ is c.loop-found.invariant c.if-found-eq-DATA.false
+    data-on _ _ _ _ _ is c.loop-found.invariant c.if-found-eq-USER_DATA.false
 
 pub returns-in-Ok-None : goal.returns-in-Ok-None
 returns-in-Ok-None c = let is = rw c.in-Ok-None.field-0-is at c.in-Ok-None.ensures in data-kept _ _ _ is c.loop-found.invariant

@@ -1,31 +1,29 @@
 -- The text in which a message of BSSAP is written, and why it may not be.
-use Rattle.std.specs.Prelude.{◌≡◌, ℕ, ◌+◌, true, nat_lt, ◌==◌, if◌then◌else◌, List, [], ◌∷◌, ◌++◌, length, Option, Some, None}
+use Rattle.std.specs.Prelude.{◌≡◌, ℕ, ◌+◌, true, List, ◌∷◌, length, Option, Some, None}
 use Rattle.octets.specs.Field.{fields_text}
+use Rattle.octets.specs.Front.{counted_text}
 use Rattle.octets.specs.Refusal.{first_refusal}
-use Rattle.bssmap_codec.specs.declared.fault.Refusal.{Refusal}
-use Rattle.bssmap_codec.specs.declared.fault.Refusal.TheVariants.{Short, TooLong}
-use Rattle.bssmap_codec.specs.declared.bssmap.Bssap.{Bssap}
-use Rattle.bssmap_codec.specs.declared.bssmap.Bssap.TheVariants.{Management, Transfer}
+use Rattle.bssmap_codec.specs.declared.fault.InterfaceFault.{InterfaceFault}
+use Rattle.bssmap_codec.specs.declared.bssap.Bssap.{Bssap}
+use Rattle.bssmap_codec.specs.declared.bssap.Bssap.TheVariants.{Management, Transfer}
 use Rattle.bssmap_codec.specs.declared.bssmap.Bssmap.{Bssmap}
 use Rattle.bssmap_codec.specs.declared.bssmap.Bssmap.TheVariants.{AssignmentRequest, AssignmentComplete, AssignmentFailure, HandoverPerformed, ClearCommand, ClearComplete, ClearRequest, SapiNReject, CipherModeCommand, CompleteLayer3Information, CipherModeReject}
-use Rattle.bssmap_codec.specs.declared.bssmap.TheConstants.{BSSMAP_TABLE}
+use Rattle.bssmap_codec.specs.declared.bssap.TheConstants.{MANAGEMENT, TRANSFER}
+use Rattle.bssmap_codec.specs.declared.identifiers.TheConstants.{ELEMENTS}
 use Rattle.bssmap_codec.specs.declared.values.RrCause.{RrCause}
 use Rattle.bssmap_codec.specs.BssmapType.{bssmap_octet, type_of}
 use Rattle.bssmap_codec.specs.Bssap.{fields}
-use Rattle.bssmap_codec.specs.Sccp.{counted_text}
-use Rattle.bssmap_codec.specs.SccpWritten.{size_refusal}
+use Rattle.bssmap_codec.specs.Layer3.{layer3_fault}
+use Rattle.bssmap_codec.specs.SccpText.{size_fault}
 use Rattle.bssmap_codec.specs.Values.{is_dlci}
 
--- the type, and the elements in the table's order
+-- the type, and the elements in their order
 abbrev pub bssmap_text : Bssmap → List ℕ
-bssmap_text message = bssmap_octet (type_of message) ∷ fields_text BSSMAP_TABLE (fields message)
+bssmap_text message = bssmap_octet (type_of message) ∷ fields_text ELEMENTS (fields message)
 
 abbrev pub bssap_text : Bssap → List ℕ
-bssap_text (Management message) = 0 ∷ counted_text (bssmap_text message)
-bssap_text (Transfer dlci message) = 1 ∷ dlci ∷ counted_text message
-
-abbrev pub layer3_refusal : List ℕ → Option Refusal
-layer3_refusal message = if length message == 0 then Some Short else (if nat_lt 251 (length message) then Some TooLong else None)
+bssap_text (Management message) = MANAGEMENT ∷ counted_text (bssmap_text message)
+bssap_text (Transfer dlci message) = TRANSFER ∷ dlci ∷ counted_text message
 
 abbrev pub rr_cause_size : Option RrCause → ℕ
 rr_cause_size None = 0
@@ -45,14 +43,14 @@ bssmap_size CipherModeCommand = 1
 bssmap_size (CompleteLayer3Information cell layer3) = 5 + length cell.0 + length layer3
 bssmap_size (CipherModeReject cause) = 3 + length cause.0
 
-abbrev pub content_refusal : Bssmap → Option Refusal
-content_refusal (CompleteLayer3Information cell layer3) = layer3_refusal layer3
-content_refusal _ = None
+abbrev pub content_fault : Bssmap → Option InterfaceFault
+content_fault (CompleteLayer3Information cell layer3) = layer3_fault layer3
+content_fault _ = None
 
 -- a layer 3 message that isn't one, then what a length octet can't count
-abbrev pub bssap_refusal : Bssap → Option Refusal
-bssap_refusal (Management message) = first_refusal (content_refusal message) (size_refusal (bssmap_size message))
-bssap_refusal (Transfer dlci message) = layer3_refusal message
+abbrev pub bssap_write_fault : Bssap → Option InterfaceFault
+bssap_write_fault (Management message) = first_refusal (content_fault message) (size_fault (bssmap_size message))
+bssap_write_fault (Transfer dlci message) = layer3_fault message
 
 -- the SAPI of DTAP is 0 or 3
 abbrev pub HasDlci : Bssap → Type 0

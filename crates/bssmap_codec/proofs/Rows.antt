@@ -1,0 +1,571 @@
+-- Definitions against literal octets: what is read of them, and what is written.
+use Rattle.std.proofs.Common.{◌≡◌, [], ◌∷◌, true, false, replicate, Some, None, Ok, Err, refl}
+use Rattle.octets.specs.Element.{element}
+use Rattle.octets.specs.Front.{octet_at, counted_at}
+use Rattle.octets.specs.Walk.{walk}
+use Rattle.bssmap_codec.specs.declared.bssap.Bssap.TheVariants.{Management, Transfer}
+use Rattle.bssmap_codec.specs.declared.bssmap.Bssmap.TheVariants.{AssignmentRequest, AssignmentComplete, AssignmentFailure, HandoverPerformed, ClearCommand, ClearComplete, ClearRequest, SapiNReject, CipherModeCommand, CompleteLayer3Information, CipherModeReject}
+use Rattle.bssmap_codec.specs.declared.bssmap_type.BssmapType.TheVariants as kinds
+use Rattle.bssmap_codec.specs.declared.fault.InterfaceFault.TheVariants.{Short, UnknownType, MissingElement, BadPointer, TooLong}
+use Rattle.bssmap_codec.specs.declared.sccp.Sccp.TheVariants.{ConnectionRequest, ConnectionConfirm, ConnectionRefused, Released, ReleaseComplete, DataForm1}
+use Rattle.bssmap_codec.specs.BssapReading.{cause_of, cell_of, channel_of, rr_cause_of, rejected_of, elements_of, breaks_off, needed_value, needed_octet, rr_cause_in, layer3_at, cause_at, assignment_request_at, assignment_complete_at, assignment_failure_at, handover_performed_at, reject_at, complete_layer3_at, content_at, message_at, management_at, transfer_at, bssap_reading}
+use Rattle.bssmap_codec.specs.BssapText.{bssap_text, bssap_write_fault}
+use Rattle.bssmap_codec.specs.BssmapType.{bssmap_type}
+use Rattle.bssmap_codec.specs.Reference.{reference_at, references_at}
+use Rattle.bssmap_codec.specs.SccpReading.{part_at, option_at, data_in, user_data_at, request_at, fixed_references_at, refused_at, data_behind_at, data_form_at, sccp_reading}
+use Rattle.bssmap_codec.specs.SccpText.{sccp_text, sccp_write_fault}
+use Rattle.bssmap_codec.specs.SccpType.{sccp_type}
+use Rattle.bssmap_codec.specs.Values.{dlci_of, is_speech_type}
+
+-- ---- SCCP, read
+
+request : sccp_reading (0x01 ∷ 0x01 ∷ 0x02 ∷ 0x03 ∷ 0x02 ∷ 0x02 ∷ 0x04 ∷ 0x02 ∷ 0x42 ∷ 0xfe ∷ 0x0f ∷ 0x03 ∷ 0x00 ∷ 0x01 ∷ 0x21 ∷ 0x00 ∷ []) ≡ Ok (ConnectionRequest 0x010203 (Some (0x00 ∷ 0x01 ∷ 0x21 ∷ [])))
+unfolding sccp_reading octet_at sccp_type reference_at references_at fixed_references_at refused_at request_at part_at counted_at user_data_at data_in option_at data_behind_at data_form_at
+request = refl
+
+-- a pointer 0 to the options
+request_without_options : sccp_reading (0x01 ∷ 0x01 ∷ 0x02 ∷ 0x03 ∷ 0x02 ∷ 0x02 ∷ 0x00 ∷ 0x02 ∷ 0x42 ∷ 0xfe ∷ []) ≡ Ok (ConnectionRequest 0x010203 None)
+unfolding sccp_reading octet_at sccp_type reference_at references_at fixed_references_at refused_at request_at part_at counted_at user_data_at data_in option_at data_behind_at data_form_at
+request_without_options = refl
+
+request_of_another_class : sccp_reading (0x01 ∷ 0x01 ∷ 0x02 ∷ 0x03 ∷ 0x03 ∷ 0x02 ∷ 0x00 ∷ 0x02 ∷ 0x42 ∷ 0xfe ∷ []) ≡ Ok (ConnectionRequest 0x010203 None)
+unfolding sccp_reading octet_at sccp_type reference_at references_at fixed_references_at refused_at request_at part_at counted_at user_data_at data_in option_at data_behind_at data_form_at
+request_of_another_class = refl
+
+-- the options before the called address
+request_with_parts_exchanged : sccp_reading (0x01 ∷ 0x01 ∷ 0x02 ∷ 0x03 ∷ 0x02 ∷ 0x06 ∷ 0x01 ∷ 0x0f ∷ 0x01 ∷ 0x05 ∷ 0x00 ∷ 0x01 ∷ 0xfe ∷ []) ≡ Ok (ConnectionRequest 0x010203 (Some (0x05 ∷ [])))
+unfolding sccp_reading octet_at sccp_type reference_at references_at fixed_references_at refused_at request_at part_at counted_at user_data_at data_in option_at data_behind_at data_form_at
+request_with_parts_exchanged = refl
+
+another_option_before_data : sccp_reading (0x01 ∷ 0x01 ∷ 0x02 ∷ 0x03 ∷ 0x02 ∷ 0x02 ∷ 0x04 ∷ 0x02 ∷ 0x42 ∷ 0xfe ∷ 0x04 ∷ 0x01 ∷ 0x77 ∷ 0x0f ∷ 0x02 ∷ 0x05 ∷ 0x24 ∷ 0x00 ∷ []) ≡ Ok (ConnectionRequest 0x010203 (Some (0x05 ∷ 0x24 ∷ [])))
+unfolding sccp_reading octet_at sccp_type reference_at references_at fixed_references_at refused_at request_at part_at counted_at user_data_at data_in option_at data_behind_at data_form_at
+another_option_before_data = refl
+
+nothing_is_looked_at_behind_data : sccp_reading (0x01 ∷ 0x01 ∷ 0x02 ∷ 0x03 ∷ 0x02 ∷ 0x02 ∷ 0x04 ∷ 0x02 ∷ 0x42 ∷ 0xfe ∷ 0x0f ∷ 0x01 ∷ 0x05 ∷ 0x04 ∷ 0x09 ∷ []) ≡ Ok (ConnectionRequest 0x010203 (Some (0x05 ∷ [])))
+unfolding sccp_reading octet_at sccp_type reference_at references_at fixed_references_at refused_at request_at part_at counted_at user_data_at data_in option_at data_behind_at data_form_at
+nothing_is_looked_at_behind_data = refl
+
+data_of_no_octets : sccp_reading (0x01 ∷ 0x01 ∷ 0x02 ∷ 0x03 ∷ 0x02 ∷ 0x02 ∷ 0x04 ∷ 0x02 ∷ 0x42 ∷ 0xfe ∷ 0x0f ∷ 0x00 ∷ 0x00 ∷ []) ≡ Ok (ConnectionRequest 0x010203 (Some []))
+unfolding sccp_reading octet_at sccp_type reference_at references_at fixed_references_at refused_at request_at part_at counted_at user_data_at data_in option_at data_behind_at data_form_at
+data_of_no_octets = refl
+
+options_end_with_the_octets : sccp_reading (0x01 ∷ 0x01 ∷ 0x02 ∷ 0x03 ∷ 0x02 ∷ 0x02 ∷ 0x04 ∷ 0x02 ∷ 0x42 ∷ 0xfe ∷ 0x04 ∷ 0x01 ∷ 0x77 ∷ []) ≡ Ok (ConnectionRequest 0x010203 None)
+unfolding sccp_reading octet_at sccp_type reference_at references_at fixed_references_at refused_at request_at part_at counted_at user_data_at data_in option_at data_behind_at data_form_at
+options_end_with_the_octets = refl
+
+options_end_before_data : sccp_reading (0x01 ∷ 0x01 ∷ 0x02 ∷ 0x03 ∷ 0x02 ∷ 0x02 ∷ 0x04 ∷ 0x02 ∷ 0x42 ∷ 0xfe ∷ 0x04 ∷ 0x01 ∷ 0x77 ∷ 0x00 ∷ 0x0f ∷ 0x01 ∷ 0x05 ∷ []) ≡ Ok (ConnectionRequest 0x010203 None)
+unfolding sccp_reading octet_at sccp_type reference_at references_at fixed_references_at refused_at request_at part_at counted_at user_data_at data_in option_at data_behind_at data_form_at
+options_end_before_data = refl
+
+pointer_to_the_end_of_options : sccp_reading (0x01 ∷ 0x01 ∷ 0x02 ∷ 0x03 ∷ 0x02 ∷ 0x02 ∷ 0x04 ∷ 0x02 ∷ 0x42 ∷ 0xfe ∷ 0x00 ∷ []) ≡ Ok (ConnectionRequest 0x010203 None)
+unfolding sccp_reading octet_at sccp_type reference_at references_at fixed_references_at refused_at request_at part_at counted_at user_data_at data_in option_at data_behind_at data_form_at
+pointer_to_the_end_of_options = refl
+
+option_cut : sccp_reading (0x01 ∷ 0x01 ∷ 0x02 ∷ 0x03 ∷ 0x02 ∷ 0x02 ∷ 0x04 ∷ 0x02 ∷ 0x42 ∷ 0xfe ∷ 0x04 ∷ 0x03 ∷ 0x77 ∷ []) ≡ Err Short
+unfolding sccp_reading octet_at sccp_type reference_at references_at fixed_references_at refused_at request_at part_at counted_at user_data_at data_in option_at data_behind_at data_form_at
+option_cut = refl
+
+option_without_length : sccp_reading (0x01 ∷ 0x01 ∷ 0x02 ∷ 0x03 ∷ 0x02 ∷ 0x02 ∷ 0x04 ∷ 0x02 ∷ 0x42 ∷ 0xfe ∷ 0x04 ∷ []) ≡ Err Short
+unfolding sccp_reading octet_at sccp_type reference_at references_at fixed_references_at refused_at request_at part_at counted_at user_data_at data_in option_at data_behind_at data_form_at
+option_without_length = refl
+
+data_cut : sccp_reading (0x01 ∷ 0x01 ∷ 0x02 ∷ 0x03 ∷ 0x02 ∷ 0x02 ∷ 0x04 ∷ 0x02 ∷ 0x42 ∷ 0xfe ∷ 0x0f ∷ 0x03 ∷ 0x05 ∷ []) ≡ Err Short
+unfolding sccp_reading octet_at sccp_type reference_at references_at fixed_references_at refused_at request_at part_at counted_at user_data_at data_in option_at data_behind_at data_form_at
+data_cut = refl
+
+options_pointer_past_the_end : sccp_reading (0x01 ∷ 0x01 ∷ 0x02 ∷ 0x03 ∷ 0x02 ∷ 0x02 ∷ 0x04 ∷ 0x02 ∷ 0x42 ∷ 0xfe ∷ []) ≡ Err BadPointer
+unfolding sccp_reading octet_at sccp_type reference_at references_at fixed_references_at refused_at request_at part_at counted_at user_data_at data_in option_at data_behind_at data_form_at
+options_pointer_past_the_end = refl
+
+address_pointer_0 : sccp_reading (0x01 ∷ 0x01 ∷ 0x02 ∷ 0x03 ∷ 0x02 ∷ 0x00 ∷ 0x00 ∷ 0x02 ∷ 0x42 ∷ 0xfe ∷ []) ≡ Err BadPointer
+unfolding sccp_reading octet_at sccp_type reference_at references_at fixed_references_at refused_at request_at part_at counted_at user_data_at data_in option_at data_behind_at data_form_at
+address_pointer_0 = refl
+
+address_pointer_past_the_end : sccp_reading (0x01 ∷ 0x01 ∷ 0x02 ∷ 0x03 ∷ 0x02 ∷ 0x05 ∷ 0x00 ∷ 0x02 ∷ 0x42 ∷ 0xfe ∷ []) ≡ Err BadPointer
+unfolding sccp_reading octet_at sccp_type reference_at references_at fixed_references_at refused_at request_at part_at counted_at user_data_at data_in option_at data_behind_at data_form_at
+address_pointer_past_the_end = refl
+
+address_cut : sccp_reading (0x01 ∷ 0x01 ∷ 0x02 ∷ 0x03 ∷ 0x02 ∷ 0x04 ∷ 0x00 ∷ 0x02 ∷ 0x42 ∷ 0xfe ∷ []) ≡ Err Short
+unfolding sccp_reading octet_at sccp_type reference_at references_at fixed_references_at refused_at request_at part_at counted_at user_data_at data_in option_at data_behind_at data_form_at
+address_cut = refl
+
+address_cut_before_options_pointer : sccp_reading (0x01 ∷ 0x01 ∷ 0x02 ∷ 0x03 ∷ 0x02 ∷ 0x04 ∷ 0x09 ∷ 0x02 ∷ 0x42 ∷ 0xfe ∷ []) ≡ Err Short
+unfolding sccp_reading octet_at sccp_type reference_at references_at fixed_references_at refused_at request_at part_at counted_at user_data_at data_in option_at data_behind_at data_form_at
+address_cut_before_options_pointer = refl
+
+address_pointer_before_option_cut : sccp_reading (0x01 ∷ 0x01 ∷ 0x02 ∷ 0x03 ∷ 0x02 ∷ 0x09 ∷ 0x04 ∷ 0x02 ∷ 0x42 ∷ 0xfe ∷ 0x04 ∷ 0x03 ∷ []) ≡ Err BadPointer
+unfolding sccp_reading octet_at sccp_type reference_at references_at fixed_references_at refused_at request_at part_at counted_at user_data_at data_in option_at data_behind_at data_form_at
+address_pointer_before_option_cut = refl
+
+request_without_options_pointer : sccp_reading (0x01 ∷ 0x01 ∷ 0x02 ∷ 0x03 ∷ 0x02 ∷ 0x00 ∷ []) ≡ Err Short
+unfolding sccp_reading octet_at sccp_type reference_at references_at fixed_references_at refused_at request_at part_at counted_at user_data_at data_in option_at data_behind_at data_form_at
+request_without_options_pointer = refl
+
+confirm : sccp_reading (0x02 ∷ 0x01 ∷ 0x02 ∷ 0x03 ∷ 0x80 ∷ 0x00 ∷ 0x04 ∷ 0x02 ∷ 0x00 ∷ []) ≡ Ok (ConnectionConfirm 0x010203 0x800004)
+unfolding sccp_reading octet_at sccp_type reference_at references_at fixed_references_at refused_at request_at part_at counted_at user_data_at data_in option_at data_behind_at data_form_at
+confirm = refl
+
+confirm_of_another_class : sccp_reading (0x02 ∷ 0x01 ∷ 0x02 ∷ 0x03 ∷ 0x80 ∷ 0x00 ∷ 0x04 ∷ 0x03 ∷ 0x09 ∷ 0x77 ∷ []) ≡ Ok (ConnectionConfirm 0x010203 0x800004)
+unfolding sccp_reading octet_at sccp_type reference_at references_at fixed_references_at refused_at request_at part_at counted_at user_data_at data_in option_at data_behind_at data_form_at
+confirm_of_another_class = refl
+
+confirm_without_pointer : sccp_reading (0x02 ∷ 0x01 ∷ 0x02 ∷ 0x03 ∷ 0x80 ∷ 0x00 ∷ 0x04 ∷ 0x02 ∷ []) ≡ Err Short
+unfolding sccp_reading octet_at sccp_type reference_at references_at fixed_references_at refused_at request_at part_at counted_at user_data_at data_in option_at data_behind_at data_form_at
+confirm_without_pointer = refl
+
+refused : sccp_reading (0x03 ∷ 0x01 ∷ 0x02 ∷ 0x03 ∷ 0x00 ∷ 0x00 ∷ []) ≡ Ok (ConnectionRefused 0x010203)
+unfolding sccp_reading octet_at sccp_type reference_at references_at fixed_references_at refused_at request_at part_at counted_at user_data_at data_in option_at data_behind_at data_form_at
+refused = refl
+
+refused_for_another_cause : sccp_reading (0x03 ∷ 0x01 ∷ 0x02 ∷ 0x03 ∷ 0x05 ∷ 0x09 ∷ []) ≡ Ok (ConnectionRefused 0x010203)
+unfolding sccp_reading octet_at sccp_type reference_at references_at fixed_references_at refused_at request_at part_at counted_at user_data_at data_in option_at data_behind_at data_form_at
+refused_for_another_cause = refl
+
+refused_without_pointer : sccp_reading (0x03 ∷ 0x01 ∷ 0x02 ∷ 0x03 ∷ 0x00 ∷ []) ≡ Err Short
+unfolding sccp_reading octet_at sccp_type reference_at references_at fixed_references_at refused_at request_at part_at counted_at user_data_at data_in option_at data_behind_at data_form_at
+refused_without_pointer = refl
+
+released : sccp_reading (0x04 ∷ 0x01 ∷ 0x02 ∷ 0x03 ∷ 0x80 ∷ 0x00 ∷ 0x04 ∷ 0x00 ∷ 0x00 ∷ []) ≡ Ok (Released 0x010203 0x800004)
+unfolding sccp_reading octet_at sccp_type reference_at references_at fixed_references_at refused_at request_at part_at counted_at user_data_at data_in option_at data_behind_at data_form_at
+released = refl
+
+released_for_another_cause : sccp_reading (0x04 ∷ 0x01 ∷ 0x02 ∷ 0x03 ∷ 0x80 ∷ 0x00 ∷ 0x04 ∷ 0x05 ∷ 0x09 ∷ []) ≡ Ok (Released 0x010203 0x800004)
+unfolding sccp_reading octet_at sccp_type reference_at references_at fixed_references_at refused_at request_at part_at counted_at user_data_at data_in option_at data_behind_at data_form_at
+released_for_another_cause = refl
+
+released_without_pointer : sccp_reading (0x04 ∷ 0x01 ∷ 0x02 ∷ 0x03 ∷ 0x80 ∷ 0x00 ∷ 0x04 ∷ 0x00 ∷ []) ≡ Err Short
+unfolding sccp_reading octet_at sccp_type reference_at references_at fixed_references_at refused_at request_at part_at counted_at user_data_at data_in option_at data_behind_at data_form_at
+released_without_pointer = refl
+
+complete : sccp_reading (0x05 ∷ 0x80 ∷ 0x00 ∷ 0x04 ∷ 0x01 ∷ 0x02 ∷ 0x03 ∷ []) ≡ Ok (ReleaseComplete 0x800004 0x010203)
+unfolding sccp_reading octet_at sccp_type reference_at references_at fixed_references_at refused_at request_at part_at counted_at user_data_at data_in option_at data_behind_at data_form_at
+complete = refl
+
+complete_with_more : sccp_reading (0x05 ∷ 0x80 ∷ 0x00 ∷ 0x04 ∷ 0x01 ∷ 0x02 ∷ 0x03 ∷ 0x00 ∷ []) ≡ Ok (ReleaseComplete 0x800004 0x010203)
+unfolding sccp_reading octet_at sccp_type reference_at references_at fixed_references_at refused_at request_at part_at counted_at user_data_at data_in option_at data_behind_at data_form_at
+complete_with_more = refl
+
+complete_cut : sccp_reading (0x05 ∷ 0x80 ∷ 0x00 ∷ 0x04 ∷ 0x01 ∷ 0x02 ∷ []) ≡ Err Short
+unfolding sccp_reading octet_at sccp_type reference_at references_at fixed_references_at refused_at request_at part_at counted_at user_data_at data_in option_at data_behind_at data_form_at
+complete_cut = refl
+
+data_form : sccp_reading (0x06 ∷ 0x01 ∷ 0x02 ∷ 0x03 ∷ 0x00 ∷ 0x01 ∷ 0x02 ∷ 0x05 ∷ 0x24 ∷ 0x99 ∷ []) ≡ Ok (DataForm1 0x010203 (0x05 ∷ 0x24 ∷ []))
+unfolding sccp_reading octet_at sccp_type reference_at references_at fixed_references_at refused_at request_at part_at counted_at user_data_at data_in option_at data_behind_at data_form_at
+data_form = refl
+
+data_form_with_octets_between : sccp_reading (0x06 ∷ 0x01 ∷ 0x02 ∷ 0x03 ∷ 0x00 ∷ 0x03 ∷ 0x99 ∷ 0x99 ∷ 0x02 ∷ 0x05 ∷ 0x24 ∷ []) ≡ Ok (DataForm1 0x010203 (0x05 ∷ 0x24 ∷ []))
+unfolding sccp_reading octet_at sccp_type reference_at references_at fixed_references_at refused_at request_at part_at counted_at user_data_at data_in option_at data_behind_at data_form_at
+data_form_with_octets_between = refl
+
+data_form_of_no_octets : sccp_reading (0x06 ∷ 0x01 ∷ 0x02 ∷ 0x03 ∷ 0x00 ∷ 0x01 ∷ 0x00 ∷ []) ≡ Ok (DataForm1 0x010203 [])
+unfolding sccp_reading octet_at sccp_type reference_at references_at fixed_references_at refused_at request_at part_at counted_at user_data_at data_in option_at data_behind_at data_form_at
+data_form_of_no_octets = refl
+
+-- before its pointer is looked at
+data_form_segmented : sccp_reading (0x06 ∷ 0x01 ∷ 0x02 ∷ 0x03 ∷ 0x01 ∷ 0x00 ∷ []) ≡ Err UnknownType
+unfolding sccp_reading octet_at sccp_type reference_at references_at fixed_references_at refused_at request_at part_at counted_at user_data_at data_in option_at data_behind_at data_form_at
+data_form_segmented = refl
+
+data_form_segmented_without_pointer : sccp_reading (0x06 ∷ 0x01 ∷ 0x02 ∷ 0x03 ∷ 0x01 ∷ []) ≡ Err Short
+unfolding sccp_reading octet_at sccp_type reference_at references_at fixed_references_at refused_at request_at part_at counted_at user_data_at data_in option_at data_behind_at data_form_at
+data_form_segmented_without_pointer = refl
+
+data_pointer_0 : sccp_reading (0x06 ∷ 0x01 ∷ 0x02 ∷ 0x03 ∷ 0x00 ∷ 0x00 ∷ 0x00 ∷ []) ≡ Err BadPointer
+unfolding sccp_reading octet_at sccp_type reference_at references_at fixed_references_at refused_at request_at part_at counted_at user_data_at data_in option_at data_behind_at data_form_at
+data_pointer_0 = refl
+
+data_pointer_past_the_end : sccp_reading (0x06 ∷ 0x01 ∷ 0x02 ∷ 0x03 ∷ 0x00 ∷ 0x03 ∷ 0x01 ∷ 0x05 ∷ []) ≡ Err BadPointer
+unfolding sccp_reading octet_at sccp_type reference_at references_at fixed_references_at refused_at request_at part_at counted_at user_data_at data_in option_at data_behind_at data_form_at
+data_pointer_past_the_end = refl
+
+data_form_without_data : sccp_reading (0x06 ∷ 0x01 ∷ 0x02 ∷ 0x03 ∷ 0x00 ∷ 0x01 ∷ []) ≡ Err BadPointer
+unfolding sccp_reading octet_at sccp_type reference_at references_at fixed_references_at refused_at request_at part_at counted_at user_data_at data_in option_at data_behind_at data_form_at
+data_form_without_data = refl
+
+data_form_cut : sccp_reading (0x06 ∷ 0x01 ∷ 0x02 ∷ 0x03 ∷ 0x00 ∷ 0x01 ∷ 0x03 ∷ 0x05 ∷ 0x24 ∷ []) ≡ Err Short
+unfolding sccp_reading octet_at sccp_type reference_at references_at fixed_references_at refused_at request_at part_at counted_at user_data_at data_in option_at data_behind_at data_form_at
+data_form_cut = refl
+
+nothing : sccp_reading [] ≡ Err Short
+unfolding sccp_reading octet_at sccp_type reference_at references_at fixed_references_at refused_at request_at part_at counted_at user_data_at data_in option_at data_behind_at data_form_at
+nothing = refl
+
+type_0_alone : sccp_reading (0x00 ∷ []) ≡ Err UnknownType
+unfolding sccp_reading octet_at sccp_type reference_at references_at fixed_references_at refused_at request_at part_at counted_at user_data_at data_in option_at data_behind_at data_form_at
+type_0_alone = refl
+
+type_7_alone : sccp_reading (0x07 ∷ []) ≡ Err UnknownType
+unfolding sccp_reading octet_at sccp_type reference_at references_at fixed_references_at refused_at request_at part_at counted_at user_data_at data_in option_at data_behind_at data_form_at
+type_7_alone = refl
+
+request_alone : sccp_reading (0x01 ∷ []) ≡ Err Short
+unfolding sccp_reading octet_at sccp_type reference_at references_at fixed_references_at refused_at request_at part_at counted_at user_data_at data_in option_at data_behind_at data_form_at
+request_alone = refl
+
+-- ---- SCCP, written
+
+request_written : sccp_text (ConnectionRequest 0x010203 (Some (0x00 ∷ 0x01 ∷ 0x21 ∷ []))) ≡ 0x01 ∷ 0x01 ∷ 0x02 ∷ 0x03 ∷ 0x02 ∷ 0x02 ∷ 0x04 ∷ 0x02 ∷ 0x42 ∷ 0xfe ∷ 0x0f ∷ 0x03 ∷ 0x00 ∷ 0x01 ∷ 0x21 ∷ 0x00 ∷ []
+request_written = refl
+
+request_without_data_written : sccp_text (ConnectionRequest 0x010203 None) ≡ 0x01 ∷ 0x01 ∷ 0x02 ∷ 0x03 ∷ 0x02 ∷ 0x02 ∷ 0x00 ∷ 0x02 ∷ 0x42 ∷ 0xfe ∷ []
+request_without_data_written = refl
+
+confirm_written : sccp_text (ConnectionConfirm 0x010203 0x800004) ≡ 0x02 ∷ 0x01 ∷ 0x02 ∷ 0x03 ∷ 0x80 ∷ 0x00 ∷ 0x04 ∷ 0x02 ∷ 0x00 ∷ []
+confirm_written = refl
+
+refused_written : sccp_text (ConnectionRefused 0x010203) ≡ 0x03 ∷ 0x01 ∷ 0x02 ∷ 0x03 ∷ 0x00 ∷ 0x00 ∷ []
+refused_written = refl
+
+released_written : sccp_text (Released 0x010203 0x800004) ≡ 0x04 ∷ 0x01 ∷ 0x02 ∷ 0x03 ∷ 0x80 ∷ 0x00 ∷ 0x04 ∷ 0x00 ∷ 0x00 ∷ []
+released_written = refl
+
+complete_written : sccp_text (ReleaseComplete 0x800004 0x010203) ≡ 0x05 ∷ 0x80 ∷ 0x00 ∷ 0x04 ∷ 0x01 ∷ 0x02 ∷ 0x03 ∷ []
+complete_written = refl
+
+data_form_written : sccp_text (DataForm1 0x010203 (0x05 ∷ 0x24 ∷ [])) ≡ 0x06 ∷ 0x01 ∷ 0x02 ∷ 0x03 ∷ 0x00 ∷ 0x01 ∷ 0x02 ∷ 0x05 ∷ 0x24 ∷ []
+data_form_written = refl
+
+request_of_255_octets : sccp_write_fault (ConnectionRequest 1 (Some (replicate 255 7))) ≡ None
+request_of_255_octets = refl
+
+request_of_256_octets : sccp_write_fault (ConnectionRequest 1 (Some (replicate 256 7))) ≡ Some TooLong
+request_of_256_octets = refl
+
+request_of_none : sccp_write_fault (ConnectionRequest 1 None) ≡ None
+request_of_none = refl
+
+data_of_255_octets : sccp_write_fault (DataForm1 1 (replicate 255 7)) ≡ None
+data_of_255_octets = refl
+
+data_of_256_octets : sccp_write_fault (DataForm1 1 (replicate 256 7)) ≡ Some TooLong
+data_of_256_octets = refl
+
+-- ---- BSSAP, read
+
+assignment_request : bssap_reading (0x00 ∷ 0x06 ∷ 0x01 ∷ 0x0b ∷ 0x03 ∷ 0x01 ∷ 0x08 ∷ 0x02 ∷ []) ≡ Ok (Management (AssignmentRequest (channel_of (0x01 ∷ 0x08 ∷ 0x02 ∷ []))))
+unfolding bssap_reading octet_at management_at transfer_at bssmap_type message_at breaks_off elements_of walk needed_value needed_octet rr_cause_in layer3_at cause_at assignment_request_at assignment_complete_at assignment_failure_at handover_performed_at reject_at complete_layer3_at
+assignment_request = refl
+
+assignment_complete : bssap_reading (0x00 ∷ 0x03 ∷ 0x02 ∷ 0x15 ∷ 0x07 ∷ []) ≡ Ok (Management (AssignmentComplete (Some (rr_cause_of 0x07))))
+unfolding bssap_reading octet_at management_at transfer_at bssmap_type message_at breaks_off elements_of walk needed_value needed_octet rr_cause_in layer3_at cause_at assignment_request_at assignment_complete_at assignment_failure_at handover_performed_at reject_at complete_layer3_at
+assignment_complete = refl
+
+assignment_complete_without_cause : bssap_reading (0x00 ∷ 0x01 ∷ 0x02 ∷ []) ≡ Ok (Management (AssignmentComplete None))
+unfolding bssap_reading octet_at management_at transfer_at bssmap_type message_at breaks_off elements_of walk needed_value needed_octet rr_cause_in layer3_at cause_at assignment_request_at assignment_complete_at assignment_failure_at handover_performed_at reject_at complete_layer3_at
+assignment_complete_without_cause = refl
+
+assignment_failure : bssap_reading (0x00 ∷ 0x06 ∷ 0x03 ∷ 0x04 ∷ 0x01 ∷ 0x0a ∷ 0x15 ∷ 0x03 ∷ []) ≡ Ok (Management (AssignmentFailure (cause_of (0x0a ∷ [])) (Some (rr_cause_of 0x03))))
+unfolding bssap_reading octet_at management_at transfer_at bssmap_type message_at breaks_off elements_of walk needed_value needed_octet rr_cause_in layer3_at cause_at assignment_request_at assignment_complete_at assignment_failure_at handover_performed_at reject_at complete_layer3_at
+assignment_failure = refl
+
+assignment_failure_without_rr_cause : bssap_reading (0x00 ∷ 0x05 ∷ 0x03 ∷ 0x04 ∷ 0x02 ∷ 0x0a ∷ 0x0b ∷ []) ≡ Ok (Management (AssignmentFailure (cause_of (0x0a ∷ 0x0b ∷ [])) None))
+unfolding bssap_reading octet_at management_at transfer_at bssmap_type message_at breaks_off elements_of walk needed_value needed_octet rr_cause_in layer3_at cause_at assignment_request_at assignment_complete_at assignment_failure_at handover_performed_at reject_at complete_layer3_at
+assignment_failure_without_rr_cause = refl
+
+handover_performed : bssap_reading (0x00 ∷ 0x0e ∷ 0x17 ∷ 0x04 ∷ 0x01 ∷ 0x0c ∷ 0x05 ∷ 0x08 ∷ 0x00 ∷ 0x00 ∷ 0xf1 ∷ 0x10 ∷ 0x00 ∷ 0x01 ∷ 0x00 ∷ 0x02 ∷ []) ≡ Ok (Management (HandoverPerformed (cause_of (0x0c ∷ [])) (cell_of (0x00 ∷ 0x00 ∷ 0xf1 ∷ 0x10 ∷ 0x00 ∷ 0x01 ∷ 0x00 ∷ 0x02 ∷ []))))
+unfolding bssap_reading octet_at management_at transfer_at bssmap_type message_at breaks_off elements_of walk needed_value needed_octet rr_cause_in layer3_at cause_at assignment_request_at assignment_complete_at assignment_failure_at handover_performed_at reject_at complete_layer3_at
+handover_performed = refl
+
+clear_command : bssap_reading (0x00 ∷ 0x04 ∷ 0x20 ∷ 0x04 ∷ 0x01 ∷ 0x09 ∷ []) ≡ Ok (Management (ClearCommand (cause_of (0x09 ∷ []))))
+unfolding bssap_reading octet_at management_at transfer_at bssmap_type message_at breaks_off elements_of walk needed_value needed_octet rr_cause_in layer3_at cause_at assignment_request_at assignment_complete_at assignment_failure_at handover_performed_at reject_at complete_layer3_at
+clear_command = refl
+
+clear_complete : bssap_reading (0x00 ∷ 0x01 ∷ 0x21 ∷ 0x99 ∷ []) ≡ Ok (Management ClearComplete)
+unfolding bssap_reading octet_at management_at transfer_at bssmap_type message_at breaks_off elements_of walk needed_value needed_octet rr_cause_in layer3_at cause_at assignment_request_at assignment_complete_at assignment_failure_at handover_performed_at reject_at complete_layer3_at
+clear_complete = refl
+
+clear_request : bssap_reading (0x00 ∷ 0x04 ∷ 0x22 ∷ 0x04 ∷ 0x01 ∷ 0x20 ∷ []) ≡ Ok (Management (ClearRequest (cause_of (0x20 ∷ []))))
+unfolding bssap_reading octet_at management_at transfer_at bssmap_type message_at breaks_off elements_of walk needed_value needed_octet rr_cause_in layer3_at cause_at assignment_request_at assignment_complete_at assignment_failure_at handover_performed_at reject_at complete_layer3_at
+clear_request = refl
+
+reject : bssap_reading (0x00 ∷ 0x06 ∷ 0x25 ∷ 0x18 ∷ 0x83 ∷ 0x04 ∷ 0x01 ∷ 0x25 ∷ []) ≡ Ok (Management (SapiNReject (rejected_of 0x83) (cause_of (0x25 ∷ []))))
+unfolding bssap_reading octet_at management_at transfer_at bssmap_type message_at breaks_off elements_of walk needed_value needed_octet rr_cause_in layer3_at cause_at assignment_request_at assignment_complete_at assignment_failure_at handover_performed_at reject_at complete_layer3_at
+reject = refl
+
+cipher_mode_command : bssap_reading (0x00 ∷ 0x01 ∷ 0x53 ∷ []) ≡ Ok (Management CipherModeCommand)
+unfolding bssap_reading octet_at management_at transfer_at bssmap_type message_at breaks_off elements_of walk needed_value needed_octet rr_cause_in layer3_at cause_at assignment_request_at assignment_complete_at assignment_failure_at handover_performed_at reject_at complete_layer3_at
+cipher_mode_command = refl
+
+complete_layer3 : bssap_reading (0x00 ∷ 0x10 ∷ 0x57 ∷ 0x05 ∷ 0x08 ∷ 0x00 ∷ 0x00 ∷ 0xf1 ∷ 0x10 ∷ 0x00 ∷ 0x01 ∷ 0x00 ∷ 0x02 ∷ 0x17 ∷ 0x03 ∷ 0x05 ∷ 0x24 ∷ 0x71 ∷ []) ≡ Ok (Management (CompleteLayer3Information (cell_of (0x00 ∷ 0x00 ∷ 0xf1 ∷ 0x10 ∷ 0x00 ∷ 0x01 ∷ 0x00 ∷ 0x02 ∷ [])) (0x05 ∷ 0x24 ∷ 0x71 ∷ [])))
+unfolding bssap_reading octet_at management_at transfer_at bssmap_type message_at breaks_off elements_of walk needed_value needed_octet rr_cause_in layer3_at cause_at assignment_request_at assignment_complete_at assignment_failure_at handover_performed_at reject_at complete_layer3_at
+complete_layer3 = refl
+
+cipher_mode_reject : bssap_reading (0x00 ∷ 0x04 ∷ 0x59 ∷ 0x04 ∷ 0x01 ∷ 0x40 ∷ []) ≡ Ok (Management (CipherModeReject (cause_of (0x40 ∷ []))))
+unfolding bssap_reading octet_at management_at transfer_at bssmap_type message_at breaks_off elements_of walk needed_value needed_octet rr_cause_in layer3_at cause_at assignment_request_at assignment_complete_at assignment_failure_at handover_performed_at reject_at complete_layer3_at
+cipher_mode_reject = refl
+
+elements_in_another_order : bssap_reading (0x00 ∷ 0x06 ∷ 0x25 ∷ 0x04 ∷ 0x01 ∷ 0x25 ∷ 0x18 ∷ 0x82 ∷ []) ≡ Ok (Management (SapiNReject (rejected_of 0x82) (cause_of (0x25 ∷ []))))
+unfolding bssap_reading octet_at management_at transfer_at bssmap_type message_at breaks_off elements_of walk needed_value needed_octet rr_cause_in layer3_at cause_at assignment_request_at assignment_complete_at assignment_failure_at handover_performed_at reject_at complete_layer3_at
+elements_in_another_order = refl
+
+first_of_repeated_elements : bssap_reading (0x00 ∷ 0x08 ∷ 0x20 ∷ 0x04 ∷ 0x01 ∷ 0x09 ∷ 0x04 ∷ 0x02 ∷ 0x0a ∷ 0x0b ∷ []) ≡ Ok (Management (ClearCommand (cause_of (0x09 ∷ []))))
+unfolding bssap_reading octet_at management_at transfer_at bssmap_type message_at breaks_off elements_of walk needed_value needed_octet rr_cause_in layer3_at cause_at assignment_request_at assignment_complete_at assignment_failure_at handover_performed_at reject_at complete_layer3_at
+first_of_repeated_elements = refl
+
+-- each format of the table
+other_elements_are_passed_over : bssap_reading (0x00 ∷ 0x1d ∷ 0x20 ∷ 0x01 ∷ 0xaa ∷ 0xbb ∷ 0x06 ∷ 0x01 ∷ 0xcc ∷ 0x07 ∷ 0x02 ∷ 0xdd ∷ 0xee ∷ 0x0b ∷ 0x01 ∷ 0xa0 ∷ 0x05 ∷ 0x01 ∷ 0xa1 ∷ 0x17 ∷ 0x01 ∷ 0xa2 ∷ 0x18 ∷ 0xa3 ∷ 0x15 ∷ 0xa4 ∷ 0x21 ∷ 0xff ∷ 0x04 ∷ 0x01 ∷ 0x09 ∷ []) ≡ Ok (Management (ClearCommand (cause_of (0x09 ∷ []))))
+unfolding bssap_reading octet_at management_at transfer_at bssmap_type message_at breaks_off elements_of walk needed_value needed_octet rr_cause_in layer3_at cause_at assignment_request_at assignment_complete_at assignment_failure_at handover_performed_at reject_at complete_layer3_at
+other_elements_are_passed_over = refl
+
+nothing_is_looked_at_behind_unknown_element : bssap_reading (0x00 ∷ 0x06 ∷ 0x20 ∷ 0x04 ∷ 0x01 ∷ 0x09 ∷ 0x7f ∷ 0x04 ∷ []) ≡ Ok (Management (ClearCommand (cause_of (0x09 ∷ []))))
+unfolding bssap_reading octet_at management_at transfer_at bssmap_type message_at breaks_off elements_of walk needed_value needed_octet rr_cause_in layer3_at cause_at assignment_request_at assignment_complete_at assignment_failure_at handover_performed_at reject_at complete_layer3_at
+nothing_is_looked_at_behind_unknown_element = refl
+
+unknown_element_hides_what_follows : bssap_reading (0x00 ∷ 0x05 ∷ 0x20 ∷ 0x7f ∷ 0x04 ∷ 0x01 ∷ 0x09 ∷ []) ≡ Err (MissingElement 0x04)
+unfolding bssap_reading octet_at management_at transfer_at bssmap_type message_at breaks_off elements_of walk needed_value needed_octet rr_cause_in layer3_at cause_at assignment_request_at assignment_complete_at assignment_failure_at handover_performed_at reject_at complete_layer3_at
+unknown_element_hides_what_follows = refl
+
+element_of_length_0 : bssap_reading (0x00 ∷ 0x03 ∷ 0x20 ∷ 0x04 ∷ 0x00 ∷ []) ≡ Ok (Management (ClearCommand (cause_of [])))
+unfolding bssap_reading octet_at management_at transfer_at bssmap_type message_at breaks_off elements_of walk needed_value needed_octet rr_cause_in layer3_at cause_at assignment_request_at assignment_complete_at assignment_failure_at handover_performed_at reject_at complete_layer3_at
+element_of_length_0 = refl
+
+what_follows_the_length_is_no_element : bssap_reading (0x00 ∷ 0x01 ∷ 0x20 ∷ 0x04 ∷ 0x01 ∷ 0x09 ∷ []) ≡ Err (MissingElement 0x04)
+unfolding bssap_reading octet_at management_at transfer_at bssmap_type message_at breaks_off elements_of walk needed_value needed_octet rr_cause_in layer3_at cause_at assignment_request_at assignment_complete_at assignment_failure_at handover_performed_at reject_at complete_layer3_at
+what_follows_the_length_is_no_element = refl
+
+no_first_octet : bssap_reading [] ≡ Err Short
+unfolding bssap_reading octet_at management_at transfer_at bssmap_type message_at breaks_off elements_of walk needed_value needed_octet rr_cause_in layer3_at cause_at assignment_request_at assignment_complete_at assignment_failure_at handover_performed_at reject_at complete_layer3_at
+no_first_octet = refl
+
+first_octet_02 : bssap_reading (0x02 ∷ []) ≡ Err UnknownType
+unfolding bssap_reading octet_at management_at transfer_at bssmap_type message_at breaks_off elements_of walk needed_value needed_octet rr_cause_in layer3_at cause_at assignment_request_at assignment_complete_at assignment_failure_at handover_performed_at reject_at complete_layer3_at
+first_octet_02 = refl
+
+management_alone : bssap_reading (0x00 ∷ []) ≡ Err Short
+unfolding bssap_reading octet_at management_at transfer_at bssmap_type message_at breaks_off elements_of walk needed_value needed_octet rr_cause_in layer3_at cause_at assignment_request_at assignment_complete_at assignment_failure_at handover_performed_at reject_at complete_layer3_at
+management_alone = refl
+
+management_without_type : bssap_reading (0x00 ∷ 0x01 ∷ []) ≡ Err Short
+unfolding bssap_reading octet_at management_at transfer_at bssmap_type message_at breaks_off elements_of walk needed_value needed_octet rr_cause_in layer3_at cause_at assignment_request_at assignment_complete_at assignment_failure_at handover_performed_at reject_at complete_layer3_at
+management_without_type = refl
+
+management_of_length_0 : bssap_reading (0x00 ∷ 0x00 ∷ 0x20 ∷ []) ≡ Err Short
+unfolding bssap_reading octet_at management_at transfer_at bssmap_type message_at breaks_off elements_of walk needed_value needed_octet rr_cause_in layer3_at cause_at assignment_request_at assignment_complete_at assignment_failure_at handover_performed_at reject_at complete_layer3_at
+management_of_length_0 = refl
+
+unknown_type_with_too_few_octets : bssap_reading (0x00 ∷ 0x02 ∷ 0x77 ∷ []) ≡ Err UnknownType
+unfolding bssap_reading octet_at management_at transfer_at bssmap_type message_at breaks_off elements_of walk needed_value needed_octet rr_cause_in layer3_at cause_at assignment_request_at assignment_complete_at assignment_failure_at handover_performed_at reject_at complete_layer3_at
+unknown_type_with_too_few_octets = refl
+
+known_type_with_too_few_octets : bssap_reading (0x00 ∷ 0x02 ∷ 0x20 ∷ []) ≡ Err Short
+unfolding bssap_reading octet_at management_at transfer_at bssmap_type message_at breaks_off elements_of walk needed_value needed_octet rr_cause_in layer3_at cause_at assignment_request_at assignment_complete_at assignment_failure_at handover_performed_at reject_at complete_layer3_at
+known_type_with_too_few_octets = refl
+
+element_cut : bssap_reading (0x00 ∷ 0x03 ∷ 0x20 ∷ 0x04 ∷ 0x01 ∷ []) ≡ Err Short
+unfolding bssap_reading octet_at management_at transfer_at bssmap_type message_at breaks_off elements_of walk needed_value needed_octet rr_cause_in layer3_at cause_at assignment_request_at assignment_complete_at assignment_failure_at handover_performed_at reject_at complete_layer3_at
+element_cut = refl
+
+element_cut_behind_the_needed : bssap_reading (0x00 ∷ 0x07 ∷ 0x20 ∷ 0x04 ∷ 0x01 ∷ 0x09 ∷ 0x05 ∷ 0x02 ∷ 0x00 ∷ []) ≡ Err Short
+unfolding bssap_reading octet_at management_at transfer_at bssmap_type message_at breaks_off elements_of walk needed_value needed_octet rr_cause_in layer3_at cause_at assignment_request_at assignment_complete_at assignment_failure_at handover_performed_at reject_at complete_layer3_at
+element_cut_behind_the_needed = refl
+
+element_cut_before_missing : bssap_reading (0x00 ∷ 0x04 ∷ 0x57 ∷ 0x17 ∷ 0x02 ∷ 0x05 ∷ []) ≡ Err Short
+unfolding bssap_reading octet_at management_at transfer_at bssmap_type message_at breaks_off elements_of walk needed_value needed_octet rr_cause_in layer3_at cause_at assignment_request_at assignment_complete_at assignment_failure_at handover_performed_at reject_at complete_layer3_at
+element_cut_before_missing = refl
+
+assignment_request_missing : bssap_reading (0x00 ∷ 0x01 ∷ 0x01 ∷ []) ≡ Err (MissingElement 0x0b)
+unfolding bssap_reading octet_at management_at transfer_at bssmap_type message_at breaks_off elements_of walk needed_value needed_octet rr_cause_in layer3_at cause_at assignment_request_at assignment_complete_at assignment_failure_at handover_performed_at reject_at complete_layer3_at
+assignment_request_missing = refl
+
+assignment_failure_missing : bssap_reading (0x00 ∷ 0x01 ∷ 0x03 ∷ []) ≡ Err (MissingElement 0x04)
+unfolding bssap_reading octet_at management_at transfer_at bssmap_type message_at breaks_off elements_of walk needed_value needed_octet rr_cause_in layer3_at cause_at assignment_request_at assignment_complete_at assignment_failure_at handover_performed_at reject_at complete_layer3_at
+assignment_failure_missing = refl
+
+handover_performed_missing : bssap_reading (0x00 ∷ 0x01 ∷ 0x17 ∷ []) ≡ Err (MissingElement 0x04)
+unfolding bssap_reading octet_at management_at transfer_at bssmap_type message_at breaks_off elements_of walk needed_value needed_octet rr_cause_in layer3_at cause_at assignment_request_at assignment_complete_at assignment_failure_at handover_performed_at reject_at complete_layer3_at
+handover_performed_missing = refl
+
+handover_performed_cell_missing : bssap_reading (0x00 ∷ 0x03 ∷ 0x17 ∷ 0x04 ∷ 0x00 ∷ []) ≡ Err (MissingElement 0x05)
+unfolding bssap_reading octet_at management_at transfer_at bssmap_type message_at breaks_off elements_of walk needed_value needed_octet rr_cause_in layer3_at cause_at assignment_request_at assignment_complete_at assignment_failure_at handover_performed_at reject_at complete_layer3_at
+handover_performed_cell_missing = refl
+
+clear_command_missing : bssap_reading (0x00 ∷ 0x01 ∷ 0x20 ∷ []) ≡ Err (MissingElement 0x04)
+unfolding bssap_reading octet_at management_at transfer_at bssmap_type message_at breaks_off elements_of walk needed_value needed_octet rr_cause_in layer3_at cause_at assignment_request_at assignment_complete_at assignment_failure_at handover_performed_at reject_at complete_layer3_at
+clear_command_missing = refl
+
+clear_request_missing : bssap_reading (0x00 ∷ 0x01 ∷ 0x22 ∷ []) ≡ Err (MissingElement 0x04)
+unfolding bssap_reading octet_at management_at transfer_at bssmap_type message_at breaks_off elements_of walk needed_value needed_octet rr_cause_in layer3_at cause_at assignment_request_at assignment_complete_at assignment_failure_at handover_performed_at reject_at complete_layer3_at
+clear_request_missing = refl
+
+reject_missing : bssap_reading (0x00 ∷ 0x01 ∷ 0x25 ∷ []) ≡ Err (MissingElement 0x18)
+unfolding bssap_reading octet_at management_at transfer_at bssmap_type message_at breaks_off elements_of walk needed_value needed_octet rr_cause_in layer3_at cause_at assignment_request_at assignment_complete_at assignment_failure_at handover_performed_at reject_at complete_layer3_at
+reject_missing = refl
+
+reject_cause_missing : bssap_reading (0x00 ∷ 0x03 ∷ 0x25 ∷ 0x18 ∷ 0x83 ∷ []) ≡ Err (MissingElement 0x04)
+unfolding bssap_reading octet_at management_at transfer_at bssmap_type message_at breaks_off elements_of walk needed_value needed_octet rr_cause_in layer3_at cause_at assignment_request_at assignment_complete_at assignment_failure_at handover_performed_at reject_at complete_layer3_at
+reject_cause_missing = refl
+
+complete_layer3_missing : bssap_reading (0x00 ∷ 0x03 ∷ 0x57 ∷ 0x17 ∷ 0x00 ∷ []) ≡ Err (MissingElement 0x05)
+unfolding bssap_reading octet_at management_at transfer_at bssmap_type message_at breaks_off elements_of walk needed_value needed_octet rr_cause_in layer3_at cause_at assignment_request_at assignment_complete_at assignment_failure_at handover_performed_at reject_at complete_layer3_at
+complete_layer3_missing = refl
+
+complete_layer3_information_missing : bssap_reading (0x00 ∷ 0x03 ∷ 0x57 ∷ 0x05 ∷ 0x00 ∷ []) ≡ Err (MissingElement 0x17)
+unfolding bssap_reading octet_at management_at transfer_at bssmap_type message_at breaks_off elements_of walk needed_value needed_octet rr_cause_in layer3_at cause_at assignment_request_at assignment_complete_at assignment_failure_at handover_performed_at reject_at complete_layer3_at
+complete_layer3_information_missing = refl
+
+cipher_mode_reject_missing : bssap_reading (0x00 ∷ 0x01 ∷ 0x59 ∷ []) ≡ Err (MissingElement 0x04)
+unfolding bssap_reading octet_at management_at transfer_at bssmap_type message_at breaks_off elements_of walk needed_value needed_octet rr_cause_in layer3_at cause_at assignment_request_at assignment_complete_at assignment_failure_at handover_performed_at reject_at complete_layer3_at
+cipher_mode_reject_missing = refl
+
+empty_layer3_information : bssap_reading (0x00 ∷ 0x05 ∷ 0x57 ∷ 0x05 ∷ 0x00 ∷ 0x17 ∷ 0x00 ∷ []) ≡ Err Short
+unfolding bssap_reading octet_at management_at transfer_at bssmap_type message_at breaks_off elements_of walk needed_value needed_octet rr_cause_in layer3_at cause_at assignment_request_at assignment_complete_at assignment_failure_at handover_performed_at reject_at complete_layer3_at
+empty_layer3_information = refl
+
+layer3_information_of_251_octets : content_at kinds.CompleteLayer3Information (element 0x05 [] ∷ element 0x17 (replicate 251 7) ∷ []) ≡ Ok (CompleteLayer3Information (cell_of []) (replicate 251 7))
+unfolding bssap_reading octet_at management_at transfer_at bssmap_type message_at breaks_off elements_of walk needed_value needed_octet rr_cause_in layer3_at cause_at assignment_request_at assignment_complete_at assignment_failure_at handover_performed_at reject_at complete_layer3_at
+layer3_information_of_251_octets = refl
+
+layer3_information_of_252_octets : content_at kinds.CompleteLayer3Information (element 0x05 [] ∷ element 0x17 (replicate 252 7) ∷ []) ≡ Err TooLong
+unfolding bssap_reading octet_at management_at transfer_at bssmap_type message_at breaks_off elements_of walk needed_value needed_octet rr_cause_in layer3_at cause_at assignment_request_at assignment_complete_at assignment_failure_at handover_performed_at reject_at complete_layer3_at
+layer3_information_of_252_octets = refl
+
+layer3_information_of_252_octets_without_cell : content_at kinds.CompleteLayer3Information (element 0x17 (replicate 252 7) ∷ []) ≡ Err (MissingElement 0x05)
+unfolding bssap_reading octet_at management_at transfer_at bssmap_type message_at breaks_off elements_of walk needed_value needed_octet rr_cause_in layer3_at cause_at assignment_request_at assignment_complete_at assignment_failure_at handover_performed_at reject_at complete_layer3_at
+layer3_information_of_252_octets_without_cell = refl
+
+transfer : bssap_reading (0x01 ∷ 0xc3 ∷ 0x02 ∷ 0x09 ∷ 0x01 ∷ 0x99 ∷ []) ≡ Ok (Transfer 0xc3 (0x09 ∷ 0x01 ∷ []))
+unfolding bssap_reading octet_at management_at transfer_at bssmap_type message_at breaks_off elements_of walk needed_value needed_octet rr_cause_in layer3_at cause_at assignment_request_at assignment_complete_at assignment_failure_at handover_performed_at reject_at complete_layer3_at
+transfer = refl
+
+transfer_on_sapi_0 : bssap_reading (0x01 ∷ 0x80 ∷ 0x01 ∷ 0x05 ∷ []) ≡ Ok (Transfer 0x80 (0x05 ∷ []))
+unfolding bssap_reading octet_at management_at transfer_at bssmap_type message_at breaks_off elements_of walk needed_value needed_octet rr_cause_in layer3_at cause_at assignment_request_at assignment_complete_at assignment_failure_at handover_performed_at reject_at complete_layer3_at
+transfer_on_sapi_0 = refl
+
+transfer_of_251_octets : bssap_reading (0x01 ∷ 0x00 ∷ 0xfb ∷ replicate 251 7) ≡ Ok (Transfer 0x00 (replicate 251 7))
+unfolding bssap_reading octet_at management_at transfer_at bssmap_type message_at breaks_off elements_of walk needed_value needed_octet rr_cause_in layer3_at cause_at assignment_request_at assignment_complete_at assignment_failure_at handover_performed_at reject_at complete_layer3_at
+transfer_of_251_octets = refl
+
+transfer_of_252_octets : bssap_reading (0x01 ∷ 0x00 ∷ 0xfc ∷ replicate 252 7) ≡ Err TooLong
+unfolding bssap_reading octet_at management_at transfer_at bssmap_type message_at breaks_off elements_of walk needed_value needed_octet rr_cause_in layer3_at cause_at assignment_request_at assignment_complete_at assignment_failure_at handover_performed_at reject_at complete_layer3_at
+transfer_of_252_octets = refl
+
+transfer_of_252_octets_cut : bssap_reading (0x01 ∷ 0x00 ∷ 0xfc ∷ replicate 251 7) ≡ Err Short
+unfolding bssap_reading octet_at management_at transfer_at bssmap_type message_at breaks_off elements_of walk needed_value needed_octet rr_cause_in layer3_at cause_at assignment_request_at assignment_complete_at assignment_failure_at handover_performed_at reject_at complete_layer3_at
+transfer_of_252_octets_cut = refl
+
+transfer_of_no_octets : bssap_reading (0x01 ∷ 0x00 ∷ 0x00 ∷ []) ≡ Err Short
+unfolding bssap_reading octet_at management_at transfer_at bssmap_type message_at breaks_off elements_of walk needed_value needed_octet rr_cause_in layer3_at cause_at assignment_request_at assignment_complete_at assignment_failure_at handover_performed_at reject_at complete_layer3_at
+transfer_of_no_octets = refl
+
+transfer_cut : bssap_reading (0x01 ∷ 0x00 ∷ 0x02 ∷ 0x05 ∷ []) ≡ Err Short
+unfolding bssap_reading octet_at management_at transfer_at bssmap_type message_at breaks_off elements_of walk needed_value needed_octet rr_cause_in layer3_at cause_at assignment_request_at assignment_complete_at assignment_failure_at handover_performed_at reject_at complete_layer3_at
+transfer_cut = refl
+
+transfer_alone : bssap_reading (0x01 ∷ []) ≡ Err Short
+unfolding bssap_reading octet_at management_at transfer_at bssmap_type message_at breaks_off elements_of walk needed_value needed_octet rr_cause_in layer3_at cause_at assignment_request_at assignment_complete_at assignment_failure_at handover_performed_at reject_at complete_layer3_at
+transfer_alone = refl
+
+sapi_2 : bssap_reading (0x01 ∷ 0x02 ∷ 0x01 ∷ 0x05 ∷ []) ≡ Err UnknownType
+unfolding bssap_reading octet_at management_at transfer_at bssmap_type message_at breaks_off elements_of walk needed_value needed_octet rr_cause_in layer3_at cause_at assignment_request_at assignment_complete_at assignment_failure_at handover_performed_at reject_at complete_layer3_at
+sapi_2 = refl
+
+sapi_2_with_too_few_octets : bssap_reading (0x01 ∷ 0x02 ∷ 0x01 ∷ []) ≡ Err UnknownType
+unfolding bssap_reading octet_at management_at transfer_at bssmap_type message_at breaks_off elements_of walk needed_value needed_octet rr_cause_in layer3_at cause_at assignment_request_at assignment_complete_at assignment_failure_at handover_performed_at reject_at complete_layer3_at
+sapi_2_with_too_few_octets = refl
+
+sapi_2_without_length : bssap_reading (0x01 ∷ 0x02 ∷ []) ≡ Err Short
+unfolding bssap_reading octet_at management_at transfer_at bssmap_type message_at breaks_off elements_of walk needed_value needed_octet rr_cause_in layer3_at cause_at assignment_request_at assignment_complete_at assignment_failure_at handover_performed_at reject_at complete_layer3_at
+sapi_2_without_length = refl
+
+-- ---- BSSAP, written
+
+assignment_request_written : bssap_text (Management (AssignmentRequest (channel_of (0x01 ∷ 0x08 ∷ 0x02 ∷ [])))) ≡ 0x00 ∷ 0x06 ∷ 0x01 ∷ 0x0b ∷ 0x03 ∷ 0x01 ∷ 0x08 ∷ 0x02 ∷ []
+assignment_request_written = refl
+
+assignment_complete_written : bssap_text (Management (AssignmentComplete (Some (rr_cause_of 0x07)))) ≡ 0x00 ∷ 0x03 ∷ 0x02 ∷ 0x15 ∷ 0x07 ∷ []
+assignment_complete_written = refl
+
+assignment_complete_without_cause_written : bssap_text (Management (AssignmentComplete None)) ≡ 0x00 ∷ 0x01 ∷ 0x02 ∷ []
+assignment_complete_without_cause_written = refl
+
+assignment_failure_written : bssap_text (Management (AssignmentFailure (cause_of (0x0a ∷ [])) (Some (rr_cause_of 0x03)))) ≡ 0x00 ∷ 0x06 ∷ 0x03 ∷ 0x04 ∷ 0x01 ∷ 0x0a ∷ 0x15 ∷ 0x03 ∷ []
+assignment_failure_written = refl
+
+assignment_failure_without_rr_cause_written : bssap_text (Management (AssignmentFailure (cause_of (0x0a ∷ 0x0b ∷ [])) None)) ≡ 0x00 ∷ 0x05 ∷ 0x03 ∷ 0x04 ∷ 0x02 ∷ 0x0a ∷ 0x0b ∷ []
+assignment_failure_without_rr_cause_written = refl
+
+handover_performed_written : bssap_text (Management (HandoverPerformed (cause_of (0x0c ∷ [])) (cell_of (0x00 ∷ 0x00 ∷ 0xf1 ∷ 0x10 ∷ 0x00 ∷ 0x01 ∷ 0x00 ∷ 0x02 ∷ [])))) ≡ 0x00 ∷ 0x0e ∷ 0x17 ∷ 0x04 ∷ 0x01 ∷ 0x0c ∷ 0x05 ∷ 0x08 ∷ 0x00 ∷ 0x00 ∷ 0xf1 ∷ 0x10 ∷ 0x00 ∷ 0x01 ∷ 0x00 ∷ 0x02 ∷ []
+handover_performed_written = refl
+
+clear_command_written : bssap_text (Management (ClearCommand (cause_of (0x09 ∷ [])))) ≡ 0x00 ∷ 0x04 ∷ 0x20 ∷ 0x04 ∷ 0x01 ∷ 0x09 ∷ []
+clear_command_written = refl
+
+clear_complete_written : bssap_text (Management ClearComplete) ≡ 0x00 ∷ 0x01 ∷ 0x21 ∷ []
+clear_complete_written = refl
+
+clear_request_written : bssap_text (Management (ClearRequest (cause_of (0x20 ∷ [])))) ≡ 0x00 ∷ 0x04 ∷ 0x22 ∷ 0x04 ∷ 0x01 ∷ 0x20 ∷ []
+clear_request_written = refl
+
+reject_written : bssap_text (Management (SapiNReject (rejected_of 0x83) (cause_of (0x25 ∷ [])))) ≡ 0x00 ∷ 0x06 ∷ 0x25 ∷ 0x18 ∷ 0x83 ∷ 0x04 ∷ 0x01 ∷ 0x25 ∷ []
+reject_written = refl
+
+cipher_mode_command_written : bssap_text (Management CipherModeCommand) ≡ 0x00 ∷ 0x01 ∷ 0x53 ∷ []
+cipher_mode_command_written = refl
+
+complete_layer3_written : bssap_text (Management (CompleteLayer3Information (cell_of (0x00 ∷ 0x00 ∷ 0xf1 ∷ 0x10 ∷ 0x00 ∷ 0x01 ∷ 0x00 ∷ 0x02 ∷ [])) (0x05 ∷ 0x24 ∷ 0x71 ∷ []))) ≡ 0x00 ∷ 0x10 ∷ 0x57 ∷ 0x05 ∷ 0x08 ∷ 0x00 ∷ 0x00 ∷ 0xf1 ∷ 0x10 ∷ 0x00 ∷ 0x01 ∷ 0x00 ∷ 0x02 ∷ 0x17 ∷ 0x03 ∷ 0x05 ∷ 0x24 ∷ 0x71 ∷ []
+complete_layer3_written = refl
+
+cipher_mode_reject_written : bssap_text (Management (CipherModeReject (cause_of (0x40 ∷ [])))) ≡ 0x00 ∷ 0x04 ∷ 0x59 ∷ 0x04 ∷ 0x01 ∷ 0x40 ∷ []
+cipher_mode_reject_written = refl
+
+transfer_written : bssap_text (Transfer 0xc3 (0x09 ∷ 0x01 ∷ [])) ≡ 0x01 ∷ 0xc3 ∷ 0x02 ∷ 0x09 ∷ 0x01 ∷ []
+transfer_written = refl
+
+no_layer3_message : bssap_write_fault (Transfer 0x00 []) ≡ Some Short
+no_layer3_message = refl
+
+layer3_message_of_251 : bssap_write_fault (Transfer 0x00 (replicate 251 7)) ≡ None
+layer3_message_of_251 = refl
+
+layer3_message_of_252 : bssap_write_fault (Transfer 0x00 (replicate 252 7)) ≡ Some TooLong
+layer3_message_of_252 = refl
+
+cause_of_252 : bssap_write_fault (Management (ClearCommand (cause_of (replicate 252 7)))) ≡ None
+cause_of_252 = refl
+
+cause_of_253 : bssap_write_fault (Management (ClearCommand (cause_of (replicate 253 7)))) ≡ Some TooLong
+cause_of_253 = refl
+
+layer3_information_of_none_in_long_message : bssap_write_fault (Management (CompleteLayer3Information (cell_of (replicate 255 7)) [])) ≡ Some Short
+layer3_information_of_none_in_long_message = refl
+
+layer3_information_of_240 : bssap_write_fault (Management (CompleteLayer3Information (cell_of (replicate 10 7)) (replicate 240 7))) ≡ None
+layer3_information_of_240 = refl
+
+layer3_information_of_241 : bssap_write_fault (Management (CompleteLayer3Information (cell_of (replicate 10 7)) (replicate 241 7))) ≡ Some TooLong
+layer3_information_of_241 = refl
+
+-- ---- values
+
+dlci_sapi_0 : dlci_of 0x00 ≡ Some 0x00
+dlci_sapi_0 = refl
+
+dlci_sapi_3 : dlci_of 0x03 ≡ Some 0x03
+dlci_sapi_3 = refl
+
+dlci_sapi_3_keeps_the_channel : dlci_of 0xc3 ≡ Some 0xc3
+dlci_sapi_3_keeps_the_channel = refl
+
+dlci_sapi_1 : dlci_of 0x01 ≡ None
+dlci_sapi_1 = refl
+
+dlci_sapi_4 : dlci_of 0x04 ≡ None
+dlci_sapi_4 = refl
+
+dlci_sapi_7 : dlci_of 0x87 ≡ None
+dlci_sapi_7 = refl
+
+asks_for_speech : is_speech_type (0x01 ∷ 0x08 ∷ 0x01 ∷ []) ≡ true
+asks_for_speech = refl
+
+asks_for_speech_with_high_bits : is_speech_type (0xf1 ∷ []) ≡ true
+asks_for_speech_with_high_bits = refl
+
+asks_for_data : is_speech_type (0x02 ∷ 0x08 ∷ 0x01 ∷ []) ≡ false
+asks_for_data = refl
+
+asks_for_nine : is_speech_type (0x09 ∷ []) ≡ false
+asks_for_nine = refl
+
+asks_for_nothing : is_speech_type [] ≡ false
+asks_for_nothing = refl

@@ -1,0 +1,47 @@
+-- The text in which a message of SCCP is written, and why it may not be.
+use Rattle.std.specs.Prelude.{ℕ, nat_lt, if◌then◌else◌, List, [], ◌∷◌, ◌++◌, length, Option, Some, None}
+use Rattle.octets.specs.Front.{counted_text}
+use Rattle.bssmap_codec.specs.declared.fault.InterfaceFault.{InterfaceFault}
+use Rattle.bssmap_codec.specs.declared.fault.InterfaceFault.TheVariants.{TooLong}
+use Rattle.bssmap_codec.specs.declared.identifiers.TheConstants.{END_OF_OPTIONS, USER_DATA}
+use Rattle.bssmap_codec.specs.declared.limits.TheConstants.{LENGTH_LIMIT}
+use Rattle.bssmap_codec.specs.declared.sccp.Sccp.{Sccp}
+use Rattle.bssmap_codec.specs.declared.sccp.Sccp.TheVariants.{ConnectionRequest, ConnectionConfirm, ConnectionRefused, Released, ReleaseComplete, DataForm1}
+use Rattle.bssmap_codec.specs.declared.sccp_parameters.TheConstants.{ADDRESS_POINTER, CALLED_ADDRESS, DATA_POINTER, END_USER_ORIGINATED, NO_PART, OPTIONS_POINTER, PROTOCOL_CLASS, UNSEGMENTED}
+use Rattle.bssmap_codec.specs.Reference.{IsReference, reference_text, references_text}
+use Rattle.bssmap_codec.specs.SccpType.{sccp_octet, type_of}
+
+-- the pointer to the options, the called address, and the options
+abbrev pub options_text : Option (List ℕ) → List ℕ
+options_text None = NO_PART ∷ CALLED_ADDRESS
+options_text (Some user) = OPTIONS_POINTER ∷ (CALLED_ADDRESS ++ USER_DATA ∷ (counted_text user ++ END_OF_OPTIONS ∷ []))
+
+-- what stands behind the type
+abbrev pub content_text : Sccp → List ℕ
+content_text (ConnectionRequest source user) = reference_text source ++ PROTOCOL_CLASS ∷ ADDRESS_POINTER ∷ options_text user
+content_text (ConnectionConfirm destination source) = references_text destination source ++ PROTOCOL_CLASS ∷ NO_PART ∷ []
+content_text (ConnectionRefused destination) = reference_text destination ++ END_USER_ORIGINATED ∷ NO_PART ∷ []
+content_text (Released destination source) = references_text destination source ++ END_USER_ORIGINATED ∷ NO_PART ∷ []
+content_text (ReleaseComplete destination source) = references_text destination source
+content_text (DataForm1 destination user) = reference_text destination ++ UNSEGMENTED ∷ DATA_POINTER ∷ counted_text user
+
+abbrev pub sccp_text : Sccp → List ℕ
+sccp_text message = sccp_octet (type_of message) ∷ content_text message
+
+-- what a length octet can't count
+abbrev pub size_fault : ℕ → Option InterfaceFault
+size_fault size = if nat_lt LENGTH_LIMIT size then Some TooLong else None
+
+abbrev pub sccp_write_fault : Sccp → Option InterfaceFault
+sccp_write_fault (ConnectionRequest source (Some user)) = size_fault (length user)
+sccp_write_fault (DataForm1 destination user) = size_fault (length user)
+sccp_write_fault _ = None
+
+-- the references have three octets
+abbrev pub HasReferences : Sccp → Type 0
+HasReferences (ConnectionRequest source user) = IsReference source
+HasReferences (ConnectionConfirm destination source) = IsReference destination × IsReference source
+HasReferences (ConnectionRefused destination) = IsReference destination
+HasReferences (Released destination source) = IsReference destination × IsReference source
+HasReferences (ReleaseComplete destination source) = IsReference destination × IsReference source
+HasReferences (DataForm1 destination user) = IsReference destination
