@@ -5,7 +5,7 @@ use Rattle.dtap_codec.specs.declared.report.Report.{Report}
 use Rattle.ho_decision.specs.declared.decision.Decision.{Decision}
 use Rattle.ho_decision.specs.declared.decision.Decision.TheVariants.{Stay, Move}
 use Rattle.ho_decision.specs.declared.decision.Choice.{Choice}
-use Rattle.ho_decision.specs.Choice.{offered}
+use Rattle.ho_decision.specs.Choice.{after_offer}
 use Rattle.ho_decision.specs.Settings.{Settings}
 use Rattle.ho_decision.specs.Decision.{IsOther, IsChosen, NoneReaches, Chooses, average_at, bound}
 
@@ -106,6 +106,6 @@ offered_by s reports many number level choice false other is level_is h e =
     Wants-keeps s reports many choice.decision choice.wanted (λ _. omega (arith, leb-false choice.wanted level e, level_is)) h
 
 -- a further cell, offered to the choice
-pub Wants-offered : (s : Settings) (reports : List Report) (many number level : ℕ) (choice : Choice) → many + 1 ≢ s.serving → number ≡ many + 1 → level ≡ average_at s reports many → Wants s reports many choice.decision choice.wanted → Wants s reports (many + 1) (offered choice number level).decision (offered choice number level).wanted
+pub Wants-offered : (s : Settings) (reports : List Report) (many number level : ℕ) (choice : Choice) → many + 1 ≢ s.serving → number ≡ many + 1 → level ≡ average_at s reports many → Wants s reports many choice.decision choice.wanted → Wants s reports (many + 1) (after_offer choice number level).decision (after_offer choice number level).wanted
 Wants-offered s reports many number level choice other is level_is h =
     offered_by s reports many number level choice (nat_le choice.wanted level) other is level_is h refl

@@ -1,5 +1,6 @@
 pub mod Arfcns
 pub mod Choice
+mod Rows
 pub mod Sums
 pub mod Ten
 pub mod Unique

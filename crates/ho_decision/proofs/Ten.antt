@@ -5,6 +5,8 @@ use Rattle.dtap_codec.specs.declared.report.Report.{Report}
 use Rattle.ho_decision.specs.declared.settings.Cell.{Cell}
 use Rattle.ho_decision.specs.declared.decision.Decision.{Decision}
 use Rattle.ho_decision.specs.declared.decision.Decision.TheVariants.{Stay, Move}
+use Rattle.ho_decision.specs.declared.decision.TheConstants.{BAD_REPORTS, QUALITY_WINDOW}
+use Rattle.ho_decision.specs.declared.settings.TheConstants.{MAX_WINDOW}
 use Rattle.ho_decision.specs.Settings.{Settings, IsAllowed}
 use Rattle.ho_decision.specs.Average.{last, average, quality, serving_average, neighbour_average}
 use Rattle.ho_decision.specs.Decision.{is_bad, is_due, average_at, Chooses, Decides}
@@ -25,14 +27,14 @@ last-push n xs x =
     ∙ drop-drop (length (drop k all) - n) k all
     ∙ ap (λ j. drop j all) (omega (arith, length-drop k all, length-append xs (x ∷ [])))
 
-average-last : (value : Report → ℕ) (w : ℕ) (reports : List Report) → w ≤ 10 → average value w reports ≡ average value w (last 10 reports)
+average-last : (value : Report → ℕ) (w : ℕ) (reports : List Report) → w ≤ MAX_WINDOW → average value w reports ≡ average value w (last MAX_WINDOW reports)
 average-last value w reports within =
-    sym (ap (λ ys. sum_by value ys / length ys) (last-last w 10 reports within))
+    sym (ap (λ ys. sum_by value ys / length ys) (last-last w MAX_WINDOW reports within))
 
-pub serving_average-last : (s : Settings) (reports : List Report) → IsAllowed s → serving_average s reports ≡ serving_average s (last 10 reports)
+pub serving_average-last : (s : Settings) (reports : List Report) → IsAllowed s → serving_average s reports ≡ serving_average s (last MAX_WINDOW reports)
 serving_average-last s reports allowed = average-last (λ r. r.rxlev_full) s.parameters.rxlev_window reports allowed.rxlev_window.1
 
-pub neighbour_average-last : (s : Settings) (reports : List Report) (cell : Cell) → IsAllowed s → neighbour_average s reports cell ≡ neighbour_average s (last 10 reports) cell
+pub neighbour_average-last : (s : Settings) (reports : List Report) (cell : Cell) → IsAllowed s → neighbour_average s reports cell ≡ neighbour_average s (last MAX_WINDOW reports) cell
 neighbour_average-last s reports cell allowed = average-last _ s.parameters.neighbour_window reports allowed.neighbour_window.1
 
 -- with a report there is an average quality
@@ -40,27 +42,27 @@ pub quality-some : (s : Settings) (reports : List Report) → 0 < length reports
 quality-some s [] h = absurd (omega arith)
 quality-some s (r ∷ rs) h = refl
 
-pub quality-last : (s : Settings) (reports : List Report) → IsAllowed s → quality s reports ≡ quality s (last 10 reports)
+pub quality-last : (s : Settings) (reports : List Report) → IsAllowed s → quality s reports ≡ quality s (last MAX_WINDOW reports)
 quality-last s [] allowed = refl
 quality-last s (r ∷ rs) allowed =
     let all : List Report = r ∷ rs in
-    let some : 0 < length (last 10 all) = omega (arith, length-drop (length all - 10) all) in
+    let some : 0 < length (last MAX_WINDOW all) = omega (arith, length-drop (length all - MAX_WINDOW) all) in
     ap Some (average-last (λ x. x.rxqual_full) s.parameters.rxqual_window all allowed.rxqual_window.1)
-    ∙ sym (quality-some s (last 10 all) some)
+    ∙ sym (quality-some s (last MAX_WINDOW all) some)
 
-is_due-last : (s : Settings) (reports : List Report) (number : ℕ) → IsAllowed s → is_due s reports number ≡ is_due s (last 10 reports) number
+is_due-last : (s : Settings) (reports : List Report) (number : ℕ) → IsAllowed s → is_due s reports number ≡ is_due s (last MAX_WINDOW reports) number
 is_due-last s reports number allowed =
     let at_end = number % s.parameters.interval == s.parameters.interval - 1 in
-    ap (λ ys. nat_le 3 (count_by is_bad ys) || (serving_average s reports == 0) || at_end) (sym (last-last 4 10 reports (omega arith)))
-    ∙ ap (λ v. nat_le 3 (count_by is_bad (last 4 (last 10 reports))) || (v == 0) || at_end) (serving_average-last s reports allowed)
+    ap (λ ys. nat_le BAD_REPORTS (count_by is_bad ys) || (serving_average s reports == 0) || at_end) (sym (last-last QUALITY_WINDOW MAX_WINDOW reports (omega arith)))
+    ∙ ap (λ v. nat_le BAD_REPORTS (count_by is_bad (last QUALITY_WINDOW (last MAX_WINDOW reports))) || (v == 0) || at_end) (serving_average-last s reports allowed)
 
-empty-last : (reports : List Report) → last 10 reports ≡ [] → reports ≡ []
+empty-last : (reports : List Report) → last MAX_WINDOW reports ≡ [] → reports ≡ []
 empty-last [] e = refl
 empty-last (r ∷ rs) e =
-    absurd (omega (arith, ap (λ (ys : List Report). length ys) e, length-drop (length (r ∷ rs) - 10) (r ∷ rs)))
+    absurd (omega (arith, ap (λ (ys : List Report). length ys) e, length-drop (length (r ∷ rs) - MAX_WINDOW) (r ∷ rs)))
 
-last-empty : (reports : List Report) → reports ≡ [] → last 10 reports ≡ []
-last-empty reports e = ap (λ ys. last 10 ys) e
+last-empty : (reports : List Report) → reports ≡ [] → last MAX_WINDOW reports ≡ []
+last-empty reports e = ap (λ ys. last MAX_WINDOW ys) e
 
 -- Two lists of reports decide alike.
 record Alike (s : Settings) (number : ℕ) (these those : List Report) : Type 0 where
@@ -93,9 +95,9 @@ Decides-alike s number these those d alike h = record {
       (h.due (λ e. some (alike.some e)) (alike.due ∙ due));
 }
 
-pub Decides-of_last : (s : Settings) (reports : List Report) (number : ℕ) (d : Decision) → IsAllowed s → Decides s (last 10 reports) number d → Decides s reports number d
+pub Decides-of_last : (s : Settings) (reports : List Report) (number : ℕ) (d : Decision) → IsAllowed s → Decides s (last MAX_WINDOW reports) number d → Decides s reports number d
 Decides-of_last s reports number d allowed =
-    Decides-alike s number (last 10 reports) reports d record {
+    Decides-alike s number (last MAX_WINDOW reports) reports d record {
       some = empty-last reports;
       none = last-empty reports;
       due = sym (is_due-last s reports number allowed);
@@ -103,9 +105,9 @@ Decides-of_last s reports number d allowed =
       level = λ place. sym (neighbour_average-last s reports _ allowed);
     }
 
-pub Decides-last : (s : Settings) (reports : List Report) (number : ℕ) (d : Decision) → IsAllowed s → Decides s reports number d → Decides s (last 10 reports) number d
+pub Decides-last : (s : Settings) (reports : List Report) (number : ℕ) (d : Decision) → IsAllowed s → Decides s reports number d → Decides s (last MAX_WINDOW reports) number d
 Decides-last s reports number d allowed =
-    Decides-alike s number reports (last 10 reports) d record {
+    Decides-alike s number reports (last MAX_WINDOW reports) d record {
       some = last-empty reports;
       none = empty-last reports;
       due = is_due-last s reports number allowed;

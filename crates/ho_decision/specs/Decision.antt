@@ -3,18 +3,20 @@ use Rattle.std.specs.Prelude.{◌≡◌, ◌≢◌, ℕ, ◌+◌, ◌-◌, ◌%�
 use Rattle.dtap_codec.specs.declared.report.Report.{Report}
 use Rattle.ho_decision.specs.declared.decision.Decision.{Decision}
 use Rattle.ho_decision.specs.declared.decision.Decision.TheVariants.{Stay, Move}
+use Rattle.ho_decision.specs.declared.decision.TheConstants.{BAD_REPORTS, QUALITY_WINDOW}
+use Rattle.ho_decision.specs.declared.measure.TheConstants.{BAD_QUALITY}
 use Rattle.ho_decision.specs.Settings.{Settings}
 use Rattle.ho_decision.specs.Average.{last, serving_average, neighbour_average}
 
--- the quality was bad, RXQUAL-FULL 5 or more
+-- the quality was bad
 abbrev pub is_bad : Report → Bool
-is_bad r = nat_le 5 r.rxqual_full
+is_bad r = nat_le BAD_QUALITY r.rxqual_full
 
 -- The levels are compared: the quality was bad in three of the last four reports, or nothing of the serving cell is
 -- received, or it is the last report of an interval.
 abbrev pub is_due : Settings → List Report → ℕ → Bool
 is_due s reports number =
-    nat_le 3 (count_by is_bad (last 4 reports)) || (serving_average s reports == 0) || (number % s.parameters.interval == s.parameters.interval - 1)
+    nat_le BAD_REPORTS (count_by is_bad (last QUALITY_WINDOW reports)) || (serving_average s reports == 0) || (number % s.parameters.interval == s.parameters.interval - 1)
 
 -- what a neighbour's average has to reach
 abbrev pub bound : Settings → List Report → ℕ

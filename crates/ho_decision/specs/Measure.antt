@@ -6,8 +6,9 @@ use Rattle.ho_decision.specs.declared.measure.Measure.TheVariants.{ServingLevel,
 use Rattle.ho_decision.specs.Average.{level_in}
 use Rattle.ho_decision.specs.Decision.{is_bad}
 
-abbrev pub measured : Measure → Report → ℕ
-measured ServingLevel r = r.rxlev_full
-measured ServingQuality r = r.rxqual_full
-measured BadQuality r = cond (is_bad r) 1 0
-measured (NeighbourLevel arfcns cell) r = level_in arfcns.now cell r
+-- the value of a measure in a report
+abbrev pub value_of : Measure → Report → ℕ
+value_of ServingLevel r = r.rxlev_full
+value_of ServingQuality r = r.rxqual_full
+value_of BadQuality r = cond (is_bad r) 1 0
+value_of (NeighbourLevel arfcns cell) r = level_in arfcns.now cell r

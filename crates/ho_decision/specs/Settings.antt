@@ -3,6 +3,7 @@ use Rattle.std.specs.Prelude.{ℕ, ◌-◌, ◌≤◌, ◌==◌, nat_lt, List, [
 use Rattle.std.specs.List.{list_any}
 use Rattle.ho_decision.specs.declared.settings.Cell.{Cell}
 use Rattle.ho_decision.specs.declared.settings.HoParameters.{HoParameters}
+use Rattle.ho_decision.specs.declared.settings.TheConstants.{MAX_CELLS, MAX_HYSTERESIS, MAX_INTERVAL, MAX_WINDOW}
 
 -- the numbers, the cells in their order, and the number of the serving one, from 1
 pub record Settings : Type 0 where
@@ -15,12 +16,12 @@ settings_of parameters cells serving = record { parameters = parameters; cells =
 
 -- what the settings' format allows, with the serving cell one of the cells
 pub record IsAllowed (s : Settings) : Type 0 where
-  pub rxlev_window : (1 ≤ s.parameters.rxlev_window) × (s.parameters.rxlev_window ≤ 10)
-  pub rxqual_window : (1 ≤ s.parameters.rxqual_window) × (s.parameters.rxqual_window ≤ 10)
-  pub neighbour_window : (1 ≤ s.parameters.neighbour_window) × (s.parameters.neighbour_window ≤ 10)
-  pub interval : (1 ≤ s.parameters.interval) × (s.parameters.interval ≤ 99)
-  pub hysteresis : s.parameters.hysteresis ≤ 63
-  pub cells : length s.cells ≤ 32
+  pub rxlev_window : (1 ≤ s.parameters.rxlev_window) × (s.parameters.rxlev_window ≤ MAX_WINDOW)
+  pub rxqual_window : (1 ≤ s.parameters.rxqual_window) × (s.parameters.rxqual_window ≤ MAX_WINDOW)
+  pub neighbour_window : (1 ≤ s.parameters.neighbour_window) × (s.parameters.neighbour_window ≤ MAX_WINDOW)
+  pub interval : (1 ≤ s.parameters.interval) × (s.parameters.interval ≤ MAX_INTERVAL)
+  pub hysteresis : s.parameters.hysteresis ≤ MAX_HYSTERESIS
+  pub cells : length s.cells ≤ MAX_CELLS
   pub serving : (1 ≤ s.serving) × (s.serving ≤ length s.cells)
 
 -- the cells but the serving one

@@ -1,10 +1,11 @@
 -- What averages keep.
 use Rattle.std.specs.Prelude.{ℕ, List, [], ◌∷◌, ◌++◌, if◌then◌else◌}
 use Rattle.dtap_codec.specs.declared.report.Report.{Report}
+use Rattle.ho_decision.specs.declared.settings.TheConstants.{MAX_WINDOW}
 use Rattle.ho_decision.specs.Settings.{Settings}
 use Rattle.ho_decision.specs.Average.{last}
 
--- the settings, the last ten valid reports, the oldest first, and the number of the last one, 0 before the first
+-- the settings, the last valid reports, as many as the widest window has, the oldest first, and the number of the last one, 0 before the first
 pub record State : Type 0 where
   pub settings : Settings
   pub reports : List Report
@@ -16,4 +17,4 @@ new_state settings = record { settings = settings; reports = []; number = 0 }
 -- a report more, with its number; an invalid one changes nothing
 abbrev pub after_report : State → Report → ℕ → State
 after_report state report number =
-    if report.valid then (record state { reports = last 10 (state.reports ++ report ∷ []); number = number }) else state
+    if report.valid then (record state { reports = last MAX_WINDOW (state.reports ++ report ∷ []); number = number }) else state

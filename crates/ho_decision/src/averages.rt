@@ -3,10 +3,11 @@ ghost use Rattle.dtap_codec.specs.declared.report.Report.{Report as ReportValue}
 ghost use Rattle.ho_decision.specs.Average.{quality, last};
 ghost use Rattle.ho_decision.specs.Decision.{Decides};
 ghost use Rattle.ho_decision.specs.Settings.{IsAllowed};
+ghost use Rattle.ho_decision.specs.declared.settings.TheConstants.{MAX_WINDOW};
 
 use crate::decision::decide;
 use crate::measure::{Measure, average};
-use crate::{Decision, HoSettings};
+use crate::{Decision, HoSettings, MAX_WINDOW};
 use circular_buffer::HeapCircularBuffer;
 use dtap_codec::Report;
 use octets::Memory;
@@ -14,10 +15,8 @@ use std::alloc::Global;
 use std::marker::Model;
 use std::snapshot::Snapshot;
 
-/// How many reports are kept: as many as the widest window has.
-const KEPT: usize = 10;
-
-/// The measurement reports of one connection on one channel, the last ten valid ones with the number of the last.
+/// The measurement reports of one connection on one channel: the last valid ones, as many as the widest window has, with
+/// the number of the last.
 #[derive(Drop)]
 pub struct Averages {
     settings: Snapshot<HoSettings>,
@@ -30,12 +29,13 @@ impl Model for Averages {
     ghost use Rattle.std.specs.Prelude.{◌≡◌};
     ghost use Rattle.ho_decision.specs.Settings.{IsAllowed};
     ghost use Rattle.ho_decision.specs.State.{State};
+    ghost use Rattle.ho_decision.specs.declared.settings.TheConstants.{MAX_WINDOW};
 
     ghost Value = { State };
 
     ghost view = { λ a. record { settings = a.settings.value; reports = a.reports.items; number = a.number } };
 
-    ghost invariant = { λ a. (a.reports.capacity ≡ 10) × (a.rxqual_window ≡ a.settings.value.parameters.rxqual_window) × IsAllowed a.settings.value };
+    ghost invariant = { λ a. (a.reports.capacity ≡ MAX_WINDOW) × (a.rxqual_window ≡ a.settings.value.parameters.rxqual_window) × IsAllowed a.settings.value };
 }
 
 impl Averages {
@@ -49,7 +49,7 @@ impl Averages {
         Ok(Averages {
             settings: Snapshot::of(settings),
             rxqual_window,
-            reports: HeapCircularBuffer::with_capacity(alloc, KEPT)?,
+            reports: HeapCircularBuffer::with_capacity(alloc, usize::from(MAX_WINDOW))?,
             number: 0,
         })
     }
@@ -83,8 +83,8 @@ impl Averages {
     pub fn decide(&self, settings: &HoSettings) -> Decision
         requires { settings.now ≡ self.now.settings }
         ensures kept { Decides self.now.settings self.now.reports self.now.number result }
-        // It is the decision over all reports of which these are the last ten.
-        ensures all { (all : List ReportValue) → last 10 all ≡ self.now.reports
+        // It is the decision over all reports of which these are the last.
+        ensures all { (all : List ReportValue) → last MAX_WINDOW all ≡ self.now.reports
             → Decides self.now.settings all self.now.number result }
     {
         self.decide_over_kept(settings)

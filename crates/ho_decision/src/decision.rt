@@ -7,8 +7,14 @@ use crate::{Cell, HoSettings};
 use circular_buffer::HeapCircularBuffer;
 use dtap_codec::Report;
 
+/// Over how many reports bad ones are counted.
+const QUALITY_WINDOW: usize = 4;
+
+/// How many bad reports among these have the levels compared.
+const BAD_REPORTS: u32 = 3;
+
 /// Whether a connection is handed over.
-#[derive(Clone, Copy, Debug, PartialEq, Eq)]
+#[derive(Clone, Copy, PartialEq, Eq)]
 pub enum Decision {
     /// It stays in its cell.
     Stay,
@@ -36,9 +42,9 @@ fn is_due(settings: &HoSettings, reports: &HeapCircularBuffer<Report>, number: u
     ensures { result ≡ is_due settings.now reports.now.items number }
 {
     let interval = settings.parameters.interval;
-    let bad = sum_of_last(reports, 4, Measure::BadQuality);
+    let bad = sum_of_last(reports, QUALITY_WINDOW, Measure::BadQuality);
     let level = serving_level(settings, reports);
-    bad >= 3 || level == 0 || number % interval == interval - 1
+    bad >= BAD_REPORTS || level == 0 || number % interval == interval - 1
 }
 
 // The best cell so far, and the level that a further one has to have.
@@ -49,11 +55,11 @@ struct Choice {
 }
 
 impl Choice {
-    ghost use Rattle.ho_decision.specs.Choice.{offered};
+    ghost use Rattle.ho_decision.specs.Choice.{after_offer};
 
     // Takes a further cell where its level is what is wanted.
     fn offer(&mut self, number: u8, level: u8)
-        ensures { self.new ≡ offered self.old number level }
+        ensures { self.new ≡ after_offer self.old number level }
     {
         let level = u16::from(level);
         if level >= self.wanted {

@@ -7,20 +7,21 @@ ghost use Rattle.ho_decision.specs.declared.decision.Decision.{Decision};
 ghost use Rattle.ho_decision.specs.Settings.{Settings, IsAllowed, others, other_arfcns};
 ghost use Rattle.ho_decision.specs.Average.{last, serving_average, neighbour_average, quality};
 ghost use Rattle.ho_decision.specs.Decision.{Decides};
+ghost use Rattle.ho_decision.specs.declared.settings.TheConstants.{MAX_WINDOW};
 
 /// Ten reports are enough: with settings that are allowed, each average and the decision over all reports that ever came
 /// are those over the last ten of them.
 pub fn ten_reports_are_enough()
     ensures serving { (s : Settings) (all : List Report) → IsAllowed s
-        → serving_average s all ≡ serving_average s (last 10 all) }
-    ensures quality { (s : Settings) (all : List Report) → IsAllowed s → quality s all ≡ quality s (last 10 all) }
+        → serving_average s all ≡ serving_average s (last MAX_WINDOW all) }
+    ensures quality { (s : Settings) (all : List Report) → IsAllowed s → quality s all ≡ quality s (last MAX_WINDOW all) }
     ensures neighbour { (s : Settings) (all : List Report) (cell : Cell) → IsAllowed s
-        → neighbour_average s all cell ≡ neighbour_average s (last 10 all) cell }
+        → neighbour_average s all cell ≡ neighbour_average s (last MAX_WINDOW all) cell }
     ensures decision { (s : Settings) (all : List Report) (number : ℕ) (d : Decision) → IsAllowed s
-        → Decides s all number d ↔ Decides s (last 10 all) number d }
+        → Decides s all number d ↔ Decides s (last MAX_WINDOW all) number d }
     // One report more of the last ten is one more of all.
     ensures one_more { (all : List Report) (report : Report)
-        → last 10 (last 10 all ++ report ∷ []) ≡ last 10 (all ++ report ∷ []) }
+        → last MAX_WINDOW (last MAX_WINDOW all ++ report ∷ []) ≡ last MAX_WINDOW (all ++ report ∷ []) }
 {}
 
 /// Reports, the last one's number and the settings have one decision at most.

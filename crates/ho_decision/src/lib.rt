@@ -4,12 +4,12 @@
 pub use averages::Averages;
 pub use decision::Decision;
 pub use law::{arfcns_are_rising, one_decision, ten_reports_are_enough};
-pub use settings::{Cell, HoParameters, HoSettings};
+pub use settings::{
+    Cell, HoParameters, HoSettings, MAX_CELLS, MAX_HYSTERESIS, MAX_INTERVAL, MAX_WINDOW,
+};
 
 mod averages;
 mod decision;
 mod law;
 mod measure;
 mod settings;
-#[cfg(test)]
-mod tests;

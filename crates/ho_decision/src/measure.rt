@@ -1,10 +1,14 @@
 ghost use Rattle.std.specs.Prelude.{◌≡◌, ◌+◌, ◌*◌, ◌<◌, ◌≤◌, length, sum_by};
 ghost use Rattle.ho_decision.specs.Average.{average, last, level_in, names};
-ghost use Rattle.ho_decision.specs.Measure.{measured};
+ghost use Rattle.ho_decision.specs.Measure.{value_of};
+ghost use Rattle.ho_decision.specs.declared.settings.TheConstants.{MAX_WINDOW};
 
 use crate::Cell;
 use circular_buffer::HeapCircularBuffer;
 use dtap_codec::{Neighbour, Report};
+
+/// The RXQUAL-FULL from which on the quality is bad.
+pub(crate) const BAD_QUALITY: u8 = 5;
 
 /// What is measured in a report.
 #[derive(Clone, Copy)]
@@ -13,7 +17,7 @@ pub(crate) enum Measure<'a> {
     ServingLevel,
     /// RXQUAL-FULL of the serving cell.
     ServingQuality,
-    /// 1 where RXQUAL-FULL is 5 or more, else 0.
+    /// 1 where RXQUAL-FULL is `BAD_QUALITY` or more, else 0.
     BadQuality,
     /// The level of a neighbour cell, where BCCH-FREQ counts these ARFCNs; 0 where the report doesn't name the cell.
     NeighbourLevel { arfcns: &'a [u16], cell: Cell },
@@ -22,12 +26,12 @@ pub(crate) enum Measure<'a> {
 impl Measure<'_> {
     /// The value of this in a report.
     pub fn value(self, report: &Report) -> u8
-        ensures { result ≡ measured self.entry report.now }
+        ensures { result ≡ value_of self.entry report.now }
     {
         match self {
             Measure::ServingLevel => report.rxlev_full,
             Measure::ServingQuality => report.rxqual_full,
-            Measure::BadQuality => u8::from(report.rxqual_full >= 5),
+            Measure::BadQuality => u8::from(report.rxqual_full >= BAD_QUALITY),
             Measure::NeighbourLevel { arfcns, cell } => level(arfcns, cell, report),
         }
     }
@@ -60,8 +64,8 @@ pub(crate) fn sum_of_last(
     window: usize,
     measure: Measure,
 ) -> u32
-    requires { window ≤ 10 }
-    ensures sum { result ≡ sum_by (measured measure.entry) (last window reports.now.items) }
+    requires { window ≤ MAX_WINDOW }
+    ensures sum { result ≡ sum_by (value_of measure.entry) (last window reports.now.items) }
     ensures octets { result ≤ 255 * length (last window reports.now.items) }
 {
     let count = reports.len().min(window);
@@ -76,9 +80,9 @@ pub(crate) fn sum_of_last(
 
 /// The average of a measure over the last `window` reports, of which there is one at least.
 pub(crate) fn average(reports: &HeapCircularBuffer<Report>, window: u8, measure: Measure) -> u8
-    requires window { (1 ≤ window) × (window ≤ 10) }
+    requires window { (1 ≤ window) × (window ≤ MAX_WINDOW) }
     requires some { 0 < length reports.now.items }
-    ensures { result ≡ average (measured measure.entry) window reports.now.items }
+    ensures { result ≡ average (value_of measure.entry) window reports.now.items }
 {
     let count = reports.len().min(usize::from(window)) as u32;
     let sum = sum_of_last(reports, usize::from(window), measure);

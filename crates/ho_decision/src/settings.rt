@@ -5,8 +5,20 @@ use octets::Memory;
 use std::alloc::Global;
 use std::marker::Model;
 
+/// Over how many reports a value is averaged at most.
+pub const MAX_WINDOW: u8 = 10;
+
+/// The longest interval, in reports, at whose end the levels are compared.
+pub const MAX_INTERVAL: u8 = 99;
+
+/// The greatest hysteresis, in dB.
+pub const MAX_HYSTERESIS: u8 = 63;
+
+/// How many cells there are at most.
+pub const MAX_CELLS: usize = 32;
+
 /// A cell as the air shows it: the ARFCN of its BCCH carrier and its base station identity code.
-#[derive(Clone, Copy, Debug, PartialEq, Eq)]
+#[derive(Clone, Copy)]
 pub struct Cell {
     /// The absolute radio frequency channel number, 1 to 1023.
     pub arfcn: u16,
@@ -15,23 +27,23 @@ pub struct Cell {
 }
 
 /// The numbers of the handover decision.
-#[derive(Clone, Copy, Debug, PartialEq, Eq)]
+#[derive(Clone, Copy)]
 pub struct HoParameters {
-    /// Over how many reports the serving cell's level is averaged, 1 to 10.
+    /// Over how many reports the serving cell's level is averaged, 1 to `MAX_WINDOW`.
     pub rxlev_window: u8,
-    /// Over how many reports the serving cell's quality is averaged, 1 to 10.
+    /// Over how many reports the serving cell's quality is averaged, 1 to `MAX_WINDOW`.
     pub rxqual_window: u8,
-    /// Over how many reports a neighbour's level is averaged, 1 to 10.
+    /// Over how many reports a neighbour's level is averaged, 1 to `MAX_WINDOW`.
     pub neighbour_window: u8,
-    /// Every how many reports the levels are compared, 1 to 99.
+    /// Every how many reports the levels are compared, 1 to `MAX_INTERVAL`.
     pub interval: u8,
-    /// By how many dB a neighbour has to be better than the serving cell, 0 to 63.
+    /// By how many dB a neighbour has to be better than the serving cell, 0 to `MAX_HYSTERESIS`.
     pub hysteresis: u8,
 }
 
 /// What the handover decision of one serving cell needs: the numbers, the cells in the order of the settings, and which
 /// of them serves.
-#[derive(Debug, Drop)]
+#[derive(Drop)]
 pub struct HoSettings {
     pub(crate) parameters: HoParameters,
     pub(crate) cells: Vec<Cell>,

@@ -1,6 +1,6 @@
 -- How a put refuses.
 use Rattle.std.specs.Prelude.{◌≡◌, ◌<◌, ℕ, List}
-use Rattle.hold_queue.specs.Held.{Held, count}
+use Rattle.hold_queue.specs.HoldState.{HoldState, count}
 use Rattle.hold_queue.specs.declared.fault.HoldFault.{HoldFault}
 use Rattle.hold_queue.specs.declared.fault.HoldFault.TheVariants.{Full, Memory}
 
@@ -10,6 +10,6 @@ IsMemory message (Full back) = ⊥
 IsMemory message (Memory back) = back.items ≡ message
 
 -- A refusal hands the message back: as full at the limit over both SAPIs, for want of memory only below it.
-abbrev pub HandsBack : Held → List ℕ → HoldFault → Type 0
-HandsBack held message (Full back) = (back.items ≡ message) × (count held ≡ held.limit)
-HandsBack held message (Memory back) = (back.items ≡ message) × (count held < held.limit)
+abbrev pub HandsBack : HoldState → List ℕ → HoldFault → Type 0
+HandsBack hold message (Full back) = (back.items ≡ message) × (count hold ≡ hold.limit)
+HandsBack hold message (Memory back) = (back.items ≡ message) × (count hold < hold.limit)

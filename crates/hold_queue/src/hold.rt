@@ -1,5 +1,5 @@
 ghost use Rattle.std.specs.Prelude.{◌≡◌, ◌+◌, ◌<◌, ◌≤◌, ◌↔◌, [], ◌∷◌, ◌++◌, length, IsTrue, OnOk, OnErr, IfErr, option_map, slice_get, drop as dropped};
-ghost use Rattle.hold_queue.specs.Held.{Held, messages, with_messages, count, no_messages};
+ghost use Rattle.hold_queue.specs.HoldState.{HoldState, new_hold, messages, with_messages, count};
 ghost use Rattle.hold_queue.specs.Refusal.{HandsBack, IsMemory};
 
 use crate::HoldFault;
@@ -10,7 +10,7 @@ use std::collections::VecDeque;
 use std::marker::Model;
 
 /// The messages that a connection holds while its channel changes: one queue for each SAPI, with one limit over both.
-#[derive(Debug, Drop)]
+#[derive(Drop)]
 pub struct Hold {
     limit: usize,
     zero: VecDeque<Octets>,
@@ -18,7 +18,7 @@ pub struct Hold {
 }
 
 impl Model for Hold {
-    ghost Value = { Held };
+    ghost Value = { HoldState };
 
     ghost view = { λ hold. record { limit = hold.limit; zero = hold.zero.items; three = hold.three.items } };
 
@@ -28,7 +28,7 @@ impl Model for Hold {
 impl Hold {
     /// A hold without messages, for up to `limit` of them, over both SAPIs. It takes no memory; it keeps the allocator.
     pub fn new(alloc: Global, limit: usize) -> Hold
-        ensures { result ≡ no_messages limit }
+        ensures { result ≡ new_hold limit }
     {
         Hold {
             limit,
@@ -132,49 +132,4 @@ fn clear(queue: &mut VecDeque<Octets>) -> usize
     let count = queue.len();
     queue.clear();
     count
-}
-
-#[cfg(test)]
-mod tests {
-    use super::*;
-    use std::test::Fail;
-
-    #[test]
-    fn a_full_hold_hands_the_message_back(rt: HostRuntime) -> Result<(), Fail> {
-        let a = vec![in rt.alloc(); 0x83, 0x02]?;
-        let b = vec![in rt.alloc(); 0x03, 0x05]?;
-        let mut hold = Hold::new(rt.alloc(), 1);
-        hold.put(Sapi::Zero, a)?;
-        let back = match hold.put(Sapi::Zero, b) {
-            Err(HoldFault::Full(back)) => back,
-            Err(HoldFault::Memory(_)) | Ok(()) => return Err("not full".into()),
-        };
-        assert_eq!(rt; back.as_slice(), [0x03, 0x05].as_slice());
-        assert!(rt; hold.next(Sapi::Three).is_none());
-        let first = hold.next(Sapi::Zero).ok_or("nothing held")?;
-        assert_eq!(rt; first.as_slice(), [0x83, 0x02].as_slice());
-        assert_eq!(rt; hold.len(), 0);
-        Ok(())
-    }
-
-    #[test]
-    fn a_cleared_sapi_leaves_the_other(rt: HostRuntime) -> Result<(), Fail> {
-        let mut hold = Hold::new(rt.alloc(), 32);
-        assert!(rt; hold.is_empty());
-        hold.put(Sapi::Three, vec![in rt.alloc(); 0x09, 0x01]?)?;
-        hold.put(Sapi::Zero, vec![in rt.alloc(); 0x83, 0x02]?)?;
-        hold.put(Sapi::Three, vec![in rt.alloc(); 0x09, 0x04]?)?;
-        assert_eq!(rt;
-            hold.get(Sapi::Three, 1).ok_or("nothing held")?,
-            [0x09, 0x04].as_slice()
-        );
-        assert_eq!(rt; hold.clear_sapi(Sapi::Three), 2);
-        assert!(rt; hold.get(Sapi::Three, 0).is_none());
-        assert_eq!(rt; hold.len(), 1);
-        assert_eq!(rt;
-            hold.get(Sapi::Zero, 0).ok_or("nothing held")?,
-            [0x83, 0x02].as_slice()
-        );
-        Ok(())
-    }
 }

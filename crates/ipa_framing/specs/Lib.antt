@@ -1,3 +1,3 @@
 pub mod Frame
+pub mod Framer
 pub mod Front
-pub mod Held

@@ -1,27 +1,15 @@
 use octets::Memory;
-use std::alloc::{AllocError, AllocFailed};
 use thiserror::Error;
 
 /// Why a frame isn't taken or written.
-#[derive(Clone, Copy, Debug, PartialEq, Eq, Error)]
+#[derive(Clone, Copy, Debug, Error)]
 pub enum FrameFault {
-    /// The body has more than 2,048 octets.
+    /// The body has more octets than `MAX_BODY`.
     #[error("frame too long")]
     TooLong,
     /// There was no memory.
     #[error("out of memory")]
     Memory,
-}
-
-impl From<AllocError> for FrameFault {
-    ghost use Rattle.std.specs.Prelude.{◌≡◌};
-    ghost use Rattle.ipa_framing.specs.declared.fault.FrameFault.TheVariants as faults;
-
-    ghost from_gives = { λ _ fault. fault ≡ faults.Memory };
-
-    fn from(_error: AllocError) -> FrameFault {
-        FrameFault::Memory
-    }
 }
 
 impl From<Memory> for FrameFault {
@@ -30,18 +18,7 @@ impl From<Memory> for FrameFault {
 
     ghost from_gives = { λ _ fault. fault ≡ faults.Memory };
 
-    fn from(_error: Memory) -> FrameFault {
-        FrameFault::Memory
-    }
-}
-
-impl<T: Drop> From<AllocFailed<T>> for FrameFault {
-    ghost use Rattle.std.specs.Prelude.{◌≡◌};
-    ghost use Rattle.ipa_framing.specs.declared.fault.FrameFault.TheVariants as faults;
-
-    ghost from_gives = { λ _ fault. fault ≡ faults.Memory };
-
-    fn from(_error: AllocFailed<T>) -> FrameFault {
+    fn from(_memory: Memory) -> FrameFault {
         FrameFault::Memory
     }
 }

@@ -1,27 +1,24 @@
 ghost use Rattle.std.specs.Prelude.{◌≡◌, ◌++◌, OnErr, OnOk};
 ghost use Rattle.octets.specs.Refusal.{RefusesBy};
 ghost use Rattle.ipa_framing.specs.Frame.{frame_text, write_fault};
-ghost use Rattle.ipa_framing.specs.declared.frame.TheConstants.{MAX_BODY};
 
 use crate::FrameFault;
-use octets::Octets;
+use octets::{Memory, Octets};
 
 /// The most octets that the body of a frame has.
 pub const MAX_BODY: usize = 2048;
 
+/// The octets before the body: two of length, the high one first, and the stream.
+pub(crate) const HEADER_LENGTH: usize = 3;
+
 /// A frame of a link: the stream that it belongs to, and its body.
 ///
 /// Streams are `00` RSL, `FD` SCCP, `FE` CCM and `FF` OML.
-#[derive(Debug, Drop)]
+#[derive(Drop)]
 pub struct Frame {
     pub stream: u8,
     pub body: Octets,
 }
-
-/// Law: the limit that the definitions speak of is 2,048 octets.
-pub fn body_is_bounded()
-    ensures { MAX_BODY ≡ 2048 }
-{}
 
 /// Appends the octets of a frame: two octets of length, the stream, the body. A frame that is too long is refused
 /// before memory is wanted; a refusal appends nothing.
@@ -35,10 +32,11 @@ pub fn write_frame(frame: &Frame, out: &mut Vec<u8>) -> Result<(), FrameFault>
     if size > MAX_BODY {
         return Err(FrameFault::TooLong);
     }
-    out.reserve(3 + size)?;
-    out.push_reserved((size / 256) as u8);
-    out.push_reserved((size % 256) as u8);
+    let [high, low] = (size as u16).to_be_bytes();
+    out.reserve(HEADER_LENGTH + size).map_err(Memory::from)?;
+    out.push_reserved(high);
+    out.push_reserved(low);
     out.push_reserved(frame.stream);
-    out.extend_from_slice(body)?;
+    out.extend_from_slice(body).map_err(Memory::from)?;
     Ok(())
 }

@@ -1,19 +1,21 @@
-ghost use Rattle.std.specs.Prelude.{◌≡◌, ◌++◌, ℕ, List, length, true};
+ghost use Rattle.std.specs.Prelude.{◌≡◌, ◌++◌, ℕ, List, length, option_map, true};
+ghost use Rattle.octets.specs.Answer.{result_map};
 ghost use Rattle.octets.specs.Element.{AreOctets};
 ghost use Rattle.ipa_framing.specs.declared.frame.Frame.{Frame as FrameValue};
 ghost use Rattle.ipa_framing.specs.Frame.{IsTooLong, Splits};
-ghost use Rattle.ipa_framing.specs.Front.{FrontIs, front_of, seen_front};
-ghost use Rattle.ipa_framing.specs.Held.{Call, Feeds, Held, Run, Takes, fed, given, nothing_held};
+ghost use Rattle.ipa_framing.specs.Framer.{Call, Feeds, FramerState, Run, Takes, new_framer, octets_of, frames_of};
+ghost use Rattle.ipa_framing.specs.Front.{FrontIs, front_of};
 
+use crate::frame::HEADER_LENGTH;
 use crate::{Frame, FrameFault, MAX_BODY};
 use bytes::BytesMut;
-use octets::Octets;
+use octets::{Memory, Octets};
 use std::alloc::Global;
 use std::marker::Model;
 
 /// Takes the frames of a link from its octets, in whatever pieces they come.
 ///
-/// A body of more than 2,048 octets ends the stream: from the call of `next` that meets its length on, `feed` and
+/// A body of more than `MAX_BODY` octets ends the stream: from the call of `next` that meets its length on, `feed` and
 /// `next` refuse as too long.
 #[derive(Drop)]
 pub struct Framer {
@@ -23,31 +25,30 @@ pub struct Framer {
 }
 
 impl Model for Framer {
-    ghost use Rattle.std.specs.Prelude.{◌≡◌, true};
-    ghost use Rattle.ipa_framing.specs.Held.{Held};
+    ghost use Rattle.ipa_framing.specs.Framer.{FramerState};
 
-    ghost Value = { Held };
+    ghost Value = { FramerState };
 
-    ghost view = { λ f. record { octets = f.buffer.items; failed = f.failed } };
+    ghost view = { λ framer. record { octets = framer.buffer.items; failed = framer.failed } };
 }
 
 /// A frame at the front of octets, and the octets behind it.
 #[derive(Clone, Copy)]
-struct Found<'a> {
+struct FrontFrame<'a> {
     stream: u8,
     body: &'a [u8],
     rest: &'a [u8],
 }
 
 /// The frame at the front of the octets; none while they are fewer than it has.
-fn front(octets: &[u8]) -> Result<Option<Found<'_>>, FrameFault>
-    ensures found { seen_front (λ f. (f.stream, f.body.now, f.rest.now)) result ≡ front_of octets.now }
-    ensures is { FrontIs octets.now (seen_front (λ f. (f.stream, f.body.now, f.rest.now)) result) }
+fn front(octets: &[u8]) -> Result<Option<FrontFrame<'_>>, FrameFault>
+    ensures found { result_map (option_map (λ f. (f.stream, f.body.now, f.rest.now))) result ≡ front_of octets.now }
+    ensures is { FrontIs octets.now (result_map (option_map (λ f. (f.stream, f.body.now, f.rest.now))) result) }
 {
     let [high, low, behind @ ..] = octets else {
         return Ok(None);
     };
-    let size = 256 * *high as usize + *low as usize;
+    let size = usize::from(u16::from_be_bytes([*high, *low]));
     if size > MAX_BODY {
         return Err(FrameFault::TooLong);
     }
@@ -57,7 +58,7 @@ fn front(octets: &[u8]) -> Result<Option<Found<'_>>, FrameFault>
     if behind.len() < size {
         return Ok(None);
     }
-    Ok(Some(Found {
+    Ok(Some(FrontFrame {
         stream: *stream,
         body: &behind[..size],
         rest: &behind[size..],
@@ -67,7 +68,7 @@ fn front(octets: &[u8]) -> Result<Option<Found<'_>>, FrameFault>
 impl Framer {
     /// A framer that holds nothing.
     pub fn new(alloc: Global) -> Framer
-        ensures { result ≡ nothing_held }
+        ensures { result ≡ new_framer }
     {
         Framer {
             alloc,
@@ -84,24 +85,24 @@ impl Framer {
         if self.failed {
             return Err(FrameFault::TooLong);
         }
-        self.buffer.extend_from_slice(piece)?;
+        self.buffer.extend_from_slice(piece).map_err(Memory::from)?;
         Ok(())
     }
 
-    /// Takes the next frame out, where it is whole. A body of more than 2,048 octets is refused as soon as its two
+    /// Takes the next frame out, where it is whole. A body of more than `MAX_BODY` octets is refused as soon as its two
     /// octets of length are there, and from then on.
     pub fn next(&mut self) -> Result<Option<Frame>, FrameFault>
         ensures { Takes self.old result self.new }
     {
         let (stream, body) = match front(self.buffer.as_slice()) {
-            Ok(Some(found)) => (found.stream, Octets::copy(self.alloc, found.body)?),
+            Ok(Some(frame)) => (frame.stream, Octets::copy(self.alloc, frame.body)?),
             Ok(None) => return Ok(None),
             Err(fault) => {
                 self.failed = true;
                 return Err(fault);
             }
         };
-        self.buffer.advance(3 + body.len());
+        self.buffer.advance(HEADER_LENGTH + body.len());
         Ok(Some(Frame { stream, body }))
     }
 
@@ -113,7 +114,7 @@ impl Framer {
         let mut octets = self.buffer.as_slice();
         loop {
             match front(octets) {
-                Ok(Some(found)) => octets = found.rest,
+                Ok(Some(frame)) => octets = frame.rest,
                 Ok(None) => return octets.len(),
                 Err(_) => return octets.len(),
             }
@@ -129,8 +130,8 @@ pub fn stream_is_its_frames()
         (frames : List FrameValue) × (rest : List ℕ) × Splits stream frames rest }
     ensures only { (stream : List ℕ) (frames : List FrameValue) (rest : List ℕ) (others : List FrameValue) (other : List ℕ) →
         Splits stream frames rest → Splits stream others other → (frames ≡ others) × (rest ≡ other) }
-    ensures calls { (calls : List Call) (held : Held) (frames : List FrameValue) (rest : List ℕ) →
-        Run nothing_held calls held → Splits held.octets frames rest → Splits (fed calls) (given calls ++ frames) rest }
-    ensures refused { (calls : List Call) (held : Held) →
-        Run nothing_held calls held → held.failed ≡ true → IsTooLong held.octets }
+    ensures calls { (calls : List Call) (framer : FramerState) (frames : List FrameValue) (rest : List ℕ) →
+        Run new_framer calls framer → Splits framer.octets frames rest → Splits (octets_of calls) (frames_of calls ++ frames) rest }
+    ensures refused { (calls : List Call) (framer : FramerState) →
+        Run new_framer calls framer → framer.failed ≡ true → IsTooLong framer.octets }
 {}

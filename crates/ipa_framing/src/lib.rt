@@ -4,11 +4,9 @@
 #![tactic(auto)]
 
 pub use fault::FrameFault;
-pub use frame::{Frame, MAX_BODY, body_is_bounded, write_frame};
+pub use frame::{Frame, MAX_BODY, write_frame};
 pub use framer::{Framer, stream_is_its_frames};
 
 mod fault;
 mod frame;
 mod framer;
-#[cfg(test)]
-mod tests;

@@ -1,4 +1,5 @@
 pub mod Numbering
 pub mod Resuming
+mod Rows
 pub mod Slices
 pub mod Lives

@@ -19,19 +19,19 @@ use Rattle.mobile_end.specs.declared.mobile_end.Stage.{Stage}
 use Rattle.mobile_end.specs.declared.mobile_end.Stage.TheVariants.{New, Connected}
 use Rattle.mobile_end.specs.Control.{is_control}
 use Rattle.mobile_end.specs.DataLinkState.{DataLinkState}
-use Rattle.mobile_end.specs.DataLink.{waits, lent, after_lending}
+use Rattle.mobile_end.specs.DataLink.{waits, lent_message, after_lending}
 use Rattle.mobile_end.specs.Lawful.{has_clear_number, is_initial, is_sendable}
 use Rattle.mobile_end.specs.MobileState.{MobileState}
-use Rattle.mobile_end.specs.Mobile.{new_mobile, queueing, numbering, with_link, link_of, after_connect, refusal_of_connect, refusal_before_connect, framed_at, after_frame_at, after_acked_at, after_arrival}
+use Rattle.mobile_end.specs.Mobile.{new_mobile, after_queue, after_number, with_link, link_of, after_connect, refusal_of_connect, refusal_before_connect, frame_answer_at, after_frame_at, after_acked_at, after_arrival}
 use Rattle.mobile_end.specs.Calls.{Call, after_call, after_calls, taken_by_call, taken_by_calls, unless_refused, unless_connected, may_arrive, frame_lent, begins, establishments}
 use Rattle.mobile_end.specs.Calls.Call.{connects, sends, frames, acknowledges, leaves, arrives, gives_up}
 use Rattle.mobile_end.specs.OneRepeat.{OneRepeat}
 use Rattle.mobile_end.specs.OneRepeat.OneRepeat.{over, goes_on, repeats}
-use Rattle.mobile_end.proofs.Numbering.{IsNumbered-queueing, IsNumbered-frame, IsNumbered-acked, IsNumbered-new}
+use Rattle.mobile_end.proofs.Numbering.{IsNumbered-after_queue, IsNumbered-frame, IsNumbered-acked, IsNumbered-new}
 use Rattle.mobile_end.proofs.Resuming.{IsLastTaken, IsGoing, IsCut, arrival-cut, arrival-going}
 use Rattle.mobile_end.proofs.Slices.{IsSlice-of_parts, IsSlice-grow, joined, Rise-slices}
 
--- what may be sent has doesnt number
+-- what may be sent has no number
 pub is_sendable-clear : (sapi : Sapi) (message : List ℕ) → is_sendable sapi message ≡ true → has_clear_number message ≡ true
 is_sendable-clear sapi [] lawful = refl
 is_sendable-clear sapi (first ∷ rest) lawful = second_so _ (has_clear_number (first ∷ rest)) lawful
@@ -70,9 +70,9 @@ IsKept-with_link : (mobile : MobileState) (sapi : Sapi) (link : DataLinkState) �
 IsKept-with_link mobile Zero link = IsKept-same mobile (with_link mobile Zero link) refl refl
 IsKept-with_link mobile Three link = IsKept-same mobile (with_link mobile Three link) refl refl
 
-IsKept-queueing : (mobile : MobileState) (sapi : Sapi) (message : List ℕ) → IsKept mobile (queueing mobile sapi message)
-IsKept-queueing mobile sapi message =
-    cond_both (is_flow_message message) (numbering mobile message) (with_link mobile sapi (waits (link_of mobile sapi) message)) (IsKept mobile)
+IsKept-after_queue : (mobile : MobileState) (sapi : Sapi) (message : List ℕ) → IsKept mobile (after_queue mobile sapi message)
+IsKept-after_queue mobile sapi message =
+    cond_both (is_flow_message message) (after_number mobile message) (with_link mobile sapi (waits (link_of mobile sapi) message)) (IsKept mobile)
     (λ flow. record { modulus = refl; more = message ∷ []; sent = refl })
     (λ apart. IsKept-with_link mobile sapi (waits (link_of mobile sapi) message))
 
@@ -80,7 +80,7 @@ IsKept-connect : (mobile : MobileState) (initial : Option (List ℕ)) → IsKept
 IsKept-connect mobile None = IsKept-same mobile (after_connect mobile None) refl refl
 IsKept-connect mobile (Some initial) =
     unless_refused-by (IsKept mobile) (is_initial initial) None mobile (after_connect mobile (Some initial)) (IsKept-same mobile mobile refl refl)
-    (λ lawful. let queued = IsKept-queueing mobile Zero initial in record { modulus = queued.modulus; more = queued.more; sent = queued.sent })
+    (λ lawful. let queued = IsKept-after_queue mobile Zero initial in record { modulus = queued.modulus; more = queued.more; sent = queued.sent })
 
 IsKept-frame : (stage : Stage) (place : Place) (mobile : MobileState) (sapi : Sapi) → IsKept mobile (after_frame_at stage place mobile sapi)
 IsKept-frame New place mobile sapi = IsKept-same mobile mobile refl refl
@@ -99,8 +99,8 @@ IsKept-arrival mobile control =
 IsKept-call : (mobile : MobileState) (call : Call) → IsKept mobile (after_call mobile call)
 IsKept-call mobile (connects initial) = unless_connected-by (IsKept mobile) mobile.stage mobile _ (IsKept-same mobile mobile refl refl) (IsKept-connect mobile initial)
 IsKept-call mobile (sends sapi message) =
-    unless_refused-by (IsKept mobile) (is_sendable sapi message) (refusal_before_connect mobile.stage) mobile (queueing mobile sapi message)
-    (IsKept-same mobile mobile refl refl) (λ _. IsKept-queueing mobile sapi message)
+    unless_refused-by (IsKept mobile) (is_sendable sapi message) (refusal_before_connect mobile.stage) mobile (after_queue mobile sapi message)
+    (IsKept-same mobile mobile refl refl) (λ _. IsKept-after_queue mobile sapi message)
 IsKept-call mobile (frames sapi) = IsKept-frame mobile.stage mobile.place mobile sapi
 IsKept-call mobile (acknowledges sapi) = IsKept-acked mobile.place mobile sapi
 IsKept-call mobile leaves = record { modulus = refl; more = []; sent = sym (append-nil mobile.sent) }
@@ -112,61 +112,61 @@ IsKept-calls mobile [] = IsKept-same mobile mobile refl refl
 IsKept-calls mobile (call ∷ calls) = IsKept-then (IsKept-call mobile call) (IsKept-calls (after_call mobile call) calls)
 
 -- the last message that was taken, after each call
-IsLastTaken-lent : (waiting : List (List ℕ)) (air : Air) (taken : List (List ℕ)) → IsLastTaken air taken → let link : DataLinkState = record { waiting = waiting; air = air } in IsLastTaken (after_lending link).air (taken ++ option_to_list (lent link))
-IsLastTaken-lent [] Empty taken last = tt
-IsLastTaken-lent (first ∷ others) Empty taken last = (taken, refl)
-IsLastTaken-lent waiting (Given message) taken last = (taken, refl)
-IsLastTaken-lent waiting (Reached message) taken last = (last.0, append-nil taken ∙ last.1)
+IsLastTaken-lent_message : (waiting : List (List ℕ)) (air : Air) (taken : List (List ℕ)) → IsLastTaken air taken → let link : DataLinkState = record { waiting = waiting; air = air } in IsLastTaken (after_lending link).air (taken ++ option_to_list (lent_message link))
+IsLastTaken-lent_message [] Empty taken last = tt
+IsLastTaken-lent_message (first ∷ others) Empty taken last = (taken, refl)
+IsLastTaken-lent_message waiting (Given message) taken last = (taken, refl)
+IsLastTaken-lent_message waiting (Reached message) taken last = (last.0, append-nil taken ∙ last.1)
 
 IsLastTaken-freed : (air : Air) (taken : List (List ℕ)) → IsLastTaken (freed air) taken
 IsLastTaken-freed Empty taken = tt
 IsLastTaken-freed (Given message) taken = tt
 IsLastTaken-freed (Reached message) taken = tt
 
-IsLastTaken-queueing : (mobile : MobileState) (taken : List (List ℕ)) (sapi : Sapi) (message : List ℕ) → IsLastTaken mobile.zero.air taken → IsLastTaken (queueing mobile sapi message).zero.air taken
-IsLastTaken-queueing mobile taken sapi message last =
-    cond_both (is_flow_message message) (numbering mobile message) (with_link mobile sapi (waits (link_of mobile sapi) message))
+IsLastTaken-after_queue : (mobile : MobileState) (taken : List (List ℕ)) (sapi : Sapi) (message : List ℕ) → IsLastTaken mobile.zero.air taken → IsLastTaken (after_queue mobile sapi message).zero.air taken
+IsLastTaken-after_queue mobile taken sapi message last =
+    cond_both (is_flow_message message) (after_number mobile message) (with_link mobile sapi (waits (link_of mobile sapi) message))
     (λ (new : MobileState). IsLastTaken new.zero.air taken) (λ _. last) (λ _. waiting sapi)
   where
     waiting : (sapi : Sapi) → IsLastTaken (with_link mobile sapi (waits (link_of mobile sapi) message)).zero.air taken
     waiting Zero = last
     waiting Three = last
 
-IsGoing-queueing : (m : ℕ) (before : List (List ℕ)) (mobile : MobileState) (taken : List (List ℕ)) (sapi : Sapi) (message : List ℕ) → has_clear_number message ≡ true → IsGoing m before mobile taken → IsGoing m before (queueing mobile sapi message) taken
-IsGoing-queueing m before mobile taken sapi message clear going = record {
-  with_number = IsNumbered-queueing before mobile taken sapi message clear going.numbered;
-  last = IsLastTaken-queueing mobile taken sapi message going.last;
-  modulus = (IsKept-queueing mobile sapi message).modulus ∙ going.modulus;
+IsGoing-after_queue : (m : ℕ) (before : List (List ℕ)) (mobile : MobileState) (taken : List (List ℕ)) (sapi : Sapi) (message : List ℕ) → has_clear_number message ≡ true → IsGoing m before mobile taken → IsGoing m before (after_queue mobile sapi message) taken
+IsGoing-after_queue m before mobile taken sapi message clear going = record {
+  numbered = IsNumbered-after_queue before mobile taken sapi message clear going.numbered;
+  last = IsLastTaken-after_queue mobile taken sapi message going.last;
+  modulus = (IsKept-after_queue mobile sapi message).modulus ∙ going.modulus;
 }
 
 IsGoing-connect : (m : ℕ) (before : List (List ℕ)) (mobile : MobileState) (taken : List (List ℕ)) (initial : Option (List ℕ)) → IsGoing m before mobile taken → IsGoing m before (unless_refused (refusal_of_connect initial) mobile (after_connect mobile initial)) taken
 IsGoing-connect m before mobile taken None going =
-    let with_number = going.numbered in
-    record { with_number = record { after = with_number.after; parts = with_number.parts; numbers = with_number.numbers; clear = with_number.clear }; last = going.last; modulus = going.modulus }
+    let numbered = going.numbered in
+    record { numbered = record { after = numbered.after; parts = numbered.parts; numbers = numbered.numbers; clear = numbered.clear }; last = going.last; modulus = going.modulus }
 IsGoing-connect m before mobile taken (Some initial) going =
     unless_refused-by (λ new. IsGoing m before new taken) (is_initial initial) None mobile (after_connect mobile (Some initial)) going
     (λ lawful.
-    let queued = IsGoing-queueing m before mobile taken Zero initial (is_initial-clear initial lawful) going in
-    let with_number = queued.numbered in
-    record { with_number = record { after = with_number.after; parts = with_number.parts; numbers = with_number.numbers; clear = with_number.clear }; last = queued.last; modulus = queued.modulus })
+    let queued = IsGoing-after_queue m before mobile taken Zero initial (is_initial-clear initial lawful) going in
+    let numbered = queued.numbered in
+    record { numbered = record { after = numbered.after; parts = numbered.parts; numbers = numbered.numbers; clear = numbered.clear }; last = queued.last; modulus = queued.modulus })
 
 -- what a frame of SAPI 3 or an acknowledgement changes isn't seen on SAPI 0
 IsGoing-frame_three : (m : ℕ) (before : List (List ℕ)) (stage : Stage) (place : Place) (mobile : MobileState) (taken : List (List ℕ)) → IsGoing m before mobile taken → IsGoing m before (after_frame_at stage place mobile Three) taken
 IsGoing-frame_three m before New place mobile taken going = going
 IsGoing-frame_three m before Connected Moving mobile taken going = going
 IsGoing-frame_three m before Connected OnChannel mobile taken going =
-    let with_number = going.numbered in
-    record { with_number = record { after = with_number.after; parts = with_number.parts; numbers = with_number.numbers; clear = with_number.clear }; last = going.last; modulus = going.modulus }
+    let numbered = going.numbered in
+    record { numbered = record { after = numbered.after; parts = numbered.parts; numbers = numbered.numbers; clear = numbered.clear }; last = going.last; modulus = going.modulus }
 
 IsLastTaken-acked : (place : Place) (mobile : MobileState) (taken : List (List ℕ)) (sapi : Sapi) → IsLastTaken mobile.zero.air taken → IsLastTaken (after_acked_at place mobile sapi).zero.air taken
 IsLastTaken-acked Moving mobile taken sapi last = last
 IsLastTaken-acked OnChannel mobile taken Zero last = IsLastTaken-freed mobile.zero.air taken
 IsLastTaken-acked OnChannel mobile taken Three last = last
 
-IsLastTaken-frame : (stage : Stage) (place : Place) (mobile : MobileState) (taken : List (List ℕ)) → IsLastTaken mobile.zero.air taken → IsLastTaken (after_frame_at stage place mobile Zero).zero.air (taken ++ frame_lent (framed_at stage place (lent mobile.zero)))
+IsLastTaken-frame : (stage : Stage) (place : Place) (mobile : MobileState) (taken : List (List ℕ)) → IsLastTaken mobile.zero.air taken → IsLastTaken (after_frame_at stage place mobile Zero).zero.air (taken ++ frame_lent (frame_answer_at stage place (lent_message mobile.zero)))
 IsLastTaken-frame New place mobile taken last = subst (λ (xs : List (List ℕ)). IsLastTaken mobile.zero.air xs) (sym (append-nil taken)) last
 IsLastTaken-frame Connected Moving mobile taken last = subst (λ (xs : List (List ℕ)). IsLastTaken mobile.zero.air xs) (sym (append-nil taken)) last
-IsLastTaken-frame Connected OnChannel mobile taken last = IsLastTaken-lent mobile.zero.waiting mobile.zero.air taken last
+IsLastTaken-frame Connected OnChannel mobile taken last = IsLastTaken-lent_message mobile.zero.waiting mobile.zero.air taken last
 
 -- a call that takes nothing
 nothing_taken : (m : ℕ) (before : List (List ℕ)) (mobile : MobileState) (taken : List (List ℕ)) → IsGoing m before mobile taken → IsGoing m before mobile (taken ++ [])
@@ -182,22 +182,22 @@ IsGoing-call : (m : ℕ) (before : List (List ℕ)) (mobile : MobileState) (take
 IsGoing-call m before mobile taken (connects initial) doesnt going =
     nothing_taken m before _ taken (unless_connected-by (λ new. IsGoing m before new taken) mobile.stage mobile _ going (IsGoing-connect m before mobile taken initial going))
 IsGoing-call m before mobile taken (sends sapi message) doesnt going =
-    nothing_taken m before _ taken (unless_refused-by (λ new. IsGoing m before new taken) (is_sendable sapi message) (refusal_before_connect mobile.stage) mobile (queueing mobile sapi message) going
-    (λ lawful. IsGoing-queueing m before mobile taken sapi message (is_sendable-clear sapi message lawful) going))
+    nothing_taken m before _ taken (unless_refused-by (λ new. IsGoing m before new taken) (is_sendable sapi message) (refusal_before_connect mobile.stage) mobile (after_queue mobile sapi message) going
+    (λ lawful. IsGoing-after_queue m before mobile taken sapi message (is_sendable-clear sapi message lawful) going))
 IsGoing-call m before mobile taken (frames Zero) doesnt going = record {
-  with_number = IsNumbered-frame before mobile.stage mobile.place mobile taken going.numbered;
+  numbered = IsNumbered-frame before mobile.stage mobile.place mobile taken going.numbered;
   last = IsLastTaken-frame mobile.stage mobile.place mobile taken going.last;
   modulus = (IsKept-frame mobile.stage mobile.place mobile Zero).modulus ∙ going.modulus;
 }
 IsGoing-call m before mobile taken (frames Three) doesnt going = nothing_taken m before _ taken (IsGoing-frame_three m before mobile.stage mobile.place mobile taken going)
 IsGoing-call m before mobile taken (acknowledges sapi) doesnt going = nothing_taken m before _ taken (record {
-  with_number = IsNumbered-acked before mobile.place mobile taken sapi going.numbered;
+  numbered = IsNumbered-acked before mobile.place mobile taken sapi going.numbered;
   last = IsLastTaken-acked mobile.place mobile taken sapi going.last;
   modulus = (IsKept-acked mobile.place mobile sapi).modulus ∙ going.modulus;
 })
 IsGoing-call m before mobile taken leaves doesnt going =
-    let with_number = going.numbered in
-    nothing_taken m before _ taken (record { with_number = record { after = with_number.after; parts = with_number.parts; numbers = with_number.numbers; clear = with_number.clear }; last = going.last; modulus = going.modulus })
+    let numbered = going.numbered in
+    nothing_taken m before _ taken (record { numbered = record { after = numbered.after; parts = numbered.parts; numbers = numbered.numbers; clear = numbered.clear }; last = going.last; modulus = going.modulus })
 IsGoing-call m before mobile taken (arrives complete) doesnt going = nothing_taken m before _ taken (IsGoing-refused m before mobile taken complete doesnt going)
 IsGoing-call m before mobile taken (gives_up failure) doesnt going = nothing_taken m before _ taken (IsGoing-refused m before mobile taken failure doesnt going)
 
@@ -267,7 +267,7 @@ OneRepeat-calls m before mobile taken (call ∷ calls) going =
 
 -- nothing was taken of a mobile that never sent
 pub IsGoing-new : (m : ℕ) → IsGoing m [] (new_mobile m) []
-IsGoing-new m = record { with_number = IsNumbered-new m; last = tt; modulus = refl }
+IsGoing-new m = record { numbered = IsNumbered-new m; last = tt; modulus = refl }
 
 -- a call that begins an establishment takes nothing
 taken_by_call-begins : (mobile : MobileState) (call : Call) → begins mobile call ≡ true → taken_by_call mobile call ≡ []

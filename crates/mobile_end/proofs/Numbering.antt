@@ -16,11 +16,12 @@ use Rattle.mobile_end.specs.declared.mobile_end.Place.{Place}
 use Rattle.mobile_end.specs.declared.mobile_end.Place.TheVariants.{OnChannel, Moving}
 use Rattle.mobile_end.specs.declared.mobile_end.Stage.{Stage}
 use Rattle.mobile_end.specs.declared.mobile_end.Stage.TheVariants.{New, Connected}
+use Rattle.mobile_end.specs.declared.lawful.TheConstants.{NUMBER_BIT}
 use Rattle.mobile_end.specs.DataLinkState.{DataLinkState}
-use Rattle.mobile_end.specs.DataLink.{waits, lent, after_lending, after_acknowledgement, to_be_taken}
+use Rattle.mobile_end.specs.DataLink.{waits, lent_message, after_lending, after_acknowledgement, to_be_taken}
 use Rattle.mobile_end.specs.Lawful.{has_clear_number}
 use Rattle.mobile_end.specs.MobileState.{MobileState}
-use Rattle.mobile_end.specs.Mobile.{new_mobile, queueing, numbering, with_link, link_of, after_frame_at, framed_at, after_acked_at}
+use Rattle.mobile_end.specs.Mobile.{new_mobile, after_queue, after_number, with_link, link_of, after_frame_at, frame_answer_at, after_acked_at}
 use Rattle.mobile_end.specs.Calls.{frame_lent}
 
 -- a message that waits is the last that the station can take
@@ -31,11 +32,11 @@ to_be_taken-one_more : (taken : List (List ℕ)) (link : DataLinkState) (message
 to_be_taken-one_more taken link message = ap (λ (ys : List (List ℕ)). taken ++ ys) (to_be_taken-waits link message) ∙ sym (append_assoc taken (to_be_taken link) (message ∷ []))
 
 -- what the station takes is the first that it can take
-pub to_be_taken-lent : (waiting : List (List ℕ)) (air : Air) → let link : DataLinkState = record { waiting = waiting; air = air } in option_to_list (lent link) ++ to_be_taken (after_lending link) ≡ to_be_taken link
-to_be_taken-lent [] Empty = refl
-to_be_taken-lent (first ∷ others) Empty = refl
-to_be_taken-lent waiting (Given message) = refl
-to_be_taken-lent waiting (Reached message) = refl
+pub to_be_taken-lent_message : (waiting : List (List ℕ)) (air : Air) → let link : DataLinkState = record { waiting = waiting; air = air } in option_to_list (lent_message link) ++ to_be_taken (after_lending link) ≡ to_be_taken link
+to_be_taken-lent_message [] Empty = refl
+to_be_taken-lent_message (first ∷ others) Empty = refl
+to_be_taken-lent_message waiting (Given message) = refl
+to_be_taken-lent_message waiting (Reached message) = refl
 
 -- an acknowledgement changes nothing of it
 pub to_be_taken-acknowledged : (waiting : List (List ℕ)) (air : Air) → let link : DataLinkState = record { waiting = waiting; air = air } in to_be_taken (after_acknowledgement link) ≡ to_be_taken link
@@ -48,7 +49,7 @@ pub IsClear-flow : (message : List ℕ) → has_clear_number message ≡ true �
 IsClear-flow [] clear flow = absurd cc
 IsClear-flow (first ∷ []) clear flow = absurd cc
 IsClear-flow (first ∷ second ∷ rest) clear flow =
-    let small : second < 64 = ltb-true second 64 (sym (cond-true (is_flow_protocol (first % 16)) (nat_lt second 64) true flow) ∙ clear) in
+    let small : second < 64 = ltb-true second NUMBER_BIT (sym (cond-true (is_flow_protocol (first % 16)) (nat_lt second NUMBER_BIT) true flow) ∙ clear) in
     let low : second % 64 + 64 * 0 ≡ second = omega arith in
     record { is_flow = flow; cleared = ap (λ (octet : ℕ). first ∷ octet ∷ rest) low }
 
@@ -76,8 +77,8 @@ pub record IsNumbered (before : List (List ℕ)) (mobile : MobileState) (taken :
   pub clear : AreClear mobile.sent
 
 -- a message of the flow that waits
-IsNumbered-numbering : (before : List (List ℕ)) (mobile : MobileState) (taken : List (List ℕ)) (message : List ℕ) → IsClear message → IsNumbered before mobile taken → IsNumbered before (numbering mobile message) taken
-IsNumbered-numbering before mobile taken message clear so_far =
+IsNumbered-after_number : (before : List (List ℕ)) (mobile : MobileState) (taken : List (List ℕ)) (message : List ℕ) → IsClear message → IsNumbered before mobile taken → IsNumbered before (after_number mobile message) taken
+IsNumbered-after_number before mobile taken message clear so_far =
     let place : length before + length so_far.after ≡ length mobile.sent = sym (length-append before so_far.after) ∙ ap length so_far.parts in
     let one_more = numbers-flow mobile.modulus (length before) (taken ++ to_be_taken mobile.zero) so_far.after message clear.is_flow so_far.numbers in
     record {
@@ -100,24 +101,24 @@ IsNumbered-waiting before mobile taken Zero message apart so_far = record {
 }
 IsNumbered-waiting before mobile taken Three message apart so_far = record { after = so_far.after; parts = so_far.parts; numbers = so_far.numbers; clear = so_far.clear }
 
--- a message that waits leaves what the station took, and what it can take, with_number
-pub IsNumbered-queueing : (before : List (List ℕ)) (mobile : MobileState) (taken : List (List ℕ)) (sapi : Sapi) (message : List ℕ) → has_clear_number message ≡ true → IsNumbered before mobile taken → IsNumbered before (queueing mobile sapi message) taken
-IsNumbered-queueing before mobile taken sapi message clear so_far =
-    cond_both (is_flow_message message) (numbering mobile message) (with_link mobile sapi (waits (link_of mobile sapi) message))
+-- a message that waits leaves what the station took, and what it can take, numbered
+pub IsNumbered-after_queue : (before : List (List ℕ)) (mobile : MobileState) (taken : List (List ℕ)) (sapi : Sapi) (message : List ℕ) → has_clear_number message ≡ true → IsNumbered before mobile taken → IsNumbered before (after_queue mobile sapi message) taken
+IsNumbered-after_queue before mobile taken sapi message clear so_far =
+    cond_both (is_flow_message message) (after_number mobile message) (with_link mobile sapi (waits (link_of mobile sapi) message))
     (λ (new : MobileState). IsNumbered before new taken)
-    (λ flow. IsNumbered-numbering before mobile taken message (IsClear-flow message clear flow) so_far)
+    (λ flow. IsNumbered-after_number before mobile taken message (IsClear-flow message clear flow) so_far)
     (λ apart. IsNumbered-waiting before mobile taken sapi message apart so_far)
 
 -- a frame that the station takes is the first of those that it can take
-pub IsNumbered-frame : (before : List (List ℕ)) (stage : Stage) (place : Place) (mobile : MobileState) (taken : List (List ℕ)) → IsNumbered before mobile taken → IsNumbered before (after_frame_at stage place mobile Zero) (taken ++ frame_lent (framed_at stage place (lent mobile.zero)))
+pub IsNumbered-frame : (before : List (List ℕ)) (stage : Stage) (place : Place) (mobile : MobileState) (taken : List (List ℕ)) → IsNumbered before mobile taken → IsNumbered before (after_frame_at stage place mobile Zero) (taken ++ frame_lent (frame_answer_at stage place (lent_message mobile.zero)))
 IsNumbered-frame before New place mobile taken so_far = subst (λ (xs : List (List ℕ)). IsNumbered before mobile xs) (sym (append-nil taken)) so_far
 IsNumbered-frame before Connected Moving mobile taken so_far = subst (λ (xs : List (List ℕ)). IsNumbered before mobile xs) (sym (append-nil taken)) so_far
 IsNumbered-frame before Connected OnChannel mobile taken so_far = record {
   after = so_far.after;
   parts = so_far.parts;
   numbers =
-      ap (filter is_flow_message) (append_assoc taken (option_to_list (lent mobile.zero)) (to_be_taken (after_lending mobile.zero))
-      ∙ ap (λ (xs : List (List ℕ)). taken ++ xs) (to_be_taken-lent mobile.zero.waiting mobile.zero.air))
+      ap (filter is_flow_message) (append_assoc taken (option_to_list (lent_message mobile.zero)) (to_be_taken (after_lending mobile.zero))
+      ∙ ap (λ (xs : List (List ℕ)). taken ++ xs) (to_be_taken-lent_message mobile.zero.waiting mobile.zero.air))
       ∙ so_far.numbers;
   clear = so_far.clear;
 }

@@ -11,7 +11,7 @@ use Rattle.link_model.specs.AirLink.{message_in, offered}
 use Rattle.link_model.specs.declared.air_link.Air.{Air}
 use Rattle.link_model.specs.declared.air_link.Air.TheVariants.{Empty, Given, Reached}
 use Rattle.mobile_end.specs.Control.{is_control, without_control}
-use Rattle.mobile_end.specs.DataLink.{outstanding}
+use Rattle.mobile_end.specs.DataLink.{outstanding_messages}
 use Rattle.mobile_end.specs.MobileState.{MobileState}
 use Rattle.mobile_end.specs.Mobile.{after_arrival}
 use Rattle.mobile_end.proofs.Numbering.{IsNumbered}
@@ -63,7 +63,7 @@ IsLastTaken (Reached message) taken = (others : List (List ℕ)) × (taken ≡ o
 
 -- what is known of a mobile in an establishment
 pub record IsGoing (m : ℕ) (before : List (List ℕ)) (mobile : MobileState) (taken : List (List ℕ)) : Type 0 where
-  pub with_number : IsNumbered before mobile taken
+  pub numbered : IsNumbered before mobile taken
   pub last : IsLastTaken mobile.zero.air taken
   pub modulus : mobile.modulus ≡ m
 
@@ -151,7 +151,7 @@ cut-by m before after sent taken waiting (Reached x) parts last numbers =
     ]
 
 -- the cut that a change of channel makes
-pub arrival-cut : (m : ℕ) (before : List (List ℕ)) (mobile : MobileState) (taken : List (List ℕ)) → IsGoing m before mobile taken → IsCut m before mobile.sent taken (outstanding mobile.zero)
+pub arrival-cut : (m : ℕ) (before : List (List ℕ)) (mobile : MobileState) (taken : List (List ℕ)) → IsGoing m before mobile taken → IsCut m before mobile.sent taken (outstanding_messages mobile.zero)
 arrival-cut m before mobile taken going =
     cut-by m before going.numbered.after mobile.sent taken mobile.zero.waiting mobile.zero.air going.numbered.parts going.last
     (going.numbered.numbers ∙ ap (λ (n : ℕ). with_numbers_from n (length before) going.numbered.after) going.modulus)
@@ -161,11 +161,11 @@ pub arrival-going : (m : ℕ) (before : List (List ℕ)) (mobile : MobileState) 
 arrival-going m before mobile taken control is going =
     let cut = arrival-cut m before mobile taken going in
     record {
-      with_number = record {
+      numbered = record {
         after = cut.others;
         parts = cut.next_parts;
         numbers =
-            filter-apart control (without_control (outstanding mobile.zero)) (is_control-apart control is) ∙ without_control-flow (outstanding mobile.zero)
+            filter-apart control (without_control (outstanding_messages mobile.zero)) (is_control-apart control is) ∙ without_control-flow (outstanding_messages mobile.zero)
             ∙ cut.unsent_is ∙ ap (λ (n : ℕ). with_numbers_from n (length cut.next) cut.others) (sym going.modulus);
         clear = going.numbered.clear;
       };

@@ -7,7 +7,7 @@ use Rattle.mobile_end.specs.declared.mobile_end.Stage.{Stage}
 use Rattle.mobile_end.specs.declared.mobile_end.Stage.TheVariants.{New, Connected}
 use Rattle.mobile_end.specs.Control.{is_control}
 use Rattle.mobile_end.specs.MobileState.{MobileState}
-use Rattle.mobile_end.specs.Mobile.{after_connect, refusal_of_connect, queueing, refusal_of_send, framed, after_frame, after_acked, is_on_channel, after_leave, after_arrival}
+use Rattle.mobile_end.specs.Mobile.{after_connect, refusal_of_connect, after_queue, refusal_of_send, frame_answer, after_frame, after_acked, is_on_channel, after_leave, after_arrival}
 
 -- what is called
 pub data Call : Type 0 where
@@ -36,7 +36,7 @@ may_arrive mobile control = not (is_on_channel mobile.place) && is_control contr
 abbrev pub after_call : MobileState → Call → MobileState
 after_call mobile (connects initial) =
     unless_connected mobile.stage mobile (unless_refused (refusal_of_connect initial) mobile (after_connect mobile initial))
-after_call mobile (sends sapi message) = unless_refused (refusal_of_send mobile sapi message) mobile (queueing mobile sapi message)
+after_call mobile (sends sapi message) = unless_refused (refusal_of_send mobile sapi message) mobile (after_queue mobile sapi message)
 after_call mobile (frames sapi) = after_frame mobile sapi
 after_call mobile (acknowledges sapi) = after_acked mobile sapi
 after_call mobile leaves = after_leave mobile
@@ -53,7 +53,7 @@ frame_lent (Err fault) = []
 
 -- what a call lends to the station on SAPI 0
 abbrev pub taken_by_call : MobileState → Call → List (List ℕ)
-taken_by_call mobile (frames Zero) = frame_lent (framed mobile Zero)
+taken_by_call mobile (frames Zero) = frame_lent (frame_answer mobile Zero)
 taken_by_call mobile _ = []
 
 -- what all these calls lend to the station on SAPI 0, in order

@@ -11,22 +11,22 @@ abbrev pub waits : DataLinkState → List ℕ → DataLinkState
 waits link message = record { waiting = link.waiting ++ message ∷ []; air = link.air }
 
 -- an empty air takes the first message that waits
-abbrev pub loaded_from : List (List ℕ) → Air → DataLinkState
-loaded_from (first ∷ others) Empty = record { waiting = others; air = Given first }
-loaded_from [] Empty = record { waiting = []; air = Empty }
-loaded_from waiting (Given message) = record { waiting = waiting; air = Given message }
-loaded_from waiting (Reached message) = record { waiting = waiting; air = Reached message }
+abbrev pub after_load_from : List (List ℕ) → Air → DataLinkState
+after_load_from (first ∷ others) Empty = record { waiting = others; air = Given first }
+after_load_from [] Empty = record { waiting = []; air = Empty }
+after_load_from waiting (Given message) = record { waiting = waiting; air = Given message }
+after_load_from waiting (Reached message) = record { waiting = waiting; air = Reached message }
 
-abbrev pub loaded : DataLinkState → DataLinkState
-loaded link = loaded_from link.waiting link.air
+abbrev pub after_load : DataLinkState → DataLinkState
+after_load link = after_load_from link.waiting link.air
 
 -- the message that the station can take now
-abbrev pub lent : DataLinkState → Option (List ℕ)
-lent link = offered (loaded link).air
+abbrev pub lent_message : DataLinkState → Option (List ℕ)
+lent_message link = offered (after_load link).air
 
 -- the link after the station took it
 abbrev pub after_lending : DataLinkState → DataLinkState
-after_lending link = record { waiting = (loaded link).waiting; air = reached (loaded link).air }
+after_lending link = record { waiting = (after_load link).waiting; air = reached (after_load link).air }
 
 abbrev pub after_acknowledgement : DataLinkState → DataLinkState
 after_acknowledgement link = record { waiting = link.waiting; air = freed link.air }
@@ -36,20 +36,20 @@ abbrev pub to_be_taken : DataLinkState → List (List ℕ)
 to_be_taken link = option_to_list (offered link.air) ++ link.waiting
 
 -- what wasn't acknowledged, in order: the message in the air and those that wait
-abbrev pub outstanding : DataLinkState → List (List ℕ)
-outstanding link = option_to_list (message_in link.air) ++ link.waiting
+abbrev pub outstanding_messages : DataLinkState → List (List ℕ)
+outstanding_messages link = option_to_list (message_in link.air) ++ link.waiting
 
 -- The link on another channel: the control message stands in the air, and behind it waits what wasn't acknowledged, without
 -- control messages of an earlier channel.
-abbrev pub resumed : DataLinkState → List ℕ → DataLinkState
-resumed link control = record { waiting = without_control (outstanding link); air = Given control }
+abbrev pub after_resume : DataLinkState → List ℕ → DataLinkState
+after_resume link control = record { waiting = without_control (outstanding_messages link); air = Given control }
 
 -- a message that wasn't acknowledged stands in the air again
-abbrev pub repeated_air : Air → Air
-repeated_air Empty = Empty
-repeated_air (Given message) = Given message
-repeated_air (Reached message) = Given message
+abbrev pub air_after_repeat : Air → Air
+air_after_repeat Empty = Empty
+air_after_repeat (Given message) = Given message
+air_after_repeat (Reached message) = Given message
 
 -- the link on another channel, where no control message takes it
-abbrev pub repeated : DataLinkState → DataLinkState
-repeated link = record { waiting = link.waiting; air = repeated_air link.air }
+abbrev pub after_repeat : DataLinkState → DataLinkState
+after_repeat link = record { waiting = link.waiting; air = air_after_repeat link.air }

@@ -4,12 +4,13 @@ use Rattle.dtap_codec.specs.Message.{is_flow_protocol}
 use Rattle.dtap_codec.specs.declared.message.TheConstants.{MESSAGE_LIMIT, MOBILITY_MANAGEMENT, RADIO_RESOURCE, SHORT_MESSAGES}
 use Rattle.dtap_codec.specs.declared.sapi.Sapi.{Sapi}
 use Rattle.dtap_codec.specs.declared.sapi.Sapi.TheVariants.{Zero, Three}
+use Rattle.mobile_end.specs.declared.lawful.TheConstants.{INITIAL_LIMIT, NUMBER_BIT}
 
 -- of a protocol that numbers its messages, one has both octets of its header, and bits 8 and 7 of the second are clear
 abbrev pub has_clear_number : List ℕ → Bool
 has_clear_number [] = true
 has_clear_number (first ∷ []) = not (is_flow_protocol (first % 16))
-has_clear_number (first ∷ second ∷ rest) = if is_flow_protocol (first % 16) then nat_lt second 64 else true
+has_clear_number (first ∷ second ∷ rest) = if is_flow_protocol (first % 16) then nat_lt second NUMBER_BIT else true
 
 -- short messages alone take SAPI 3, and radio resource messages aren't the upper layers' to send
 abbrev pub takes_sapi : Sapi → ℕ → Bool
@@ -25,5 +26,5 @@ is_sendable sapi (first ∷ rest) =
 abbrev pub is_initial : List ℕ → Bool
 is_initial [] = false
 is_initial (first ∷ rest) =
-    nat_le (length (first ∷ rest)) 113
+    nat_le (length (first ∷ rest)) INITIAL_LIMIT
     && ((first % 16 == MOBILITY_MANAGEMENT) || (first % 16 == RADIO_RESOURCE)) && has_clear_number (first ∷ rest)

@@ -1,4 +1,4 @@
--- What the calls of a mobile do. Messages of the flow are with_number when the upper layers send them: the one at place k of
+-- What the calls of a mobile do. Messages of the flow are numbered when the upper layers send them: the one at place k of
 -- the sent list carries k modulo m (TS 24.007 clause 11.2.3.2.3). At a change of channel the message that wasn't acknowledged
 -- is sent again, with its number, behind the control message of the new channel (TS 44.006 clause 5.4.3).
 use Rattle.std.specs.Prelude.{ℕ, ◌%◌, Bool, true, false, ◌&&◌, Option, Some, None, Result, Ok, Err, List, [], ◌∷◌, ◌++◌, length, if◌then◌else◌}
@@ -16,16 +16,16 @@ use Rattle.mobile_end.specs.declared.mobile_end.Place.TheVariants.{OnChannel, Mo
 use Rattle.mobile_end.specs.declared.mobile_end.Stage.{Stage}
 use Rattle.mobile_end.specs.declared.mobile_end.Stage.TheVariants.{New, Connected}
 use Rattle.mobile_end.specs.DataLinkState.{DataLinkState}
-use Rattle.mobile_end.specs.DataLink.{waits, lent, after_lending, after_acknowledgement, resumed, repeated}
+use Rattle.mobile_end.specs.DataLink.{waits, lent_message, after_lending, after_acknowledgement, after_resume, after_repeat}
 use Rattle.mobile_end.specs.Lawful.{is_initial, is_sendable}
 use Rattle.mobile_end.specs.MobileState.{MobileState}
 
-abbrev pub idle : DataLinkState
-idle = record { waiting = []; air = Empty }
+abbrev pub idle_link : DataLinkState
+idle_link = record { waiting = []; air = Empty }
 
 -- a mobile that never sent
 abbrev pub new_mobile : ℕ → MobileState
-new_mobile m = record { modulus = m; stage = New; place = OnChannel; sent = []; zero = idle; three = idle }
+new_mobile m = record { modulus = m; stage = New; place = OnChannel; sent = []; zero = idle_link; three = idle_link }
 
 -- the data link of a SAPI
 abbrev pub link_of : MobileState → Sapi → DataLinkState
@@ -38,25 +38,25 @@ with_link mobile Zero link = record mobile { zero = link }
 with_link mobile Three link = record mobile { three = link }
 
 -- a message of the flow joins the sent list, and waits on SAPI 0 with the number of its place
-abbrev pub numbering : MobileState → List ℕ → MobileState
-numbering mobile message =
+abbrev pub after_number : MobileState → List ℕ → MobileState
+after_number mobile message =
     record mobile {
       sent = mobile.sent ++ message ∷ [];
       zero = waits mobile.zero (with_number (length mobile.sent % mobile.modulus) message);
     }
 
 -- the mobile once a message of the upper layers waits
-abbrev pub queueing : MobileState → Sapi → List ℕ → MobileState
-queueing mobile sapi message =
-    if is_flow_message message then numbering mobile message else with_link mobile sapi (waits (link_of mobile sapi) message)
+abbrev pub after_queue : MobileState → Sapi → List ℕ → MobileState
+after_queue mobile sapi message =
+    if is_flow_message message then after_number mobile message else with_link mobile sapi (waits (link_of mobile sapi) message)
 
-abbrev pub connected : MobileState → MobileState
-connected mobile = record mobile { stage = Connected }
+abbrev pub connected_mobile : MobileState → MobileState
+connected_mobile mobile = record mobile { stage = Connected }
 
 -- an initial message is the first that waits
 abbrev pub after_connect : MobileState → Option (List ℕ) → MobileState
-after_connect mobile None = connected mobile
-after_connect mobile (Some initial) = connected (queueing mobile Zero initial)
+after_connect mobile None = connected_mobile mobile
+after_connect mobile (Some initial) = connected_mobile (after_queue mobile Zero initial)
 
 abbrev pub refusal_of_connect : Option (List ℕ) → Option MobileFault
 refusal_of_connect None = None
@@ -70,14 +70,14 @@ abbrev pub refusal_of_send : MobileState → Sapi → List ℕ → Option Mobile
 refusal_of_send mobile sapi message =
     first_refusal (refusal_before_connect mobile.stage) (if is_sendable sapi message then None else Some BadMessage)
 
-abbrev pub framed_at : Stage → Place → Option (List ℕ) → Result (Option (List ℕ)) MobileFault
-framed_at New place message = Err NotConnected
-framed_at Connected Moving message = Ok None
-framed_at Connected OnChannel message = Ok message
+abbrev pub frame_answer_at : Stage → Place → Option (List ℕ) → Result (Option (List ℕ)) MobileFault
+frame_answer_at New place message = Err NotConnected
+frame_answer_at Connected Moving message = Ok None
+frame_answer_at Connected OnChannel message = Ok message
 
 -- what `frame` answers: the message in the air that the station hasn't taken yet, if there is one
-abbrev pub framed : MobileState → Sapi → Result (Option (List ℕ)) MobileFault
-framed mobile sapi = framed_at mobile.stage mobile.place (lent (link_of mobile sapi))
+abbrev pub frame_answer : MobileState → Sapi → Result (Option (List ℕ)) MobileFault
+frame_answer mobile sapi = frame_answer_at mobile.stage mobile.place (lent_message (link_of mobile sapi))
 
 abbrev pub after_frame_at : Stage → Place → MobileState → Sapi → MobileState
 after_frame_at Connected OnChannel mobile sapi = with_link mobile sapi (after_lending (link_of mobile sapi))
@@ -108,4 +108,4 @@ after_leave mobile = record mobile { place = Moving }
 
 -- The mobile after `arrive` or `give_up`: on the channel its control message comes first, and then what wasn't acknowledged.
 abbrev pub after_arrival : MobileState → List ℕ → MobileState
-after_arrival mobile control = record mobile { place = OnChannel; zero = resumed mobile.zero control; three = repeated mobile.three }
+after_arrival mobile control = record mobile { place = OnChannel; zero = after_resume mobile.zero control; three = after_repeat mobile.three }

@@ -4,7 +4,7 @@ ghost use Rattle.std.specs.Borrow.{sem};
 ghost use Rattle.link_model.specs.declared.air_link.Air.TheVariants.{Empty};
 ghost use Rattle.link_model.specs.AirLink.{is_reached};
 ghost use Rattle.mobile_end.specs.Control.{is_control, without_control};
-ghost use Rattle.mobile_end.specs.DataLink.{waits, loaded, lent, after_lending, after_acknowledgement, resumed, repeated};
+ghost use Rattle.mobile_end.specs.DataLink.{waits, after_load, lent_message, after_lending, after_acknowledgement, after_resume, after_repeat};
 ghost use Rattle.mobile_end.specs.RestsLent.{RestsLent};
 
 use dtap_codec::{RADIO_RESOURCE, pd_of};
@@ -15,7 +15,7 @@ use std::collections::VecDeque;
 use std::marker::Model;
 
 /// The data link of one SAPI (TS 44.006): what stands in the air, and what waits behind it.
-#[derive(Debug, Drop)]
+#[derive(Drop)]
 pub(crate) struct DataLink {
     waiting: VecDeque<Octets>,
     air: AirLink,
@@ -52,7 +52,7 @@ impl DataLink {
     /// The message in the air, once, for the station to take. An empty air first takes the next message that waits.
     pub(crate) fn lend(&mut self) -> Option<&[u8]>
         ensures* after { sem 𝓛 (RestsLent self.entry) }
-        ensures message { option_map (λ message. message.now) result ≡ lent self.old }
+        ensures message { option_map (λ message. message.now) result ≡ lent_message self.old }
     {
         self.load();
         self.air.reach()
@@ -60,7 +60,7 @@ impl DataLink {
 
     /// Gives the next message that waits to the air, where that is empty.
     fn load(&mut self)
-        ensures { self.new ≡ loaded self.old }
+        ensures { self.new ≡ after_load self.old }
     {
         if self.air.is_empty() {
             if let Some(message) = self.waiting.pop_front() {
@@ -80,7 +80,7 @@ impl DataLink {
     /// Takes the link to another channel: the control message stands in the air, and behind it what wasn't acknowledged
     /// waits again, without control messages of an earlier channel.
     pub(crate) fn resume(&mut self, control: Vec<u8>) -> Result<(), Memory>
-        ensures ok { OnOk result (self.new ≡ resumed self.old control.items) }
+        ensures ok { OnOk result (self.new ≡ after_resume self.old control.items) }
         ensures err { OnErr result (self.new ≡ self.old) }
     {
         self.waiting.reserve(1)?;
@@ -96,7 +96,7 @@ impl DataLink {
 
     /// Takes the link to another channel, where the message that wasn't acknowledged stands in the air again.
     pub(crate) fn repeat(&mut self)
-        ensures { self.new ≡ repeated self.old }
+        ensures { self.new ≡ after_repeat self.old }
     {
         if let Some(message) = self.air.cut() {
             self.air.give(message).unwrap();

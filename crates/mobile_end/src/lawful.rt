@@ -10,7 +10,10 @@ use dtap_codec::{
 /// connection request (Q.713).
 pub const INITIAL_LIMIT: usize = 113;
 
-/// Whether the upper layers may send this message on this SAPI: it has 1 to 251 octets, it isn't of radio resource
+/// Bit 7 of the second octet, the lower one of the two of the send sequence number: below it both are clear.
+const NUMBER_BIT: u8 = 0x40;
+
+/// Whether the upper layers may send this message on this SAPI: it has 1 to `MESSAGE_LIMIT` octets, it isn't of radio resource
 /// management, a message of the flow has a whole header with no number in it, and short messages alone take SAPI 3.
 pub(crate) fn is_sendable(sapi: Sapi, message: &[u8]) -> bool
     ensures { result ≡ is_sendable sapi message.now }
@@ -25,7 +28,7 @@ pub(crate) fn is_sendable(sapi: Sapi, message: &[u8]) -> bool
     message.len() <= MESSAGE_LIMIT && on_its_sapi && has_clear_number(message)
 }
 
-/// Whether a connection may begin with this message: it has 1 to 113 octets and is of mobility management, with no
+/// Whether a connection may begin with this message: it has 1 to `INITIAL_LIMIT` octets and is of mobility management, with no
 /// number in it, or of radio resource management.
 pub(crate) fn is_initial(message: &[u8]) -> bool
     ensures { result ≡ is_initial message.now }
@@ -44,7 +47,7 @@ fn has_clear_number(message: &[u8]) -> bool
 {
     match pd_of(message) {
         Some(CALL_CONTROL | MOBILITY_MANAGEMENT | SUPPLEMENTARY_SERVICES) => match message {
-            [_, second, ..] => *second < 0x40,
+            [_, second, ..] => *second < NUMBER_BIT,
             _ => false,
         },
         _ => true,

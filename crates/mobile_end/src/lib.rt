@@ -12,5 +12,3 @@ mod fault;
 mod lawful;
 mod laws;
 mod mobile_end;
-#[cfg(test)]
-mod tests;

@@ -4,7 +4,7 @@ ghost use Rattle.std.specs.Borrow.{sem};
 ghost use Rattle.octets.specs.Refusal.{RefusesBy};
 ghost use Rattle.dtap_codec.specs.Message.{is_flow_message};
 ghost use Rattle.dtap_codec.specs.Number.{count_of};
-ghost use Rattle.mobile_end.specs.Mobile.{new_mobile, numbering, queueing, after_connect, refusal_of_connect, after_frame, framed, after_acked, is_acknowledged, after_leave, after_arrival, refusal_of_send};
+ghost use Rattle.mobile_end.specs.Mobile.{new_mobile, after_number, after_queue, after_connect, refusal_of_connect, after_frame, frame_answer, after_acked, is_acknowledged, after_leave, after_arrival, refusal_of_send};
 ghost use Rattle.mobile_end.specs.Control.{is_control};
 ghost use Rattle.mobile_end.specs.RestsFramed.{RestsFramed};
 
@@ -17,14 +17,14 @@ use std::alloc::Global;
 use std::marker::Model;
 
 /// Whether the mobile is connected.
-#[derive(Clone, Copy, Debug, PartialEq, Eq)]
+#[derive(Clone, Copy, PartialEq, Eq)]
 pub enum Stage {
     New,
     Connected,
 }
 
 /// Where the mobile is.
-#[derive(Clone, Copy, Debug, PartialEq, Eq)]
+#[derive(Clone, Copy, PartialEq, Eq)]
 pub enum Place {
     /// On a channel, its first one before any `leave`.
     OnChannel,
@@ -35,7 +35,7 @@ pub enum Place {
 /// A mobile: what its upper layers send goes into the air with the send sequence number of its place
 /// (TS 24.007 clause 11.2.3.2.3), one message at a time per SAPI (TS 44.006). On another channel it sends again the one that
 /// wasn't acknowledged, with the same number, and no other.
-#[derive(Debug, Drop)]
+#[derive(Drop)]
 pub struct MobileEnd {
     alloc: Global,
     modulus: Modulus,
@@ -108,7 +108,7 @@ impl MobileEnd {
     /// `connect`, and then as `BadMessage` where it hasn't 1 to 251 octets, is of radio resource management, is of the
     /// flow with less than its header or with a number in it, or isn't on its SAPI, which is 3 for short messages alone.
     pub fn send(&mut self, sapi: Sapi, message: Vec<u8>) -> Result<(), MobileFault>
-        ensures ok { OnOk result (self.new ≡ queueing self.old sapi message.items) }
+        ensures ok { OnOk result (self.new ≡ after_queue self.old sapi message.items) }
         ensures refused { RefusesBy MobileFault.Memory result (refusal_of_send self.old sapi message.items) }
         ensures err { OnErr result (self.new ≡ self.old) }
     {
@@ -124,7 +124,7 @@ impl MobileEnd {
 
     /// Lets a message wait on the data link of this SAPI, one of the flow with its number on that of SAPI 0.
     fn queue(&mut self, sapi: Sapi, message: Vec<u8>) -> Result<(), Memory>
-        ensures ok { OnOk result (self.new ≡ queueing self.old sapi message.items) }
+        ensures ok { OnOk result (self.new ≡ after_queue self.old sapi message.items) }
         ensures err { OnErr result (self.new ≡ self.old) }
     {
         if is_flow(&message) {
@@ -139,7 +139,7 @@ impl MobileEnd {
     /// Numbers a message of the flow, which waits and joins the sent list.
     fn number(&mut self, message: Vec<u8>) -> Result<(), Memory>
         requires { is_flow_message message.items ≡ true }
-        ensures ok { OnOk result (self.new ≡ numbering self.old message.items) }
+        ensures ok { OnOk result (self.new ≡ after_number self.old message.items) }
         ensures err { OnErr result (self.new ≡ self.old) }
     {
         self.sent.reserve(1)?;
@@ -154,7 +154,7 @@ impl MobileEnd {
     /// that waits. Before `connect` it is refused as `NotConnected`; between two channels there is none. It takes no memory.
     pub fn frame(&mut self, sapi: Sapi) -> Result<Option<&[u8]>, MobileFault>
         ensures* after { sem 𝓛 (RestsFramed self.entry sapi) }
-        ensures frame { result_map_both (option_map (λ frame. frame.now)) (λ fault. fault) result ≡ framed self.old sapi }
+        ensures frame { result_map_both (option_map (λ frame. frame.now)) (λ fault. fault) result ≡ frame_answer self.old sapi }
     {
         if self.stage == Stage::New {
             return Err(MobileFault::NotConnected);

@@ -1,3 +1,4 @@
+use Rattle.ho_decision.specs.declared.settings.TheConstants.{MAX_WINDOW}
 use Rattle.ho_decision.proofs.Ten.{serving_average-last, quality-last, neighbour_average-last, Decides-last, Decides-of_last, last-push}
 use Rattle.ho_decision.proofs.law.ten_reports_are_enough.Goals as goal
 
@@ -7,5 +8,5 @@ returns c = record {
   quality = quality-last;
   neighbour = neighbour_average-last;
   decision = λ s all number d allowed. (Decides-last s all number d allowed, Decides-of_last s all number d allowed);
-  one_more = last-push 10;
+  one_more = last-push MAX_WINDOW;
 }

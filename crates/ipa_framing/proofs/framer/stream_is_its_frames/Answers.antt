@@ -1,4 +1,4 @@
-use Rattle.ipa_framing.specs.Held.{nothing_held}
+use Rattle.ipa_framing.specs.Framer.{new_framer}
 use Rattle.ipa_framing.proofs.Stream.{run_fails, run_splits, splits_only, splits_some}
 use Rattle.ipa_framing.proofs.framer.stream_is_its_frames.Goals as goal
 
@@ -9,7 +9,7 @@ pub returns-clause-only : goal.returns-clause-only
 returns-clause-only c = splits_only
 
 pub returns-clause-calls : goal.returns-clause-calls
-returns-clause-calls c = λ calls held frames rest run splits. run_splits calls nothing_held held frames rest run splits
+returns-clause-calls c = λ calls held frames rest run splits. run_splits calls new_framer held frames rest run splits
 
 pub returns-clause-refused : goal.returns-clause-refused
-returns-clause-refused c = λ calls held run failed. run_fails calls nothing_held held run (λ h. absurd cc) failed
+returns-clause-refused c = λ calls held run failed. run_fails calls new_framer held run (λ h. absurd cc) failed

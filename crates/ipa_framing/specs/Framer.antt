@@ -1,4 +1,4 @@
--- What a framer holds, and what its calls answer.
+-- What a framer keeps, and what its calls answer.
 use Rattle.std.specs.Prelude.{◌≡◌, ℕ, Bool, true, false, List, [], ◌∷◌, ◌++◌, Option, Some, None, Result, Ok, Err}
 use Rattle.ipa_framing.specs.declared.frame.Frame.{Frame}
 use Rattle.ipa_framing.specs.declared.fault.FrameFault.{FrameFault}
@@ -6,15 +6,16 @@ use Rattle.ipa_framing.specs.declared.fault.FrameFault.TheVariants.{TooLong, Mem
 use Rattle.ipa_framing.specs.Frame.{frame_text, IsFrame, IsPartial, IsTooLong}
 
 -- the octets that were fed and belong to no frame taken so far, and whether one of them was met as too long
-pub record Held : Type 0 where
+pub record FramerState : Type 0 where
   pub octets : List ℕ
   pub failed : Bool
 
-abbrev pub nothing_held : Held
-nothing_held = record { octets = []; failed = false }
+-- a framer that was fed nothing
+abbrev pub new_framer : FramerState
+new_framer = record { octets = []; failed = false }
 
 -- Feeding a piece appends it; it is refused as too long exactly after a frame was.
-abbrev pub Feeds : {X : Type 0} → Held → List ℕ → Result X FrameFault → Held → Type 0
+abbrev pub Feeds : {X : Type 0} → FramerState → List ℕ → Result X FrameFault → FramerState → Type 0
 Feeds old piece (Ok _) new = (old.failed ≡ false) × (new ≡ record { octets = old.octets ++ piece; failed = false })
 Feeds old piece (Err TooLong) new = (old.failed ≡ true) × (new ≡ old)
 Feeds old piece (Err Memory) new = (old.failed ≡ false) × (new ≡ old)
@@ -25,7 +26,7 @@ BeginsWith octets f rest = IsFrame f × (octets ≡ frame_text f ++ rest)
 
 -- The next frame is taken where it stands whole at the front, nothing where it was only started, and a length that
 -- is too long is refused. Memory is wanted for a whole frame alone.
-abbrev pub Takes : Held → Result (Option Frame) FrameFault → Held → Type 0
+abbrev pub Takes : FramerState → Result (Option Frame) FrameFault → FramerState → Type 0
 Takes old (Ok (Some f)) new = BeginsWith old.octets f new.octets × (new.failed ≡ old.failed)
 Takes old (Ok None) new = IsPartial old.octets × (new ≡ old)
 Takes old (Err TooLong) new = IsTooLong old.octets × (new ≡ record { octets = old.octets; failed = true })
@@ -37,23 +38,23 @@ pub data Call : Type 0 where
   feed : List ℕ → Result (Unit {0}) FrameFault → Call
   next : Result (Option Frame) FrameFault → Call
 
-abbrev pub Does : Held → Call → Held → Type 0
+abbrev pub Does : FramerState → Call → FramerState → Type 0
 Does old (feed piece result) new = Feeds old piece result new
 Does old (next result) new = Takes old result new
 
--- the calls, each with its answer, lead from what was held to what is
-abbrev pub Run : Held → List Call → Held → Type 0
+-- the calls, each with its answer, lead from what was kept to what is
+abbrev pub Run : FramerState → List Call → FramerState → Type 0
 Run old [] new = old ≡ new
-Run old (c ∷ cs) new = (between : Held) × Does old c between × Run between cs new
+Run old (c ∷ cs) new = (between : FramerState) × Does old c between × Run between cs new
 
 -- the octets that were taken in, whatever pieces they came in
-abbrev pub fed : List Call → List ℕ
-fed [] = []
-fed (feed piece (Ok _) ∷ cs) = piece ++ fed cs
-fed (_ ∷ cs) = fed cs
+abbrev pub octets_of : List Call → List ℕ
+octets_of [] = []
+octets_of (feed piece (Ok _) ∷ cs) = piece ++ octets_of cs
+octets_of (_ ∷ cs) = octets_of cs
 
 -- the frames that were given out
-abbrev pub given : List Call → List Frame
-given [] = []
-given (next (Ok (Some f)) ∷ cs) = f ∷ given cs
-given (_ ∷ cs) = given cs
+abbrev pub frames_of : List Call → List Frame
+frames_of [] = []
+frames_of (next (Ok (Some f)) ∷ cs) = f ∷ frames_of cs
+frames_of (_ ∷ cs) = frames_of cs

@@ -1,0 +1,141 @@
+-- Definitions against literal octets: frames of each stream, and those at the limit of a body, 2048 octets.
+use Rattle.std.proofs.Common.{◌≡◌, ℕ, List, [], ◌∷◌, ◌++◌, replicate, true, false, Some, None, Ok, Err, inl, inr, refl, arith}
+use Rattle.ipa_framing.specs.declared.fault.FrameFault.TheVariants.{TooLong, Memory}
+use Rattle.ipa_framing.specs.Frame.{frame_text, write_fault, IsPartial, IsTooLong, Splits}
+use Rattle.ipa_framing.specs.Framer.{FramerState, new_framer, Feeds, Takes, Run, feed, next, octets_of, frames_of}
+use Rattle.ipa_framing.specs.Front.{frame, front_of}
+
+-- ---- the octets of a frame
+
+ping : frame_text (frame 0xfe (0x00 ∷ [])) ≡ 0x00 ∷ 0x01 ∷ 0xfe ∷ 0x00 ∷ []
+ping = refl
+
+empty_body : frame_text (frame 0x00 []) ≡ 0x00 ∷ 0x00 ∷ 0x00 ∷ []
+empty_body = refl
+
+relayed : frame_text (frame 0xfd (0x06 ∷ 0x80 ∷ 0x00 ∷ 0x01 ∷ 0x00 ∷ 0x01 ∷ 0x05 ∷ 0x01 ∷ 0x00 ∷ 0x02 ∷ 0x03 ∷ 0x45 ∷ [])) ≡
+    0x00 ∷ 0x0c ∷ 0xfd ∷ 0x06 ∷ 0x80 ∷ 0x00 ∷ 0x01 ∷ 0x00 ∷ 0x01 ∷ 0x05 ∷ 0x01 ∷ 0x00 ∷ 0x02 ∷ 0x03 ∷ 0x45 ∷ []
+relayed = refl
+
+-- the high octet of the length comes first
+long_body : frame_text (frame 0xff (replicate 258 0x33)) ≡ 0x01 ∷ 0x02 ∷ 0xff ∷ replicate 258 0x33
+long_body = refl
+
+longest : frame_text (frame 0x00 (replicate 2048 0x33)) ≡ 0x08 ∷ 0x00 ∷ 0x00 ∷ replicate 2048 0x33
+longest = refl
+
+longest_is_written : write_fault (frame 0x00 (replicate 2048 0x33)) ≡ None
+longest_is_written = refl
+
+longer_is_refused : write_fault (frame 0x00 (replicate 2049 0x33)) ≡ Some TooLong
+longer_is_refused = refl
+
+-- ---- frames that were started, and those that are too long
+
+no_octet : IsPartial []
+no_octet = tt
+
+half_a_length : IsPartial (0x08 ∷ [])
+half_a_length = tt
+
+body_missing : IsPartial (0x00 ∷ 0x01 ∷ 0xfe ∷ [])
+body_missing = (omega arith, omega arith)
+
+longest_started : IsPartial (0x08 ∷ 0x00 ∷ [])
+longest_started = (omega arith, omega arith)
+
+whole_is_not_partial : IsPartial (0x00 ∷ 0x01 ∷ 0xfe ∷ 0x00 ∷ []) → ⊥
+whole_is_not_partial partial = omega (arith, partial.1)
+
+longer : IsTooLong (0x08 ∷ 0x01 ∷ [])
+longer = omega arith
+
+longest_is_not_too_long : IsTooLong (0x08 ∷ 0x00 ∷ []) → ⊥
+longest_is_not_too_long long = omega (arith, long)
+
+longer_is_not_partial : IsPartial (0x08 ∷ 0x01 ∷ []) → ⊥
+longer_is_not_partial partial = omega (arith, partial.0)
+
+-- ---- streams
+
+two_frames_and_a_rest : Splits (0x00 ∷ 0x00 ∷ 0x00 ∷ 0x00 ∷ 0x01 ∷ 0xfe ∷ 0x00 ∷ 0x00 ∷ 0x0b ∷ 0xfd ∷ []) (frame 0x00 [] ∷ frame 0xfe (0x00 ∷ []) ∷ []) (0x00 ∷ 0x0b ∷ 0xfd ∷ [])
+two_frames_and_a_rest = record {
+  whole = refl;
+  each = (omega arith, (omega arith, tt));
+  stops = inl (omega arith, omega arith);
+}
+
+longest_and_one_longer : Splits (0x08 ∷ 0x00 ∷ 0x00 ∷ (replicate 2048 0x33 ++ 0x08 ∷ 0x01 ∷ [])) (frame 0x00 (replicate 2048 0x33) ∷ []) (0x08 ∷ 0x01 ∷ [])
+longest_and_one_longer = record { whole = refl; each = (omega arith, tt); stops = inr (omega arith) }
+
+-- ---- the front of octets
+
+front_is_ping : front_of (0x00 ∷ 0x01 ∷ 0xfe ∷ 0x00 ∷ 0x07 ∷ []) ≡ Ok (Some (0xfe, 0x00 ∷ [], 0x07 ∷ []))
+front_is_ping = refl
+
+front_is_longest : front_of (0x08 ∷ 0x00 ∷ 0xfd ∷ (replicate 2048 0x33 ++ 0x07 ∷ [])) ≡ Ok (Some (0xfd, replicate 2048 0x33, 0x07 ∷ []))
+front_is_longest = refl
+
+front_is_longer : front_of (0x08 ∷ 0x01 ∷ []) ≡ Err TooLong
+front_is_longer = refl
+
+front_is_started : front_of (0x00 ∷ 0x02 ∷ 0xfe ∷ 0x00 ∷ []) ≡ Ok None
+front_is_started = refl
+
+-- ---- calls
+
+abbrev holding : List ℕ → FramerState
+holding octets = record { octets = octets; failed = false }
+
+abbrev failed : List ℕ → FramerState
+failed octets = record { octets = octets; failed = true }
+
+piece_taken : Feeds {X = Unit {0}} (holding (0x00 ∷ 0x01 ∷ [])) (0xfe ∷ 0x00 ∷ []) (Ok tt) (holding (0x00 ∷ 0x01 ∷ 0xfe ∷ 0x00 ∷ []))
+piece_taken = (refl, refl)
+
+piece_refused : Feeds {X = Unit {0}} (failed (0x08 ∷ 0x01 ∷ [])) (0x00 ∷ []) (Err TooLong) (failed (0x08 ∷ 0x01 ∷ []))
+piece_refused = (refl, refl)
+
+ping_taken : Takes (holding (0x00 ∷ 0x01 ∷ 0xfe ∷ 0x00 ∷ 0x07 ∷ [])) (Ok (Some (frame 0xfe (0x00 ∷ [])))) (holding (0x07 ∷ []))
+ping_taken = ((omega arith, refl), refl)
+
+nothing_taken : Takes (holding (0x00 ∷ 0x01 ∷ 0xfe ∷ [])) (Ok None) (holding (0x00 ∷ 0x01 ∷ 0xfe ∷ []))
+nothing_taken = ((omega arith, omega arith), refl)
+
+longer_met : Takes (holding (0x08 ∷ 0x01 ∷ [])) (Err TooLong) (failed (0x08 ∷ 0x01 ∷ []))
+longer_met = (omega arith, refl)
+
+longer_met_again : Takes (failed (0x08 ∷ 0x01 ∷ [])) (Err TooLong) (failed (0x08 ∷ 0x01 ∷ []))
+longer_met_again = (omega arith, refl)
+
+-- a frame in two pieces, and behind it the length of one that is too long
+cut_in_two : Run new_framer
+    (feed (0x00 ∷ 0x01 ∷ 0xfe ∷ []) (Ok tt) ∷ next (Ok None) ∷ feed (0x00 ∷ 0x08 ∷ 0x01 ∷ []) (Ok tt) ∷ next (Ok (Some (frame 0xfe (0x00 ∷ [])))) ∷ next (Err TooLong) ∷ [])
+    (failed (0x08 ∷ 0x01 ∷ []))
+cut_in_two = (
+  holding (0x00 ∷ 0x01 ∷ 0xfe ∷ []),
+  (refl, refl),
+  (
+    holding (0x00 ∷ 0x01 ∷ 0xfe ∷ []),
+    ((omega arith, omega arith), refl),
+    (
+      holding (0x00 ∷ 0x01 ∷ 0xfe ∷ 0x00 ∷ 0x08 ∷ 0x01 ∷ []),
+      (refl, refl),
+      (
+        holding (0x08 ∷ 0x01 ∷ []),
+        ((omega arith, refl), refl),
+        (
+          failed (0x08 ∷ 0x01 ∷ []),
+          (omega arith, refl),
+          refl,
+        ),
+      ),
+    ),
+  ),
+)
+
+octets_of_calls : octets_of (feed (0x00 ∷ 0x01 ∷ []) (Ok tt) ∷ feed (0x05 ∷ []) (Err Memory) ∷ next (Ok None) ∷ feed (0xfe ∷ 0x00 ∷ []) (Ok tt) ∷ []) ≡ 0x00 ∷ 0x01 ∷ 0xfe ∷ 0x00 ∷ []
+octets_of_calls = refl
+
+frames_of_calls : frames_of (next (Ok None) ∷ next (Ok (Some (frame 0xfe (0x00 ∷ [])))) ∷ next (Err TooLong) ∷ next (Ok (Some (frame 0x00 []))) ∷ []) ≡ frame 0xfe (0x00 ∷ []) ∷ frame 0x00 [] ∷ []
+frames_of_calls = refl

@@ -1,0 +1,321 @@
+-- Definitions against literal messages: which may be sent, what each call does, and a short life of a mobile.
+use Rattle.std.proofs.Common.{◌≡◌, ℕ, true, false, List, [], ◌∷◌, replicate, Some, None, Ok, Err, refl, arith}
+use Rattle.dtap_codec.specs.declared.sapi.Sapi.TheVariants.{Zero, Three}
+use Rattle.link_model.specs.declared.air_link.Air.TheVariants.{Empty, Given, Reached}
+use Rattle.mobile_end.specs.declared.fault.MobileFault.TheVariants.{NotConnected, BadMessage}
+use Rattle.mobile_end.specs.declared.mobile_end.Place.TheVariants.{OnChannel, Moving}
+use Rattle.mobile_end.specs.declared.mobile_end.Stage.TheVariants.{New, Connected}
+use Rattle.mobile_end.specs.Control.{is_control, without_control}
+use Rattle.mobile_end.specs.DataLinkState.{DataLinkState}
+use Rattle.mobile_end.specs.DataLink.{waits, lent_message, after_lending, after_acknowledgement, after_resume, after_repeat}
+use Rattle.mobile_end.specs.Lawful.{is_initial, is_sendable}
+use Rattle.mobile_end.specs.MobileState.{MobileState}
+use Rattle.mobile_end.specs.Mobile.{new_mobile, idle_link, after_connect, refusal_of_connect, after_queue, refusal_of_send, frame_answer, after_frame, is_acknowledged, after_acked, after_leave, after_arrival}
+use Rattle.mobile_end.specs.Calls.{Call, after_calls, taken_by_calls, establishments}
+use Rattle.mobile_end.specs.Calls.Call.{connects, sends, frames, acknowledges, leaves, arrives, gives_up}
+use Rattle.mobile_end.specs.OneRepeat.{OneRepeat}
+use Rattle.mobile_end.specs.OneRepeat.OneRepeat.{over, goes_on, repeats}
+
+-- ---- what may be sent
+
+nothing_is_sent : is_sendable Zero [] ≡ false
+nothing_is_sent = refl
+
+one_octet : is_sendable Zero (0x08 ∷ []) ≡ true
+one_octet = refl
+
+call_control_of_one_octet : is_sendable Zero (0x03 ∷ []) ≡ false
+call_control_of_one_octet = refl
+
+mobility_management_of_one_octet : is_sendable Zero (0x05 ∷ []) ≡ false
+mobility_management_of_one_octet = refl
+
+supplementary_services_of_one_octet : is_sendable Zero (0x0b ∷ []) ≡ false
+supplementary_services_of_one_octet = refl
+
+call_control : is_sendable Zero (0x83 ∷ 0x3f ∷ []) ≡ true
+call_control = refl
+
+mobility_management : is_sendable Zero (0x05 ∷ 0x24 ∷ 0x71 ∷ []) ≡ true
+mobility_management = refl
+
+supplementary_services : is_sendable Zero (0x0b ∷ 0x3b ∷ []) ≡ true
+supplementary_services = refl
+
+call_control_with_number : is_sendable Zero (0x03 ∷ 0x45 ∷ []) ≡ false
+call_control_with_number = refl
+
+mobility_management_with_number : is_sendable Zero (0x05 ∷ 0xa4 ∷ []) ≡ false
+mobility_management_with_number = refl
+
+supplementary_services_with_number : is_sendable Zero (0x0b ∷ 0xc0 ∷ []) ≡ false
+supplementary_services_with_number = refl
+
+radio_resource : is_sendable Zero (0x06 ∷ 0x27 ∷ []) ≡ false
+radio_resource = refl
+
+radio_resource_on_sapi_three : is_sendable Three (0x06 ∷ 0x27 ∷ []) ≡ false
+radio_resource_on_sapi_three = refl
+
+short_message_on_sapi_zero : is_sendable Zero (0x09 ∷ 0x01 ∷ []) ≡ false
+short_message_on_sapi_zero = refl
+
+-- short messages have no number
+short_message : is_sendable Three (0x09 ∷ 0xc1 ∷ []) ≡ true
+short_message = refl
+
+short_message_of_one_octet : is_sendable Three (0x29 ∷ []) ≡ true
+short_message_of_one_octet = refl
+
+call_control_on_sapi_three : is_sendable Three (0x03 ∷ 0x05 ∷ []) ≡ false
+call_control_on_sapi_three = refl
+
+longest : is_sendable Zero (0x03 ∷ 0x05 ∷ replicate 249 0xff) ≡ true
+longest = refl
+
+longer : is_sendable Zero (0x03 ∷ 0x05 ∷ replicate 250 0xff) ≡ false
+longer = refl
+
+longest_short_message : is_sendable Three (0x09 ∷ replicate 250 0xff) ≡ true
+longest_short_message = refl
+
+longer_short_message : is_sendable Three (0x09 ∷ replicate 251 0xff) ≡ false
+longer_short_message = refl
+
+-- ---- with what a connection begins
+
+nothing_is_initial : is_initial [] ≡ false
+nothing_is_initial = refl
+
+service_request : is_initial (0x05 ∷ 0x24 ∷ 0x71 ∷ []) ≡ true
+service_request = refl
+
+service_request_with_number : is_initial (0x05 ∷ 0x64 ∷ 0x71 ∷ []) ≡ false
+service_request_with_number = refl
+
+initial_of_one_octet : is_initial (0x05 ∷ []) ≡ false
+initial_of_one_octet = refl
+
+paging_response : is_initial (0x06 ∷ 0x27 ∷ 0x71 ∷ []) ≡ true
+paging_response = refl
+
+radio_resource_of_one_octet : is_initial (0x06 ∷ []) ≡ true
+radio_resource_of_one_octet = refl
+
+initial_call_control : is_initial (0x03 ∷ 0x05 ∷ []) ≡ false
+initial_call_control = refl
+
+initial_short_message : is_initial (0x09 ∷ 0x01 ∷ []) ≡ false
+initial_short_message = refl
+
+initial_supplementary_services : is_initial (0x0b ∷ 0x3b ∷ []) ≡ false
+initial_supplementary_services = refl
+
+longest_initial : is_initial (0x05 ∷ 0x24 ∷ replicate 111 0xff) ≡ true
+longest_initial = refl
+
+longer_initial : is_initial (0x05 ∷ 0x24 ∷ replicate 112 0xff) ≡ false
+longer_initial = refl
+
+longest_paging_response : is_initial (0x06 ∷ 0x27 ∷ replicate 111 0xff) ≡ true
+longest_paging_response = refl
+
+longer_paging_response : is_initial (0x06 ∷ 0x27 ∷ replicate 112 0xff) ≡ false
+longer_paging_response = refl
+
+-- ---- radio resource messages
+
+complete_is_control : is_control (0x06 ∷ 0x29 ∷ 0x00 ∷ []) ≡ true
+complete_is_control = refl
+
+control_with_high_bits : is_control (0x16 ∷ []) ≡ true
+control_with_high_bits = refl
+
+nothing_is_no_control : is_control [] ≡ false
+nothing_is_no_control = refl
+
+control_left_out : without_control ((0x03 ∷ 0x05 ∷ []) ∷ (0x06 ∷ 0x29 ∷ 0x00 ∷ []) ∷ (0x05 ∷ 0x24 ∷ []) ∷ []) ≡ (0x03 ∷ 0x05 ∷ []) ∷ (0x05 ∷ 0x24 ∷ []) ∷ []
+control_left_out = refl
+
+-- ---- a data link
+
+abbrev link : List (List ℕ) → DataLinkState
+link waiting = record { waiting = waiting; air = Empty }
+
+waits_behind : waits (link ((0x03 ∷ 0x05 ∷ []) ∷ [])) (0x03 ∷ 0x4f ∷ []) ≡ link ((0x03 ∷ 0x05 ∷ []) ∷ (0x03 ∷ 0x4f ∷ []) ∷ [])
+waits_behind = refl
+
+first_is_lent : lent_message (link ((0x03 ∷ 0x05 ∷ []) ∷ (0x03 ∷ 0x4f ∷ []) ∷ [])) ≡ Some (0x03 ∷ 0x05 ∷ [])
+first_is_lent = refl
+
+after_the_first : after_lending (link ((0x03 ∷ 0x05 ∷ []) ∷ (0x03 ∷ 0x4f ∷ []) ∷ [])) ≡ record { waiting = (0x03 ∷ 0x4f ∷ []) ∷ []; air = Reached (0x03 ∷ 0x05 ∷ []) }
+after_the_first = refl
+
+lent_once : lent_message (record { waiting = (0x03 ∷ 0x4f ∷ []) ∷ []; air = Reached (0x03 ∷ 0x05 ∷ []) }) ≡ None
+lent_once = refl
+
+free_again : after_acknowledgement (record { waiting = (0x03 ∷ 0x4f ∷ []) ∷ []; air = Reached (0x03 ∷ 0x05 ∷ []) }) ≡ link ((0x03 ∷ 0x4f ∷ []) ∷ [])
+free_again = refl
+
+not_free_before : after_acknowledgement (record { waiting = []; air = Given (0x03 ∷ 0x05 ∷ []) }) ≡ record { waiting = []; air = Given (0x03 ∷ 0x05 ∷ []) }
+not_free_before = refl
+
+resumes_with_control : after_resume (record { waiting = (0x06 ∷ 0x27 ∷ []) ∷ (0x03 ∷ 0x4f ∷ []) ∷ []; air = Reached (0x03 ∷ 0x05 ∷ []) }) (0x06 ∷ 0x29 ∷ 0x00 ∷ []) ≡
+    record { waiting = (0x03 ∷ 0x05 ∷ []) ∷ (0x03 ∷ 0x4f ∷ []) ∷ []; air = Given (0x06 ∷ 0x29 ∷ 0x00 ∷ []) }
+resumes_with_control = refl
+
+drops_earlier_control : after_resume (record { waiting = (0x03 ∷ 0x4f ∷ []) ∷ []; air = Given (0x06 ∷ 0x28 ∷ 0x03 ∷ []) }) (0x06 ∷ 0x29 ∷ 0x00 ∷ []) ≡
+    record { waiting = (0x03 ∷ 0x4f ∷ []) ∷ []; air = Given (0x06 ∷ 0x29 ∷ 0x00 ∷ []) }
+drops_earlier_control = refl
+
+repeats_in_air : after_repeat (record { waiting = (0x09 ∷ 0x04 ∷ []) ∷ []; air = Reached (0x09 ∷ 0x01 ∷ []) }) ≡ record { waiting = (0x09 ∷ 0x04 ∷ []) ∷ []; air = Given (0x09 ∷ 0x01 ∷ []) }
+repeats_in_air = refl
+
+nothing_to_repeat : after_repeat (link ((0x09 ∷ 0x04 ∷ []) ∷ [])) ≡ link ((0x09 ∷ 0x04 ∷ []) ∷ [])
+nothing_to_repeat = refl
+
+-- ---- the calls of a mobile: its place, two messages sent, and its data links
+
+abbrev mobile : DataLinkState → DataLinkState → MobileState
+mobile zero three = record { modulus = 4; stage = Connected; place = OnChannel; sent = (0x05 ∷ 0x24 ∷ []) ∷ (0x03 ∷ 0x05 ∷ []) ∷ []; zero = zero; three = three }
+
+abbrev moving : DataLinkState → DataLinkState → MobileState
+moving zero three = record (mobile zero three) { place = Moving }
+
+abbrev reached_zero : DataLinkState
+reached_zero = record { waiting = (0x0b ∷ 0x7b ∷ []) ∷ []; air = Reached (0x03 ∷ 0x45 ∷ []) }
+
+abbrev reached_three : DataLinkState
+reached_three = record { waiting = []; air = Reached (0x09 ∷ 0x01 ∷ []) }
+
+never_sent : new_mobile 4 ≡ record { modulus = 4; stage = New; place = OnChannel; sent = []; zero = record { waiting = []; air = Empty }; three = record { waiting = []; air = Empty } }
+never_sent = refl
+
+connects_without_message : after_connect (new_mobile 4) None ≡ record (new_mobile 4) { stage = Connected }
+connects_without_message = refl
+
+connects_with_service_request : after_connect (new_mobile 4) (Some (0x05 ∷ 0x24 ∷ 0x71 ∷ [])) ≡
+    record (new_mobile 4) { stage = Connected; sent = (0x05 ∷ 0x24 ∷ 0x71 ∷ []) ∷ []; zero = link ((0x05 ∷ 0x24 ∷ 0x71 ∷ []) ∷ []) }
+connects_with_service_request = refl
+
+connects_with_paging_response : after_connect (new_mobile 4) (Some (0x06 ∷ 0x27 ∷ 0x71 ∷ [])) ≡ record (new_mobile 4) { stage = Connected; zero = link ((0x06 ∷ 0x27 ∷ 0x71 ∷ []) ∷ []) }
+connects_with_paging_response = refl
+
+no_message_is_refused_not : refusal_of_connect None ≡ None
+no_message_is_refused_not = refl
+
+service_request_is_refused_not : refusal_of_connect (Some (0x05 ∷ 0x24 ∷ 0x71 ∷ [])) ≡ None
+service_request_is_refused_not = refl
+
+initial_is_refused : refusal_of_connect (Some (0x03 ∷ 0x05 ∷ [])) ≡ Some BadMessage
+initial_is_refused = refl
+
+numbered_by_place : after_queue (mobile idle_link idle_link) Zero (0x03 ∷ 0x0f ∷ []) ≡
+    record (mobile (link ((0x03 ∷ 0x8f ∷ []) ∷ [])) idle_link) { sent = (0x05 ∷ 0x24 ∷ []) ∷ (0x03 ∷ 0x05 ∷ []) ∷ (0x03 ∷ 0x0f ∷ []) ∷ [] }
+numbered_by_place = refl
+
+not_of_the_flow : after_queue (mobile idle_link idle_link) Zero (0x08 ∷ 0x0f ∷ []) ≡ mobile (link ((0x08 ∷ 0x0f ∷ []) ∷ [])) idle_link
+not_of_the_flow = refl
+
+short_message_waits : after_queue (mobile idle_link idle_link) Three (0x09 ∷ 0x0f ∷ []) ≡ mobile idle_link (link ((0x09 ∷ 0x0f ∷ []) ∷ []))
+short_message_waits = refl
+
+not_connected_first : refusal_of_send (new_mobile 4) Zero [] ≡ Some NotConnected
+not_connected_first = refl
+
+bad_message : refusal_of_send (mobile idle_link idle_link) Zero (0x06 ∷ 0x27 ∷ []) ≡ Some BadMessage
+bad_message = refl
+
+accepted : refusal_of_send (moving idle_link idle_link) Zero (0x03 ∷ 0x0f ∷ []) ≡ None
+accepted = refl
+
+frame_before_connect : frame_answer (new_mobile 4) Zero ≡ Err NotConnected
+frame_before_connect = refl
+
+frame_between_channels : frame_answer (moving (link ((0x03 ∷ 0x45 ∷ []) ∷ [])) idle_link) Zero ≡ Ok None
+frame_between_channels = refl
+
+state_between_channels : after_frame (moving (link ((0x03 ∷ 0x45 ∷ []) ∷ [])) idle_link) Zero ≡ moving (link ((0x03 ∷ 0x45 ∷ []) ∷ [])) idle_link
+state_between_channels = refl
+
+frame_of_sapi_zero : frame_answer (mobile (link ((0x03 ∷ 0x45 ∷ []) ∷ [])) (link ((0x09 ∷ 0x01 ∷ []) ∷ []))) Zero ≡ Ok (Some (0x03 ∷ 0x45 ∷ []))
+frame_of_sapi_zero = refl
+
+frame_of_sapi_three : frame_answer (mobile (link ((0x03 ∷ 0x45 ∷ []) ∷ [])) (link ((0x09 ∷ 0x01 ∷ []) ∷ []))) Three ≡ Ok (Some (0x09 ∷ 0x01 ∷ []))
+frame_of_sapi_three = refl
+
+frame_taken_on_sapi_three : after_frame (mobile reached_zero (link ((0x09 ∷ 0x01 ∷ []) ∷ []))) Three ≡ mobile reached_zero reached_three
+frame_taken_on_sapi_three = refl
+
+frame_comes_once : frame_answer (mobile reached_zero idle_link) Zero ≡ Ok None
+frame_comes_once = refl
+
+acknowledged_on_sapi_zero : is_acknowledged (mobile reached_zero idle_link) Zero ≡ true
+acknowledged_on_sapi_zero = refl
+
+nothing_on_sapi_three : is_acknowledged (mobile reached_zero idle_link) Three ≡ false
+nothing_on_sapi_three = refl
+
+not_between_channels : is_acknowledged (moving reached_zero reached_three) Zero ≡ false
+not_between_channels = refl
+
+free_on_sapi_zero : after_acked (mobile reached_zero reached_three) Zero ≡ mobile (link ((0x0b ∷ 0x7b ∷ []) ∷ [])) reached_three
+free_on_sapi_zero = refl
+
+kept_between_channels : after_acked (moving reached_zero reached_three) Zero ≡ moving reached_zero reached_three
+kept_between_channels = refl
+
+left : after_leave (mobile reached_zero reached_three) ≡ moving reached_zero reached_three
+left = refl
+
+arrived : after_arrival (moving reached_zero reached_three) (0x06 ∷ 0x2c ∷ 0x00 ∷ []) ≡
+    mobile (record { waiting = (0x03 ∷ 0x45 ∷ []) ∷ (0x0b ∷ 0x7b ∷ []) ∷ []; air = Given (0x06 ∷ 0x2c ∷ 0x00 ∷ []) }) (record { waiting = []; air = Given (0x09 ∷ 0x01 ∷ []) })
+arrived = refl
+
+-- ---- lives of a mobile
+
+-- it takes a message, arrives on another channel, takes it again there and another one, and returns
+abbrev life : List Call
+life =
+    connects None ∷ sends Zero (0x03 ∷ 0x05 ∷ []) ∷ frames Zero ∷ leaves ∷ frames Zero
+    ∷ arrives (0x06 ∷ 0x29 ∷ 0x00 ∷ []) ∷ frames Zero ∷ acknowledges Zero ∷ frames Zero ∷ acknowledges Zero
+    ∷ sends Zero (0x03 ∷ 0x0f ∷ []) ∷ frames Zero ∷ leaves
+    ∷ gives_up (0x06 ∷ 0x28 ∷ 0x03 ∷ []) ∷ frames Zero ∷ acknowledges Zero ∷ frames Zero ∷ []
+
+taken_in_life : taken_by_calls (new_mobile 4) life ≡
+    (0x03 ∷ 0x05 ∷ []) ∷ (0x06 ∷ 0x29 ∷ 0x00 ∷ []) ∷ (0x03 ∷ 0x05 ∷ []) ∷ (0x03 ∷ 0x4f ∷ []) ∷ (0x06 ∷ 0x28 ∷ 0x03 ∷ []) ∷ (0x03 ∷ 0x4f ∷ []) ∷ []
+taken_in_life = refl
+
+sent_in_life : (after_calls (new_mobile 4) life).sent ≡ (0x03 ∷ 0x05 ∷ []) ∷ (0x03 ∷ 0x0f ∷ []) ∷ []
+sent_in_life = refl
+
+establishments_of_life : establishments (new_mobile 4) [] life ≡
+    ((0x03 ∷ 0x05 ∷ []) ∷ [])
+    ∷ ((0x06 ∷ 0x29 ∷ 0x00 ∷ []) ∷ (0x03 ∷ 0x05 ∷ []) ∷ (0x03 ∷ 0x4f ∷ []) ∷ [])
+    ∷ ((0x06 ∷ 0x28 ∷ 0x03 ∷ []) ∷ (0x03 ∷ 0x4f ∷ []) ∷ []) ∷ []
+establishments_of_life = refl
+
+each_repeats_the_last : OneRepeat 4 ((0x03 ∷ 0x05 ∷ []) ∷ (0x03 ∷ 0x0f ∷ []) ∷ []) 0
+    (((0x03 ∷ 0x05 ∷ []) ∷ []) ∷ ((0x06 ∷ 0x29 ∷ 0x00 ∷ []) ∷ (0x03 ∷ 0x05 ∷ []) ∷ (0x03 ∷ 0x4f ∷ []) ∷ []) ∷ ((0x06 ∷ 0x28 ∷ 0x03 ∷ []) ∷ (0x03 ∷ 0x4f ∷ []) ∷ []) ∷ [])
+each_repeats_the_last =
+    repeats {p = 0} (omega arith) (record { begins = omega arith; ends = omega arith; taken = refl })
+    (repeats {p = 1} (omega arith) (record { begins = omega arith; ends = omega arith; taken = refl })
+    (goes_on {e = 2} (record { begins = omega arith; ends = omega arith; taken = refl }) (over 2)))
+
+taken_behind_service_request : taken_by_calls (new_mobile 4) (connects (Some (0x05 ∷ 0x24 ∷ 0x71 ∷ [])) ∷ sends Zero (0x03 ∷ 0x05 ∷ []) ∷ frames Zero ∷ acknowledges Zero ∷ frames Zero ∷ []) ≡
+    (0x05 ∷ 0x24 ∷ 0x71 ∷ []) ∷ (0x03 ∷ 0x45 ∷ []) ∷ []
+taken_behind_service_request = refl
+
+taken_behind_paging_response : taken_by_calls (new_mobile 4) (connects (Some (0x06 ∷ 0x27 ∷ 0x71 ∷ [])) ∷ sends Zero (0x03 ∷ 0x05 ∷ []) ∷ frames Zero ∷ acknowledges Zero ∷ frames Zero ∷ []) ≡
+    (0x06 ∷ 0x27 ∷ 0x71 ∷ []) ∷ (0x03 ∷ 0x05 ∷ []) ∷ []
+taken_behind_paging_response = refl
+
+numbers_go_round : (after_calls (new_mobile 4) (connects None ∷ replicate 6 (sends Zero (0x03 ∷ 0x01 ∷ [])))).zero.waiting ≡
+    (0x03 ∷ 0x01 ∷ []) ∷ (0x03 ∷ 0x41 ∷ []) ∷ (0x03 ∷ 0x81 ∷ []) ∷ (0x03 ∷ 0xc1 ∷ []) ∷ (0x03 ∷ 0x01 ∷ []) ∷ (0x03 ∷ 0x41 ∷ []) ∷ []
+numbers_go_round = refl
+
+refused_calls : after_calls (new_mobile 4) (sends Zero (0x03 ∷ 0x05 ∷ []) ∷ connects (Some (0x03 ∷ 0x05 ∷ [])) ∷ arrives (0x06 ∷ 0x29 ∷ 0x00 ∷ []) ∷ frames Zero ∷ []) ≡ new_mobile 4
+refused_calls = refl
+
+second_connect : after_calls (new_mobile 4) (connects None ∷ connects (Some (0x05 ∷ 0x24 ∷ [])) ∷ []) ≡ record (new_mobile 4) { stage = Connected }
+second_connect = refl
