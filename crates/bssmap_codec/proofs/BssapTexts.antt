@@ -11,7 +11,7 @@ use Rattle.bssmap_codec.specs.declared.bssap.Bssap.{Bssap}
 use Rattle.bssmap_codec.specs.declared.bssap.Bssap.TheVariants.{Management, Transfer}
 use Rattle.bssmap_codec.specs.declared.bssmap.Bssmap.{Bssmap}
 use Rattle.bssmap_codec.specs.declared.bssmap.Bssmap.TheVariants.{AssignmentRequest, AssignmentComplete, AssignmentFailure, HandoverPerformed, ClearCommand, ClearComplete, ClearRequest, SapiNReject, CipherModeCommand, CompleteLayer3Information, CipherModeReject}
-use Rattle.bssmap_codec.specs.declared.limits.TheConstants.{LENGTH_LIMIT}
+use Rattle.octets.specs.declared.limits.TheConstants.{LENGTH_LIMIT}
 use Rattle.bssmap_codec.specs.declared.identifiers.TheConstants.{ELEMENTS, CAUSE, CELL_IDENTIFIER, RR_CAUSE}
 use Rattle.bssmap_codec.specs.declared.values.RrCause.{RrCause}
 use Rattle.bssmap_codec.specs.Bssap.{fields, HasLayer3, IsBssmap, IsBssap}

@@ -7,7 +7,7 @@ use Rattle.octets.proofs.Steps.{bind_ok, ok_is, guard, octet_ok, counted_ok}
 use Rattle.octets.specs.Front.{octet_at, counted_at, counted_text}
 use Rattle.bssmap_codec.specs.declared.fault.InterfaceFault.{InterfaceFault}
 use Rattle.bssmap_codec.specs.declared.fault.InterfaceFault.TheVariants.{Short, BadPointer}
-use Rattle.bssmap_codec.specs.declared.limits.TheConstants.{LENGTH_LIMIT}
+use Rattle.octets.specs.declared.limits.TheConstants.{LENGTH_LIMIT}
 use Rattle.bssmap_codec.specs.declared.sccp_parameters.TheConstants.{NO_PART}
 use Rattle.bssmap_codec.specs.Reference.{IsReference, reference_text, references_text, reference_at, references_at}
 use Rattle.bssmap_codec.specs.Sccp.{Points, IsCounted as Counted, AreReferences}

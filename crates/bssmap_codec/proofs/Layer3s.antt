@@ -3,7 +3,7 @@ use Rattle.std.proofs.Common.{◌≡◌, ◌≢◌, ℕ, ◌≤◌, Bool, true, 
 use Rattle.std.proofs.lemmas.Bool.{le-ltb, ltb-false, ne_eqb, eqb-false}
 use Rattle.bssmap_codec.specs.declared.fault.InterfaceFault.{InterfaceFault}
 use Rattle.bssmap_codec.specs.declared.fault.InterfaceFault.TheVariants.{Short, TooLong}
-use Rattle.bssmap_codec.specs.declared.limits.TheConstants.{LAYER_3_LIMIT}
+use Rattle.octets.specs.declared.limits.TheConstants.{MESSAGE_LIMIT}
 use Rattle.bssmap_codec.specs.Layer3.{IsLayer3, layer3_fault}
 
 -- what a test lets through
@@ -16,11 +16,11 @@ nonzero n h = omega arith
 
 pub layer3_is : (message : List ℕ) → layer3_fault message ≡ None → IsLayer3 message
 layer3_is message e =
-    let a = chosen (eqb (length message) 0) Short (cond (ltb LAYER_3_LIMIT (length message)) (Some TooLong) None) e in
-    let b = chosen (ltb LAYER_3_LIMIT (length message)) TooLong None a.1 in
-    (nonzero (length message) (eqb-false (length message) 0 a.0), ltb-false LAYER_3_LIMIT (length message) b.0)
+    let a = chosen (eqb (length message) 0) Short (cond (ltb MESSAGE_LIMIT (length message)) (Some TooLong) None) e in
+    let b = chosen (ltb MESSAGE_LIMIT (length message)) TooLong None a.1 in
+    (nonzero (length message) (eqb-false (length message) 0 a.0), ltb-false MESSAGE_LIMIT (length message) b.0)
 
 pub layer3_passes : (message : List ℕ) → IsLayer3 message → layer3_fault message ≡ None
 layer3_passes message h =
     let some : length message ≢ 0 = omega (arith, h.0) in
-    rw (ne_eqb (length message) 0 some, le-ltb LAYER_3_LIMIT (length message) h.1) refl
+    rw (ne_eqb (length message) 0 some, le-ltb MESSAGE_LIMIT (length message) h.1) refl

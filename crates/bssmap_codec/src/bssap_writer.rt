@@ -4,7 +4,7 @@ ghost use Rattle.octets.specs.Front.{counted_text};
 ghost use Rattle.octets.specs.Refusal.{RefusesBy, first_refusal};
 ghost use Rattle.bssmap_codec.specs.declared.fault.InterfaceFault.TheVariants.{Memory as OutOfMemory};
 ghost use Rattle.bssmap_codec.specs.declared.identifiers.TheConstants.{ELEMENTS};
-ghost use Rattle.bssmap_codec.specs.declared.limits.TheConstants.{LENGTH_LIMIT};
+ghost use Rattle.octets.specs.declared.limits.TheConstants.{LENGTH_LIMIT};
 ghost use Rattle.bssmap_codec.specs.Bssap.{fields, rr_cause_field};
 ghost use Rattle.bssmap_codec.specs.BssapText.{bssap_text, bssap_write_fault, bssmap_text, bssmap_size, content_fault, rr_cause_size};
 ghost use Rattle.bssmap_codec.specs.SccpText.{size_fault};
@@ -13,11 +13,10 @@ use crate::bssap::{MANAGEMENT, TRANSFER};
 use crate::identifiers::{
     CAUSE, CELL_IDENTIFIER, CHANNEL_TYPE, DLCI, LAYER_3_INFORMATION, RR_CAUSE,
 };
-use crate::limits::LENGTH_LIMIT;
 use crate::{Bssap, Bssmap, InterfaceFault, RrCause, layer3};
 use octets::element::{Format, append};
 use octets::front::put_counted;
-use octets::{Memory, Octets};
+use octets::{LENGTH_LIMIT, Memory, Octets};
 use std::alloc::Global;
 
 /// Appends the text of a message of BSSAP. An `Err` changes nothing: `Short` for a layer 3 message of no octets, then

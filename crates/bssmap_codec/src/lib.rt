@@ -24,7 +24,6 @@ mod fault;
 mod identifiers;
 mod laws;
 mod layer3;
-mod limits;
 mod pointers;
 mod reference;
 mod sccp;

@@ -2,19 +2,18 @@ ghost use Rattle.std.specs.Prelude.{◌≡◌, ◌≤◌, ◌++◌, IfOk, OnOk, 
 ghost use Rattle.std.specs.Option.{ForSome};
 ghost use Rattle.octets.specs.Refusal.{RefusesBy};
 ghost use Rattle.bssmap_codec.specs.declared.fault.InterfaceFault.TheVariants.{Memory as OutOfMemory};
-ghost use Rattle.bssmap_codec.specs.declared.limits.TheConstants.{LENGTH_LIMIT};
+ghost use Rattle.octets.specs.declared.limits.TheConstants.{LENGTH_LIMIT};
 ghost use Rattle.bssmap_codec.specs.Reference.{references_text};
 ghost use Rattle.bssmap_codec.specs.SccpText.{content_text, options_text, sccp_text, sccp_write_fault};
 
 use crate::identifiers::{END_OF_OPTIONS, USER_DATA};
-use crate::limits::LENGTH_LIMIT;
 use crate::sccp_parameters::{
     ADDRESS_POINTER, CALLED_ADDRESS, DATA_POINTER, END_USER_ORIGINATED, NO_PART, OPTIONS_POINTER,
     PROTOCOL_CLASS, UNSEGMENTED,
 };
 use crate::{InterfaceFault, Reference, Sccp};
 use octets::front::put_counted;
-use octets::{Memory, Octets};
+use octets::{LENGTH_LIMIT, Memory, Octets};
 use std::alloc::Global;
 
 /// Appends the text of a message of SCCP. An `Err` changes nothing: `TooLong` where its data are more than 255 octets,

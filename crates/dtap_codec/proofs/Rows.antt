@@ -1,7 +1,7 @@
 -- Definitions against literal octets.
 use Rattle.std.proofs.Common.{◌≡◌, ℕ, List, [], ◌∷◌, true, false, map, Some, None, Result, Ok, Err, refl, arith}
 use Rattle.octets.specs.Front.{octet_at}
-use Rattle.dtap_codec.specs.declared.message.TheConstants.{CALL_CONTROL, MESSAGE_LIMIT, MOBILITY_MANAGEMENT, RADIO_RESOURCE, SHORT_MESSAGES, SUPPLEMENTARY_SERVICES}
+use Rattle.dtap_codec.specs.declared.message.TheConstants.{CALL_CONTROL, MOBILITY_MANAGEMENT, RADIO_RESOURCE, SHORT_MESSAGES, SUPPLEMENTARY_SERVICES}
 use Rattle.dtap_codec.specs.declared.report.Neighbour.{Neighbour}
 use Rattle.dtap_codec.specs.declared.report.Report.{Report}
 use Rattle.dtap_codec.specs.declared.rr.CellDescription.{CellDescription}
@@ -27,9 +27,6 @@ use Rattle.dtap_codec.specs.RrType.{rr_octet, rr_type}
 
 protocols : CALL_CONTROL ∷ MOBILITY_MANAGEMENT ∷ RADIO_RESOURCE ∷ SHORT_MESSAGES ∷ SUPPLEMENTARY_SERVICES ∷ [] ≡ 0x03 ∷ 0x05 ∷ 0x06 ∷ 0x09 ∷ 0x0b ∷ []
 protocols = refl
-
-limit : MESSAGE_LIMIT ≡ 251
-limit = refl
 
 pseudo_length : PSEUDO_LENGTH ≡ 0x2d
 pseudo_length = refl

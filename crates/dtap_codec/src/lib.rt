@@ -3,8 +3,8 @@
 #![tactic(auto)]
 
 pub use message::{
-    CALL_CONTROL, MESSAGE_LIMIT, MOBILITY_MANAGEMENT, RADIO_RESOURCE, SHORT_MESSAGES,
-    SUPPLEMENTARY_SERVICES, is_flow, pd_of,
+    CALL_CONTROL, MOBILITY_MANAGEMENT, RADIO_RESOURCE, SHORT_MESSAGES, SUPPLEMENTARY_SERVICES,
+    is_flow, pd_of,
 };
 pub use number::{Modulus, number_of, with_number, without_number};
 pub use report::{Neighbour, Report};

@@ -16,9 +16,6 @@ pub const SHORT_MESSAGES: u8 = 0x09;
 /// Protocol discriminator of non call related supplementary services, SS.
 pub const SUPPLEMENTARY_SERVICES: u8 = 0x0b;
 
-/// The octets that a layer 3 message has at most, which is what a layer 2 frame's segments carry.
-pub const MESSAGE_LIMIT: usize = 251;
-
 /// The protocol discriminator of a message, bits 4 to 1 of its first octet (TS 24.007 clause 11.2.3.1.1);
 /// none of a message without octets.
 pub fn pd_of(message: &[u8]) -> Option<u8>

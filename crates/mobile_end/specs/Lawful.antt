@@ -1,7 +1,8 @@
 -- Which messages the upper layers of a mobile may send.
 use Rattle.std.specs.Prelude.{ℕ, ◌%◌, Bool, true, false, ◌&&◌, ◌||◌, ◌==◌, not, nat_lt, nat_le, List, [], ◌∷◌, length, if◌then◌else◌}
 use Rattle.dtap_codec.specs.Message.{is_flow_protocol}
-use Rattle.dtap_codec.specs.declared.message.TheConstants.{MESSAGE_LIMIT, MOBILITY_MANAGEMENT, RADIO_RESOURCE, SHORT_MESSAGES}
+use Rattle.octets.specs.declared.limits.TheConstants.{MESSAGE_LIMIT}
+use Rattle.dtap_codec.specs.declared.message.TheConstants.{MOBILITY_MANAGEMENT, RADIO_RESOURCE, SHORT_MESSAGES}
 use Rattle.dtap_codec.specs.declared.sapi.Sapi.{Sapi}
 use Rattle.dtap_codec.specs.declared.sapi.Sapi.TheVariants.{Zero, Three}
 use Rattle.mobile_end.specs.declared.lawful.TheConstants.{INITIAL_LIMIT, NUMBER_BIT}

@@ -2,9 +2,10 @@ ghost use Rattle.std.specs.Prelude.{◌≡◌};
 ghost use Rattle.mobile_end.specs.Lawful.{has_clear_number, is_initial, is_sendable};
 
 use dtap_codec::{
-    CALL_CONTROL, MESSAGE_LIMIT, MOBILITY_MANAGEMENT, RADIO_RESOURCE, SHORT_MESSAGES,
-    SUPPLEMENTARY_SERVICES, Sapi, pd_of,
+    CALL_CONTROL, MOBILITY_MANAGEMENT, RADIO_RESOURCE, SHORT_MESSAGES, SUPPLEMENTARY_SERVICES,
+    Sapi, pd_of,
 };
+use octets::MESSAGE_LIMIT;
 
 /// The octets that an initial message has at most: with the cell and its headers they fill the user data of an SCCP
 /// connection request (Q.713).

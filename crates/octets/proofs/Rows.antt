@@ -3,6 +3,7 @@
 use Rattle.std.proofs.Common.{◌≡◌, ℕ, List, [], ◌∷◌, true, false, Some, None, Result, Ok, Err, refl}
 use Rattle.octets.specs.declared.element.Entry.{Entry}
 use Rattle.octets.specs.declared.element.Format.TheVariants.{Tv, Tlv, TlvE}
+use Rattle.octets.specs.declared.limits.TheConstants.{LENGTH_LIMIT, MESSAGE_LIMIT}
 use Rattle.octets.specs.Element.{element}
 use Rattle.octets.specs.Field.{field, fields_text, are_distinct}
 use Rattle.octets.specs.Front.{octet_at, split_at, counted_at, counted_text}
@@ -97,6 +98,14 @@ counted_cut = refl
 
 counted_text_of_two : counted_text (0x05 ∷ 0x24 ∷ []) ≡ 0x02 ∷ 0x05 ∷ 0x24 ∷ []
 counted_text_of_two = refl
+
+-- ---- limits
+
+message_limit : MESSAGE_LIMIT ≡ 251
+message_limit = refl
+
+length_limit : LENGTH_LIMIT ≡ 255
+length_limit = refl
 
 -- ---- refusals
 

@@ -14,7 +14,7 @@ use Rattle.rsl_codec.specs.declared.fault.RslFault.TheVariants as faults
 use Rattle.rsl_codec.specs.declared.rsl_type.RslType.{RslType}
 use Rattle.rsl_codec.specs.declared.rsl_type.RslType.TheVariants as types
 use Rattle.rsl_codec.specs.declared.identifiers.TheConstants.{ELEMENTS, ACCESS_DELAY, ACTIVATION_TYPE, BS_POWER, CAUSE, CHANNEL_MODE, CHANNEL_NUMBER, FRAME_NUMBER, FULL_IMMEDIATE_ASSIGN, HANDOVER_REFERENCE, L1_INFORMATION, L3_INFORMATION, LINK_IDENTIFIER, MEASUREMENT_NUMBER, RELEASE_MODE, RLM_CAUSE, UPLINK_MEASUREMENTS}
-use Rattle.rsl_codec.specs.declared.fields.TheConstants.{L3_LIMIT, VALUE_LIMIT}
+use Rattle.octets.specs.declared.limits.TheConstants.{MESSAGE_LIMIT, LENGTH_LIMIT}
 use Rattle.rsl_codec.specs.declared.rsl.Rsl.{Rsl}
 use Rattle.rsl_codec.specs.declared.rsl.Rsl.TheVariants as messages
 use Rattle.rsl_codec.specs.Fields.{octet_value, number_value}
@@ -140,15 +140,15 @@ text_of_fields (f ∷ fs) = ap (λ (xs : List ℕ). rsl_field_text f.id f.value 
 -- the value of an element that may be long fits its length
 HasShort : Option (List ℕ) → Type 0
 HasShort None = Unit {0}
-HasShort (Some value) = length value ≤ VALUE_LIMIT
+HasShort (Some value) = length value ≤ LENGTH_LIMIT
 
 over_none : (most : ℕ) (value : List ℕ) → is_over most (Some value) ≡ false → length value ≤ most
 over_none most value e = ltb-false most (length value) e
 
-short_of : (o : Option (List ℕ)) → is_over VALUE_LIMIT o ≡ false → HasShort o
+short_of : (o : Option (List ℕ)) → is_over LENGTH_LIMIT o ≡ false → HasShort o
 unfolding HasShort
 short_of None e = tt
-short_of (Some value) e = over_none VALUE_LIMIT value e
+short_of (Some value) e = over_none LENGTH_LIMIT value e
 
 fault_by : (empty over long : Bool) → cond empty (Some faults.Short) (cond (over || long) (Some faults.TooLong) None) ≡ None → long ≡ false
 fault_by true over long e = absurd cc
@@ -158,7 +158,7 @@ fault_by false false false e = refl
 
 value_short : (v : Rsl) → rsl_write_fault v ≡ None → HasShort (value_of v)
 unfolding rsl_write_fault
-value_short v e = short_of (value_of v) (fault_by (is_empty (l3_of v)) (is_over L3_LIMIT (l3_of v)) (is_over VALUE_LIMIT (value_of v)) e)
+value_short v e = short_of (value_of v) (fault_by (is_empty (l3_of v)) (is_over MESSAGE_LIMIT (l3_of v)) (is_over LENGTH_LIMIT (value_of v)) e)
 
 -- ---- the fields fit the table
 

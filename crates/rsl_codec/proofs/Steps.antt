@@ -10,7 +10,7 @@ use Rattle.octets.proofs.Steps.{bind_ok, guard, ok_is, passed}
 use Rattle.rsl_codec.specs.declared.fault.RslFault.{RslFault}
 use Rattle.rsl_codec.specs.declared.fault.RslFault.TheVariants as faults
 use Rattle.rsl_codec.specs.declared.identifiers.TheConstants.{CHANNEL_NUMBER, ELEMENTS}
-use Rattle.rsl_codec.specs.declared.fields.TheConstants.{L3_LIMIT}
+use Rattle.octets.specs.declared.limits.TheConstants.{MESSAGE_LIMIT}
 use Rattle.rsl_codec.specs.ChannelNumber.{is_channel}
 use Rattle.rsl_codec.specs.Fields.{number_value, octet_value, reference_value}
 use Rattle.rsl_codec.specs.RslReading.{channel_at, value_or_missing, l3_at, needed_value, number_of, octet_of, optional_l3_at, reference_of}
@@ -110,13 +110,13 @@ channel_again channel is = rw is refl
 pub l3_ok : (v l3 : List ℕ) → l3_at v ≡ Ok l3 → (v ≡ l3) × IsL3 (Some l3)
 l3_ok [] l3 e = absurd cc
 l3_ok (x ∷ xs) l3 e =
-    let short = guard {A = List ℕ} {F = RslFault} (ltb L3_LIMIT (length (x ∷ xs))) faults.TooLong (Ok (x ∷ xs)) l3 e in
+    let short = guard {A = List ℕ} {F = RslFault} (ltb MESSAGE_LIMIT (length (x ∷ xs))) faults.TooLong (Ok (x ∷ xs)) l3 e in
     let same = ok_is {A = List ℕ} {F = RslFault} (x ∷ xs) l3 short.1 in
     (same, subst (λ (ys : List ℕ). IsL3 (Some ys)) same (omega arith, ltb-false _ _ short.0))
 
 pub l3_again : (l3 : List ℕ) → IsL3 (Some l3) → l3_at l3 ≡ Ok l3
 l3_again [] is = absurd (omega arith)
-l3_again (x ∷ xs) is = rw (le-ltb L3_LIMIT (length (x ∷ xs)) is.1) refl
+l3_again (x ∷ xs) is = rw (le-ltb MESSAGE_LIMIT (length (x ∷ xs)) is.1) refl
 
 pub optional_l3_ok : (o l3 : Option (List ℕ)) → optional_l3_at o ≡ Ok l3 → (o ≡ l3) × IsL3 l3
 optional_l3_ok None l3 e = let same = ok_is {A = Option (List ℕ)} {F = RslFault} None l3 e in (same, subst IsL3 same tt)

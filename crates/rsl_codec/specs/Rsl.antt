@@ -2,7 +2,7 @@
 use Rattle.std.specs.Prelude.{◌≡◌, ℕ, ◌<◌, ◌≤◌, true, false, List, ◌∷◌, length, Option, Some, None}
 use Rattle.octets.specs.Element.{Element, AreElements}
 use Rattle.octets.specs.Field.{Field, Carries}
-use Rattle.rsl_codec.specs.declared.fields.TheConstants.{L3_LIMIT}
+use Rattle.octets.specs.declared.limits.TheConstants.{MESSAGE_LIMIT}
 use Rattle.rsl_codec.specs.declared.identifiers.TheConstants.{ELEMENTS}
 use Rattle.rsl_codec.specs.declared.rsl.Rsl.{Rsl}
 use Rattle.rsl_codec.specs.declared.rsl.Rsl.TheVariants.{DataRequest, DataIndication, ErrorIndication, EstablishRequest, EstablishConfirm, EstablishIndication, ReleaseRequest, ReleaseConfirm, ReleaseIndication, ChannelRequired, ImmediateAssignCommand, ChannelActivation, ChannelActivationAck, ChannelActivationNack, ConnectionFailure, HandoverDetection, MeasurementResult, RfChannelRelease, RfChannelReleaseAck}
@@ -64,7 +64,7 @@ l3_of _ = None
 -- L3 information has 1 to 251 octets
 abbrev pub IsL3 : Option (List ℕ) → Type 0
 IsL3 None = Unit {0}
-IsL3 (Some l3) = (0 < length l3) × (length l3 ≤ L3_LIMIT)
+IsL3 (Some l3) = (0 < length l3) × (length l3 ≤ MESSAGE_LIMIT)
 
 -- the message is on a channel, and its L3 information has 1 to 251 octets
 abbrev pub IsLawful : Rsl → Type 0

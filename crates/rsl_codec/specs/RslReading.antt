@@ -8,7 +8,7 @@ use Rattle.rsl_codec.specs.declared.fault.RslFault.TheVariants as faults
 use Rattle.rsl_codec.specs.declared.rsl_type.RslType.{RslType}
 use Rattle.rsl_codec.specs.declared.rsl_type.RslType.TheVariants as types
 use Rattle.rsl_codec.specs.declared.identifiers.TheConstants.{ELEMENTS, ACCESS_DELAY, ACTIVATION_TYPE, BS_POWER, CAUSE, CHANNEL_MODE, CHANNEL_NUMBER, FRAME_NUMBER, FULL_IMMEDIATE_ASSIGN, HANDOVER_REFERENCE, L1_INFORMATION, L3_INFORMATION, LINK_IDENTIFIER, MEASUREMENT_NUMBER, RELEASE_MODE, REQUEST_REFERENCE, RLM_CAUSE, UPLINK_MEASUREMENTS}
-use Rattle.rsl_codec.specs.declared.fields.TheConstants.{L3_LIMIT}
+use Rattle.octets.specs.declared.limits.TheConstants.{MESSAGE_LIMIT}
 use Rattle.rsl_codec.specs.declared.radio_link.Data.{Data}
 use Rattle.rsl_codec.specs.declared.radio_link.Link.{Link}
 use Rattle.rsl_codec.specs.declared.radio_link.ErrorReport.{ErrorReport}
@@ -64,7 +64,7 @@ reference_of (access ∷ frame) = record { access = access; frame = number_of fr
 -- L3 information of 1 to 251 octets
 abbrev pub l3_at : List ℕ → Result (List ℕ) RslFault
 l3_at [] = Err faults.Short
-l3_at (x ∷ xs) = if nat_lt L3_LIMIT (length (x ∷ xs)) then Err faults.TooLong else Ok (x ∷ xs)
+l3_at (x ∷ xs) = if nat_lt MESSAGE_LIMIT (length (x ∷ xs)) then Err faults.TooLong else Ok (x ∷ xs)
 
 abbrev pub optional_l3_at : Option (List ℕ) → Result (Option (List ℕ)) RslFault
 optional_l3_at None = Ok None

@@ -3,7 +3,7 @@ use Rattle.std.specs.Prelude.{ℕ, Bool, false, ◌||◌, ◌==◌, nat_lt, List
 use Rattle.octets.specs.Field.{Field, field_text}
 use Rattle.rsl_codec.specs.declared.fault.RslFault.{RslFault}
 use Rattle.rsl_codec.specs.declared.fault.RslFault.TheVariants.{Short, TooLong}
-use Rattle.rsl_codec.specs.declared.fields.TheConstants.{L3_LIMIT, VALUE_LIMIT}
+use Rattle.octets.specs.declared.limits.TheConstants.{MESSAGE_LIMIT, LENGTH_LIMIT}
 use Rattle.rsl_codec.specs.declared.identifiers.TheConstants.{ELEMENTS}
 use Rattle.rsl_codec.specs.declared.rsl.Rsl.{Rsl}
 use Rattle.rsl_codec.specs.declared.rsl.Rsl.TheVariants.{ErrorIndication, ImmediateAssignCommand, ChannelActivation, ChannelActivationNack, ConnectionFailure, MeasurementResult}
@@ -51,5 +51,5 @@ is_over most (Some value) = nat_lt most (length value)
 unfoldable pub rsl_write_fault : Rsl → Option RslFault
 rsl_write_fault v =
     if is_empty (l3_of v) then Some Short
-    else if (is_over L3_LIMIT (l3_of v) || is_over VALUE_LIMIT (value_of v)) then Some TooLong
+    else if (is_over MESSAGE_LIMIT (l3_of v) || is_over LENGTH_LIMIT (value_of v)) then Some TooLong
     else None

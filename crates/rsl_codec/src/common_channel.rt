@@ -1,6 +1,6 @@
 ghost use Rattle.std.specs.Prelude.{◌≡◌, ◌++◌, ◌≤◌, length, OnOk};
 ghost use Rattle.octets.specs.Answer.{Gives};
-ghost use Rattle.rsl_codec.specs.declared.fields.TheConstants.{VALUE_LIMIT};
+ghost use Rattle.octets.specs.declared.limits.TheConstants.{LENGTH_LIMIT};
 ghost use Rattle.rsl_codec.specs.Fields.{channel_required_fields, assignment_fields};
 ghost use Rattle.rsl_codec.specs.RslReading.{elements_of, channel_required_at, assignment_at};
 ghost use Rattle.rsl_codec.specs.RslText.{rsl_fields_text};
@@ -68,7 +68,7 @@ impl ImmediateAssignment {
     }
 
     pub(crate) fn put(&self, text: &mut Vec<u8>) -> Result<(), Memory>
-        requires { length self.now.information ≤ VALUE_LIMIT }
+        requires { length self.now.information ≤ LENGTH_LIMIT }
         ensures { OnOk result (text.new.items ≡ text.old.items ++ rsl_fields_text (assignment_fields self.now)) }
     {
         put(text, CHANNEL_NUMBER, &[self.channel.octet()])?;

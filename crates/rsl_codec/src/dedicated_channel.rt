@@ -1,7 +1,7 @@
 ghost use Rattle.std.specs.Prelude.{◌≡◌, ◌++◌, ◌≤◌, length, OnOk};
 ghost use Rattle.std.specs.Option.{ForSome};
 ghost use Rattle.octets.specs.Answer.{Gives};
-ghost use Rattle.rsl_codec.specs.declared.fields.TheConstants.{VALUE_LIMIT};
+ghost use Rattle.octets.specs.declared.limits.TheConstants.{LENGTH_LIMIT};
 ghost use Rattle.rsl_codec.specs.Fields.{channel_fields, activation_fields, activation_ack_fields, failure_fields, detection_fields, downlink_fields, measurement_result_fields};
 ghost use Rattle.rsl_codec.specs.RslReading.{channel_only_at, elements_of, activation_at, activation_ack_at, failure_at, detection_at, measurement_result_at};
 ghost use Rattle.rsl_codec.specs.RslText.{rsl_fields_text};
@@ -99,7 +99,7 @@ impl Activation {
     }
 
     pub(crate) fn put(&self, text: &mut Vec<u8>) -> Result<(), Memory>
-        requires { length self.now.mode.0 ≤ VALUE_LIMIT }
+        requires { length self.now.mode.0 ≤ LENGTH_LIMIT }
         ensures { OnOk result (text.new.items ≡ text.old.items ++ rsl_fields_text (activation_fields self.now)) }
     {
         put(text, CHANNEL_NUMBER, &[self.channel.octet()])?;
@@ -144,7 +144,7 @@ impl Failure {
     }
 
     pub(crate) fn put(&self, text: &mut Vec<u8>) -> Result<(), Memory>
-        requires { ForSome self.now.cause (λ c. length c.0 ≤ VALUE_LIMIT) }
+        requires { ForSome self.now.cause (λ c. length c.0 ≤ LENGTH_LIMIT) }
         ensures { OnOk result (text.new.items ≡ text.old.items ++ rsl_fields_text (failure_fields self.now)) }
     {
         put(text, CHANNEL_NUMBER, &[self.channel.octet()])?;
@@ -197,8 +197,8 @@ impl MeasurementResult {
     }
 
     pub(crate) fn put(&self, text: &mut Vec<u8>) -> Result<(), Memory>
-        requires uplink { ForSome self.now.uplink (λ u. length u.0 ≤ VALUE_LIMIT) }
-        requires l3 { ForSome self.now.l3 (λ l. length l ≤ VALUE_LIMIT) }
+        requires uplink { ForSome self.now.uplink (λ u. length u.0 ≤ LENGTH_LIMIT) }
+        requires l3 { ForSome self.now.l3 (λ l. length l ≤ LENGTH_LIMIT) }
         ensures { OnOk result (text.new.items ≡ text.old.items ++ rsl_fields_text (measurement_result_fields self.now)) }
     {
         put(text, CHANNEL_NUMBER, &[self.channel.octet()])?;
@@ -213,7 +213,7 @@ impl MeasurementResult {
 
     /// Appends what the mobile and its link say of the downlink.
     fn put_downlink(&self, text: &mut Vec<u8>) -> Result<(), Memory>
-        requires { ForSome self.now.l3 (λ l. length l ≤ VALUE_LIMIT) }
+        requires { ForSome self.now.l3 (λ l. length l ≤ LENGTH_LIMIT) }
         ensures { OnOk result (text.new.items ≡ text.old.items ++ rsl_fields_text (downlink_fields self.now)) }
     {
         put_octet(text, BS_POWER, self.bs_power.map(|power| power.0))?;

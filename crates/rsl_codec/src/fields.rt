@@ -2,20 +2,15 @@ ghost use Rattle.std.specs.Prelude.{◌≡◌, ◌++◌, ◌≤◌, length, opti
 ghost use Rattle.std.specs.Option.{ForSome};
 ghost use Rattle.octets.specs.Answer.{Gives, result_map};
 ghost use Rattle.octets.specs.Walk.{first_of};
+ghost use Rattle.octets.specs.declared.limits.TheConstants.{LENGTH_LIMIT};
 ghost use Rattle.rsl_codec.specs.Fields.{octet_value, number_value, reference_value};
 ghost use Rattle.rsl_codec.specs.RslReading.{breaks_off, channel_at, elements_of, l3_at, needed_value as needed_value_of, number_of, octet_of, optional_l3_at, reference_of};
 ghost use Rattle.rsl_codec.specs.RslText.{rsl_element_text, rsl_field_text};
 
 use crate::identifiers::ELEMENTS;
 use crate::{ChanNo, RequestReference, RslFault};
-use octets::{Memory, Octets, element};
+use octets::{MESSAGE_LIMIT, Memory, Octets, element};
 use std::alloc::Global;
-
-/// The most octets that L3 information has.
-pub const L3_LIMIT: usize = 251;
-
-/// The most octets that a value has whose length stands in one octet.
-pub const VALUE_LIMIT: usize = 255;
 
 /// Whether the elements behind a message's type end within one of them.
 #[tactic(auto, unfolding(crate::specs::RslReading::breaks_off))]
@@ -96,7 +91,7 @@ pub(crate) fn l3(alloc: Global, value: &[u8]) -> Result<Octets, RslFault>
     if value.is_empty() {
         return Err(RslFault::Short);
     }
-    if value.len() > L3_LIMIT {
+    if value.len() > MESSAGE_LIMIT {
         return Err(RslFault::TooLong);
     }
     Ok(Octets::copy(alloc, value)?)
@@ -115,7 +110,7 @@ pub(crate) fn optional_l3(alloc: Global, value: Option<&[u8]>) -> Result<Option<
 /// Appends an element, in the format that the table has for it.
 #[tactic(auto, unfolding(crate::specs::RslText::rsl_element_text))]
 pub(crate) fn put(text: &mut Vec<u8>, id: u8, value: &[u8]) -> Result<(), Memory>
-    requires { length value.now ≤ VALUE_LIMIT }
+    requires { length value.now ≤ LENGTH_LIMIT }
     ensures { OnOk result (text.new.items ≡ text.old.items ++ rsl_element_text id value.now) }
 {
     if let Some(format) = element::format_of(&ELEMENTS, id) {
@@ -146,7 +141,7 @@ pub(crate) fn put_number(text: &mut Vec<u8>, id: u8, number: Option<u16>) -> Res
 
 /// Appends an element of octets, where it is there.
 pub(crate) fn put_octets(text: &mut Vec<u8>, id: u8, octets: Option<&Octets>) -> Result<(), Memory>
-    requires { ForSome octets (λ o. length o.now ≤ VALUE_LIMIT) }
+    requires { ForSome octets (λ o. length o.now ≤ LENGTH_LIMIT) }
     ensures { OnOk result (text.new.items ≡ text.old.items ++ rsl_field_text id (option_map (λ o. o.now) octets.entry)) }
 {
     match octets {

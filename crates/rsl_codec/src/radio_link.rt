@@ -1,7 +1,7 @@
 ghost use Rattle.std.specs.Prelude.{◌≡◌, ◌++◌, ◌≤◌, length, OnOk};
 ghost use Rattle.std.specs.Option.{ForSome};
 ghost use Rattle.octets.specs.Answer.{Gives};
-ghost use Rattle.rsl_codec.specs.declared.fields.TheConstants.{VALUE_LIMIT};
+ghost use Rattle.octets.specs.declared.limits.TheConstants.{LENGTH_LIMIT};
 ghost use Rattle.rsl_codec.specs.Fields.{data_fields, link_fields, error_fields, establishment_fields, release_fields};
 ghost use Rattle.rsl_codec.specs.RslReading.{elements_of, data_at, link_at, error_at, establishment_at, release_at};
 ghost use Rattle.rsl_codec.specs.RslText.{rsl_fields_text};
@@ -71,7 +71,7 @@ impl Data {
     }
 
     pub(crate) fn put(&self, text: &mut Vec<u8>) -> Result<(), Memory>
-        requires { length self.now.l3 ≤ VALUE_LIMIT }
+        requires { length self.now.l3 ≤ LENGTH_LIMIT }
         ensures { OnOk result (text.new.items ≡ text.old.items ++ rsl_fields_text (data_fields self.now)) }
     {
         put(text, CHANNEL_NUMBER, &[self.channel.octet()])?;
@@ -118,7 +118,7 @@ impl ErrorReport {
     }
 
     pub(crate) fn put(&self, text: &mut Vec<u8>) -> Result<(), Memory>
-        requires { ForSome self.now.cause (λ c. length c.0 ≤ VALUE_LIMIT) }
+        requires { ForSome self.now.cause (λ c. length c.0 ≤ LENGTH_LIMIT) }
         ensures { OnOk result (text.new.items ≡ text.old.items ++ rsl_fields_text (error_fields self.now)) }
     {
         put(text, CHANNEL_NUMBER, &[self.channel.octet()])?;
@@ -141,7 +141,7 @@ impl Establishment {
     }
 
     pub(crate) fn put(&self, text: &mut Vec<u8>) -> Result<(), Memory>
-        requires { ForSome self.now.l3 (λ l. length l ≤ VALUE_LIMIT) }
+        requires { ForSome self.now.l3 (λ l. length l ≤ LENGTH_LIMIT) }
         ensures { OnOk result (text.new.items ≡ text.old.items ++ rsl_fields_text (establishment_fields self.now)) }
     {
         put(text, CHANNEL_NUMBER, &[self.channel.octet()])?;

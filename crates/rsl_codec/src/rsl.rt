@@ -11,13 +11,13 @@ ghost use Rattle.rsl_codec.specs.RslText.{rsl_fields_text, rsl_text, rsl_write_f
 ghost use Rattle.rsl_codec.specs.RslType.{type_of};
 
 use crate::dedicated_channel::{put_channel, read_channel};
-use crate::fields::{L3_LIMIT, VALUE_LIMIT, is_cut};
+use crate::fields::is_cut;
 use crate::{
     Activation, ActivationAck, ChanNo, ChannelRequired, Data, Detection, ErrorReport,
     Establishment, Failure, ImmediateAssignment, Link, MeasurementResult, Release, RslFault,
     RslType,
 };
-use octets::{Memory, Octets};
+use octets::{LENGTH_LIMIT, MESSAGE_LIMIT, Memory, Octets};
 use std::alloc::Global;
 
 /// A message between a base station and its controller (TS 48.058 clause 8).
@@ -179,8 +179,8 @@ impl Rsl {
         if self.l3().is_some_and(|l3| l3.len() == 0) {
             return Some(RslFault::Short);
         }
-        if self.l3().is_some_and(|l3| l3.len() > L3_LIMIT)
-            || self.value().is_some_and(|value| value.len() > VALUE_LIMIT)
+        if self.l3().is_some_and(|l3| l3.len() > MESSAGE_LIMIT)
+            || self.value().is_some_and(|value| value.len() > LENGTH_LIMIT)
         {
             return Some(RslFault::TooLong);
         }

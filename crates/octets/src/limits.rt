@@ -1,0 +1,5 @@
+/// The octets that a layer 3 message has at most, as many as the segments of one message carry in layer 2 (TS 44.006).
+pub const MESSAGE_LIMIT: usize = 251;
+
+/// The most that a length octet counts.
+pub const LENGTH_LIMIT: usize = 255;
