@@ -53,7 +53,7 @@ fn read_message(alloc: Global, octets: &[u8]) -> Result<RrMessage, RrFault>
 
 #[tactic(auto, unfolding(crate::specs::RrReading::pseudo_at))]
 fn read_pseudo(octets: &[u8]) -> Result<RrMessage, RrFault>
-    ensures { result_map (λ v. v) result ≡ reading.pseudo_at octets.now }
+    ensures { result ≡ reading.pseudo_at octets.now }
 {
     let (first, rest) = octet(octets, RrFault::Short)?;
     discriminator(first)?;
@@ -66,7 +66,7 @@ fn read_pseudo(octets: &[u8]) -> Result<RrMessage, RrFault>
 
 // The octet, where it is the discriminator without a skip indicator.
 fn discriminator(octet: u8) -> Result<u8, RrFault>
-    ensures { result_map (λ v. v) result ≡ reading.rr_discriminator octet }
+    ensures { result ≡ reading.rr_discriminator octet }
 {
     if octet == RADIO_RESOURCE {
         Ok(octet)
@@ -115,7 +115,7 @@ fn read_content(alloc: Global, kind: RrType, octets: &[u8]) -> Result<RrMessage,
 
 #[tactic(auto, unfolding(crate::specs::RrReading::handover_command_at))]
 fn read_handover_command(octets: &[u8]) -> Result<RrMessage, RrFault>
-    ensures { result_map (λ v. v) result ≡ reading.handover_command_at octets.now }
+    ensures { result ≡ reading.handover_command_at octets.now }
 {
     let (first, rest) = octet(octets, RrFault::Short)?;
     let (second, rest) = octet(rest, RrFault::Short)?;
@@ -131,7 +131,7 @@ fn read_handover_command(octets: &[u8]) -> Result<RrMessage, RrFault>
 
 #[tactic(auto, unfolding(crate::specs::RrReading::assignment_command_at))]
 fn read_assignment_command(octets: &[u8]) -> Result<RrMessage, RrFault>
-    ensures { result_map (λ v. v) result ≡ reading.assignment_command_at octets.now }
+    ensures { result ≡ reading.assignment_command_at octets.now }
 {
     let (channel, code, low, rest) = three(octets)?;
     let _power = octet(rest, RrFault::Short)?;
@@ -142,7 +142,7 @@ fn read_assignment_command(octets: &[u8]) -> Result<RrMessage, RrFault>
 
 #[tactic(auto, unfolding(crate::specs::RrReading::immediate_assignment_at))]
 fn read_immediate_assignment(octets: &[u8]) -> Result<RrMessage, RrFault>
-    ensures { result_map (λ v. v) result ≡ reading.immediate_assignment_at octets.now }
+    ensures { result ≡ reading.immediate_assignment_at octets.now }
 {
     let (_page_mode, rest) = octet(octets, RrFault::Short)?;
     let (channel, code, low, rest) = three(rest)?;
@@ -158,7 +158,7 @@ fn read_immediate_assignment(octets: &[u8]) -> Result<RrMessage, RrFault>
 
 #[tactic(auto, unfolding(crate::specs::RrReading::measurement_report_at))]
 fn read_measurement_report(octets: &[u8]) -> Result<RrMessage, RrFault>
-    ensures { result_map (λ v. v) result ≡ reading.measurement_report_at octets.now }
+    ensures { result ≡ reading.measurement_report_at octets.now }
 {
     match octets.first_chunk::<REPORT_LENGTH>() {
         Some(value) => Ok(RrMessage::MeasurementReport { value: *value }),
@@ -180,7 +180,7 @@ fn three(octets: &[u8]) -> Result<(u8, u8, u8, &[u8]), RrFault>
 // The cause that a message has alone.
 #[tactic(auto, unfolding(crate::specs::RrReading::cause_at))]
 fn read_cause(octets: &[u8]) -> Result<RrCause, RrFault>
-    ensures { result_map (λ v. v) result ≡ reading.cause_at octets.now }
+    ensures { result ≡ reading.cause_at octets.now }
 {
     let (cause, _rest) = octet(octets, RrFault::Short)?;
     Ok(RrCause(cause))
