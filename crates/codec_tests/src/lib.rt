@@ -1,5 +1,7 @@
-//! Tests of the codecs: what no contract says of their public calls with ample memory.
+//! The calls of the codecs that can want memory, each with ample memory, its answer compared.
 #![tactic(auto)]
 
 #[cfg(test)]
 mod dtap;
+#[cfg(test)]
+mod rsl;

@@ -3,40 +3,40 @@ use Rattle.std.proofs.Common.{◌≡◌, Bool, true, false, Option, Some, None, 
 use Rattle.std.proofs.lemmas.List.{append-nil}
 use Rattle.link_model.specs.declared.fault.LinkFault.{LinkFault}
 use Rattle.link_model.specs.BaseState.{BaseState}
-use Rattle.link_model.specs.Made.{activation_ack, establish_indication, data_indication}
-use Rattle.link_model.specs.Base.{refusal_of_activate, after_activate, refusal_unless_active, after_establish, after_up, is_told, telling, first_in, behind_first}
-use Rattle.link_model.specs.BaseCalls.{BaseCall, unless_refused, after_call, after_calls, made_unless, made_by_call, made_by_calls, given_by_call, given_by_calls}
+use Rattle.link_model.specs.Message.{activation_ack, establish_indication, data_indication}
+use Rattle.link_model.specs.Base.{refusal_of_activate, after_activate, refusal_unless_active, after_establish, after_up, is_told, after_tell, first_of_messages, messages_behind_first}
+use Rattle.link_model.specs.BaseCalls.{BaseCall, state_unless, after_call, after_calls, message_unless, messages_made_by_call, messages_made, messages_given_by_call, messages_given}
 use Rattle.link_model.specs.BaseCalls.BaseCall.{activates, establishes, brings_up, releases, tells, gives_next}
 use Rattle.rsl_codec.specs.declared.rsl.Rsl.{Rsl}
 
 -- what a call that may be refused appends
-made-unless : (fault : Option LinkFault) (old new : BaseState) (message : Rsl) → new.made ≡ old.made ++ message ∷ [] → (unless_refused fault old new).made ≡ old.made ++ made_unless fault message
-made-unless (Some fault) old new message is = sym (append-nil old.made)
+made-unless : (fault : Option LinkFault) (old new : BaseState) (message : Rsl) → new.messages ≡ old.messages ++ message ∷ [] → (state_unless fault old new).messages ≡ old.messages ++ message_unless fault message
+made-unless (Some fault) old new message is = sym (append-nil old.messages)
 made-unless None old new message is = is
 
-made-told : (told : Bool) (base : BaseState) (message : Rsl) → (cond told (telling base message) base).made ≡ base.made ++ cond told (message ∷ []) []
+made-told : (told : Bool) (base : BaseState) (message : Rsl) → (cond told (after_tell base message) base).messages ≡ base.messages ++ cond told (message ∷ []) []
 made-told true base message = refl
-made-told false base message = sym (append-nil base.made)
+made-told false base message = sym (append-nil base.messages)
 
-first-behind : (messages : List Rsl) → option_to_list (first_in messages) ++ behind_first messages ≡ messages
+first-behind : (messages : List Rsl) → option_to_list (first_of_messages messages) ++ messages_behind_first messages ≡ messages
 first-behind [] = refl
 first-behind (first ∷ others) = refl
 
 -- each call appends what it makes, and gives out the first
-given-call : (base : BaseState) (call : BaseCall) → given_by_call base call ++ (after_call base call).made ≡ base.made ++ made_by_call base call
+given-call : (base : BaseState) (call : BaseCall) → messages_given_by_call base call ++ (after_call base call).messages ≡ base.messages ++ messages_made_by_call base call
 given-call base (activates channel) = made-unless (refusal_of_activate base channel) base (after_activate base channel) (activation_ack channel) refl
 given-call base (establishes channel sapi message) = made-unless (refusal_unless_active base channel) base (after_establish base channel sapi message) (establish_indication channel sapi message) refl
 given-call base (brings_up channel sapi message) = made-unless (refusal_unless_active base channel) base (after_up base channel sapi message) (data_indication channel sapi message) refl
 given-call base (releases channel) = refl
 given-call base (tells message) = made-told (is_told message) base message
-given-call base gives_next = first-behind base.made ∙ sym (append-nil base.made)
+given-call base gives_next = first-behind base.messages ∙ sym (append-nil base.messages)
 
-pub given-calls : (base : BaseState) (calls : List BaseCall) → given_by_calls base calls ++ (after_calls base calls).made ≡ base.made ++ made_by_calls base calls
-given-calls base [] = sym (append-nil base.made)
+pub given-calls : (base : BaseState) (calls : List BaseCall) → messages_given base calls ++ (after_calls base calls).messages ≡ base.messages ++ messages_made base calls
+given-calls base [] = sym (append-nil base.messages)
 given-calls base (call ∷ calls) =
     let next : BaseState = after_call base call in
-    append_assoc (given_by_call base call) (given_by_calls next calls) (after_calls next calls).made
-    ∙ ap (λ (xs : List Rsl). given_by_call base call ++ xs) (given-calls next calls)
-    ∙ sym (append_assoc (given_by_call base call) next.made (made_by_calls next calls))
-    ∙ ap (λ (xs : List Rsl). xs ++ made_by_calls next calls) (given-call base call)
-    ∙ append_assoc base.made (made_by_call base call) (made_by_calls next calls)
+    append_assoc (messages_given_by_call base call) (messages_given next calls) (after_calls next calls).messages
+    ∙ ap (λ (xs : List Rsl). messages_given_by_call base call ++ xs) (given-calls next calls)
+    ∙ sym (append_assoc (messages_given_by_call base call) next.messages (messages_made next calls))
+    ∙ ap (λ (xs : List Rsl). xs ++ messages_made next calls) (given-call base call)
+    ∙ append_assoc base.messages (messages_made_by_call base call) (messages_made next calls)

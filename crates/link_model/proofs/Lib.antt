@@ -1,2 +1,3 @@
 pub mod Giving
+mod Rows
 pub mod Tenures

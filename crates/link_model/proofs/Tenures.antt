@@ -6,12 +6,12 @@ use Rattle.std.proofs.lemmas.List.Folds.{list_any-append}
 use Rattle.link_model.specs.declared.fault.LinkFault.{LinkFault}
 use Rattle.link_model.specs.declared.fault.LinkFault.TheVariants.{NotActive, Busy}
 use Rattle.link_model.specs.BaseState.{BaseState}
-use Rattle.link_model.specs.Made.{activation_ack, establish_indication, data_indication}
-use Rattle.link_model.specs.Base.{is_active, new_base, after_activate, after_establish, after_up, is_told, telling}
-use Rattle.link_model.specs.BaseCalls.{BaseCall, unless_refused, after_call, after_calls, made_unless, made_by_call, made_by_calls, given_by_calls}
+use Rattle.link_model.specs.Message.{activation_ack, establish_indication, data_indication}
+use Rattle.link_model.specs.Base.{is_active, new_base, after_activate, after_establish, after_up, is_told, after_tell}
+use Rattle.link_model.specs.BaseCalls.{BaseCall, state_unless, after_call, after_calls, message_unless, messages_made_by_call, messages_made, messages_given}
 use Rattle.link_model.specs.BaseCalls.BaseCall.{activates, establishes, brings_up, releases, tells, gives_next}
 use Rattle.link_model.specs.Tenures.{is_brought_on, is_bound_of, Tenures}
-use Rattle.link_model.specs.Tenures.Tenures.{over, begins, brought, ends, apart}
+use Rattle.link_model.specs.Tenures.Tenures.{over, begins, brings, ends, apart}
 use Rattle.link_model.proofs.Giving.{given-calls}
 use Rattle.rsl_codec.specs.declared.rsl.Rsl.{Rsl}
 use Rattle.rsl_codec.specs.declared.rsl.Rsl.TheVariants as messages
@@ -20,7 +20,7 @@ use Rattle.rsl_codec.specs.declared.rsl.Rsl.TheVariants as messages
 Tenures-append : {channel : ℕ} {mid end : Bool} (ys : List Rsl) {within : Bool} {xs : List Rsl} → Tenures channel within xs mid → Tenures channel mid ys end → Tenures channel within (xs ++ ys) end
 Tenures-append ys (over within) later = later
 Tenures-append ys (begins first) later = begins (Tenures-append ys first later)
-Tenures-append ys (brought is first) later = brought is (Tenures-append ys first later)
+Tenures-append ys (brings is first) later = brings is (Tenures-append ys first later)
 Tenures-append ys (ends first) later = ends (Tenures-append ys first later)
 Tenures-append ys (apart free unbound first) later = apart free unbound (Tenures-append ys first later)
 
@@ -54,7 +54,7 @@ bringing channel number active message up is unbound =
     elim (cases_Bool (nat_eq number channel)) [
       | inl same ↦
           let here : is_active active channel ≡ true = ap (is_active active) (sym (eqb-true number channel same)) ∙ up in
-          Tenures-at here here (brought (is ∙ same) (over true))
+          Tenures-at here here (brings (is ∙ same) (over true))
       | inr other ↦ apart (is ∙ other) unbound (over (is_active active channel))
     ]
 
@@ -105,19 +105,19 @@ told-apart channel (messages.ReleaseIndication link) told = (refl, refl)
 told-apart channel _ told = absurd cc
 
 -- each call
-activate-by : (channel number : ℕ) (base : BaseState) (up : Bool) → is_active base.active number ≡ up → let fault : Option LinkFault = cond up (Some Busy) None in Tenures channel (is_active base.active channel) (made_unless fault (activation_ack number)) (is_active (unless_refused fault base (after_activate base number)).active channel)
+activate-by : (channel number : ℕ) (base : BaseState) (up : Bool) → is_active base.active number ≡ up → let fault : Option LinkFault = cond up (Some Busy) None in Tenures channel (is_active base.active channel) (message_unless fault (activation_ack number)) (is_active (state_unless fault base (after_activate base number)).active channel)
 activate-by channel number base true is = over (is_active base.active channel)
 activate-by channel number base false is = activation channel number base.active is
 
-bring-by : (channel number : ℕ) (base new : BaseState) (message : Rsl) (up : Bool) → new.active ≡ base.active → is_active base.active number ≡ up → is_brought_on channel message ≡ nat_eq number channel → is_bound_of channel message ≡ false → let fault : Option LinkFault = cond up None (Some NotActive) in Tenures channel (is_active base.active channel) (made_unless fault message) (is_active (unless_refused fault base new).active channel)
-bring-by channel number base new message true same is brings unbound = Tenures-at refl (ap (λ (active : List ℕ). is_active active channel) same) (bringing channel number base.active message is brings unbound)
-bring-by channel number base new message false same is brings unbound = over (is_active base.active channel)
+bring-by : (channel number : ℕ) (base new : BaseState) (message : Rsl) (up : Bool) → new.active ≡ base.active → is_active base.active number ≡ up → is_brought_on channel message ≡ nat_eq number channel → is_bound_of channel message ≡ false → let fault : Option LinkFault = cond up None (Some NotActive) in Tenures channel (is_active base.active channel) (message_unless fault message) (is_active (state_unless fault base new).active channel)
+bring-by channel number base new message true same is names unbound = Tenures-at refl (ap (λ (active : List ℕ). is_active active channel) same) (bringing channel number base.active message is names unbound)
+bring-by channel number base new message false same is names unbound = over (is_active base.active channel)
 
-tell-by : (channel : ℕ) (base : BaseState) (message : Rsl) (told : Bool) → is_told message ≡ told → Tenures channel (is_active base.active channel) (cond told (message ∷ []) []) (is_active (cond told (telling base message) base).active channel)
+tell-by : (channel : ℕ) (base : BaseState) (message : Rsl) (told : Bool) → is_told message ≡ told → Tenures channel (is_active base.active channel) (cond told (message ∷ []) []) (is_active (cond told (after_tell base message) base).active channel)
 tell-by channel base message true is = let free = told-apart channel message is in apart free.0 free.1 (over (is_active base.active channel))
 tell-by channel base message false is = over (is_active base.active channel)
 
-Tenures-call : (channel : ℕ) (base : BaseState) (call : BaseCall) → Tenures channel (is_active base.active channel) (made_by_call base call) (is_active (after_call base call).active channel)
+Tenures-call : (channel : ℕ) (base : BaseState) (call : BaseCall) → Tenures channel (is_active base.active channel) (messages_made_by_call base call) (is_active (after_call base call).active channel)
 Tenures-call channel base (activates number) = activate-by channel number base (is_active base.active number) refl
 Tenures-call channel base (establishes number sapi message) = bring-by channel number base (after_establish base number sapi message) (establish_indication number sapi message) (is_active base.active number) refl refl refl refl
 Tenures-call channel base (brings_up number sapi message) = bring-by channel number base (after_up base number sapi message) (data_indication number sapi message) (is_active base.active number) refl refl refl refl
@@ -125,11 +125,11 @@ Tenures-call channel base (releases number) = releasing channel number base.acti
 Tenures-call channel base (tells message) = tell-by channel base message (is_told message) refl
 Tenures-call channel base gives_next = over (is_active base.active channel)
 
-pub Tenures-calls : (channel : ℕ) (base : BaseState) (calls : List BaseCall) → Tenures channel (is_active base.active channel) (made_by_calls base calls) (is_active (after_calls base calls).active channel)
+pub Tenures-calls : (channel : ℕ) (base : BaseState) (calls : List BaseCall) → Tenures channel (is_active base.active channel) (messages_made base calls) (is_active (after_calls base calls).active channel)
 Tenures-calls channel base [] = over (is_active base.active channel)
-Tenures-calls channel base (call ∷ calls) = Tenures-append (made_by_calls (after_call base call) calls) (Tenures-call channel base call) (Tenures-calls channel (after_call base call) calls)
+Tenures-calls channel base (call ∷ calls) = Tenures-append (messages_made (after_call base call) calls) (Tenures-call channel base call) (Tenures-calls channel (after_call base call) calls)
 
 -- what a new end gave out, with what waits, is what it made
-pub Tenures-given : (channel station : ℕ) (calls : List BaseCall) → Tenures channel false (given_by_calls (new_base station) calls ++ (after_calls (new_base station) calls).made) (is_active (after_calls (new_base station) calls).active channel)
+pub Tenures-given : (channel station : ℕ) (calls : List BaseCall) → Tenures channel false (messages_given (new_base station) calls ++ (after_calls (new_base station) calls).messages) (is_active (after_calls (new_base station) calls).active channel)
 Tenures-given channel station calls =
     subst (λ (xs : List Rsl). Tenures channel false xs (is_active (after_calls (new_base station) calls).active channel)) (sym (given-calls (new_base station) calls)) (Tenures-calls channel (new_base station) calls)

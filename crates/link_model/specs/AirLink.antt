@@ -9,10 +9,10 @@ is_empty (Given message) = false
 is_empty (Reached message) = false
 
 -- what `give` answers: a link that isn't empty hands the message back
-abbrev pub given_answer : Air → List ℕ → Result (Unit {0}) (List ℕ)
-given_answer Empty message = Ok tt
-given_answer (Given first) message = Err message
-given_answer (Reached first) message = Err message
+abbrev pub give_answer : Air → List ℕ → Result (Unit {0}) (List ℕ)
+give_answer Empty message = Ok tt
+give_answer (Given first) message = Err message
+give_answer (Reached first) message = Err message
 
 -- the link after `give`, which changes an empty link alone
 abbrev pub after_give : Air → List ℕ → Air
@@ -27,16 +27,16 @@ message_in (Given message) = Some message
 message_in (Reached message) = Some message
 
 -- what the station can take: the message that it hasn't taken yet
-abbrev pub offered : Air → Option (List ℕ)
-offered Empty = None
-offered (Given message) = Some message
-offered (Reached message) = None
+abbrev pub offered_message : Air → Option (List ℕ)
+offered_message Empty = None
+offered_message (Given message) = Some message
+offered_message (Reached message) = None
 
 -- the link after the station took what it can
-abbrev pub reached : Air → Air
-reached Empty = Empty
-reached (Given message) = Reached message
-reached (Reached message) = Reached message
+abbrev pub after_reach : Air → Air
+after_reach Empty = Empty
+after_reach (Given message) = Reached message
+after_reach (Reached message) = Reached message
 
 -- whether the station took the message
 abbrev pub is_reached : Air → Bool
@@ -45,7 +45,7 @@ is_reached (Given message) = false
 is_reached (Reached message) = true
 
 -- the link after an acknowledgement
-abbrev pub freed : Air → Air
-freed Empty = Empty
-freed (Given message) = Given message
-freed (Reached message) = Empty
+abbrev pub after_ack : Air → Air
+after_ack Empty = Empty
+after_ack (Given message) = Given message
+after_ack (Reached message) = Empty

@@ -6,4 +6,4 @@ use Rattle.rsl_codec.specs.declared.rsl.Rsl.{Rsl}
 pub record BaseState : Type 0 where
   pub station : ℕ
   pub active : List ℕ
-  pub made : List Rsl
+  pub messages : List Rsl

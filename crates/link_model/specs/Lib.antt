@@ -1,7 +1,7 @@
 pub mod AirLink
-pub mod RestsReached
+pub mod RestsAfterReach
 pub mod BaseState
-pub mod Made
+pub mod Message
 pub mod Base
 pub mod BaseCalls
 pub mod Tenures

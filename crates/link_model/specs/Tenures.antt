@@ -1,6 +1,6 @@
 -- What a base station end keeps of an honest station: its messages of one channel, in tenures.
 use Rattle.std.specs.Prelude.{◌≡◌, ℕ, Bool, true, false, ◌==◌, List, [], ◌∷◌}
-use Rattle.link_model.specs.Made.{activation_ack}
+use Rattle.link_model.specs.Message.{activation_ack}
 use Rattle.rsl_codec.specs.declared.rsl.Rsl.{Rsl}
 use Rattle.rsl_codec.specs.declared.rsl.Rsl.TheVariants.{DataIndication, EstablishIndication, ChannelActivationAck, RfChannelReleaseAck}
 
@@ -22,6 +22,6 @@ is_bound_of channel _ = false
 pub data Tenures (channel : ℕ) : Bool → List Rsl → Bool → Type 0 where
   over : (within : Bool) → Tenures channel within [] within
   begins : {end : Bool} {messages : List Rsl} → Tenures channel true messages end → Tenures channel false (activation_ack channel ∷ messages) end
-  brought : {end : Bool} {message : Rsl} {messages : List Rsl} → is_brought_on channel message ≡ true → Tenures channel true messages end → Tenures channel true (message ∷ messages) end
+  brings : {end : Bool} {message : Rsl} {messages : List Rsl} → is_brought_on channel message ≡ true → Tenures channel true messages end → Tenures channel true (message ∷ messages) end
   ends : {within end : Bool} {messages : List Rsl} → Tenures channel false messages end → Tenures channel within (RfChannelReleaseAck channel ∷ messages) end
   apart : {within end : Bool} {message : Rsl} {messages : List Rsl} → is_brought_on channel message ≡ false → is_bound_of channel message ≡ false → Tenures channel within messages end → Tenures channel within (message ∷ messages) end

@@ -1,8 +1,8 @@
 ghost use Rattle.std.specs.Prelude.{◌≡◌, None, Ok, Err, is_some, option_map, if◌then◌else◌};
 ghost use Rattle.std.specs.Result.{result_map_both};
 ghost use Rattle.std.specs.Borrow.{sem};
-ghost use Rattle.link_model.specs.AirLink.{given_answer, after_give, offered, reached, freed, is_reached, is_empty, message_in};
-ghost use Rattle.link_model.specs.RestsReached.{RestsReached};
+ghost use Rattle.link_model.specs.AirLink.{give_answer, after_give, offered_message, after_reach, after_ack, is_reached, is_empty, message_in};
+ghost use Rattle.link_model.specs.RestsAfterReach.{RestsAfterReach};
 
 use octets::Octets;
 use std::marker::Model;
@@ -10,7 +10,7 @@ use std::mem;
 
 /// What stands in the air on one acknowledged link: at most one message, which the station takes once and then
 /// acknowledges.
-#[derive(Debug, Drop)]
+#[derive(Drop)]
 pub enum Air {
     Empty,
     /// Given to the link, and not yet taken by the station.
@@ -21,7 +21,7 @@ pub enum Air {
 
 /// One acknowledged link (TS 44.006): the mobile gives it a message, the station takes the message once, and its
 /// acknowledgement frees the link. No call takes memory.
-#[derive(Debug, Drop)]
+#[derive(Drop)]
 pub struct AirLink {
     air: Air,
 }
@@ -51,7 +51,7 @@ impl AirLink {
 
     /// Gives a message to the link. It is handed back, and nothing changes, where one stands in the air already.
     pub fn give(&mut self, message: Vec<u8>) -> Result<(), Vec<u8>>
-        ensures answer { result_map_both (λ _. tt) (λ message. message.items) result ≡ given_answer self.old message.items }
+        ensures answer { result_map_both (λ _. tt) (λ message. message.items) result ≡ give_answer self.old message.items }
         ensures after { self.new ≡ after_give self.old message.items }
     {
         if !self.is_empty() {
@@ -63,17 +63,17 @@ impl AirLink {
 
     /// The message in the air, for the station to take, which it does once; none where it took it already.
     pub fn reach(&mut self) -> Option<&[u8]>
-        ensures* after { sem 𝓛 (RestsReached self.entry) }
-        ensures message { option_map (λ message. message.now) result ≡ offered self.old }
+        ensures* after { sem 𝓛 (RestsAfterReach self.entry) }
+        ensures message { option_map (λ message. message.now) result ≡ offered_message self.old }
     {
         if self.take() { self.message() } else { None }
     }
 
     /// Marks the message as taken by the station, and says whether there was one that it had not taken.
     fn take(&mut self) -> bool
-        ensures taken { result ≡ is_some (offered self.old) }
-        ensures after { self.new ≡ reached self.old }
-        ensures message { offered self.old ≡ (if result then message_in self.new else None) }
+        ensures taken { result ≡ is_some (offered_message self.old) }
+        ensures after { self.new ≡ after_reach self.old }
+        ensures message { offered_message self.old ≡ (if result then message_in self.new else None) }
     {
         match mem::replace(&mut self.air, Air::Empty) {
             Air::Given(message) => {
@@ -101,7 +101,7 @@ impl AirLink {
     /// is none that it took.
     pub fn ack(&mut self) -> bool
         ensures acknowledged { result ≡ is_reached self.old }
-        ensures after { self.new ≡ freed self.old }
+        ensures after { self.new ≡ after_ack self.old }
     {
         match &self.air {
             Air::Reached(_) => {

@@ -1,7 +1,7 @@
 ghost use Rattle.std.specs.Prelude.{◌≡◌, ◌≤◌, true, None, [], OnOk, OnErr, option_map, filter, not, ◌==◌};
 ghost use Rattle.octets.specs.Refusal.{RefusesBy};
-ghost use Rattle.link_model.specs.Made.{link_on};
-ghost use Rattle.link_model.specs.Base.{is_active, new_base, after_activate, refusal_of_activate, refusal_unless_active, after_establish, after_up, after_release, is_told, telling, first_made, after_next, after_take_down};
+ghost use Rattle.link_model.specs.Message.{link_on};
+ghost use Rattle.link_model.specs.Base.{is_active, new_base, after_activate, refusal_of_activate, refusal_unless_active, after_establish, after_up, after_release, is_told, after_tell, first_message, after_next, after_take_down};
 
 use crate::LinkFault;
 use dtap_codec::Sapi;
@@ -14,14 +14,23 @@ use std::marker::Model;
 /// The first octet of a channel number that is no TCH's (TS 48.058 clause 9.3.1).
 const FIRST_SDCCH: u8 = 0x20;
 
+/// The link identifier of SAPI 0 on the main signalling link (TS 48.058 clause 9.3.2).
+const MAIN_LINK_SAPI_0: u8 = 0x00;
+
+/// The link identifier of SAPI 3 on the main signalling link.
+const MAIN_LINK_SAPI_3: u8 = 0x03;
+
+/// The link identifier of SAPI 3 on the SACCH.
+const SACCH_SAPI_3: u8 = 0x43;
+
 /// A base station's end of its link to the controller: which channels are active, and the messages that it made and that
 /// weren't given out yet, in order.
-#[derive(Debug, Drop)]
+#[derive(Drop)]
 pub struct BaseEnd {
     alloc: Global,
     station: u16,
     active: Vec<ChanNo>,
-    made: VecDeque<Rsl>,
+    messages: VecDeque<Rsl>,
 }
 
 impl Model for BaseEnd {
@@ -29,7 +38,7 @@ impl Model for BaseEnd {
 
     ghost Value = { BaseState };
 
-    ghost view = { λ base. record { station = base.station; active = base.active.items; made = base.made.items } };
+    ghost view = { λ base. record { station = base.station; active = base.active.items; messages = base.messages.items } };
 }
 
 impl BaseEnd {
@@ -41,7 +50,7 @@ impl BaseEnd {
             alloc,
             station,
             active: Vec::new(alloc),
-            made: VecDeque::new(alloc),
+            messages: VecDeque::new(alloc),
         }
     }
 
@@ -61,13 +70,14 @@ impl BaseEnd {
         if self.is_active(channel) {
             return Err(LinkFault::Busy);
         }
-        self.active.reserve(1)?;
+        self.active.reserve(1).map_err(Memory::from)?;
         let acknowledgement = ActivationAck {
             channel,
             frame: Some(FrameNumber(0)),
         };
-        self.made
-            .push_back(Rsl::ChannelActivationAck(acknowledgement))?;
+        self.messages
+            .push_back(Rsl::ChannelActivationAck(acknowledgement))
+            .map_err(Memory::from)?;
         self.active.push_reserved(channel);
         Ok(())
     }
@@ -87,10 +97,7 @@ impl BaseEnd {
         if !self.is_active(channel) {
             return Err(LinkFault::NotActive);
         }
-        let l3 = match message {
-            None => None,
-            Some(message) => Some(Octets::copy(self.alloc, message)?),
-        };
+        let l3 = Octets::copy_optional(self.alloc, message)?;
         self.make(Rsl::EstablishIndication(Establishment {
             channel,
             link: link_on(channel, sapi),
@@ -132,7 +139,7 @@ impl BaseEnd {
     /// INDICATION, as it is.
     pub fn tell(&mut self, message: Rsl) -> Result<(), LinkFault>
         requires { is_told message ≡ true }
-        ensures ok { OnOk result (self.new ≡ telling self.old message) }
+        ensures ok { OnOk result (self.new ≡ after_tell self.old message) }
         ensures refused { RefusesBy LinkFault.Memory result None }
         ensures err { OnErr result (self.new ≡ self.old) }
     {
@@ -142,17 +149,17 @@ impl BaseEnd {
 
     /// The first message that was made and not yet given out.
     pub fn next(&mut self) -> Option<Rsl>
-        ensures message { result ≡ first_made self.old }
+        ensures message { result ≡ first_message self.old }
         ensures after { self.new ≡ after_next self.old }
     {
-        self.made.pop_front()
+        self.messages.pop_front()
     }
 
     /// The link to the controller broke: what was made and not given out is dropped.
     pub fn take_down(&mut self)
         ensures { self.new ≡ after_take_down self.old }
     {
-        self.made.clear();
+        self.messages.clear();
     }
 
     fn is_active(&self, channel: ChanNo) -> bool
@@ -162,10 +169,10 @@ impl BaseEnd {
     }
 
     fn make(&mut self, message: Rsl) -> Result<(), Memory>
-        ensures ok { OnOk result (self.new ≡ telling self.old message) }
+        ensures ok { OnOk result (self.new ≡ after_tell self.old message) }
         ensures err { OnErr result (self.new ≡ self.old) }
     {
-        self.made.push_back(message)?;
+        self.messages.push_back(message)?;
         Ok(())
     }
 }
@@ -182,8 +189,8 @@ fn link_on(channel: ChanNo, sapi: Sapi) -> LinkId
     ensures { result ≡ link_on channel sapi }
 {
     match sapi {
-        Sapi::Zero => LinkId::read(0x00),
-        Sapi::Three if channel.octet() < FIRST_SDCCH => LinkId::read(0x43),
-        Sapi::Three => LinkId::read(0x03),
+        Sapi::Zero => LinkId::read(MAIN_LINK_SAPI_0),
+        Sapi::Three if channel.octet() < FIRST_SDCCH => LinkId::read(SACCH_SAPI_3),
+        Sapi::Three => LinkId::read(MAIN_LINK_SAPI_3),
     }
 }

@@ -1,7 +1,7 @@
 ghost use Rattle.std.specs.Prelude.{◌≡◌, ℕ, ◌++◌, false, List};
 ghost use Rattle.link_model.specs.BaseState.{BaseState};
 ghost use Rattle.link_model.specs.Base.{is_active, new_base};
-ghost use Rattle.link_model.specs.BaseCalls.{BaseCall, after_calls, made_by_calls, given_by_calls};
+ghost use Rattle.link_model.specs.BaseCalls.{BaseCall, after_calls, messages_made, messages_given};
 ghost use Rattle.link_model.specs.Tenures.{Tenures};
 
 /// What a base station end keeps of an honest station, whatever is called and in whatever order up to a `take_down`: in what
@@ -10,14 +10,14 @@ ghost use Rattle.link_model.specs.Tenures.{Tenures};
 /// definitions that the calls' contracts cite: it does nothing.
 pub fn keeps_tenures()
     ensures made { (base : BaseState) (channel : ℕ) (calls : List BaseCall) →
-        Tenures channel (is_active base.active channel) (made_by_calls base calls) (is_active (after_calls base calls).active channel) }
+        Tenures channel (is_active base.active channel) (messages_made base calls) (is_active (after_calls base calls).active channel) }
 
     // So it is of what a new end gave out, with what waits to be given out.
     ensures given { (station channel : ℕ) (calls : List BaseCall) →
-        Tenures channel false (given_by_calls (new_base station) calls ++ (after_calls (new_base station) calls).made) (is_active (after_calls (new_base station) calls).active channel) }
+        Tenures channel false (messages_given (new_base station) calls ++ (after_calls (new_base station) calls).messages) (is_active (after_calls (new_base station) calls).active channel) }
 {}
 
 /// What is given out are the messages that were made, each once and in order. It does nothing.
 pub fn gives_in_order()
-    ensures { (base : BaseState) (calls : List BaseCall) → given_by_calls base calls ++ (after_calls base calls).made ≡ base.made ++ made_by_calls base calls }
+    ensures { (base : BaseState) (calls : List BaseCall) → messages_given base calls ++ (after_calls base calls).messages ≡ base.messages ++ messages_made base calls }
 {}

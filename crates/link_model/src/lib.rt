@@ -11,5 +11,3 @@ mod air_link;
 mod base_end;
 mod fault;
 mod laws;
-#[cfg(test)]
-mod tests;

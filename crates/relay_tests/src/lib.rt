@@ -1,5 +1,8 @@
-//! Tests of the relay's models: what no contract says of their public calls with ample memory.
+//! The calls of the models and of the program that can want memory, each with ample memory, and what no contract says of them:
+//! printed text, and devices that fail.
 #![tactic(auto)]
 
+#[cfg(test)]
+mod base_end;
 #[cfg(test)]
 mod nsd_filter;

@@ -1,0 +1,131 @@
+-- Definitions against literal values: an acknowledged link, and the end of base station 1.
+use Rattle.std.proofs.Common.{◌≡◌, true, false, List, [], ◌∷◌, map, Some, None, Ok, Err, refl}
+use Rattle.dtap_codec.specs.declared.sapi.Sapi.TheVariants.{Zero, Three}
+use Rattle.link_model.specs.declared.air_link.Air.{Air}
+use Rattle.link_model.specs.declared.air_link.Air.TheVariants.{Empty, Given, Reached}
+use Rattle.link_model.specs.declared.fault.LinkFault.TheVariants.{NotActive, Busy}
+use Rattle.link_model.specs.AirLink.{is_empty, give_answer, after_give, message_in, offered_message, after_reach, is_reached, after_ack}
+use Rattle.link_model.specs.BaseState.{BaseState}
+use Rattle.link_model.specs.Base.{new_base, is_active, refusal_of_activate, refusal_unless_active, is_told, first_message, after_take_down}
+use Rattle.link_model.specs.BaseCalls.{BaseCall, after_calls, messages_made, messages_given}
+use Rattle.link_model.specs.BaseCalls.BaseCall.{activates, establishes, brings_up, releases, tells, gives_next}
+use Rattle.link_model.specs.Message.{link_on}
+use Rattle.rsl_codec.specs.declared.rsl.Rsl.{Rsl}
+use Rattle.rsl_codec.specs.declared.rsl.Rsl.TheVariants as messages
+
+-- ---- an acknowledged link: empty, with a message given to it, and with one that reached the station
+
+abbrev airs : List Air
+airs = Empty ∷ Given (0x0a ∷ []) ∷ Reached (0x0b ∷ []) ∷ []
+
+empties : map is_empty airs ≡ true ∷ false ∷ false ∷ []
+empties = refl
+
+give_answers : map (λ air. give_answer air (0x0c ∷ [])) airs ≡ Ok tt ∷ Err (0x0c ∷ []) ∷ Err (0x0c ∷ []) ∷ []
+give_answers = refl
+
+gives : map (λ air. after_give air (0x0c ∷ [])) airs ≡ Given (0x0c ∷ []) ∷ Given (0x0a ∷ []) ∷ Reached (0x0b ∷ []) ∷ []
+gives = refl
+
+in_air : map message_in airs ≡ None ∷ Some (0x0a ∷ []) ∷ Some (0x0b ∷ []) ∷ []
+in_air = refl
+
+offers : map offered_message airs ≡ None ∷ Some (0x0a ∷ []) ∷ None ∷ []
+offers = refl
+
+reaches : map after_reach airs ≡ Empty ∷ Reached (0x0a ∷ []) ∷ Reached (0x0b ∷ []) ∷ []
+reaches = refl
+
+reached_ones : map is_reached airs ≡ false ∷ false ∷ true ∷ []
+reached_ones = refl
+
+acks : map after_ack airs ≡ Empty ∷ Given (0x0a ∷ []) ∷ Empty ∷ []
+acks = refl
+
+-- ---- links: SAPI 3 takes the SACCH of a TCH, whose numbers end before 20
+
+links : map (λ channel. link_on channel Three) (0x08 ∷ 0x1f ∷ 0x20 ∷ 0x7f ∷ []) ≡ 0x43 ∷ 0x43 ∷ 0x03 ∷ 0x03 ∷ []
+links = refl
+
+main_links : map (λ channel. link_on channel Zero) (0x1f ∷ 0x20 ∷ []) ≡ 0x00 ∷ 0x00 ∷ []
+main_links = refl
+
+-- ---- a base station end
+
+abbrev busy : BaseState
+busy = record { station = 1; active = 0x41 ∷ 0x0a ∷ []; messages = messages.RfChannelReleaseAck 0x20 ∷ messages.RfChannelReleaseAck 0x21 ∷ [] }
+
+new_one : new_base 1 ≡ record { station = 1; active = []; messages = [] }
+new_one = refl
+
+active_ones : map (is_active busy.active) (0x41 ∷ 0x0a ∷ 0x40 ∷ []) ≡ true ∷ true ∷ false ∷ []
+active_ones = refl
+
+activate_refusals : map (refusal_of_activate busy) (0x41 ∷ 0x40 ∷ []) ≡ Some Busy ∷ None ∷ []
+activate_refusals = refl
+
+other_refusals : map (refusal_unless_active busy) (0x41 ∷ 0x40 ∷ []) ≡ None ∷ Some NotActive ∷ []
+other_refusals = refl
+
+first_one : first_message busy ≡ Some (messages.RfChannelReleaseAck 0x20)
+first_one = refl
+
+no_first_one : first_message (new_base 1) ≡ None
+no_first_one = refl
+
+down : after_take_down busy ≡ record { station = 1; active = 0x41 ∷ 0x0a ∷ []; messages = [] }
+down = refl
+
+-- ---- a life: refused calls change nothing, and each other call makes its message
+
+abbrev confirm : Rsl
+confirm = messages.EstablishConfirm (record { channel = 0x0a; link = 0x43 })
+
+abbrev life : List BaseCall
+life =
+    brings_up 0x0a Zero (0x05 ∷ []) ∷ activates 0x0a ∷ activates 0x0a ∷ establishes 0x0a Zero (Some (0x05 ∷ 0x24 ∷ []))
+    ∷ establishes 0x41 Zero None ∷ establishes 0x0a Three None ∷ brings_up 0x0a Three (0x09 ∷ 0x01 ∷ []) ∷ tells confirm
+    ∷ tells (messages.RfChannelRelease 0x0a) ∷ gives_next ∷ activates 0x41 ∷ releases 0x0a ∷ releases 0x7f ∷ gives_next ∷ []
+
+life_messages : messages_made (new_base 1) life ≡
+    messages.ChannelActivationAck (record { channel = 0x0a; frame = Some (record { 0 = 0 }) })
+    ∷ messages.EstablishIndication (record { channel = 0x0a; link = 0x00; l3 = Some (0x05 ∷ 0x24 ∷ []) })
+    ∷ messages.EstablishIndication (record { channel = 0x0a; link = 0x43; l3 = None })
+    ∷ messages.DataIndication (record { channel = 0x0a; link = 0x43; l3 = 0x09 ∷ 0x01 ∷ [] })
+    ∷ messages.EstablishConfirm (record { channel = 0x0a; link = 0x43 })
+    ∷ messages.ChannelActivationAck (record { channel = 0x41; frame = Some (record { 0 = 0 }) })
+    ∷ messages.RfChannelReleaseAck 0x0a ∷ messages.RfChannelReleaseAck 0x7f ∷ []
+life_messages = refl
+
+life_given : messages_given (new_base 1) life ≡
+    messages.ChannelActivationAck (record { channel = 0x0a; frame = Some (record { 0 = 0 }) })
+    ∷ messages.EstablishIndication (record { channel = 0x0a; link = 0x00; l3 = Some (0x05 ∷ 0x24 ∷ []) }) ∷ []
+life_given = refl
+
+life_end : after_calls (new_base 1) life ≡ record {
+  station = 1;
+  active = 0x41 ∷ [];
+  messages =
+      messages.EstablishIndication (record { channel = 0x0a; link = 0x43; l3 = None })
+      ∷ messages.DataIndication (record { channel = 0x0a; link = 0x43; l3 = 0x09 ∷ 0x01 ∷ [] })
+      ∷ messages.EstablishConfirm (record { channel = 0x0a; link = 0x43 })
+      ∷ messages.ChannelActivationAck (record { channel = 0x41; frame = Some (record { 0 = 0 }) })
+      ∷ messages.RfChannelReleaseAck 0x0a ∷ messages.RfChannelReleaseAck 0x7f ∷ [];
+}
+life_end = refl
+
+-- ---- what `tell` makes: CHANNEL REQUIRED, HANDOVER DETECTION, MEASUREMENT RESULT, ESTABLISH CONFIRM, RELEASE INDICATION
+
+told_ones : map is_told
+    (messages.ChannelRequired (record { channel = 0x88; reference = record { access = 1; frame = 0 }; access_delay = record { 0 = 0 } })
+    ∷ messages.HandoverDetection (record { channel = 0x41; access_delay = None })
+    ∷ messages.MeasurementResult (record { channel = 0x41; number = record { 0 = 0 }; uplink = None; bs_power = None; l1 = None; l3 = None })
+    ∷ confirm ∷ messages.ReleaseIndication (record { channel = 0x41; link = 0x00 }) ∷ [])
+    ≡ true ∷ true ∷ true ∷ true ∷ true ∷ []
+told_ones = refl
+
+untold_ones : map is_told
+    (messages.DataIndication (record { channel = 0x41; link = 0x00; l3 = 0x05 ∷ [] }) ∷ messages.EstablishIndication (record { channel = 0x41; link = 0x00; l3 = None })
+    ∷ messages.ChannelActivationAck (record { channel = 0x41; frame = None }) ∷ messages.RfChannelReleaseAck 0x41 ∷ messages.ReleaseConfirm (record { channel = 0x41; link = 0x00 }) ∷ [])
+    ≡ false ∷ false ∷ false ∷ false ∷ false ∷ []
+untold_ones = refl
