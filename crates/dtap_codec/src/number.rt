@@ -7,7 +7,7 @@ use octets::Memory;
 use std::alloc::Global;
 
 /// How many send sequence numbers there are: they count modulo this (TS 24.007 clause 11.2.3.2.3.2).
-#[derive(Clone, Copy)]
+#[derive(Clone, Copy, Debug)]
 pub enum Modulus {
     /// Numbers 0 to 3, in bits 8 and 7 of the second octet.
     Four,
