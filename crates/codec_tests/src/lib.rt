@@ -4,4 +4,6 @@
 #[cfg(test)]
 mod dtap;
 #[cfg(test)]
+mod framing;
+#[cfg(test)]
 mod rsl;

@@ -5,4 +5,10 @@
 #[cfg(test)]
 mod base_end;
 #[cfg(test)]
+mod decision;
+#[cfg(test)]
+mod hold;
+#[cfg(test)]
+mod mobile;
+#[cfg(test)]
 mod nsd_filter;

@@ -1,0 +1,91 @@
+use dtap_codec::{Modulus, Sapi};
+use mobile_end::MobileEnd;
+use std::alloc::Global;
+use std::test::Fail;
+
+/// What a mobile or its station does.
+#[derive(Clone, Copy)]
+enum Step {
+    Send([u8; 2]),
+    /// The station takes the frame in the air.
+    Frame,
+    /// The same, and acknowledges it.
+    AckedFrame,
+    Leave,
+    Arrive,
+    GiveUp,
+}
+
+/// A mobile that connects with a message.
+fn connect(alloc: Global, initial: &[u8]) -> Result<MobileEnd, Fail> {
+    let mut mobile = MobileEnd::new(alloc, Modulus::Four);
+    mobile.connect(Some(initial.to_vec(alloc)?))?;
+    Ok(mobile)
+}
+
+fn frame(alloc: Global, mobile: &mut MobileEnd) -> Result<Vec<u8>, Fail> {
+    match mobile.frame(Sapi::Zero)? {
+        Some(frame) => Ok(frame.to_vec(alloc)?),
+        None => Ok(Vec::new(alloc)),
+    }
+}
+
+/// A second `leave` changes nothing.
+fn arrive(alloc: Global, mobile: &mut MobileEnd) -> Result<(), Fail> {
+    let complete = [0x06, 0x29, 0x00].to_vec(alloc)?;
+    mobile.leave();
+    mobile.arrive(complete)?;
+    Ok(())
+}
+
+fn give_up(alloc: Global, mobile: &mut MobileEnd) -> Result<(), Fail> {
+    let failure = [0x06, 0x28, 0x03].to_vec(alloc)?;
+    mobile.leave();
+    mobile.give_up(failure)?;
+    Ok(())
+}
+
+/// The frame that a step takes; no octets where it takes none, or one that isn't acknowledged.
+fn frame_of(alloc: Global, mobile: &mut MobileEnd, step: Step) -> Result<Vec<u8>, Fail> {
+    match step {
+        Step::Send(message) => mobile.send(Sapi::Zero, message.to_vec(alloc)?)?,
+        Step::Frame => return frame(alloc, mobile),
+        Step::AckedFrame => {
+            let taken = frame(alloc, mobile)?;
+            if mobile.acked(Sapi::Zero) {
+                return Ok(taken);
+            }
+        }
+        Step::Leave => mobile.leave(),
+        Step::Arrive => arrive(alloc, mobile)?,
+        Step::GiveUp => give_up(alloc, mobile)?,
+    }
+    Ok(Vec::new(alloc))
+}
+
+#[test]
+fn an_unacknowledged_message_is_sent_again(rt: HostRuntime) -> Result<(), Fail> {
+    let alloc = rt.alloc();
+    let mut mobile = connect(alloc, &[0x05, 0x24, 0x71])?;
+    let steps: [(Step, &[u8]); 13] = [
+        (Step::Send([0x03, 0x05]), &[]),
+        (Step::AckedFrame, &[0x05, 0x24, 0x71]),
+        (Step::Frame, &[0x03, 0x45]),
+        (Step::Leave, &[]),
+        (Step::Frame, &[]),
+        (Step::Arrive, &[]),
+        (Step::AckedFrame, &[0x06, 0x29, 0x00]),
+        (Step::AckedFrame, &[0x03, 0x45]),
+        (Step::Send([0x03, 0x0f]), &[]),
+        (Step::Frame, &[0x03, 0x8f]),
+        (Step::GiveUp, &[]),
+        (Step::AckedFrame, &[0x06, 0x28, 0x03]),
+        (Step::Frame, &[0x03, 0x8f]),
+    ];
+    for (step, expected) in steps {
+        let found = frame_of(alloc, &mut mobile, step)?;
+        assert!(rt; found.as_slice() == expected);
+    }
+    assert!(rt; mobile.sent().len() == 3);
+    Ok(())
+}
