@@ -8,7 +8,7 @@ use Rattle.dtap_codec.specs.Message.{is_flow_message}
 use Rattle.dtap_codec.specs.Places.{AreClear, Rise}
 use Rattle.dtap_codec.specs.declared.sapi.Sapi.{Sapi}
 use Rattle.dtap_codec.specs.declared.sapi.Sapi.TheVariants.{Zero, Three}
-use Rattle.link_model.specs.AirLink.{freed}
+use Rattle.link_model.specs.AirLink.{after_ack}
 use Rattle.link_model.specs.declared.air_link.Air.{Air}
 use Rattle.link_model.specs.declared.air_link.Air.TheVariants.{Empty, Given, Reached}
 use Rattle.mobile_end.specs.declared.fault.MobileFault.{MobileFault}
@@ -118,7 +118,7 @@ IsLastTaken-lent_message (first ∷ others) Empty taken last = (taken, refl)
 IsLastTaken-lent_message waiting (Given message) taken last = (taken, refl)
 IsLastTaken-lent_message waiting (Reached message) taken last = (last.0, append-nil taken ∙ last.1)
 
-IsLastTaken-freed : (air : Air) (taken : List (List ℕ)) → IsLastTaken (freed air) taken
+IsLastTaken-freed : (air : Air) (taken : List (List ℕ)) → IsLastTaken (after_ack air) taken
 IsLastTaken-freed Empty taken = tt
 IsLastTaken-freed (Given message) taken = tt
 IsLastTaken-freed (Reached message) taken = tt

@@ -9,7 +9,7 @@ use Rattle.dtap_codec.specs.Places.{with_numbers_from, IsClear, AreClear}
 use Rattle.dtap_codec.specs.declared.sapi.Sapi.{Sapi}
 use Rattle.dtap_codec.specs.declared.sapi.Sapi.TheVariants.{Zero, Three}
 use Rattle.dtap_codec.proofs.Numbers.{is_flow-with_number, with_numbers_from-append, AreClear-push}
-use Rattle.link_model.specs.AirLink.{offered}
+use Rattle.link_model.specs.AirLink.{offered_message}
 use Rattle.link_model.specs.declared.air_link.Air.{Air}
 use Rattle.link_model.specs.declared.air_link.Air.TheVariants.{Empty, Given, Reached}
 use Rattle.mobile_end.specs.declared.mobile_end.Place.{Place}
@@ -26,7 +26,7 @@ use Rattle.mobile_end.specs.Calls.{frame_lent}
 
 -- a message that waits is the last that the station can take
 pub to_be_taken-waits : (link : DataLinkState) (message : List ℕ) → to_be_taken (waits link message) ≡ to_be_taken link ++ message ∷ []
-to_be_taken-waits link message = sym (append_assoc (option_to_list (offered link.air)) link.waiting (message ∷ []))
+to_be_taken-waits link message = sym (append_assoc (option_to_list (offered_message link.air)) link.waiting (message ∷ []))
 
 to_be_taken-one_more : (taken : List (List ℕ)) (link : DataLinkState) (message : List ℕ) → taken ++ to_be_taken (waits link message) ≡ (taken ++ to_be_taken link) ++ message ∷ []
 to_be_taken-one_more taken link message = ap (λ (ys : List (List ℕ)). taken ++ ys) (to_be_taken-waits link message) ∙ sym (append_assoc taken (to_be_taken link) (message ∷ []))

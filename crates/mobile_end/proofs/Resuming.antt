@@ -7,7 +7,7 @@ use Rattle.dtap_codec.specs.Number.{with_number}
 use Rattle.dtap_codec.specs.Places.{with_numbers_from}
 use Rattle.dtap_codec.specs.declared.message.TheConstants.{RADIO_RESOURCE}
 use Rattle.dtap_codec.proofs.Numbers.{with_numbers_from-append}
-use Rattle.link_model.specs.AirLink.{message_in, offered}
+use Rattle.link_model.specs.AirLink.{message_in, offered_message}
 use Rattle.link_model.specs.declared.air_link.Air.{Air}
 use Rattle.link_model.specs.declared.air_link.Air.TheVariants.{Empty, Given, Reached}
 use Rattle.mobile_end.specs.Control.{is_control, without_control}
@@ -135,7 +135,7 @@ cut-at_last m before after sent others waiting x flow parts numbers =
     }
 
 -- the two cases of the message in the air
-cut-by : (m : ℕ) (before after sent taken waiting : List (List ℕ)) (air : Air) → before ++ after ≡ sent → IsLastTaken air taken → filter is_flow_message (taken ++ (option_to_list (offered air) ++ waiting)) ≡ with_numbers_from m (length before) after → IsCut m before sent taken (option_to_list (message_in air) ++ waiting)
+cut-by : (m : ℕ) (before after sent taken waiting : List (List ℕ)) (air : Air) → before ++ after ≡ sent → IsLastTaken air taken → filter is_flow_message (taken ++ (option_to_list (offered_message air) ++ waiting)) ≡ with_numbers_from m (length before) after → IsCut m before sent taken (option_to_list (message_in air) ++ waiting)
 cut-by m before after sent taken waiting Empty parts last numbers = cut-after m before after sent taken waiting parts numbers
 cut-by m before after sent taken waiting (Given x) parts last numbers = cut-after m before after sent taken (x ∷ waiting) parts numbers
 cut-by m before after sent taken waiting (Reached x) parts last numbers =

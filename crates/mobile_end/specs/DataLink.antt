@@ -1,6 +1,6 @@
 -- What the calls of a data link do.
 use Rattle.std.specs.Prelude.{ℕ, Option, List, [], ◌∷◌, ◌++◌, option_to_list}
-use Rattle.link_model.specs.AirLink.{message_in, offered, reached, freed}
+use Rattle.link_model.specs.AirLink.{message_in, offered_message, after_reach, after_ack}
 use Rattle.link_model.specs.declared.air_link.Air.{Air}
 use Rattle.link_model.specs.declared.air_link.Air.TheVariants.{Empty, Given, Reached}
 use Rattle.mobile_end.specs.Control.{without_control}
@@ -22,18 +22,18 @@ after_load link = after_load_from link.waiting link.air
 
 -- the message that the station can take now
 abbrev pub lent_message : DataLinkState → Option (List ℕ)
-lent_message link = offered (after_load link).air
+lent_message link = offered_message (after_load link).air
 
 -- the link after the station took it
 abbrev pub after_lending : DataLinkState → DataLinkState
-after_lending link = record { waiting = (after_load link).waiting; air = reached (after_load link).air }
+after_lending link = record { waiting = (after_load link).waiting; air = after_reach (after_load link).air }
 
 abbrev pub after_acknowledgement : DataLinkState → DataLinkState
-after_acknowledgement link = record { waiting = link.waiting; air = freed link.air }
+after_acknowledgement link = record { waiting = link.waiting; air = after_ack link.air }
 
 -- what the station can still take, in order
 abbrev pub to_be_taken : DataLinkState → List (List ℕ)
-to_be_taken link = option_to_list (offered link.air) ++ link.waiting
+to_be_taken link = option_to_list (offered_message link.air) ++ link.waiting
 
 -- what wasn't acknowledged, in order: the message in the air and those that wait
 abbrev pub outstanding_messages : DataLinkState → List (List ℕ)
