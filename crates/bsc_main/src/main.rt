@@ -2,24 +2,14 @@
 #![tactic(auto)]
 
 use crate::command_line::task;
-use crate::decode::decode;
-use crate::failure::Failure;
-use crate::replay::replay;
 use crate::words::{Task, TaskFault};
-use std::alloc::AllocError;
+use bsc_program::{Failure, decode, replay};
+use octets::Memory;
 use std::env;
 use std::io::{BufWriter, ErrorKind};
 use std::process::ExitCode;
 
 mod command_line;
-mod decode;
-mod failure;
-mod names;
-mod replay;
-mod report;
-mod script;
-#[cfg(test)]
-mod tests;
 mod words;
 
 const USAGE: &str =
@@ -41,11 +31,11 @@ fn main(rt: HostRuntime) -> ExitCode {
 /// Reads what the words behind the program's name ask for. A word that isn't UTF-8 is a fault of words.
 fn asked(rt: &HostRuntime) -> Result<Task, TaskFault> {
     let words: Vec<String> = match env::args(rt) {
-        Ok(words) => words.skip(1).collect(rt.alloc())?,
+        Ok(words) => words.skip(1).collect(rt.alloc()).map_err(Memory::from)?,
         Err(error) if error.kind() == ErrorKind::OutOfMemory => return Err(TaskFault::Memory),
         Err(_) => return Err(TaskFault::Words),
     };
-    let texts: Vec<&str> = words.iter().map(|word| word.as_str()).collect(rt.alloc())?;
+    let texts: Vec<&str> = words.iter().map(|word| word.as_str()).collect(rt.alloc()).map_err(Memory::from)?;
     task(rt.alloc(), &texts)
 }
 

@@ -2,11 +2,11 @@ ghost use Rattle.std.specs.Prelude.{◌≡◌};
 ghost use Rattle.bsc_main.specs.Status.{status_of_words};
 ghost use Rattle.bsc_main.specs.declared.words.TaskFault.TheVariants.{Memory as OutOfMemory};
 
-use std::alloc::AllocError;
+use octets::Memory;
 use thiserror::Error;
 
 /// What the program is asked to do.
-#[derive(Debug, Drop)]
+#[derive(Drop)]
 pub enum Task {
     /// `run --config FILE`: to relay between the switch and the stations of these settings.
     Run(String),
@@ -17,7 +17,7 @@ pub enum Task {
 }
 
 /// Why the words weren't read.
-#[derive(Clone, Copy, Debug, PartialEq, Eq, Error)]
+#[derive(Clone, Copy, Debug, Error)]
 pub enum TaskFault {
     /// They are no command of the program, or ask for help.
     #[error("these words are no command")]
@@ -38,10 +38,10 @@ impl TaskFault {
     }
 }
 
-impl From<AllocError> for TaskFault {
+impl From<Memory> for TaskFault {
     ghost from_gives = { λ _ fault. fault ≡ OutOfMemory };
 
-    fn from(_error: AllocError) -> TaskFault {
+    fn from(_memory: Memory) -> TaskFault {
         TaskFault::Memory
     }
 }
