@@ -12,7 +12,7 @@ use Rattle.ipa_framing.specs.Frame.{IsFrame, IsPartial, IsTooLong, Splits, frame
 use Rattle.ipa_framing.specs.Held.{Held, BeginsWith, Feeds, nothing_held}
 use Rattle.ipa_framing.specs.declared.fault.FrameFault.{FrameFault}
 use Rattle.ipa_framing.specs.declared.fault.FrameFault.TheVariants as faults
-use Rattle.bsc_program.specs.declared.decode.Stop.TheVariants.{TooLong}
+use Rattle.bsc_program.specs.declared.decode_command.Stop.TheVariants.{TooLong}
 use Rattle.bsc_program.specs.Status.{stop_of}
 use Rattle.bsc_program.specs.Decoded.{Decodes, IsDecoded, PrintsFrames, RefusesWith, frame_line, frame_lines, rest_line}
 

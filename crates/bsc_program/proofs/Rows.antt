@@ -1,6 +1,6 @@
 -- Definitions against literal frames, scripts and worlds.
 use Rattle.std.proofs.Common.{◌≡◌, ℕ, List, [], ◌∷◌, ◌++◌, map, Option, Some, None, refl}
-use Rattle.std.specs.Prelude.{◌^◌, codes}
+use Rattle.std.specs.Prelude.{◌^◌, codes, decimal}
 use Rattle.std.specs.declared.io.ErrorKind.TheVariants as kinds
 use Rattle.hex.proofs.OnLiterals.{hex_on_literals}
 use Rattle.ipa_framing.specs.declared.frame.Frame.{Frame}
@@ -12,7 +12,7 @@ use Rattle.world.specs.declared.event.Event.TheVariants.{Upper, AirUp, AirAck, S
 use Rattle.world.specs.World.{after_all, fixed_world}
 use Rattle.world.specs.WorldState.{WorldState}
 use Rattle.bsc_program.specs.declared.block.TheConstants.{MOST_READS}
-use Rattle.bsc_program.specs.declared.decode.Stop.TheVariants.{TooLong, Failed}
+use Rattle.bsc_program.specs.declared.decode_command.Stop.TheVariants.{TooLong, Failed}
 use Rattle.bsc_program.specs.declared.failure.Failure.TheVariants.{Unsupported, BadEvent, Memory, Device}
 use Rattle.bsc_program.specs.Decoded.{frame_lines, rest_line}
 use Rattle.bsc_program.specs.Names.{ccm_name, name_of, rsl_fault_name, sccp_fault_name}
@@ -69,7 +69,7 @@ switch_faults = refl
 no_rest : rest_line [] ≡ []
 no_rest = refl
 
-rest_of_three : rest_line (0x00 ∷ 0x01 ∷ 0xff ∷ []) ≡ codes "rest 3\n"
+rest_of_three : rest_line (0x00 ∷ 0x01 ∷ 0xff ∷ []) ≡ codes "rest " ++ decimal 3 ++ codes "\n"
 rest_of_three = refl
 
 -- ---- scripts
@@ -91,19 +91,23 @@ some_messages =
     ∷ SwitchTakes ∷ Upper 1 Zero (0x03 ∷ 0x06 ∷ []) ∷ Handle ∷ []
     )
 
-its_mobile : mobile_text some_messages.scene 1 ≡ codes "mobile 1 sent 3\n030f\n0305\n0306\nmobile 1 received 0\n"
+its_mobile : mobile_text some_messages.scene 1 ≡ (codes "mobile " ++ decimal 1 ++ codes " sent " ++ decimal 3 ++ codes "\n030f\n0305\n0306\n") ++ (codes "mobile " ++ decimal 1 ++ codes " received " ++ decimal 0 ++ codes "\n")
 unfolding hex_on_literals
 its_mobile = refl
 
 no_other_mobile : mobile_text some_messages.scene 2 ≡ []
 no_other_mobile = refl
 
-its_connection : connection_text some_messages.scene 1 ≡ Some (codes "conn 1 taken 3\n030f\n0cab\n0345\nconn 1 accepted 2\n030f\n0305\nconn 1 unnumbered 1\n0cab\n")
+its_connection : connection_text some_messages.scene 1 ≡ 
+    Some (
+    (codes "conn " ++ decimal 1 ++ codes " taken " ++ decimal 3 ++ codes "\n030f\n0cab\n0345\n") ++ (codes "conn " ++ decimal 1 ++ codes " accepted " ++ decimal 2 ++ codes "\n030f\n0305\n")
+    ++ (codes "conn " ++ decimal 1 ++ codes " unnumbered " ++ decimal 1 ++ codes "\n0cab\n")
+    )
 unfolding hex_on_literals
 its_connection = refl
 
 no_other_connection : connection_text some_messages.scene 2 ≡ None
 no_other_connection = refl
 
-one_not_taken : not_taken_line some_messages.not_taken ≡ codes "events not taken 1\n"
+one_not_taken : not_taken_line some_messages.not_taken ≡ codes "events not taken " ++ decimal 1 ++ codes "\n"
 one_not_taken = refl

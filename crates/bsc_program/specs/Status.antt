@@ -4,8 +4,8 @@ use Rattle.std.specs.declared.io.ErrorKind.{ErrorKind}
 use Rattle.std.specs.declared.io.ErrorKind.TheVariants.{OutOfMemory}
 use Rattle.ipa_framing.specs.declared.fault.FrameFault.{FrameFault}
 use Rattle.ipa_framing.specs.declared.fault.FrameFault.TheVariants as faults
-use Rattle.bsc_program.specs.declared.decode.Stop.{Stop}
-use Rattle.bsc_program.specs.declared.decode.Stop.TheVariants.{TooLong, Failed}
+use Rattle.bsc_program.specs.declared.decode_command.Stop.{Stop}
+use Rattle.bsc_program.specs.declared.decode_command.Stop.TheVariants.{TooLong, Failed}
 use Rattle.bsc_program.specs.declared.failure.Failure.{Failure}
 use Rattle.bsc_program.specs.declared.failure.Failure.TheVariants.{Unsupported, BadEvent, Memory, Device}
 

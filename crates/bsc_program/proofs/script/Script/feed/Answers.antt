@@ -1,7 +1,7 @@
 use Rattle.bsc_program.proofs.Scripts.{all_of, no_feed, reads_all, reads_more, reads_none, refuses_at}
 use Rattle.bsc_program.specs.declared.failure.Failure.TheVariants.{BadEvent, Unsupported}
 use Rattle.bsc_program.proofs.Ends.{error_as}
-use Rattle.std.proofs.Common.{refl}
+use Rattle.std.proofs.Common.{◌≡◌, ◌++◌, refl, rules}
 use Rattle.bsc_program.proofs.script.Script.feed.Goals as goal
 
 pub loop-end-init : goal.loop-end-init
@@ -13,7 +13,9 @@ loop-end-preserved c =
     (all_of c.loop-end.rest.now _ _ refl)
 
 pub returns-clause-ok : goal.returns-clause-ok
-returns-clause-ok c = reads_all c.args.self.now c.loop-end.self _ c.args.block.now c.loop-end.rest.now c.loop-end.invariant (no_feed c.loop-end.rest.now c.in_default.ensures) c.in_ok-extend_from_slice.ensures.items refl refl refl
+returns-clause-ok c =
+    let grown : c.extend_from_slice.new.self.items ≡ c.loop-end.self.started.items ++ c.loop-end.rest.now = search rules in
+    reads_all c.args.self.now c.loop-end.self _ c.args.block.now c.loop-end.rest.now c.loop-end.invariant (no_feed c.loop-end.rest.now c.in_default.ensures) grown refl refl refl
 
 pub returns-in_err-end_line-clause-bad : goal.returns-in_err-end_line-clause-bad
 returns-in_err-end_line-clause-bad c = λ n is.

@@ -1,15 +1,16 @@
 //! `bsc decode`: names the frames of a link.
 ghost use Rattle.std.specs.Prelude.{◌≡◌, ◌⊎◌, [], Err, OnOk, codes};
 ghost use Rattle.std.specs.Io.KnownBytes.{Appends, IsAtEnd};
+ghost use Rattle.std.specs.IoError.{error_kind};
 ghost use Rattle.ipa_framing.specs.Frame.{IsPartial, IsTooLong};
-ghost use Rattle.bsc_program.specs.Decoded.{Decodes, PrintsFrames, RefusesWith, line_of, rest_line};
-ghost use Rattle.bsc_program.specs.Status.{stop_of};
-ghost use Rattle.bsc_program.specs.declared.decode.Stop.TheVariants.{Failed, TooLong};
+ghost use Rattle.bsc_program.specs.Decoded.{Decodes, PrintsFrames, RefusesWith, frame_line, rest_line};
+ghost use Rattle.bsc_program.specs.Status.{failure_of, stop_of};
+ghost use Rattle.bsc_program.specs.declared.decode_command.Stop.TheVariants.{Failed, TooLong};
 
 use crate::block::{MOST_READS, next_block, room_for};
 use crate::failure::Failure;
 use crate::names::frame_name;
-use ipa_framing::{FrameFault, Framer};
+use ipa_framing::{Frame, FrameFault, Framer};
 use std::alloc::Global;
 use std::io::{self, Read, Write};
 
@@ -22,6 +23,14 @@ enum Stop {
     /// A frame has more than 2,048 octets.
     TooLong,
     Failed(Failure),
+}
+
+impl From<io::Error> for Stop {
+    ghost from_gives = { λ error stop. stop ≡ Failed (failure_of (error_kind error)) };
+
+    fn from(error: io::Error) -> Stop {
+        Stop::Failed(Failure::from(error))
+    }
 }
 
 impl From<Failure> for Stop {
@@ -44,15 +53,17 @@ impl From<FrameFault> for Stop {
 }
 
 /// Prints a frame's line. It is put together of octets, since a formatter took over a quarter of the program's time.
-fn print_line<W: Write>(output: &mut W, stream: u8, name: &str) -> io::Result<()>
-    ensures { OnOk result (Appends (W.contents output.old) (W.contents output.new) (line_of stream name.now)) }
+fn print_frame<W: Write>(alloc: Global, frame: &Frame, output: &mut W) -> Result<(), Failure>
+    ensures { OnOk result (Appends (W.contents output.old) (W.contents output.new) (frame_line frame.now)) }
 {
+    let name = frame_name(alloc, frame)?;
     let mut digits = [0; 2];
-    hex::encode_to_slice([stream], &mut digits).unwrap();
+    hex::encode_to_slice([frame.stream], &mut digits).unwrap();
     output.write_all(&digits)?;
     output.write_all(b" ")?;
     output.write_all(name.as_bytes())?;
-    output.write_all(b"\n")
+    output.write_all(b"\n")?;
+    Ok(())
 }
 
 /// Prints a line for each frame that is whole.
@@ -63,14 +74,13 @@ fn print_frames<W: Write>(alloc: Global, framer: &mut Framer, output: &mut W) ->
         PrintsFrames framer.old framer.new (W.contents output.old) (W.contents output.new) × IsTooLong framer.new.octets }
 {
     while let Some(frame) = framer.next()? {
-        let name = frame_name(alloc, &frame).map_err(Failure::from)?;
-        print_line(output, frame.stream, name).map_err(Failure::from)?;
+        print_frame(alloc, &frame, output)?;
     }
     Ok(())
 }
 
 /// Prints the count of the octets that remain of a started frame, where there are any.
-fn print_rest<W: Write>(framer: &Framer, output: &mut W) -> io::Result<()>
+fn print_rest<W: Write>(framer: &Framer, output: &mut W) -> Result<(), Failure>
     requires { IsPartial framer.now.octets }
     ensures { OnOk result (Appends (W.contents output.old) (W.contents output.new) (rest_line framer.now.octets)) }
 {
@@ -96,9 +106,9 @@ fn print_stream<R: Read, W: Write>(alloc: Global, input: &mut R, output: &mut W)
     while let Some(count) = next_block(input, block, &mut reads_left)? {
         framer.feed(&block[..count])?;
         print_frames(alloc, &mut framer, output)?;
-        output.flush().map_err(Failure::from)?;
+        output.flush()?;
     }
-    print_rest(&framer, output).map_err(Failure::from)?;
+    print_rest(&framer, output)?;
     Ok(())
 }
 
@@ -111,9 +121,9 @@ fn print_all<R: Read, W: Write>(alloc: Global, input: &mut R, output: &mut W) ->
 {
     let printed = print_stream(alloc, input, output);
     if let Err(Stop::TooLong) = printed {
-        writeln!(output, "fault F1").map_err(Failure::from)?;
+        writeln!(output, "fault F1")?;
     }
-    output.flush().map_err(Failure::from)?;
+    output.flush()?;
     printed
 }
 

@@ -1,6 +1,6 @@
 use Rattle.std.proofs.Common.{◌≡◌, length}
 use Rattle.bsc_program.specs.Decoded.{PrintsFrames}
-use Rattle.bsc_program.proofs.decode.print_frames.Given as goal
+use Rattle.bsc_program.proofs.decode_command.print_frames.Given as goal
 
 abbrev pub invariant-loop-frame : goal.invariant-loop-frame
 invariant-loop-frame g l =

@@ -5,7 +5,7 @@ use Rattle.bsc_program.specs.declared.failure.Failure.TheVariants.{BadEvent, Uns
 use Rattle.bsc_program.proofs.Ends.{error_as, no_device}
 use Rattle.bsc_program.specs.Status.{status_of}
 use Rattle.bsc_program.proofs.Replaying.{replays_by}
-use Rattle.bsc_program.proofs.replay.try_replay.Goals as goal
+use Rattle.bsc_program.proofs.replay_command.try_replay.Goals as goal
 
 pub returns-clause-printed : goal.returns-clause-printed
 returns-clause-printed g c =

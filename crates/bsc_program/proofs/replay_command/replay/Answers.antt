@@ -1,6 +1,6 @@
 use Rattle.std.proofs.Common.{◌∙◌, sym}
 use Rattle.bsc_program.proofs.Replaying.{bad_by}
-use Rattle.bsc_program.proofs.replay.replay.Goals as goal
+use Rattle.bsc_program.proofs.replay_command.replay.Goals as goal
 
 pub returns-in-Err-clause-bad : goal.returns-in-Err-clause-bad
 returns-in-Err-clause-bad g c = λ settings breaks two.
