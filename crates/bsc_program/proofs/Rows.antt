@@ -91,17 +91,18 @@ some_messages =
     ∷ SwitchTakes ∷ Upper 1 Zero (0x03 ∷ 0x06 ∷ []) ∷ Handle ∷ []
     )
 
-its_mobile : mobile_text some_messages.scene 1 ≡ (codes "mobile " ++ decimal 1 ++ codes " sent " ++ decimal 3 ++ codes "\n030f\n0305\n0306\n") ++ (codes "mobile " ++ decimal 1 ++ codes " received " ++ decimal 0 ++ codes "\n")
+its_mobile : mobile_text some_messages.scene 1 ≡
+    (codes "mobile " ++ decimal 1 ++ codes " sent " ++ (decimal 3 ++ codes "\n" ++ codes "030f\n0305\n0306\n")) ++ (codes "mobile " ++ decimal 1 ++ codes " received " ++ (decimal 0 ++ codes "\n" ++ []))
 unfolding hex_on_literals
 its_mobile = refl
 
 no_other_mobile : mobile_text some_messages.scene 2 ≡ []
 no_other_mobile = refl
 
-its_connection : connection_text some_messages.scene 1 ≡ 
+its_connection : connection_text some_messages.scene 1 ≡
     Some (
-    (codes "conn " ++ decimal 1 ++ codes " taken " ++ decimal 3 ++ codes "\n030f\n0cab\n0345\n") ++ (codes "conn " ++ decimal 1 ++ codes " accepted " ++ decimal 2 ++ codes "\n030f\n0305\n")
-    ++ (codes "conn " ++ decimal 1 ++ codes " unnumbered " ++ decimal 1 ++ codes "\n0cab\n")
+    (codes "conn " ++ decimal 1 ++ codes " taken " ++ (decimal 3 ++ codes "\n" ++ codes "030f\n0cab\n0345\n")) ++ (codes "conn " ++ decimal 1 ++ codes " accepted " ++ (decimal 2 ++ codes "\n" ++ codes "030f\n0305\n"))
+    ++ (codes "conn " ++ decimal 1 ++ codes " unnumbered " ++ (decimal 1 ++ codes "\n" ++ codes "0cab\n"))
     )
 unfolding hex_on_literals
 its_connection = refl

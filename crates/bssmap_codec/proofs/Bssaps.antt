@@ -3,7 +3,7 @@ use Rattle.std.proofs.Common.{◌≡◌, ◌≢◌, ℕ, ◌<◌, ◌≤◌, Boo
 use Rattle.std.proofs.lemmas.Bool.{cases_eq, ne_eqb, le-ltb, eqb-true}
 use Rattle.std.proofs.lemmas.List.{take_at, drop_at, take-append-drop, length-append, length-take}
 use Rattle.octets.specs.Element.{Element, AreOctets, AreElements}
-use Rattle.octets.specs.Walk.{Walked, walk}
+use Rattle.octets.specs.Walk.{Finding, walk}
 use Rattle.octets.proofs.Grammar.{walk_found, walk_only, octets_take}
 use Rattle.bssmap_codec.specs.declared.fault.Refusal.{Refusal}
 use Rattle.bssmap_codec.specs.declared.fault.Refusal.TheVariants.{Short, UnknownType}
@@ -47,7 +47,7 @@ split_again body more =
 whole_again : (kind : BssmapType) (elements : List ℕ) (es : List Element) (message : Bssmap) → AreElements BSSMAP_TABLE elements es false → content_at kind es ≡ Ok message → whole_at kind elements ≡ Ok message
 unfolding whole_at elements_in breaks_off
 whole_again kind elements es message are e =
-    ap (λ (w : Walked). cond w.is_cut (Err Short) (content_at kind w.elements)) (walk_only BSSMAP_TABLE elements es false are) ∙ e
+    ap (λ (w : Finding). cond w.is_cut (Err Short) (content_at kind w.elements)) (walk_only BSSMAP_TABLE elements es false are) ∙ e
 
 management_with : (size : ℕ) (rest : List ℕ) (octet : ℕ) (elements : List ℕ) (kind : BssmapType) (message : Bssmap) → take size rest ≡ octet ∷ elements → bssmap_type octet ≡ Some kind
     → ltb (length rest) size ≡ false → whole_at kind elements ≡ Ok message → management_at (size ∷ rest) ≡ Ok (Management message)

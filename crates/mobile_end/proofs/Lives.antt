@@ -134,29 +134,29 @@ IsLastTaken-queueing mobile taken sapi message last =
 
 IsGoing-queueing : (m : ℕ) (before : List (List ℕ)) (mobile : MobileState) (taken : List (List ℕ)) (sapi : Sapi) (message : List ℕ) → has_clear_number message ≡ true → IsGoing m before mobile taken → IsGoing m before (queueing mobile sapi message) taken
 IsGoing-queueing m before mobile taken sapi message clear going = record {
-  with_number = IsNumbered-queueing before mobile taken sapi message clear going.numbered;
+  numbered = IsNumbered-queueing before mobile taken sapi message clear going.numbered;
   last = IsLastTaken-queueing mobile taken sapi message going.last;
   modulus = (IsKept-queueing mobile sapi message).modulus ∙ going.modulus;
 }
 
 IsGoing-connect : (m : ℕ) (before : List (List ℕ)) (mobile : MobileState) (taken : List (List ℕ)) (initial : Option (List ℕ)) → IsGoing m before mobile taken → IsGoing m before (unless_refused (refusal_of_connect initial) mobile (after_connect mobile initial)) taken
 IsGoing-connect m before mobile taken None going =
-    let with_number = going.numbered in
-    record { with_number = record { after = with_number.after; parts = with_number.parts; numbers = with_number.numbers; clear = with_number.clear }; last = going.last; modulus = going.modulus }
+    let numbered = going.numbered in
+    record { numbered = record { after = numbered.after; parts = numbered.parts; numbers = numbered.numbers; clear = numbered.clear }; last = going.last; modulus = going.modulus }
 IsGoing-connect m before mobile taken (Some initial) going =
     unless_refused-by (λ new. IsGoing m before new taken) (is_initial initial) None mobile (after_connect mobile (Some initial)) going
     (λ lawful.
     let queued = IsGoing-queueing m before mobile taken Zero initial (is_initial-clear initial lawful) going in
-    let with_number = queued.numbered in
-    record { with_number = record { after = with_number.after; parts = with_number.parts; numbers = with_number.numbers; clear = with_number.clear }; last = queued.last; modulus = queued.modulus })
+    let numbered = queued.numbered in
+    record { numbered = record { after = numbered.after; parts = numbered.parts; numbers = numbered.numbers; clear = numbered.clear }; last = queued.last; modulus = queued.modulus })
 
 -- what a frame of SAPI 3 or an acknowledgement changes isn't seen on SAPI 0
 IsGoing-frame_three : (m : ℕ) (before : List (List ℕ)) (stage : Stage) (place : Place) (mobile : MobileState) (taken : List (List ℕ)) → IsGoing m before mobile taken → IsGoing m before (after_frame_at stage place mobile Three) taken
 IsGoing-frame_three m before New place mobile taken going = going
 IsGoing-frame_three m before Connected Moving mobile taken going = going
 IsGoing-frame_three m before Connected OnChannel mobile taken going =
-    let with_number = going.numbered in
-    record { with_number = record { after = with_number.after; parts = with_number.parts; numbers = with_number.numbers; clear = with_number.clear }; last = going.last; modulus = going.modulus }
+    let numbered = going.numbered in
+    record { numbered = record { after = numbered.after; parts = numbered.parts; numbers = numbered.numbers; clear = numbered.clear }; last = going.last; modulus = going.modulus }
 
 IsLastTaken-acked : (place : Place) (mobile : MobileState) (taken : List (List ℕ)) (sapi : Sapi) → IsLastTaken mobile.zero.air taken → IsLastTaken (after_acked_at place mobile sapi).zero.air taken
 IsLastTaken-acked Moving mobile taken sapi last = last
@@ -185,19 +185,19 @@ IsGoing-call m before mobile taken (sends sapi message) doesnt going =
     nothing_taken m before _ taken (unless_refused-by (λ new. IsGoing m before new taken) (is_sendable sapi message) (refusal_before_connect mobile.stage) mobile (queueing mobile sapi message) going
     (λ lawful. IsGoing-queueing m before mobile taken sapi message (is_sendable-clear sapi message lawful) going))
 IsGoing-call m before mobile taken (frames Zero) doesnt going = record {
-  with_number = IsNumbered-frame before mobile.stage mobile.place mobile taken going.numbered;
+  numbered = IsNumbered-frame before mobile.stage mobile.place mobile taken going.numbered;
   last = IsLastTaken-frame mobile.stage mobile.place mobile taken going.last;
   modulus = (IsKept-frame mobile.stage mobile.place mobile Zero).modulus ∙ going.modulus;
 }
 IsGoing-call m before mobile taken (frames Three) doesnt going = nothing_taken m before _ taken (IsGoing-frame_three m before mobile.stage mobile.place mobile taken going)
 IsGoing-call m before mobile taken (acknowledges sapi) doesnt going = nothing_taken m before _ taken (record {
-  with_number = IsNumbered-acked before mobile.place mobile taken sapi going.numbered;
+  numbered = IsNumbered-acked before mobile.place mobile taken sapi going.numbered;
   last = IsLastTaken-acked mobile.place mobile taken sapi going.last;
   modulus = (IsKept-acked mobile.place mobile sapi).modulus ∙ going.modulus;
 })
 IsGoing-call m before mobile taken leaves doesnt going =
-    let with_number = going.numbered in
-    nothing_taken m before _ taken (record { with_number = record { after = with_number.after; parts = with_number.parts; numbers = with_number.numbers; clear = with_number.clear }; last = going.last; modulus = going.modulus })
+    let numbered = going.numbered in
+    nothing_taken m before _ taken (record { numbered = record { after = numbered.after; parts = numbered.parts; numbers = numbered.numbers; clear = numbered.clear }; last = going.last; modulus = going.modulus })
 IsGoing-call m before mobile taken (arrives complete) doesnt going = nothing_taken m before _ taken (IsGoing-refused m before mobile taken complete doesnt going)
 IsGoing-call m before mobile taken (gives_up failure) doesnt going = nothing_taken m before _ taken (IsGoing-refused m before mobile taken failure doesnt going)
 
@@ -267,7 +267,7 @@ OneRepeat-calls m before mobile taken (call ∷ calls) going =
 
 -- nothing was taken of a mobile that never sent
 pub IsGoing-new : (m : ℕ) → IsGoing m [] (new_mobile m) []
-IsGoing-new m = record { with_number = IsNumbered-new m; last = tt; modulus = refl }
+IsGoing-new m = record { numbered = IsNumbered-new m; last = tt; modulus = refl }
 
 -- a call that begins an establishment takes nothing
 taken_by_call-begins : (mobile : MobileState) (call : Call) → begins mobile call ≡ true → taken_by_call mobile call ≡ []

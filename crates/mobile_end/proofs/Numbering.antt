@@ -100,7 +100,7 @@ IsNumbered-waiting before mobile taken Zero message apart so_far = record {
 }
 IsNumbered-waiting before mobile taken Three message apart so_far = record { after = so_far.after; parts = so_far.parts; numbers = so_far.numbers; clear = so_far.clear }
 
--- a message that waits leaves what the station took, and what it can take, with_number
+-- a message that waits leaves what the station took, and what it can take, numbered
 pub IsNumbered-queueing : (before : List (List ℕ)) (mobile : MobileState) (taken : List (List ℕ)) (sapi : Sapi) (message : List ℕ) → has_clear_number message ≡ true → IsNumbered before mobile taken → IsNumbered before (queueing mobile sapi message) taken
 IsNumbered-queueing before mobile taken sapi message clear so_far =
     cond_both (is_flow_message message) (numbering mobile message) (with_link mobile sapi (waits (link_of mobile sapi) message))

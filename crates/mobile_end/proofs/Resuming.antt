@@ -63,7 +63,7 @@ IsLastTaken (Reached message) taken = (others : List (List ℕ)) × (taken ≡ o
 
 -- what is known of a mobile in an establishment
 pub record IsGoing (m : ℕ) (before : List (List ℕ)) (mobile : MobileState) (taken : List (List ℕ)) : Type 0 where
-  pub with_number : IsNumbered before mobile taken
+  pub numbered : IsNumbered before mobile taken
   pub last : IsLastTaken mobile.zero.air taken
   pub modulus : mobile.modulus ≡ m
 
@@ -161,7 +161,7 @@ pub arrival-going : (m : ℕ) (before : List (List ℕ)) (mobile : MobileState) 
 arrival-going m before mobile taken control is going =
     let cut = arrival-cut m before mobile taken going in
     record {
-      with_number = record {
+      numbered = record {
         after = cut.others;
         parts = cut.next_parts;
         numbers =

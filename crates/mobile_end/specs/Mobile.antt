@@ -1,4 +1,4 @@
--- What the calls of a mobile do. Messages of the flow are with_number when the upper layers send them: the one at place k of
+-- What the calls of a mobile do. Messages of the flow are numbered when the upper layers send them: the one at place k of
 -- the sent list carries k modulo m (TS 24.007 clause 11.2.3.2.3). At a change of channel the message that wasn't acknowledged
 -- is sent again, with its number, behind the control message of the new channel (TS 44.006 clause 5.4.3).
 use Rattle.std.specs.Prelude.{ℕ, ◌%◌, Bool, true, false, ◌&&◌, Option, Some, None, Result, Ok, Err, List, [], ◌∷◌, ◌++◌, length, if◌then◌else◌}

@@ -5,7 +5,7 @@ use Rattle.std.proofs.lemmas.Bool.{ltb-false}
 use Rattle.octets.specs.declared.element.Format.TheVariants.{Tv, Tlv, TlvE}
 use Rattle.octets.specs.Element.{Element, AreElements, AreOctets, Stops, format_in}
 use Rattle.octets.specs.Field.{AllFit, Field, FitsIfPresent, are_distinct, field_text, fields_text}
-use Rattle.octets.specs.Walk.{Walked, walk}
+use Rattle.octets.specs.Walk.{Finding, walk}
 use Rattle.octets.proofs.Fields.{elements_of as elements_made, fields_are, fields_carried, found_sized}
 use Rattle.octets.proofs.Grammar.{walk_found, walk_only}
 use Rattle.rsl_codec.specs.declared.fault.RslFault.{RslFault}
@@ -88,7 +88,7 @@ elements_only : (body : List ℕ) (es : List Element) → AreElements ELEMENTS b
 unfolding breaks_off elements_of
 elements_only body es are =
     let is = walk_only ELEMENTS body es false are in
-    (ap (λ (w : Walked). w.elements) is, ap (λ (w : Walked). w.is_cut) is)
+    (ap (λ (w : Finding). w.elements) is, ap (λ (w : Finding). w.is_cut) is)
 
 not_cut : (b : Bool) (read : Result Rsl RslFault) (v : Rsl) → cond b (Err faults.Short) read ≡ Ok v → (b ≡ false) × (read ≡ Ok v)
 not_cut true read v e = absurd cc
