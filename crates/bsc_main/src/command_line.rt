@@ -7,7 +7,6 @@ ghost use Rattle.bsc_main.specs.CommandLine.{bsc, program, run_command, replay_c
 use crate::words::{Task, TaskFault};
 use clap::error::ErrorKind;
 use clap::{Arg, ArgMatches, Command, Error};
-use octets::Memory;
 use std::alloc::{AllocError, Global};
 
 /// The command line of the program.
@@ -60,7 +59,7 @@ fn matches_of<'a>(alloc: Global, words: &'a [&'a str]) -> Result<ArgMatches<'a>,
     ensures ok { IfOk result (λ matches. AreTaken (map (λ word. word.now) words.entry.now) × (subcommand_rows_of matches ≡ subcommand_of bsc (map (λ word. word.now) words.entry.now))) }
     ensures words { result ≡ Err TaskFault.Words → AreRefused (map (λ word. word.now) words.entry.now) }
 {
-    let command = command(alloc).map_err(Memory::from)?;
+    let command = command(alloc)?;
     match command.try_get_matches_from(words) {
         Ok(matches) => Ok(matches),
         Err(error) => Err(fault_of(&error)),
@@ -88,8 +87,7 @@ pub fn task<'a>(alloc: Global, words: &'a [&'a str]) -> Result<Task, TaskFault>
     match matches.subcommand() {
         Some(("run", options)) => {
             let settings = options.get_str("config").unwrap_or("");
-            let settings = String::from_str(alloc, settings).map_err(Memory::from)?;
-            Ok(Task::Run(settings))
+            Ok(Task::Run(String::from_str(alloc, settings)?))
         }
         Some(("replay", options)) => {
             let settings = copy_of(alloc, options.get_str("config"))?;
@@ -107,7 +105,7 @@ fn copy_of(alloc: Global, text: Option<&str>) -> Result<Option<String>, TaskFaul
     ensures err { IfErr result (λ fault. fault ≡ TaskFault.Memory) }
 {
     match text {
-        Some(text) => Ok(Some(String::from_str(alloc, text).map_err(Memory::from)?)),
+        Some(text) => Ok(Some(String::from_str(alloc, text)?)),
         None => Ok(None),
     }
 }

@@ -4,7 +4,6 @@
 use crate::command_line::task;
 use crate::words::{Task, TaskFault};
 use bsc_program::{Failure, decode, replay};
-use octets::Memory;
 use std::env;
 use std::io::{BufWriter, ErrorKind};
 use std::process::ExitCode;
@@ -31,11 +30,11 @@ fn main(rt: HostRuntime) -> ExitCode {
 /// Reads what the words behind the program's name ask for. A word that isn't UTF-8 is a fault of words.
 fn asked(rt: &HostRuntime) -> Result<Task, TaskFault> {
     let words: Vec<String> = match env::args(rt) {
-        Ok(words) => words.skip(1).collect(rt.alloc()).map_err(Memory::from)?,
+        Ok(words) => words.skip(1).collect(rt.alloc())?,
         Err(error) if error.kind() == ErrorKind::OutOfMemory => return Err(TaskFault::Memory),
         Err(_) => return Err(TaskFault::Words),
     };
-    let texts: Vec<&str> = words.iter().map(|word| word.as_str()).collect(rt.alloc()).map_err(Memory::from)?;
+    let texts: Vec<&str> = words.iter().map(|word| word.as_str()).collect(rt.alloc())?;
     task(rt.alloc(), &texts)
 }
 

@@ -2,7 +2,7 @@ ghost use Rattle.std.specs.Prelude.{◌≡◌};
 ghost use Rattle.bsc_main.specs.Status.{status_of_words};
 ghost use Rattle.bsc_main.specs.declared.words.TaskFault.TheVariants.{Memory as OutOfMemory};
 
-use octets::Memory;
+use std::alloc::AllocError;
 use thiserror::Error;
 
 /// What the program is asked to do.
@@ -38,10 +38,10 @@ impl TaskFault {
     }
 }
 
-impl From<Memory> for TaskFault {
+impl From<AllocError> for TaskFault {
     ghost from_gives = { λ _ fault. fault ≡ OutOfMemory };
 
-    fn from(_memory: Memory) -> TaskFault {
+    fn from(_error: AllocError) -> TaskFault {
         TaskFault::Memory
     }
 }
