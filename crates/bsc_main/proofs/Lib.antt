@@ -1,7 +1,1 @@
-pub mod Ends
 pub mod Taking
-pub mod Pieces
-pub mod Decoding
-pub mod Reporting
-pub mod Scripts
-pub mod Replaying

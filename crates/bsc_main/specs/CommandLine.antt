@@ -23,12 +23,12 @@ replay_command = with_rule (with_rule (new_app (codes "replay")) config) break_o
 abbrev pub decode_command : App
 decode_command = new_app (codes "decode")
 
-abbrev pub bare : App
-bare = let app = new_app (codes "bsc") in record { top = record app.top { no_binary_name = true; subcommand_required = true }; subs = app.subs }
+abbrev pub program : App
+program = let app = new_app (codes "bsc") in record { top = record app.top { no_binary_name = true; subcommand_required = true }; subs = app.subs }
 
 -- the program's command line: one of three subcommands
 abbrev pub bsc : App
-bsc = with_subcommand (with_subcommand (with_subcommand bare run_command.top) replay_command.top) decode_command.top
+bsc = with_subcommand (with_subcommand (with_subcommand program run_command.top) replay_command.top) decode_command.top
 
 -- `clap` finds nothing to refuse in these words, or something
 abbrev pub AreTaken : List Text → Type 0

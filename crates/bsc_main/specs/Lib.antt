@@ -1,7 +1,2 @@
 pub mod Status
 pub mod CommandLine
-pub mod Names
-pub mod Decoded
-pub mod Report
-pub mod Script
-pub mod Replayed

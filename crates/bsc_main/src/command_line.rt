@@ -2,7 +2,7 @@ ghost use Rattle.std.specs.Prelude.{◌≡◌, ◌≢◌, false, IfOk, IfErr, ma
 ghost use Rattle.clap.specs.Words.{app_of, kind_of, subcommand_of, subcommand_rows_of};
 ghost use Rattle.clap.specs.declared.error.kind.ErrorKind.TheVariants.{OutOfMemory};
 ghost use Rattle.clap.specs.declared.builder.command.Command.TheViews.{out-Command as fields_of};
-ghost use Rattle.bsc_main.specs.CommandLine.{bsc, bare, run_command, replay_command, decode_command, AreTaken, AreRefused, IsTask};
+ghost use Rattle.bsc_main.specs.CommandLine.{bsc, program, run_command, replay_command, decode_command, AreTaken, AreRefused, IsTask};
 
 use crate::words::{Task, TaskFault};
 use clap::error::ErrorKind;
@@ -13,14 +13,14 @@ use std::alloc::{AllocError, Global};
 fn command<'a>(alloc: Global) -> Result<Command<'a>, AllocError>
     ensures { IfOk result (λ command. app_of command ≡ bsc) }
 {
-    let command = bare(alloc).subcommand(run(alloc)?)?;
+    let command = program(alloc).subcommand(run(alloc)?)?;
     let command = command.subcommand(replay(alloc)?)?;
     command.subcommand(decode(alloc))
 }
 
 /// The program without its subcommands, of which it wants one.
-fn bare<'a>(alloc: Global) -> Command<'a>
-    ensures app { app_of result ≡ bare }
+fn program<'a>(alloc: Global) -> Command<'a>
+    ensures app { app_of result ≡ program }
     ensures local { (fields_of result).has_globals ≡ false }
 {
     Command::new(alloc, "bsc")
@@ -90,8 +90,8 @@ pub fn task<'a>(alloc: Global, words: &'a [&'a str]) -> Result<Task, TaskFault>
             Ok(Task::Run(String::from_str(alloc, settings)?))
         }
         Some(("replay", options)) => {
-            let settings = owned(alloc, options.get_str("config"))?;
-            let breaks = owned(alloc, options.get_str("break"))?;
+            let settings = copy_of(alloc, options.get_str("config"))?;
+            let breaks = copy_of(alloc, options.get_str("break"))?;
             Ok(Task::Replay(settings, breaks))
         }
         Some(("decode", _)) => Ok(Task::Decode),
@@ -100,7 +100,7 @@ pub fn task<'a>(alloc: Global, words: &'a [&'a str]) -> Result<Task, TaskFault>
 }
 
 /// A copy of a text, if there is one.
-fn owned(alloc: Global, text: Option<&str>) -> Result<Option<String>, TaskFault>
+fn copy_of(alloc: Global, text: Option<&str>) -> Result<Option<String>, TaskFault>
     ensures ok { IfOk result (λ copy. option_map (λ copy. string_bytes copy) copy ≡ option_map (λ text. text.now) text.entry) }
     ensures err { IfErr result (λ fault. fault ≡ TaskFault.Memory) }
 {

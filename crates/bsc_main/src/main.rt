@@ -2,24 +2,13 @@
 #![tactic(auto)]
 
 use crate::command_line::task;
-use crate::decode::decode;
-use crate::failure::Failure;
-use crate::replay::replay;
 use crate::words::{Task, TaskFault};
-use std::alloc::AllocError;
+use bsc_program::{Failure, decode, replay};
 use std::env;
 use std::io::{BufWriter, ErrorKind};
 use std::process::ExitCode;
 
 mod command_line;
-mod decode;
-mod failure;
-mod names;
-mod replay;
-mod report;
-mod script;
-#[cfg(test)]
-mod tests;
 mod words;
 
 const USAGE: &str =

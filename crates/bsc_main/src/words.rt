@@ -6,7 +6,7 @@ use std::alloc::AllocError;
 use thiserror::Error;
 
 /// What the program is asked to do.
-#[derive(Debug, Drop)]
+#[derive(Drop)]
 pub enum Task {
     /// `run --config FILE`: to relay between the switch and the stations of these settings.
     Run(String),
@@ -17,7 +17,7 @@ pub enum Task {
 }
 
 /// Why the words weren't read.
-#[derive(Clone, Copy, Debug, PartialEq, Eq, Error)]
+#[derive(Clone, Copy, Debug, Error)]
 pub enum TaskFault {
     /// They are no command of the program, or ask for help.
     #[error("these words are no command")]

@@ -12,3 +12,7 @@ mod hold;
 mod mobile;
 #[cfg(test)]
 mod nsd_filter;
+#[cfg(test)]
+mod program;
+#[cfg(test)]
+mod world;

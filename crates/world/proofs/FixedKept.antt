@@ -22,16 +22,16 @@ use Rattle.mobile_end.proofs.Lives.{is_sendable-clear}
 use Rattle.mobile_end.proofs.Numbering.{IsNumbered, IsNumbered-new, IsNumbered-queueing, IsNumbered-frame, IsNumbered-acked}
 use Rattle.world.specs.FixedState.{FixedState}
 use Rattle.world.specs.Queues.{first_of}
-use Rattle.world.specs.Fixed.{fixed_beginning, with_mobile, sent_unless, frame_in, air_up_with, taking_from, after_upper, after_air_up, after_air_ack, after_switch_takes, frame_up}
+use Rattle.world.specs.Fixed.{fixed_beginning, with_mobile, unless_refused, frame_in, air_up_with, after_taking, after_upper, after_air_up, after_air_ack, after_switch_takes, frame_up}
 
--- What was taken of the mobile stands at the switch and in its outbox, with_number by the modulus of both.
+-- What was taken of the mobile stands at the switch and in its outbox, numbered by the modulus of both.
 pub record IsFixedKept (world : FixedState) : Type 0 where
-  pub with_number : IsNumbered [] world.mobile (world.switch.taken ++ world.outbox)
+  pub numbered : IsNumbered [] world.mobile (world.switch.taken ++ world.outbox)
   pub modulus : world.switch.modulus ≡ world.mobile.modulus
   pub two : 2 ≤ world.mobile.modulus
 
 pub IsFixedKept-beginning : (m : ℕ) → 2 ≤ m → IsFixedKept (fixed_beginning m)
-IsFixedKept-beginning m two = let new = IsNumbered-new m in record { with_number = record { after = new.after; parts = new.parts; numbers = new.numbers; clear = new.clear }; modulus = refl; two = two }
+IsFixedKept-beginning m two = let new = IsNumbered-new m in record { numbered = record { after = new.after; parts = new.parts; numbers = new.numbers; clear = new.clear }; modulus = refl; two = two }
 
 -- calls of the mobile keep its modulus
 modulus-with_link : (mobile : MobileState) (sapi : Sapi) (link : DataLinkState) → (with_link mobile sapi link).modulus ≡ mobile.modulus
@@ -66,16 +66,16 @@ FixedStep-none world = record { kept = λ kept. kept; first_out = append-nil wor
 FixedStep-mobile : (world : FixedState) (mobile : MobileState) → (IsFixedKept world → IsFixedKept (with_mobile world mobile)) → FixedStep world (with_mobile world mobile) [] []
 FixedStep-mobile world mobile kept = record { kept = kept; first_out = append-nil world.outbox; switch = sym (append-nil world.switch.taken) }
 
-sent_unless-step : (lawful : Bool) (earlier : Option MobileFault) (old new : FixedState) → (lawful ≡ true → FixedStep old new [] []) → FixedStep old (unwrap_or (sent_unless (first_refusal earlier (cond lawful None (Some BadMessage))) old new) old) [] []
-sent_unless-step lawful (Some fault) old new step = FixedStep-none old
-sent_unless-step true None old new step = step refl
-sent_unless-step false None old new step = FixedStep-none old
+unless_refused-step : (lawful : Bool) (earlier : Option MobileFault) (old new : FixedState) → (lawful ≡ true → FixedStep old new [] []) → FixedStep old (unwrap_or (unless_refused (first_refusal earlier (cond lawful None (Some BadMessage))) old new) old) [] []
+unless_refused-step lawful (Some fault) old new step = FixedStep-none old
+unless_refused-step true None old new step = step refl
+unless_refused-step false None old new step = FixedStep-none old
 
 pub upper-step : (world : FixedState) (sapi : Sapi) (message : List ℕ) → FixedStep world (unwrap_or (after_upper world sapi message) world) [] []
 upper-step world sapi message =
-    sent_unless-step (is_sendable sapi message) (refusal_before_connect world.mobile.stage) world (with_mobile world (queueing world.mobile sapi message))
+    unless_refused-step (is_sendable sapi message) (refusal_before_connect world.mobile.stage) world (with_mobile world (queueing world.mobile sapi message))
     (λ lawful. FixedStep-mobile world (queueing world.mobile sapi message) (λ kept. record {
-      with_number = IsNumbered-queueing [] world.mobile (world.switch.taken ++ world.outbox) sapi message (is_sendable-clear sapi message lawful) kept.numbered;
+      numbered = IsNumbered-queueing [] world.mobile (world.switch.taken ++ world.outbox) sapi message (is_sendable-clear sapi message lawful) kept.numbered;
       modulus = kept.modulus ∙ sym (modulus-queueing world.mobile sapi message);
       two = subst (λ (m : ℕ). 2 ≤ m) (sym (modulus-queueing world.mobile sapi message)) kept.two;
     }))
@@ -89,7 +89,7 @@ air_up_with-step world (Ok (Some frame)) is = record {
       let lent_is : (world.switch.taken ++ world.outbox) ++ frame_lent (framed world.mobile Zero) ≡ world.switch.taken ++ (world.outbox ++ frame ∷ []) =
       ap (λ (answer : Result (Option (List ℕ)) MobileFault). (world.switch.taken ++ world.outbox) ++ frame_lent answer) is ∙ append_assoc world.switch.taken world.outbox (frame ∷ []) in
       record {
-        with_number = subst (λ (xs : List (List ℕ)). IsNumbered [] (after_frame world.mobile Zero) xs) lent_is next;
+        numbered = subst (λ (xs : List (List ℕ)). IsNumbered [] (after_frame world.mobile Zero) xs) lent_is next;
         modulus = kept.modulus ∙ sym (modulus-after_frame world.mobile.stage world.mobile.place world.mobile);
         two = subst (λ (m : ℕ). 2 ≤ m) (sym (modulus-after_frame world.mobile.stage world.mobile.place world.mobile)) kept.two;
       };
@@ -103,7 +103,7 @@ air_up-step world = air_up_with-step world (framed world.mobile Zero) refl
 air_ack_by-step : (world : FixedState) (acknowledged : Bool) → FixedStep world (unwrap_or (cond acknowledged (Some (with_mobile world (after_acked world.mobile Zero))) None) world) [] []
 air_ack_by-step world false = FixedStep-none world
 air_ack_by-step world true = FixedStep-mobile world (after_acked world.mobile Zero) (λ kept. record {
-  with_number = IsNumbered-acked [] world.mobile.place world.mobile (world.switch.taken ++ world.outbox) Zero kept.numbered;
+  numbered = IsNumbered-acked [] world.mobile.place world.mobile (world.switch.taken ++ world.outbox) Zero kept.numbered;
   modulus = kept.modulus ∙ sym (modulus-after_acked world.mobile.place world.mobile);
   two = subst (λ (m : ℕ). 2 ≤ m) (sym (modulus-after_acked world.mobile.place world.mobile)) kept.two;
 })
@@ -111,11 +111,11 @@ air_ack_by-step world true = FixedStep-mobile world (after_acked world.mobile Ze
 pub air_ack-step : (world : FixedState) → FixedStep world (unwrap_or (after_air_ack world) world) [] []
 air_ack-step world = air_ack_by-step world (is_acknowledged world.mobile Zero)
 
-taking_from-step : (world : FixedState) (messages : List (List ℕ)) → world.outbox ≡ messages → FixedStep world (unwrap_or (taking_from messages world) world) [] (first_of messages)
-taking_from-step world [] is = FixedStep-none world
-taking_from-step world (first ∷ others) is = record {
+after_taking-step : (world : FixedState) (messages : List (List ℕ)) → world.outbox ≡ messages → FixedStep world (unwrap_or (after_taking messages world) world) [] (first_of messages)
+after_taking-step world [] is = FixedStep-none world
+after_taking-step world (first ∷ others) is = record {
   kept = λ kept. record {
-    with_number = subst (λ (xs : List (List ℕ)). IsNumbered [] world.mobile xs) (ap (λ (xs : List (List ℕ)). world.switch.taken ++ xs) is ∙ sym (append_assoc world.switch.taken (first ∷ []) others)) kept.numbered;
+    numbered = subst (λ (xs : List (List ℕ)). IsNumbered [] world.mobile xs) (ap (λ (xs : List (List ℕ)). world.switch.taken ++ xs) is ∙ sym (append_assoc world.switch.taken (first ∷ []) others)) kept.numbered;
     modulus = kept.modulus;
     two = kept.two;
   };
@@ -124,4 +124,4 @@ taking_from-step world (first ∷ others) is = record {
 }
 
 pub switch_takes-step : (world : FixedState) → FixedStep world (unwrap_or (after_switch_takes world) world) [] (first_of world.outbox)
-switch_takes-step world = taking_from-step world world.outbox refl
+switch_takes-step world = after_taking-step world world.outbox refl

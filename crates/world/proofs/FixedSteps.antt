@@ -9,7 +9,7 @@ use Rattle.world.specs.declared.world.Scene.{Scene}
 use Rattle.world.specs.declared.world.Scene.TheVariants.{Fixed}
 use Rattle.world.specs.FixedState.{FixedState}
 use Rattle.world.specs.Fixed.{fixed_after, where_fixed, after_upper, after_air_up, after_air_ack, frame_up}
-use Rattle.world.specs.Queues.{Queue, Queued, outbox, inbox, message, in_switch_outbox, fixed_put_by, fixed_taken_by, put_by, taken_by, put_by_all, taken_by_all}
+use Rattle.world.specs.Queues.{Queue, Queued, outbox, inbox, message, in_switch_outbox, fixed_messages_put, fixed_messages_taken, messages_put, messages_taken, all_messages_put, all_messages_taken}
 use Rattle.world.specs.World.{actors_after}
 use Rattle.world.proofs.FixedKept.{IsFixedKept, FixedStep, FixedStep-none, upper-step, air_up-step, air_ack-step, switch_takes-step}
 
@@ -26,7 +26,7 @@ abbrev pub fixed_next : FixedState → Event → FixedState
 fixed_next world event = unwrap_or (fixed_after world event) world
 
 -- what each event does
-pub fixed-step : (world : FixedState) (event : Event) → FixedStep world (fixed_next world event) (fixed_put_by world event) (fixed_taken_by world event)
+pub fixed-step : (world : FixedState) (event : Event) → FixedStep world (fixed_next world event) (fixed_messages_put world event) (fixed_messages_taken world event)
 fixed-step world (Upper mobile sapi text) = where_fixed-step (nat_eq mobile FIXED_MOBILE) world (after_upper world sapi text) (upper-step world sapi text)
 fixed-step world (AirUp mobile Zero) = where_fixed-put (nat_eq mobile FIXED_MOBILE) world
 fixed-step world (AirAck mobile Zero) = where_fixed-step (nat_eq mobile FIXED_MOBILE) world (after_air_ack world) (air_ack-step world)
@@ -38,13 +38,13 @@ abbrev pub fixed_all : FixedState → List Event → FixedState
 fixed_all world [] = world
 fixed_all world (event ∷ events) = fixed_all (fixed_next world event) events
 
-abbrev pub fixed_put_by_all : FixedState → List Event → List (List ℕ)
-fixed_put_by_all world [] = []
-fixed_put_by_all world (event ∷ events) = fixed_put_by world event ++ fixed_put_by_all (fixed_next world event) events
+abbrev pub all_fixed_messages_put : FixedState → List Event → List (List ℕ)
+all_fixed_messages_put world [] = []
+all_fixed_messages_put world (event ∷ events) = fixed_messages_put world event ++ all_fixed_messages_put (fixed_next world event) events
 
-abbrev pub fixed_taken_by_all : FixedState → List Event → List (List ℕ)
-fixed_taken_by_all world [] = []
-fixed_taken_by_all world (event ∷ events) = fixed_taken_by world event ++ fixed_taken_by_all (fixed_next world event) events
+abbrev pub all_fixed_messages_taken : FixedState → List Event → List (List ℕ)
+all_fixed_messages_taken world [] = []
+all_fixed_messages_taken world (event ∷ events) = fixed_messages_taken world event ++ all_fixed_messages_taken (fixed_next world event) events
 
 -- two steps in a row
 FixedStep-then : {old mid new : FixedState} {put taken puts takens : List (List ℕ)} → FixedStep old mid put taken → FixedStep mid new puts takens → FixedStep old new (put ++ puts) (taken ++ takens)
@@ -57,7 +57,7 @@ FixedStep-then {old} {mid} {new} {put} {taken} {puts} {takens} one two = record 
 }
 
 -- what all the events do
-pub fixed-steps : (world : FixedState) (events : List Event) → FixedStep world (fixed_all world events) (fixed_put_by_all world events) (fixed_taken_by_all world events)
+pub fixed-steps : (world : FixedState) (events : List Event) → FixedStep world (fixed_all world events) (all_fixed_messages_put world events) (all_fixed_messages_taken world events)
 fixed-steps world [] = FixedStep-none world
 fixed-steps world (event ∷ events) = FixedStep-then (fixed-step world event) (fixed-steps (fixed_next world event) events)
 
@@ -85,16 +85,16 @@ in_switch_outbox-nil (outbox link) = by_link (nat_eq link 0)
     by_link false = refl
 in_switch_outbox-nil (inbox source) = refl
 
-pub put_by_all-fixed : (world : FixedState) (events : List Event) (queue : Queue) → put_by_all (Fixed world) events queue ≡ in_switch_outbox queue (fixed_put_by_all world events)
-put_by_all-fixed world [] queue = sym (in_switch_outbox-nil queue)
-put_by_all-fixed world (event ∷ events) queue =
-    ap (λ (scene : Scene). put_by (Fixed world) event queue ++ put_by_all scene events queue) (actors_after-fixed world event)
-    ∙ ap (λ (more : List Queued). put_by (Fixed world) event queue ++ more) (put_by_all-fixed (fixed_next world event) events queue)
-    ∙ sym (in_switch_outbox-append queue (fixed_put_by world event) (fixed_put_by_all (fixed_next world event) events))
+pub all_messages_put-fixed : (world : FixedState) (events : List Event) (queue : Queue) → all_messages_put (Fixed world) events queue ≡ in_switch_outbox queue (all_fixed_messages_put world events)
+all_messages_put-fixed world [] queue = sym (in_switch_outbox-nil queue)
+all_messages_put-fixed world (event ∷ events) queue =
+    ap (λ (scene : Scene). messages_put (Fixed world) event queue ++ all_messages_put scene events queue) (actors_after-fixed world event)
+    ∙ ap (λ (more : List Queued). messages_put (Fixed world) event queue ++ more) (all_messages_put-fixed (fixed_next world event) events queue)
+    ∙ sym (in_switch_outbox-append queue (fixed_messages_put world event) (all_fixed_messages_put (fixed_next world event) events))
 
-pub taken_by_all-fixed : (world : FixedState) (events : List Event) (queue : Queue) → taken_by_all (Fixed world) events queue ≡ in_switch_outbox queue (fixed_taken_by_all world events)
-taken_by_all-fixed world [] queue = sym (in_switch_outbox-nil queue)
-taken_by_all-fixed world (event ∷ events) queue =
-    ap (λ (scene : Scene). taken_by (Fixed world) event queue ++ taken_by_all scene events queue) (actors_after-fixed world event)
-    ∙ ap (λ (more : List Queued). taken_by (Fixed world) event queue ++ more) (taken_by_all-fixed (fixed_next world event) events queue)
-    ∙ sym (in_switch_outbox-append queue (fixed_taken_by world event) (fixed_taken_by_all (fixed_next world event) events))
+pub all_messages_taken-fixed : (world : FixedState) (events : List Event) (queue : Queue) → all_messages_taken (Fixed world) events queue ≡ in_switch_outbox queue (all_fixed_messages_taken world events)
+all_messages_taken-fixed world [] queue = sym (in_switch_outbox-nil queue)
+all_messages_taken-fixed world (event ∷ events) queue =
+    ap (λ (scene : Scene). messages_taken (Fixed world) event queue ++ all_messages_taken scene events queue) (actors_after-fixed world event)
+    ∙ ap (λ (more : List Queued). messages_taken (Fixed world) event queue ++ more) (all_messages_taken-fixed (fixed_next world event) events queue)
+    ∙ sym (in_switch_outbox-append queue (fixed_messages_taken world event) (all_fixed_messages_taken (fixed_next world event) events))

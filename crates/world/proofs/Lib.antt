@@ -2,7 +2,8 @@ pub mod FixedKept
 pub mod FixedSteps
 pub mod Order
 pub mod Splitting
-pub mod Hexadecimal
+pub mod HexadecimalLemmas
 pub mod Reading
 pub mod Saying
 pub mod Lines
+mod Rows

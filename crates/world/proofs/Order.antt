@@ -17,12 +17,12 @@ use Rattle.world.specs.FixedState.{FixedState}
 use Rattle.world.specs.Fixed.{fixed_beginning}
 use Rattle.world.specs.WorldState.{WorldState}
 use Rattle.world.specs.World.{fixed_world, after, after_all, actors_after}
-use Rattle.world.specs.Views.{accepted_in, progress_in}
-use Rattle.world.specs.Queues.{Queue, outbox, in_switch_outbox, put_by_all, taken_by_all, left_in}
+use Rattle.world.specs.Views.{accepted_list, progress_in}
+use Rattle.world.specs.Queues.{Queue, outbox, in_switch_outbox, all_messages_put, all_messages_taken, messages_left}
 use Rattle.world.specs.Headline.{Begins, IsBeginningOfSent, IsInOrder}
 use Rattle.world.specs.Headline.Begins.{fixed}
 use Rattle.world.proofs.FixedKept.{IsFixedKept, IsFixedKept-beginning}
-use Rattle.world.proofs.FixedSteps.{fixed_next, fixed_all, fixed_put_by_all, fixed_taken_by_all, fixed-steps, actors_after-fixed, in_switch_outbox-append, put_by_all-fixed, taken_by_all-fixed}
+use Rattle.world.proofs.FixedSteps.{fixed_next, fixed_all, all_fixed_messages_put, all_fixed_messages_taken, fixed-steps, actors_after-fixed, in_switch_outbox-append, all_messages_put-fixed, all_messages_taken-fixed}
 
 -- events after events
 pub after_all-append : (world : WorldState) (before events : List Event) → after_all world (before ++ events) ≡ after_all (after_all world before) events
@@ -78,10 +78,10 @@ IsInOrder-fixed m two events =
           };
       no_gap = λ connection p is. progress-is_some world kept p (cond_some (nat_eq connection FIXED_CONNECTION) _ _ is).1;
       queues = λ queue.
-          put_by_all-fixed begin events queue ∙ ap (in_switch_outbox queue) steps.first_out
-          ∙ in_switch_outbox-append queue (fixed_taken_by_all begin events) world.outbox
-          ∙ ap (λ (xs : _). xs ++ in_switch_outbox queue world.outbox) (sym (taken_by_all-fixed begin events queue));
-      switch = taken_by_all-fixed begin events (outbox 0) ∙ ap (in_switch_outbox (outbox 0)) (sym steps.switch);
+          all_messages_put-fixed begin events queue ∙ ap (in_switch_outbox queue) steps.first_out
+          ∙ in_switch_outbox-append queue (all_fixed_messages_taken begin events) world.outbox
+          ∙ ap (λ (xs : _). xs ++ in_switch_outbox queue world.outbox) (sym (all_messages_taken-fixed begin events queue));
+      switch = all_messages_taken-fixed begin events (outbox 0) ∙ ap (in_switch_outbox (outbox 0)) (sym steps.switch);
     }
 
 -- whatever events made a world from a beginning

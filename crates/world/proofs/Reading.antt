@@ -11,7 +11,7 @@ use Rattle.world.specs.declared.script.Kind.{Kind}
 use Rattle.world.specs.declared.script.Kind.TheVariants as kind
 use Rattle.world.specs.declared.script.Action.{Action}
 use Rattle.world.specs.declared.script.Action.TheVariants as action
-use Rattle.world.specs.Words.{said_at, and_rest, end_of, mobile_in, station_in, source_in, any_number_in, sapi_in, answer_in, octets_in}
+use Rattle.world.specs.Words.{value_at, and_rest, end_of, mobile_in, station_in, source_in, any_number_in, sapi_in, answer_in, octets_in}
 use Rattle.world.specs.Script.{Word, keyword, mobile, station, source, any_number, sapi, answer, octets, IsWord, AreWords, words_of, name_of, name_of_action}
 use Rattle.world.specs.ScriptReading.{◌>>=◌, last_at, kind_in, action_in, all_kinds, mobile_and_sapi_in, mobile_at, mobile_and_sapi_at, upper_at, connect_at, report_at, dtap_at, action_at, switch_does_at, event_at, line_at}
 
@@ -30,12 +30,12 @@ and_rest-some words None said is = absurd cc
 and_rest-some words (Some x) said is = let both : (x, words) ≡ said = cc in (ap (λ p. p.1) both, ap (λ p. Some p.0) both)
 
 -- the first word says this, and the others are behind it
-pub said_at-some : {X : Type 0} (says : List ℕ → Option X) (words : List (List ℕ)) (said : X × List (List ℕ)) → said_at says words ≡ Some said → (word : List ℕ) × (words ≡ word ∷ said.1) × (says word ≡ Some said.0)
-said_at-some says [] said is = absurd cc
-said_at-some says (word ∷ words) said is = let found = and_rest-some words (says word) said is in (word, ap (λ rest. word ∷ rest) found.0, found.1)
+pub value_at-some : {X : Type 0} (says : List ℕ → Option X) (words : List (List ℕ)) (said : X × List (List ℕ)) → value_at says words ≡ Some said → (word : List ℕ) × (words ≡ word ∷ said.1) × (says word ≡ Some said.0)
+value_at-some says [] said is = absurd cc
+value_at-some says (word ∷ words) said is = let found = and_rest-some words (says word) said is in (word, ap (λ rest. word ∷ rest) found.0, found.1)
 
-pub said_at-again : {X : Type 0} (says : List ℕ → Option X) (words : List (List ℕ)) (word : List ℕ) (rest : List (List ℕ)) (x : X) → words ≡ word ∷ rest → says word ≡ Some x → said_at says words ≡ Some (x, rest)
-said_at-again says words word rest x split is = ap (said_at says) split ∙ ap (and_rest rest) is
+pub value_at-again : {X : Type 0} (says : List ℕ → Option X) (words : List (List ℕ)) (word : List ℕ) (rest : List (List ℕ)) (x : X) → words ≡ word ∷ rest → says word ≡ Some x → value_at says words ≡ Some (x, rest)
+value_at-again says words word rest x split is = ap (value_at says) split ∙ ap (and_rest rest) is
 
 pub end_of-some : (words : List (List ℕ)) (end : Unit {0}) → end_of words ≡ Some end → words ≡ []
 end_of-some [] end is = refl
@@ -44,15 +44,15 @@ end_of-some (word ∷ words) end is = absurd cc
 -- the last word says this
 pub last_at-some : {X : Type 0} (says : List ℕ → Option X) (words : List (List ℕ)) (x : X) → last_at says words ≡ Some x → (word : List ℕ) × (words ≡ word ∷ []) × (says word ≡ Some x)
 last_at-some says words x is =
-    let first = chain_some (said_at says words) _ x is in
-    let said = said_at-some says words first.0 first.1 in
+    let first = chain_some (value_at says words) _ x is in
+    let said = value_at-some says words first.0 first.1 in
     let end = chain_some (end_of first.0.1) _ x first.2 in
     let value : first.0.0 ≡ x = cc (end.2) in
     (said.0, said.1 ∙ ap (λ rest. said.0 ∷ rest) (end_of-some first.0.1 end.0 end.1), said.2 ∙ ap (λ x. Some x) value)
 
 pub last_at-again : {X : Type 0} (says : List ℕ → Option X) (words : List (List ℕ)) (word : List ℕ) (rest : List (List ℕ)) (x : X) → words ≡ word ∷ rest → rest ≡ [] → says word ≡ Some x → last_at says words ≡ Some x
 last_at-again says words word rest x split end is =
-    chain_again (said_at says words) _ (x, rest) (Some x) (said_at-again says words word rest x split is) (chain_again (end_of rest) _ tt (Some x) (ap end_of end) refl)
+    chain_again (value_at says words) _ (x, rest) (Some x) (value_at-again says words word rest x split is) (chain_again (end_of rest) _ tt (Some x) (ap end_of end) refl)
 
 -- ---- names
 

@@ -8,10 +8,10 @@ use Rattle.world.specs.declared.script.Kind.{Kind}
 use Rattle.world.specs.declared.script.Kind.TheVariants as kind
 use Rattle.world.specs.declared.script.Action.{Action}
 use Rattle.world.specs.declared.script.Action.TheVariants as action
-use Rattle.world.specs.Words.{said_at, and_rest, end_of, mobile_in, station_in, source_in, any_number_in, sapi_in, answer_in, octets_in}
+use Rattle.world.specs.Words.{value_at, and_rest, end_of, mobile_in, station_in, source_in, any_number_in, sapi_in, answer_in, octets_in}
 use Rattle.world.specs.Script.{Word, keyword, mobile, station, source, any_number, sapi, answer, octets, IsWord, AreWords, words_of, name_of, name_of_action}
 use Rattle.world.specs.ScriptReading.{◌>>=◌, last_at, kind_in, action_in, mobile_and_sapi_in, mobile_at, mobile_and_sapi_at, upper_at, connect_at, report_at, dtap_at, action_at, switch_does_at, event_at, line_at}
-use Rattle.world.proofs.Reading.{chain_some, chain_again, said_at-some, said_at-again, end_of-some, last_at-some, last_at-again, kind_in-some, action_in-some, kind_in-name, action_in-name}
+use Rattle.world.proofs.Reading.{chain_some, chain_again, value_at-some, value_at-again, end_of-some, last_at-some, last_at-again, kind_in-some, action_in-some, kind_in-name, action_in-name}
 
 -- ---- what is read is what the words say
 
@@ -26,8 +26,8 @@ one_said says event rest e is =
 two_said : (event : ℕ → Sapi → Event) (rest : List (List ℕ)) (e : Event) → mobile_and_sapi_at event rest ≡ Some e → (m : ℕ) × (s : Sapi) × (first : List ℕ) × (second : List ℕ) × (rest ≡ first ∷ second ∷ []) × (mobile_in first ≡ Some m) × (sapi_in second ≡ Some s) × (event m s ≡ e)
 two_said event rest e is =
     let both = chain_some (mobile_and_sapi_in rest) _ e is in
-    let first = chain_some (said_at mobile_in rest) _ both.0 both.1 in
-    let mobile_said = said_at-some mobile_in rest first.0 first.1 in
+    let first = chain_some (value_at mobile_in rest) _ both.0 both.1 in
+    let mobile_said = value_at-some mobile_in rest first.0 first.1 in
     let last = chain_some (last_at sapi_in first.0.1) _ both.0 first.2 in
     let sapi_said = last_at-some sapi_in first.0.1 last.0 last.1 in
     let pair : (first.0.0, last.0) ≡ both.0 = cc (last.2) in
@@ -37,10 +37,10 @@ two_said event rest e is =
 upper_at-says : (cells : ℕ) (name : List ℕ) (rest : List (List ℕ)) (e : Event) → name ≡ name_of kind.Upper → upper_at rest ≡ Some e → AreWords cells (words_of e) (name ∷ rest)
 unfolding upper_at
 upper_at-says cells name rest e named is =
-    let first = chain_some (said_at mobile_in rest) _ e is in
-    let one = said_at-some mobile_in rest first.0 first.1 in
-    let second = chain_some (said_at sapi_in first.0.1) _ e first.2 in
-    let two = said_at-some sapi_in first.0.1 second.0 second.1 in
+    let first = chain_some (value_at mobile_in rest) _ e is in
+    let one = value_at-some mobile_in rest first.0 first.1 in
+    let second = chain_some (value_at sapi_in first.0.1) _ e first.2 in
+    let two = value_at-some sapi_in first.0.1 second.0 second.1 in
     let third = chain_some (last_at octets_in second.0.1) _ e second.2 in
     let three = last_at-some octets_in second.0.1 third.0 third.1 in
     let value : Upper first.0.0 second.0.0 third.0 ≡ e = cc (third.2) in
@@ -50,12 +50,12 @@ upper_at-says cells name rest e named is =
 connect_at-says : (cells : ℕ) (name : List ℕ) (rest : List (List ℕ)) (e : Event) → name ≡ name_of kind.Connect → connect_at cells rest ≡ Some e → AreWords cells (words_of e) (name ∷ rest)
 unfolding connect_at
 connect_at-says cells name rest e named is =
-    let first = chain_some (said_at mobile_in rest) _ e is in
-    let one = said_at-some mobile_in rest first.0 first.1 in
-    let second = chain_some (said_at (station_in cells) first.0.1) _ e first.2 in
-    let two = said_at-some (station_in cells) first.0.1 second.0 second.1 in
-    let third = chain_some (said_at octets_in second.0.1) _ e second.2 in
-    let three = said_at-some octets_in second.0.1 third.0 third.1 in
+    let first = chain_some (value_at mobile_in rest) _ e is in
+    let one = value_at-some mobile_in rest first.0 first.1 in
+    let second = chain_some (value_at (station_in cells) first.0.1) _ e first.2 in
+    let two = value_at-some (station_in cells) first.0.1 second.0 second.1 in
+    let third = chain_some (value_at octets_in second.0.1) _ e second.2 in
+    let three = value_at-some octets_in second.0.1 third.0 third.1 in
     let fourth = chain_some (last_at answer_in third.0.1) _ e third.2 in
     let four = last_at-some answer_in third.0.1 fourth.0 fourth.1 in
     let value : Connect first.0.0 second.0.0 third.0.0 fourth.0 ≡ e = cc (fourth.2) in
@@ -65,8 +65,8 @@ connect_at-says cells name rest e named is =
 report_at-says : (cells : ℕ) (name : List ℕ) (rest : List (List ℕ)) (e : Event) → name ≡ name_of kind.Report → report_at rest ≡ Some e → AreWords cells (words_of e) (name ∷ rest)
 unfolding report_at
 report_at-says cells name rest e named is =
-    let first = chain_some (said_at mobile_in rest) _ e is in
-    let one = said_at-some mobile_in rest first.0 first.1 in
+    let first = chain_some (value_at mobile_in rest) _ e is in
+    let one = value_at-some mobile_in rest first.0 first.1 in
     let second = chain_some (last_at octets_in first.0.1) _ e first.2 in
     let two = last_at-some octets_in first.0.1 second.0 second.1 in
     let value : Report first.0.0 second.0 ≡ e = cc (second.2) in
@@ -76,10 +76,10 @@ report_at-says cells name rest e named is =
 dtap_at-says : (cells : ℕ) (name word : List ℕ) (rest : List (List ℕ)) (e : Event) → name ≡ name_of kind.SwitchDoes → word ≡ name_of_action action.Dtap → dtap_at rest ≡ Some e → AreWords cells (words_of e) (name ∷ word ∷ rest)
 unfolding dtap_at
 dtap_at-says cells name word rest e named acts is =
-    let first = chain_some (said_at any_number_in rest) _ e is in
-    let one = said_at-some any_number_in rest first.0 first.1 in
-    let second = chain_some (said_at sapi_in first.0.1) _ e first.2 in
-    let two = said_at-some sapi_in first.0.1 second.0 second.1 in
+    let first = chain_some (value_at any_number_in rest) _ e is in
+    let one = value_at-some any_number_in rest first.0 first.1 in
+    let second = chain_some (value_at sapi_in first.0.1) _ e first.2 in
+    let two = value_at-some sapi_in first.0.1 second.0 second.1 in
     let third = chain_some (last_at octets_in second.0.1) _ e second.2 in
     let three = last_at-some octets_in second.0.1 third.0 third.1 in
     let value : SwitchDoes (Dtap first.0.0 second.0.0 third.0) ≡ e = cc (third.2) in
@@ -98,8 +98,8 @@ action_at-says cells action.Dtap name word rest e named acts is = dtap_at-says c
 switch_does_at-says : (cells : ℕ) (name : List ℕ) (rest : List (List ℕ)) (e : Event) → name ≡ name_of kind.SwitchDoes → switch_does_at rest ≡ Some e → AreWords cells (words_of e) (name ∷ rest)
 unfolding switch_does_at
 switch_does_at-says cells name rest e named is =
-    let first = chain_some (said_at action_in rest) _ e is in
-    let one = said_at-some action_in rest first.0 first.1 in
+    let first = chain_some (value_at action_in rest) _ e is in
+    let one = value_at-some action_in rest first.0 first.1 in
     subst (λ (words : List (List ℕ)). AreWords cells (words_of e) (name ∷ words)) (sym one.1)
     (action_at-says cells first.0.0 name one.0 first.0.1 e named (action_in-some one.0 first.0.0 one.2) first.2)
 
@@ -158,8 +158,8 @@ event_at-says cells kind.SwitchTakes rest e is =
 pub line_at-says : (cells : ℕ) (words : List (List ℕ)) (e : Event) → line_at cells words ≡ Some e → AreWords cells (words_of e) words
 unfolding line_at
 line_at-says cells words e is =
-    let first = chain_some (said_at kind_in words) _ e is in
-    let one = said_at-some kind_in words first.0 first.1 in
+    let first = chain_some (value_at kind_in words) _ e is in
+    let one = value_at-some kind_in words first.0 first.1 in
     let named : words ≡ name_of first.0.0 ∷ first.0.1 = one.1 ∙ ap (λ word. word ∷ first.0.1) (kind_in-some one.0 first.0.0 one.2) in
     subst (λ (words : List (List ℕ)). AreWords cells (words_of e) words) (sym named) (event_at-says cells first.0.0 first.0.1 e first.2)
 
@@ -168,12 +168,12 @@ line_at-says cells words e is =
 line_at-by : (cells : ℕ) (words : List (List ℕ)) (k : Kind) (word : List ℕ) (rest : List (List ℕ)) (e : Event) → words ≡ word ∷ rest → word ≡ name_of k → event_at cells k rest ≡ Some e → line_at cells words ≡ Some e
 unfolding line_at
 line_at-by cells words k word rest e split named said =
-    chain_again (said_at kind_in words) _ (k, rest) (Some e) (said_at-again kind_in words word rest k split (ap kind_in named ∙ kind_in-name k)) said
+    chain_again (value_at kind_in words) _ (k, rest) (Some e) (value_at-again kind_in words word rest k split (ap kind_in named ∙ kind_in-name k)) said
 
 switch_does_at-by : (words : List (List ℕ)) (a : Action) (word : List ℕ) (rest : List (List ℕ)) (e : Event) → words ≡ word ∷ rest → word ≡ name_of_action a → action_at a rest ≡ Some e → switch_does_at words ≡ Some e
 unfolding switch_does_at
 switch_does_at-by words a word rest e split named said =
-    chain_again (said_at action_in words) _ (a, rest) (Some e) (said_at-again action_in words word rest a split (ap action_in named ∙ action_in-name a)) said
+    chain_again (value_at action_in words) _ (a, rest) (Some e) (value_at-again action_in words word rest a split (ap action_in named ∙ action_in-name a)) said
 
 one_again : {X : Type 0} (says : List ℕ → Option X) (event : X → Event) (rest : List (List ℕ)) (word : List ℕ) (end : List (List ℕ)) (x : X) → rest ≡ word ∷ end → says word ≡ Some x → end ≡ [] → (last_at says rest >>= (λ x. Some (event x))) ≡ Some (event x)
 one_again says event rest word end x split is ends = chain_again (last_at says rest) _ x (Some (event x)) (last_at-again says rest word end x split ends is) refl
@@ -181,7 +181,7 @@ one_again says event rest word end x split is ends = chain_again (last_at says r
 two_again : (event : ℕ → Sapi → Event) (rest : List (List ℕ)) (first : List ℕ) (more : List (List ℕ)) (second : List ℕ) (end : List (List ℕ)) (m : ℕ) (s : Sapi) → rest ≡ first ∷ more → mobile_in first ≡ Some m → more ≡ second ∷ end → sapi_in second ≡ Some s → end ≡ [] → mobile_and_sapi_at event rest ≡ Some (event m s)
 two_again event rest first more second end m s split one split_more two ends =
     chain_again (mobile_and_sapi_in rest) _ (m, s) (Some (event m s))
-    (chain_again (said_at mobile_in rest) _ (m, more) (Some (m, s)) (said_at-again mobile_in rest first more m split one)
+    (chain_again (value_at mobile_in rest) _ (m, more) (Some (m, s)) (value_at-again mobile_in rest first more m split one)
     (chain_again (last_at sapi_in more) _ s (Some (m, s)) (last_at-again sapi_in more second end s split_more ends two) refl))
     refl
 
@@ -190,24 +190,24 @@ pub line_at-again : (cells : ℕ) (e : Event) (words : List (List ℕ)) → AreW
 unfolding event_at upper_at connect_at report_at dtap_at
 line_at-again cells (Upper m s o) words (name, rest, split, named, (w, ws, split_w, is_m, (v, vs, split_v, is_s, (u, us, split_u, is_o, end)))) =
     line_at-by cells words kind.Upper name rest (Upper m s o) split named
-    (chain_again (said_at mobile_in rest) _ (m, ws) _ (said_at-again mobile_in rest w ws m split_w is_m)
-    (chain_again (said_at sapi_in ws) _ (s, vs) _ (said_at-again sapi_in ws v vs s split_v is_s)
+    (chain_again (value_at mobile_in rest) _ (m, ws) _ (value_at-again mobile_in rest w ws m split_w is_m)
+    (chain_again (value_at sapi_in ws) _ (s, vs) _ (value_at-again sapi_in ws v vs s split_v is_s)
     (chain_again (last_at octets_in vs) _ o _ (last_at-again octets_in vs u us o split_u end is_o) refl)))
 line_at-again cells (Connect m b o y) words (name, rest, split, named, (w, ws, split_w, is_m, (v, vs, split_v, is_b, (u, us, split_u, is_o, (t, ts, split_t, is_y, end))))) =
     line_at-by cells words kind.Connect name rest (Connect m b o y) split named
-    (chain_again (said_at mobile_in rest) _ (m, ws) _ (said_at-again mobile_in rest w ws m split_w is_m)
-    (chain_again (said_at (station_in cells) ws) _ (b, vs) _ (said_at-again (station_in cells) ws v vs b split_v is_b)
-    (chain_again (said_at octets_in vs) _ (o, us) _ (said_at-again octets_in vs u us o split_u is_o)
+    (chain_again (value_at mobile_in rest) _ (m, ws) _ (value_at-again mobile_in rest w ws m split_w is_m)
+    (chain_again (value_at (station_in cells) ws) _ (b, vs) _ (value_at-again (station_in cells) ws v vs b split_v is_b)
+    (chain_again (value_at octets_in vs) _ (o, us) _ (value_at-again octets_in vs u us o split_u is_o)
     (chain_again (last_at answer_in us) _ y _ (last_at-again answer_in us t ts y split_t end is_y) refl))))
 line_at-again cells (Report m o) words (name, rest, split, named, (w, ws, split_w, is_m, (u, us, split_u, is_o, end))) =
     line_at-by cells words kind.Report name rest (Report m o) split named
-    (chain_again (said_at mobile_in rest) _ (m, ws) _ (said_at-again mobile_in rest w ws m split_w is_m)
+    (chain_again (value_at mobile_in rest) _ (m, ws) _ (value_at-again mobile_in rest w ws m split_w is_m)
     (chain_again (last_at octets_in ws) _ o _ (last_at-again octets_in ws u us o split_u end is_o) refl))
 line_at-again cells (SwitchDoes (Dtap c s o)) words (name, rest, split, named, (act, more, split_act, acts, (w, ws, split_w, is_c, (v, vs, split_v, is_s, (u, us, split_u, is_o, end))))) =
     line_at-by cells words kind.SwitchDoes name rest (SwitchDoes (Dtap c s o)) split named
     (switch_does_at-by rest action.Dtap act more (SwitchDoes (Dtap c s o)) split_act acts
-    (chain_again (said_at any_number_in more) _ (c, ws) _ (said_at-again any_number_in more w ws c split_w is_c)
-    (chain_again (said_at sapi_in ws) _ (s, vs) _ (said_at-again sapi_in ws v vs s split_v is_s)
+    (chain_again (value_at any_number_in more) _ (c, ws) _ (value_at-again any_number_in more w ws c split_w is_c)
+    (chain_again (value_at sapi_in ws) _ (s, vs) _ (value_at-again sapi_in ws v vs s split_v is_s)
     (chain_again (last_at octets_in vs) _ o _ (last_at-again octets_in vs u us o split_u end is_o) refl))))
 line_at-again cells (SwitchDoes (Assign c)) words (name, rest, split, named, (act, more, split_act, acts, (w, ws, split_w, is_c, end))) =
     line_at-by cells words kind.SwitchDoes name rest (SwitchDoes (Assign c)) split named

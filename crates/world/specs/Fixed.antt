@@ -18,13 +18,13 @@ abbrev pub with_mobile : FixedState → MobileState → FixedState
 with_mobile world mobile = record { mobile = mobile; outbox = world.outbox; switch = world.switch }
 
 -- the upper layers send what the mobile doesn't refuse
-abbrev pub sent_unless : Option MobileFault → FixedState → FixedState → Option FixedState
-sent_unless (Some fault) old new = None
-sent_unless None old new = Some new
+abbrev pub unless_refused : Option MobileFault → FixedState → FixedState → Option FixedState
+unless_refused (Some fault) old new = None
+unless_refused None old new = Some new
 
 abbrev pub after_upper : FixedState → Sapi → List ℕ → Option FixedState
 after_upper world sapi message =
-    sent_unless (refusal_of_send world.mobile sapi message) world (with_mobile world (queueing world.mobile sapi message))
+    unless_refused (refusal_of_send world.mobile sapi message) world (with_mobile world (queueing world.mobile sapi message))
 
 -- the frame that the station can take, if there is one
 abbrev pub frame_in : Result (Option (List ℕ)) MobileFault → Option (List ℕ)
@@ -48,9 +48,9 @@ after_air_ack world =
     if is_acknowledged world.mobile Zero then Some (with_mobile world (after_acked world.mobile Zero)) else None
 
 -- the switch takes the first message of its outbox
-abbrev pub taking_from : List (List ℕ) → FixedState → Option FixedState
-taking_from [] world = None
-taking_from (first ∷ others) world =
+abbrev pub after_taking : List (List ℕ) → FixedState → Option FixedState
+after_taking [] world = None
+after_taking (first ∷ others) world =
     Some (record {
       mobile = world.mobile;
       outbox = others;
@@ -58,7 +58,7 @@ taking_from (first ∷ others) world =
     })
 
 abbrev pub after_switch_takes : FixedState → Option FixedState
-after_switch_takes world = taking_from world.outbox world
+after_switch_takes world = after_taking world.outbox world
 
 abbrev pub where_fixed : {X : Type 0} → ℕ → Option X → Option X
 where_fixed mobile next = if mobile == FIXED_MOBILE then next else None

@@ -4,8 +4,8 @@ use Rattle.std.specs.Prelude.{◌≡◌, ℕ, ◌≤◌, Option, Some, IsSome, L
 use Rattle.octets.specs.Lists.{IsPrefix}
 use Rattle.world.specs.declared.event.Event.{Event}
 use Rattle.world.specs.declared.world.Scene.{Scene}
-use Rattle.world.specs.Queues.{Queue, Queued, outbox, put_by_all, taken_by_all, left_in, IsTakenBySwitch}
-use Rattle.world.specs.Views.{sent_in, accepted_in, progress_in, opener_in}
+use Rattle.world.specs.Queues.{Queue, Queued, outbox, all_messages_put, all_messages_taken, messages_left, IsTakenBySwitch}
+use Rattle.world.specs.Views.{sent_list, accepted_list, progress_in, opener_in}
 use Rattle.world.specs.World.{fixed_world}
 use Rattle.world.specs.WorldState.{WorldState}
 
@@ -18,16 +18,16 @@ pub record IsBeginningOfSent (scene : Scene) (connection : ℕ) (list : List (Li
   pub mobile : ℕ
   pub opened : opener_in scene connection ≡ Some mobile
   pub sent : List (List ℕ)
-  pub is_sent : sent_in scene mobile ≡ Some sent
+  pub is_sent : sent_list scene mobile ≡ Some sent
   pub is_prefix : IsPrefix list sent
 
 -- what holds of the actors whom these events have made from a beginning
 pub record IsInOrder (begin : Scene) (events : List Event) (scene : Scene) : Type 0 where
   -- what the switch accepts is a prefix of what the mobile sent
-  pub accepted : (connection : ℕ) (list : List (List ℕ)) → accepted_in scene connection ≡ Some list → IsBeginningOfSent scene connection list
+  pub accepted : (connection : ℕ) (list : List (List ℕ)) → accepted_list scene connection ≡ Some list → IsBeginningOfSent scene connection list
   -- no gap is ever judged
   pub no_gap : (connection : ℕ) (progress : Option ℕ) → progress_in scene connection ≡ Some progress → IsSome progress
   -- of each queue, what was put is what was taken, followed by what stands there
-  pub queues : (queue : Queue) → put_by_all begin events queue ≡ taken_by_all begin events queue ++ left_in scene queue
+  pub queues : (queue : Queue) → all_messages_put begin events queue ≡ all_messages_taken begin events queue ++ messages_left scene queue
   -- and the switch has what was taken out of its outbox
-  pub switch : IsTakenBySwitch scene (taken_by_all begin events (outbox 0))
+  pub switch : IsTakenBySwitch scene (all_messages_taken begin events (outbox 0))

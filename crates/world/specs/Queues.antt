@@ -26,9 +26,9 @@ in_switch_outbox (outbox link) messages = if link == 0 then map message messages
 in_switch_outbox (inbox source) messages = []
 
 -- what a frame that the station takes from the mobile puts into the switch's outbox
-abbrev pub fixed_put_by : FixedState → Event → List (List ℕ)
-fixed_put_by world (AirUp mobile Zero) = if mobile == FIXED_MOBILE then option_to_list (frame_up world) else []
-fixed_put_by world _ = []
+abbrev pub fixed_messages_put : FixedState → Event → List (List ℕ)
+fixed_messages_put world (AirUp mobile Zero) = if mobile == FIXED_MOBILE then option_to_list (frame_up world) else []
+fixed_messages_put world _ = []
 
 -- the first of these
 abbrev pub first_of : List (List ℕ) → List (List ℕ)
@@ -36,30 +36,30 @@ first_of [] = []
 first_of (first ∷ others) = first ∷ []
 
 -- what the switch takes out of its outbox
-abbrev pub fixed_taken_by : FixedState → Event → List (List ℕ)
-fixed_taken_by world SwitchTakes = first_of world.outbox
-fixed_taken_by world _ = []
+abbrev pub fixed_messages_taken : FixedState → Event → List (List ℕ)
+fixed_messages_taken world SwitchTakes = first_of world.outbox
+fixed_messages_taken world _ = []
 
 -- what an event puts into a queue
-abbrev pub put_by : Scene → Event → Queue → List Queued
-put_by (Fixed world) event queue = in_switch_outbox queue (fixed_put_by world event)
+abbrev pub messages_put : Scene → Event → Queue → List Queued
+messages_put (Fixed world) event queue = in_switch_outbox queue (fixed_messages_put world event)
 
 -- what an event takes out of a queue
-abbrev pub taken_by : Scene → Event → Queue → List Queued
-taken_by (Fixed world) event queue = in_switch_outbox queue (fixed_taken_by world event)
+abbrev pub messages_taken : Scene → Event → Queue → List Queued
+messages_taken (Fixed world) event queue = in_switch_outbox queue (fixed_messages_taken world event)
 
 -- what stands in a queue
-abbrev pub left_in : Scene → Queue → List Queued
-left_in (Fixed world) queue = in_switch_outbox queue world.outbox
+abbrev pub messages_left : Scene → Queue → List Queued
+messages_left (Fixed world) queue = in_switch_outbox queue world.outbox
 
 -- the history of a queue: all that was put there by these events, and all that was taken, in order
-abbrev pub put_by_all : Scene → List Event → Queue → List Queued
-put_by_all scene [] queue = []
-put_by_all scene (event ∷ events) queue = put_by scene event queue ++ put_by_all (actors_after scene event) events queue
+abbrev pub all_messages_put : Scene → List Event → Queue → List Queued
+all_messages_put scene [] queue = []
+all_messages_put scene (event ∷ events) queue = messages_put scene event queue ++ all_messages_put (actors_after scene event) events queue
 
-abbrev pub taken_by_all : Scene → List Event → Queue → List Queued
-taken_by_all scene [] queue = []
-taken_by_all scene (event ∷ events) queue = taken_by scene event queue ++ taken_by_all (actors_after scene event) events queue
+abbrev pub all_messages_taken : Scene → List Event → Queue → List Queued
+all_messages_taken scene [] queue = []
+all_messages_taken scene (event ∷ events) queue = messages_taken scene event queue ++ all_messages_taken (actors_after scene event) events queue
 
 -- The connections of the switch have what was taken out of its outbox.
 abbrev pub IsTakenBySwitch : Scene → List Queued → Type 0

@@ -1,7 +1,7 @@
 -- Reading a script line word by word, as a function of its words. The grammar of lines stands in Script.
 use Rattle.std.specs.Prelude.{◌≡◌, ℕ, find, Option, Some, None, IsSome, Result, Ok, Err, List, [], ◌∷◌}
 use Rattle.dtap_codec.specs.declared.sapi.Sapi.{Sapi}
-use Rattle.world.specs.Words.{said_at, end_of, mobile_in, station_in, source_in, any_number_in, sapi_in, answer_in, octets_in}
+use Rattle.world.specs.Words.{value_at, end_of, mobile_in, station_in, source_in, any_number_in, sapi_in, answer_in, octets_in}
 use Rattle.world.specs.declared.event.Event.{Event}
 use Rattle.world.specs.declared.event.Event.TheVariants.{Upper, Connect, AirUp, AirAck, AirDown, AirDownLost, Move, Touch, Arrive, Return, BaseTakes, BasePush, Handle, SwitchTakes, SwitchDoes, Tick, BaseDown, Report}
 use Rattle.world.specs.declared.event.SwitchAction.TheVariants.{Assign, Clear, Dtap}
@@ -11,8 +11,8 @@ use Rattle.world.specs.declared.script.Action.{Action}
 use Rattle.world.specs.declared.script.Action.TheVariants as action
 use Rattle.world.specs.Script.{name_of, name_of_action}
 use Rattle.std.specs.Str.{bytes_eq}
-use Rattle.world.specs.declared.script_fault.LineFault.{LineFault}
-use Rattle.world.specs.declared.script_fault.LineFault.TheVariants.{BadEvent, Memory}
+use Rattle.world.specs.declared.line_fault.LineFault.{LineFault}
+use Rattle.world.specs.declared.line_fault.LineFault.TheVariants.{BadEvent, Memory}
 
 infixl 10 ◌>>=◌
 abbrev pub ◌>>=◌ : {A B : Type 0} → Option A → (A → Option B) → Option B
@@ -31,35 +31,35 @@ kind_in word = find (λ kind. bytes_eq word (name_of kind)) all_kinds
 -- what the last word says
 abbrev pub last_at : {X : Type 0} → (List ℕ → Option X) → List (List ℕ) → Option X
 last_at says words = do
-  said ← said_at says words
+  said ← value_at says words
   end ← end_of said.1
   Some said.0
 
 unfoldable pub upper_at : List (List ℕ) → Option Event
 upper_at words = do
-  mobile ← said_at mobile_in words
-  sapi ← said_at sapi_in mobile.1
+  mobile ← value_at mobile_in words
+  sapi ← value_at sapi_in mobile.1
   octets ← last_at octets_in sapi.1
   Some (Upper mobile.0 sapi.0 octets)
 
 unfoldable pub connect_at : ℕ → List (List ℕ) → Option Event
 connect_at cells words = do
-  mobile ← said_at mobile_in words
-  station ← said_at (station_in cells) mobile.1
-  octets ← said_at octets_in station.1
+  mobile ← value_at mobile_in words
+  station ← value_at (station_in cells) mobile.1
+  octets ← value_at octets_in station.1
   answer ← last_at answer_in octets.1
   Some (Connect mobile.0 station.0 octets.0 answer)
 
 unfoldable pub dtap_at : List (List ℕ) → Option Event
 dtap_at words = do
-  connection ← said_at any_number_in words
-  sapi ← said_at sapi_in connection.1
+  connection ← value_at any_number_in words
+  sapi ← value_at sapi_in connection.1
   octets ← last_at octets_in sapi.1
   Some (SwitchDoes (Dtap connection.0 sapi.0 octets))
 
 unfoldable pub report_at : List (List ℕ) → Option Event
 report_at words = do
-  mobile ← said_at mobile_in words
+  mobile ← value_at mobile_in words
   octets ← last_at octets_in mobile.1
   Some (Report mobile.0 octets)
 
@@ -78,7 +78,7 @@ action_in word = find (λ action. bytes_eq word (name_of_action action)) (action
 
 unfoldable pub switch_does_at : List (List ℕ) → Option Event
 switch_does_at words = do
-  action ← said_at action_in words
+  action ← value_at action_in words
   action_at action.0 action.1
 
 -- a line that names a mobile alone
@@ -90,7 +90,7 @@ mobile_at event words = do
 -- the last words are a mobile and a SAPI
 abbrev pub mobile_and_sapi_in : List (List ℕ) → Option (ℕ × Sapi)
 mobile_and_sapi_in words = do
-  mobile ← said_at mobile_in words
+  mobile ← value_at mobile_in words
   sapi ← last_at sapi_in mobile.1
   Some (mobile.0, sapi)
 
@@ -135,7 +135,7 @@ event_at cells kind.Report words = report_at words
 -- what all words of a line say
 unfoldable pub line_at : ℕ → List (List ℕ) → Option Event
 line_at cells words = do
-  kind ← said_at kind_in words
+  kind ← value_at kind_in words
   event_at cells kind.0 kind.1
 
 -- An event, or want of memory where the words are one's.

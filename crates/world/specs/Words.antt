@@ -70,9 +70,9 @@ and_rest words None = None
 and_rest words (Some x) = Some (x, words)
 
 -- what the first word says, and the words behind it
-abbrev pub said_at : {X : Type 0} → (List ℕ → Option X) → List (List ℕ) → Option (X × List (List ℕ))
-said_at says [] = None
-said_at says (word ∷ words) = and_rest words (says word)
+abbrev pub value_at : {X : Type 0} → (List ℕ → Option X) → List (List ℕ) → Option (X × List (List ℕ))
+value_at says [] = None
+value_at says (word ∷ words) = and_rest words (says word)
 
 -- what a reader answers, seen by view, and the words that it leaves
 abbrev pub ReadsNext : {X Y E : Type 0} → (X → Y) → Result X E → Option (Y × List (List ℕ)) → List (List ℕ) → Type 0

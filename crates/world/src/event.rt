@@ -3,7 +3,7 @@ use octets::Octets;
 
 /// One step of one actor. Mobiles are numbered from 1, stations from 1 in the settings' order, sources of the controller
 /// from 0, the switch, and connections of the switch from 1.
-#[derive(Debug, Drop)]
+#[derive(Drop)]
 pub enum Event {
     /// The mobile's upper layers send a message.
     Upper {
@@ -63,7 +63,7 @@ pub enum Event {
 }
 
 /// What the switch does of its own on one of its connections.
-#[derive(Debug, Drop)]
+#[derive(Drop)]
 pub enum SwitchAction {
     /// It asks for an assignment.
     Assign(u32),

@@ -1,4 +1,4 @@
-ghost use Rattle.std.specs.Prelude.{◌≡◌, [], IfOk};
+ghost use Rattle.std.specs.Prelude.{◌≡◌, IfOk};
 ghost use Rattle.dtap_codec.specs.Number.{count_of};
 ghost use Rattle.nsd_filter.specs.AcceptedList.{accepted_list, not_of_the_flow};
 ghost use Rattle.world.specs.Takes.{Takes};
@@ -27,19 +27,14 @@ pub(crate) struct FixedWorld {
     mobile: MobileEnd,
     outbox: VecDeque<Octets>,
     switch: Reception,
-    /// What the mobile received, which is nothing.
-    received: Vec<Octets>,
 }
 
 impl Model for FixedWorld {
-    ghost use Rattle.std.specs.Prelude.{◌≡◌, []};
     ghost use Rattle.world.specs.FixedState.{FixedState};
 
     ghost Value = { FixedState };
 
     ghost view = { λ world. record { mobile = world.mobile; outbox = world.outbox.items; switch = world.switch } };
-
-    ghost invariant = { λ world. world.received.items ≡ [] };
 }
 
 impl FixedWorld {
@@ -54,7 +49,6 @@ impl FixedWorld {
             mobile,
             outbox: VecDeque::new(alloc),
             switch: Reception::new(alloc, modulus),
-            received: Vec::new(alloc),
         }
     }
 
@@ -133,12 +127,6 @@ impl FixedWorld {
         ensures { result.now ≡ self.now.mobile.sent }
     {
         self.mobile.sent()
-    }
-
-    pub(crate) fn received(&self) -> &[Octets]
-        ensures { result.now ≡ [] }
-    {
-        self.received.as_slice()
     }
 
     pub(crate) fn taken(&self) -> &[Octets]

@@ -1,5 +1,4 @@
-ghost use Rattle.std.specs.Prelude.{◌≡◌, List};
-ghost use Rattle.world.specs.declared.fixed.TheConstants.{FIXED_CONNECTION, FIXED_MOBILE};
+ghost use Rattle.std.specs.Prelude.{List};
 ghost use Rattle.world.specs.declared.event.Event.{Event};
 ghost use Rattle.world.specs.WorldState.{WorldState};
 ghost use Rattle.world.specs.World.{after_all};
@@ -10,10 +9,4 @@ ghost use Rattle.world.specs.Headline.{Begins, IsInOrder};
 /// what was put there, in order. It is a law on the definitions that `World::run` cites: it does nothing.
 pub fn keeps_order()
     ensures { (begin : WorldState) (events : List Event) → Begins begin → IsInOrder begin.scene events (after_all begin events).scene }
-{}
-
-/// Law: the mobile of the fixed world that the definitions speak of is mobile 1, and the connection is connection 1.
-pub fn fixed_world_is_of_mobile_1()
-    ensures mobile { FIXED_MOBILE ≡ 1 }
-    ensures connection { FIXED_CONNECTION ≡ 1 }
 {}

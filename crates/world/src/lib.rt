@@ -3,18 +3,17 @@
 #![tactic(auto)]
 
 pub use event::{Event, SwitchAction};
-pub use laws::{fixed_world_is_of_mobile_1, keeps_order};
+pub use laws::keeps_order;
+pub use line_fault::LineFault;
 pub use script::read_line;
-pub use script_fault::LineFault;
 pub use world::World;
 
 mod event;
 mod fixed;
+mod hexadecimal;
 mod laws;
+mod line_fault;
 mod script;
-mod script_fault;
-#[cfg(test)]
-mod tests;
-mod word;
+mod value;
 mod words;
 mod world;

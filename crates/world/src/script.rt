@@ -4,14 +4,14 @@ ghost use Rattle.world.specs.ScriptReading.{GivesEvent, kind_in, action_in, last
 ghost use Rattle.world.specs.Script.{IsLine};
 ghost use Rattle.world.specs.declared.event.Event.{Event as WorldEvent};
 
-use crate::script_fault::{BadEvent, LineFault};
+use crate::line_fault::{BadEvent, LineFault};
 use crate::words::Words;
 use crate::{Event, SwitchAction};
 use dtap_codec::Sapi;
 use std::alloc::Global;
 
 /// The kinds of script line, by their first word.
-#[derive(Clone, Copy, Debug, PartialEq, Eq)]
+#[derive(Clone, Copy)]
 pub(crate) enum Kind {
     Upper,
     Connect,
@@ -34,7 +34,7 @@ pub(crate) enum Kind {
 }
 
 /// What the switch does, by the second word of its line.
-#[derive(Clone, Copy, Debug, PartialEq, Eq)]
+#[derive(Clone, Copy)]
 pub(crate) enum Action {
     Assign,
     Clear,

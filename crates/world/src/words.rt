@@ -1,10 +1,11 @@
 ghost use Rattle.std.specs.Prelude.{◌≡◌, ◌≢◌, ◌≤◌, [], ◌∷◌, option_map, IfOk, MatchResult};
 ghost use Rattle.std.specs.List.{slice_split};
 ghost use Rattle.world.specs.WordsLeft.{is_space, words_left};
-ghost use Rattle.world.specs.Words.{word_at, said_at, number_in, mobile_in, station_in, source_in, any_number_in, sapi_in, answer_in, octets_in, end_of, Reads, ReadsNext};
+ghost use Rattle.world.specs.Words.{word_at, value_at, number_in, mobile_in, station_in, source_in, any_number_in, sapi_in, answer_in, octets_in, end_of, Reads, ReadsNext};
 
-use crate::script_fault::BadEvent;
-use crate::word::{Hexadecimal, answer_in, number_in, sapi_in};
+use crate::hexadecimal::Hexadecimal;
+use crate::line_fault::BadEvent;
+use crate::value::{answer_in, number_in, sapi_in};
 use dtap_codec::Sapi;
 use std::marker::Model;
 
@@ -46,7 +47,7 @@ impl<'a> Words<'a> {
 
     /// The next word as a decimal number from low to high.
     pub(crate) fn number(&mut self, low: u32, high: u32) -> Result<u32, BadEvent>
-        ensures said { ReadsNext (λ n. n) result (said_at (number_in low high) self.old) self.new }
+        ensures said { ReadsNext (λ n. n) result (value_at (number_in low high) self.old) self.new }
         ensures range { IfOk result (λ n. (low ≤ n) × (n ≤ high)) }
     {
         number_in(self.word()?, low, high)
@@ -54,7 +55,7 @@ impl<'a> Words<'a> {
 
     /// The next word as the number of a mobile, from 1 to 255.
     pub(crate) fn mobile(&mut self) -> Result<u8, BadEvent>
-        ensures { ReadsNext (λ mobile. mobile) result (said_at mobile_in self.old) self.new }
+        ensures { ReadsNext (λ mobile. mobile) result (value_at mobile_in self.old) self.new }
     {
         let mobile = self.number(1, 255)?;
         Ok(mobile as u8)
@@ -62,7 +63,7 @@ impl<'a> Words<'a> {
 
     /// The next word as the number of a station, from 1 to the number of cells.
     pub(crate) fn station(&mut self, cells: u16) -> Result<u16, BadEvent>
-        ensures { ReadsNext (λ station. station) result (said_at (station_in cells) self.old) self.new }
+        ensures { ReadsNext (λ station. station) result (value_at (station_in cells) self.old) self.new }
     {
         let station = self.number(1, u32::from(cells))?;
         Ok(station as u16)
@@ -70,7 +71,7 @@ impl<'a> Words<'a> {
 
     /// The next word as the number of a source, from 0 to the number of cells.
     pub(crate) fn source(&mut self, cells: u16) -> Result<u16, BadEvent>
-        ensures { ReadsNext (λ source. source) result (said_at (source_in cells) self.old) self.new }
+        ensures { ReadsNext (λ source. source) result (value_at (source_in cells) self.old) self.new }
     {
         let source = self.number(0, u32::from(cells))?;
         Ok(source as u16)
@@ -78,28 +79,28 @@ impl<'a> Words<'a> {
 
     /// The next word as any number below 2 to the 32.
     pub(crate) fn any_number(&mut self) -> Result<u32, BadEvent>
-        ensures { ReadsNext (λ n. n) result (said_at any_number_in self.old) self.new }
+        ensures { ReadsNext (λ n. n) result (value_at any_number_in self.old) self.new }
     {
         self.number(0, u32::MAX)
     }
 
     /// The next word as a SAPI.
     pub(crate) fn sapi(&mut self) -> Result<Sapi, BadEvent>
-        ensures { ReadsNext (λ sapi. sapi) result (said_at sapi_in self.old) self.new }
+        ensures { ReadsNext (λ sapi. sapi) result (value_at sapi_in self.old) self.new }
     {
         sapi_in(self.word()?)
     }
 
     /// The next word as yes or no.
     pub(crate) fn answer(&mut self) -> Result<bool, BadEvent>
-        ensures { ReadsNext (λ answer. answer) result (said_at answer_in self.old) self.new }
+        ensures { ReadsNext (λ answer. answer) result (value_at answer_in self.old) self.new }
     {
         answer_in(self.word()?)
     }
 
     /// The next word as octets in hexadecimal digits.
     pub(crate) fn octets(&mut self) -> Result<Hexadecimal<'a>, BadEvent>
-        ensures { ReadsNext (λ octets. octets) result (said_at octets_in self.old) self.new }
+        ensures { ReadsNext (λ octets. octets) result (value_at octets_in self.old) self.new }
     {
         Hexadecimal::read(self.word()?)
     }

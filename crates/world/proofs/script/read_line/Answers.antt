@@ -1,8 +1,8 @@
 use Rattle.std.proofs.Common.{◌≡◌, ◌⊎◌, ℕ, Result, Ok, Err, Option, Some, None, IsSome, IfOk, List, refl, sym, ap, ◌∙◌, subst, inl, inr, rules}
 use Rattle.std.specs.List.{slice_split}
 use Rattle.world.specs.declared.event.Event.{Event}
-use Rattle.world.specs.declared.script_fault.LineFault.{LineFault}
-use Rattle.world.specs.declared.script_fault.LineFault.TheVariants.{BadEvent, Memory}
+use Rattle.world.specs.declared.line_fault.LineFault.{LineFault}
+use Rattle.world.specs.declared.line_fault.LineFault.TheVariants.{BadEvent, Memory}
 use Rattle.world.specs.WordsLeft.{is_space}
 use Rattle.world.specs.Script.{IsLine}
 use Rattle.world.specs.ScriptReading.{GivesEvent, line_at}

@@ -1,0 +1,21 @@
+-- What holds of a success that stands anyway, and what is said of an error.
+use Rattle.std.proofs.Common.{◌≡◌, Result, Ok, Err, OnOk, ap, subst}
+use Rattle.bsc_program.specs.Status.{status_of}
+use Rattle.bsc_program.specs.declared.failure.Failure.{Failure}
+use Rattle.std.specs.Result.{IsErrAnd}
+
+pub on_ok : {A E P : Type 0} (r : Result A E) → P → OnOk r P
+on_ok (Ok x) p = p
+on_ok (Err e) p = tt
+
+same_error : {X E : Type 0} (a b : E) → (let x : Result X E = Err a in x) ≡ Err b → a ≡ b
+same_error a b e = cc
+
+-- what is said of an error, of the one that it was
+pub error_as : {X E : Type 0} (r : Result X E) (Said : E → Type 0) (error : E) → IsErrAnd r Said → r ≡ Err error → Said error
+error_as (Ok x) Said error is same = absurd (cc same)
+error_as (Err other) Said error is same = subst Said (same_error other error same) is
+
+-- a failure with status 3 is none with status 2
+pub no_device : {P : Type 0} (failure other : Failure) → status_of failure ≡ 3 → failure ≡ other → status_of other ≡ 2 → P
+no_device failure other three same two = absurd (cc (three, ap status_of same, two))

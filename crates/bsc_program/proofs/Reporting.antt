@@ -1,0 +1,114 @@
+-- What is written of a world so far, and how a mobile and a connection carry it on.
+use Rattle.std.proofs.Common.{◌≡◌, ℕ, suc, ◌+◌, ◌-◌, ◌<◌, ◌≤◌, true, false, List, [], ◌++◌, Option, Some, None, refl, sym, ap, subst, ◌∙◌, append_assoc, append-nil, arith, inl, inr}
+use Rattle.std.proofs.lemmas.Bool.{cases_lt}
+use Rattle.std.specs.Prelude.{◌^◌, IsSome, unwrap_or}
+use Rattle.std.specs.Io.KnownBytes.{Appends, Keeps}
+use Rattle.std.proofs.KnownBytes.{Appends-nil, Appends-trans, Appends-kept}
+use Rattle.world.specs.declared.world.Scene.{Scene}
+use Rattle.world.specs.WorldState.{WorldState}
+use Rattle.bsc_program.specs.Report.{AreConnections, IsReport, WritesIfSome, connection_text, mobile_text, not_taken_line, texts_to}
+
+abbrev pub some_connection : Scene → ℕ → List ℕ
+some_connection scene number = unwrap_or (connection_text scene number) []
+
+-- the mobiles below the next number were written
+pub record WritesMobiles (scene : Scene) (next : ℕ) (old new : Option (List ℕ)) : Type 0 where
+  pub count : ℕ
+  pub up_to : next ≡ suc count
+  pub written : Appends old new (texts_to (mobile_text scene) count)
+
+-- all mobiles were written, and the connections below the next number, each of which is there
+pub record WritesConnections (scene : Scene) (next : ℕ) (old new : Option (List ℕ)) : Type 0 where
+  pub count : ℕ
+  pub up_to : next ≡ suc count
+  pub each : (n : ℕ) → n < count → IsSome (connection_text scene (suc n))
+  pub written : Appends old new (texts_to (mobile_text scene) 255 ++ texts_to (some_connection scene) count)
+
+texts_more : (text : ℕ → List ℕ) (count : ℕ) → texts_to text count ++ text (suc count) ≡ texts_to text (suc count)
+unfolding texts_to
+texts_more text count = refl
+
+none_written : (text : ℕ → List ℕ) → texts_to text 0 ≡ []
+unfolding texts_to
+none_written text = refl
+
+pub mobiles_none : (scene : Scene) (old : Option (List ℕ)) → WritesMobiles scene 1 old old
+mobiles_none scene old = record { count = 0; up_to = omega arith; written = subst (Appends old old) (sym (none_written (mobile_text scene))) (Appends-nil old) }
+
+pub mobiles_more : (scene : Scene) (next : ℕ) (old mid new : Option (List ℕ)) → WritesMobiles scene next old mid → Appends mid new (mobile_text scene next) → WritesMobiles scene (next + 1) old new
+mobiles_more scene next old mid new some text =
+    let more : List ℕ = mobile_text scene (suc some.count) in
+    let here : Appends mid new more = subst (λ (n : ℕ). Appends mid new (mobile_text scene n)) some.up_to text in
+    record {
+      count = suc some.count;
+      up_to = omega (arith, some.up_to);
+      written = subst (Appends old new) (texts_more (mobile_text scene) some.count) (Appends-trans old mid new (texts_to (mobile_text scene) some.count) more some.written here);
+    }
+
+pub mobiles_all : (scene : Scene) (next : ℕ) (old new : Option (List ℕ)) → WritesMobiles scene next old new → next ≡ 256 → Appends old new (texts_to (mobile_text scene) 255)
+mobiles_all scene next old new some all =
+    let count : some.count ≡ 255 = omega (arith, some.up_to) in
+    subst (λ (n : ℕ). Appends old new (texts_to (mobile_text scene) n)) count some.written
+
+pub connections_none : (scene : Scene) (old new : Option (List ℕ)) → Appends old new (texts_to (mobile_text scene) 255) → WritesConnections scene 1 old new
+connections_none scene old new mobiles = record {
+  count = 0;
+  up_to = omega arith;
+  each = λ n lt. absurd (omega arith);
+  written =
+      subst (Appends old new) (sym (ap (λ (xs : List ℕ). texts_to (mobile_text scene) 255 ++ xs) (none_written (some_connection scene)) ∙ append-nil (texts_to (mobile_text scene) 255))) mobiles;
+}
+
+some_written : (text : Option (List ℕ)) (mid new : Option (List ℕ)) → WritesIfSome true text mid new → IsSome text × Appends mid new (unwrap_or text [])
+some_written None mid new written = absurd written
+some_written (Some text) mid new written = (refl, written)
+
+pub connections_more : (scene : Scene) (next : ℕ) (old mid new : Option (List ℕ)) → WritesConnections scene next old mid → WritesIfSome true (connection_text scene next) mid new
+    → WritesConnections scene (next + 1) old new
+connections_more scene next old mid new some written =
+    let is = some_written (connection_text scene next) mid new written in
+    let mobiles : List ℕ = texts_to (mobile_text scene) 255 in
+    let there : IsSome (connection_text scene (suc some.count)) = subst (λ (n : ℕ). IsSome (connection_text scene n)) some.up_to is.0 in
+    let here : Appends mid new (some_connection scene (suc some.count)) = subst (λ (n : ℕ). Appends mid new (some_connection scene n)) some.up_to is.1 in
+    record {
+      count = suc some.count;
+      up_to = omega (arith, some.up_to);
+      each = λ m lt. elim (cases_lt m some.count) [
+        | inl less ↦ some.each m less
+        | inr more ↦ subst (λ (k : ℕ). IsSome (connection_text scene (suc k))) (let same : some.count ≡ m = omega arith in same) there
+      ];
+      written =
+          subst (Appends old new)
+          (append_assoc mobiles (texts_to (some_connection scene) some.count) (some_connection scene (suc some.count)) ∙ ap (λ (xs : List ℕ). mobiles ++ xs) (texts_more (some_connection scene) some.count))
+          (Appends-trans old mid new (mobiles ++ texts_to (some_connection scene) some.count) (some_connection scene (suc some.count)) some.written here);
+    }
+
+-- the mobiles and the connections were written
+abbrev pub WritesLists : Scene → Option (List ℕ) → Option (List ℕ) → Type 0
+WritesLists scene old new = (connections : List ℕ) × AreConnections scene connections × Appends old new (texts_to (mobile_text scene) 255 ++ connections)
+
+lists_below : (scene : Scene) (next : ℕ) (old new : Option (List ℕ)) (some : WritesConnections scene next old new) → some.count ≤ 2 ^ 32 - 1 → (some.count < 2 ^ 32 - 1 → connection_text scene (suc some.count) ≡ None) → WritesLists scene old new
+lists_below scene next old new some numbers none =
+    (texts_to (some_connection scene) some.count, record { count = some.count; numbers = numbers; each = some.each; no_more = none; is = refl }, some.written)
+
+none_there : (o : Option (List ℕ)) (mid new : Option (List ℕ)) → WritesIfSome false o mid new → (o ≡ None) × Keeps mid new
+none_there None mid new keeps = (refl, keeps)
+none_there (Some text) mid new keeps = absurd keeps
+
+-- the first connection that isn't there ends them
+pub lists_to : (scene : Scene) (next : ℕ) (old mid new : Option (List ℕ)) → WritesConnections scene next old mid → next ≤ 2 ^ 32 - 1 → WritesIfSome false (connection_text scene next) mid new → WritesLists scene old new
+lists_to scene next old mid new some numbers none =
+    let there = none_there (connection_text scene next) mid new none in
+    let lists = lists_below scene next old mid some (omega (arith, some.up_to, numbers)) (λ lt. ap (connection_text scene) (sym some.up_to) ∙ there.0) in
+    (lists.0, lists.1, Appends-kept old mid new (texts_to (mobile_text scene) 255 ++ lists.0) lists.2 there.1)
+
+-- and so does the greatest number
+pub lists_all : (scene : Scene) (next : ℕ) (old new : Option (List ℕ)) → WritesConnections scene next old new → next ≡ 2 ^ 32 → WritesLists scene old new
+lists_all scene next old new some last = lists_below scene next old new some (omega (arith, some.up_to, last)) (λ lt. absurd (omega (arith, some.up_to)))
+
+pub report_is : (world : WorldState) (old mid new last : Option (List ℕ)) → WritesLists world.scene old mid → Appends mid new (not_taken_line world.not_taken) → Keeps new last
+    → (text : List ℕ) × IsReport world text × Appends old last text
+report_is world old mid new last lists line keeps =
+    let before : List ℕ = texts_to (mobile_text world.scene) 255 ++ lists.0 in
+    let end : List ℕ = not_taken_line world.not_taken in
+    (before ++ end, (lists.0, lists.1, refl), Appends-kept old new last (before ++ end) (Appends-trans old mid new before end lists.2 line) keeps)

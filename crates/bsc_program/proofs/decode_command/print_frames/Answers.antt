@@ -1,0 +1,12 @@
+use Rattle.std.proofs.Common.{Ok, subst, ◌∙◌}
+use Rattle.ipa_framing.specs.Held.{Takes}
+use Rattle.bsc_program.proofs.Decoding.{prints_more}
+use Rattle.bsc_program.proofs.decode_command.print_frames.Goals as goal
+
+pub loop-frame-preserved : goal.loop-frame-preserved
+loop-frame-preserved g c =
+    let takes = subst (λ found. Takes c.loop-frame.framer (Ok found) c.next.new.self) c.in-Some.is c.in_ok-frame.ensures in (
+      prints_more c.args.framer.now c.loop-frame.framer c.next.new.self (g.W.Write.contents c.args.output.now) (g.W.Write.contents c.loop-frame.output) (g.W.Write.contents c.print_frame.new.output)
+          c.in-Some.frame c.loop-frame.invariant.0 takes.0 c.in_ok-print_frame.ensures,
+      takes.1 ∙ c.loop-frame.invariant.1,
+    )

@@ -1,0 +1,55 @@
+-- What `decode` prints of a stream.
+use Rattle.std.specs.Prelude.{◌≡◌, ℕ, List, [], ◌∷◌, ◌++◌, length, codes, decimal, Option, IfSome}
+use Rattle.std.specs.List.{flat_map, AllByRecursion}
+use Rattle.std.specs.Io.KnownBytes.{Appends}
+use Rattle.hex.specs.Hex.{encode_lower}
+use Rattle.ipa_framing.specs.declared.frame.Frame.{Frame}
+use Rattle.ipa_framing.specs.Frame.{IsFrame, IsPartial, IsTooLong, Splits, frame_text}
+use Rattle.ipa_framing.specs.Held.{Held}
+use Rattle.bsc_program.specs.Names.{name_of}
+
+-- a frame's line: its stream in two digits, and the name of what it carries
+abbrev pub line_of : ℕ → List ℕ → List ℕ
+line_of stream name = encode_lower (stream ∷ []) ++ codes " " ++ name ++ codes "\n"
+
+abbrev pub frame_line : Frame → List ℕ
+frame_line frame = line_of frame.stream (name_of frame)
+
+abbrev pub frame_lines : List Frame → List ℕ
+frame_lines frames = flat_map frame_line frames
+
+-- the line of the octets of a frame that was only started; none where there are no such octets
+abbrev pub rest_line : List ℕ → List ℕ
+rest_line [] = []
+rest_line (octet ∷ octets) = codes "rest " ++ decimal (length (octet ∷ octets)) ++ codes "\n"
+
+-- The stream is frames and at most the beginning of one, and the text is their lines.
+pub record IsDecoded (stream text : List ℕ) : Type 0 where
+  pub frames : List Frame
+  pub rest : List ℕ
+  pub splits : Splits stream frames rest
+  pub started : IsPartial rest
+  pub is : text ≡ frame_lines frames ++ rest_line rest
+
+-- The stream is frames and behind them one that is too long, and the text is the lines of the frames.
+pub record IsRefused (stream text : List ℕ) : Type 0 where
+  pub frames : List Frame
+  pub rest : List ℕ
+  pub splits : Splits stream frames rest
+  pub long : IsTooLong rest
+  pub is : text ≡ frame_lines frames
+
+-- Known contents grew by the lines of a known stream.
+abbrev pub Decodes : Option (List ℕ) → Option (List ℕ) → Option (List ℕ) → Type 0
+Decodes start old new = IfSome start (λ stream. (text : List ℕ) × IsDecoded stream text × Appends old new text)
+
+-- Known contents grew by the lines of a known stream before a frame that is too long, and by a last line.
+abbrev pub RefusesWith : List ℕ → Option (List ℕ) → Option (List ℕ) → Option (List ℕ) → Type 0
+RefusesWith last start old new = IfSome start (λ stream. (text : List ℕ) × IsRefused stream text × Appends old new (text ++ last))
+
+-- What a framer held were frames and behind them what it holds now. Known contents grew by the lines of the frames.
+pub record PrintsFrames (held left : Held) (old new : Option (List ℕ)) : Type 0 where
+  pub frames : List Frame
+  pub each : AllByRecursion IsFrame frames
+  pub whole : held.octets ≡ flat_map frame_text frames ++ left.octets
+  pub printed : Appends old new (frame_lines frames)

@@ -1,0 +1,27 @@
+-- The failures that the program ends with, and its status.
+use Rattle.std.specs.Prelude.{ℕ}
+use Rattle.std.specs.declared.io.ErrorKind.{ErrorKind}
+use Rattle.std.specs.declared.io.ErrorKind.TheVariants.{OutOfMemory}
+use Rattle.ipa_framing.specs.declared.fault.FrameFault.{FrameFault}
+use Rattle.ipa_framing.specs.declared.fault.FrameFault.TheVariants as faults
+use Rattle.bsc_program.specs.declared.decode_command.Stop.{Stop}
+use Rattle.bsc_program.specs.declared.decode_command.Stop.TheVariants.{TooLong, Failed}
+use Rattle.bsc_program.specs.declared.failure.Failure.{Failure}
+use Rattle.bsc_program.specs.declared.failure.Failure.TheVariants.{Unsupported, BadEvent, Memory, Device}
+
+-- 2 for what was asked for, 3 for memory or a device
+abbrev pub status_of : Failure → ℕ
+status_of Unsupported = 2
+status_of (BadEvent line) = 2
+status_of Memory = 3
+status_of Device = 3
+
+-- a read or a write that wanted memory is told apart from a device that failed
+abbrev pub failure_of : ErrorKind → Failure
+failure_of OutOfMemory = Memory
+failure_of _ = Device
+
+-- why a fault of the framer stops `decode`
+abbrev pub stop_of : FrameFault → Stop
+stop_of faults.TooLong = TooLong
+stop_of faults.Memory = Failed Memory

@@ -1,0 +1,97 @@
+ghost use Rattle.std.specs.Prelude.{◌≡◌, List, ℕ, IfErr, IfOk, OnOk};
+ghost use Rattle.std.specs.Io.KnownBytes.{Appends};
+ghost use Rattle.bsc_program.specs.Status.{status_of};
+ghost use Rattle.bsc_program.specs.Report.{IsReport, WritesIfSome, connection_text, counted_lines, mobile_text};
+
+use crate::failure::Failure;
+use octets::{Memory, Octets};
+use std::alloc::Global;
+use std::io::Write;
+use world::World;
+
+/// Writes the report of a world: for each mobile what it sent and received, for each connection of the switch what was
+/// taken, accepted and without number, and how many events were not taken.
+pub(crate) fn write_report<W: Write>(
+    alloc: Global,
+    world: &World,
+    output: &mut W,
+) -> Result<(), Failure>
+    ensures ok { OnOk result ((text : List ℕ) × IsReport world.now text ×
+        Appends (W.contents output.old) (W.contents output.new) text) }
+    ensures err { IfErr result (λ failure. status_of failure ≡ 3) }
+{
+    for mobile in 1..=u8::MAX {
+        write_mobile(alloc, world, mobile, output)?;
+    }
+    for connection in 1..=u32::MAX {
+        if !write_connection(alloc, world, connection, output)? {
+            break;
+        }
+    }
+    let not_taken = world.not_taken();
+    writeln!(output, "events not taken {not_taken}")?;
+    output.flush()?;
+    Ok(())
+}
+
+/// Writes the lists of a mobile, if there is one with this number.
+fn write_mobile<W: Write>(
+    alloc: Global,
+    world: &World,
+    mobile: u8,
+    output: &mut W,
+) -> Result<(), Failure>
+    ensures ok { OnOk result (Appends (W.contents output.old) (W.contents output.new) (mobile_text world.now.scene mobile)) }
+    ensures err { IfErr result (λ failure. status_of failure ≡ 3) }
+{
+    let (Some(sent), Some(received)) = (world.sent(mobile), world.received(mobile)) else {
+        return Ok(());
+    };
+    write!(output, "mobile {mobile} sent ")?;
+    write_messages(alloc, sent, output)?;
+    write!(output, "mobile {mobile} received ")?;
+    write_messages(alloc, received, output)
+}
+
+/// Writes the lists of a connection, and says whether there is one with this number.
+fn write_connection<W: Write>(
+    alloc: Global,
+    world: &World,
+    connection: u32,
+    output: &mut W,
+) -> Result<bool, Failure>
+    ensures ok { IfOk result (λ written. WritesIfSome written (connection_text world.now.scene connection) (W.contents output.old) (W.contents output.new)) }
+    ensures err { IfErr result (λ failure. status_of failure ≡ 3) }
+{
+    let (Some(taken), Some(accepted), Some(unnumbered)) = (
+        world.taken(connection),
+        world.accepted(connection),
+        world.unnumbered(connection),
+    ) else {
+        return Ok(false);
+    };
+    write!(output, "conn {connection} taken ")?;
+    write_messages(alloc, taken, output)?;
+    write!(output, "conn {connection} accepted ")?;
+    write_messages(alloc, accepted, output)?;
+    write!(output, "conn {connection} unnumbered ")?;
+    write_messages(alloc, unnumbered, output)?;
+    Ok(true)
+}
+
+/// Ends a line with the count of the messages, and writes each as a line of lower-case hexadecimal digits.
+fn write_messages<W: Write>(
+    alloc: Global,
+    messages: &[Octets],
+    output: &mut W,
+) -> Result<(), Failure>
+    ensures ok { OnOk result (Appends (W.contents output.old) (W.contents output.new) (counted_lines messages.now)) }
+    ensures err { IfErr result (λ failure. status_of failure ≡ 3) }
+{
+    writeln!(output, "{}", messages.len())?;
+    for message in messages {
+        let digits = hex::encode(alloc, message.as_slice()).map_err(Memory::from)?;
+        writeln!(output, "{digits}")?;
+    }
+    Ok(())
+}

@@ -1,0 +1,131 @@
+ghost use Rattle.std.specs.Prelude.{◌≡◌, ◌≢◌, ℕ, ◌++◌, [], Err, IfOk, IfSome, OnOk};
+ghost use Rattle.std.specs.Io.KnownBytes.{IsAtEnd};
+ghost use Rattle.bsc_program.specs.Script.{AddsLine, Finishes, IsBadScript, IsScript, Reads, RefusesAt, RefusesLine};
+ghost use Rattle.bsc_program.specs.declared.failure.Failure.TheVariants.{BadEvent, Unsupported};
+
+use crate::block::{MOST_READS, next_block, room_for};
+use crate::failure::Failure;
+use memchr::memchr;
+use octets::Memory;
+use std::alloc::Global;
+use std::io::Read;
+use std::{mem, str};
+use world::{Event, LineFault, read_line};
+
+/// The octets that one read asks for.
+const BLOCK: usize = 65536;
+
+/// The events of a script, which is read in blocks that end anywhere.
+#[derive(Drop)]
+struct Script {
+    alloc: Global,
+    cells: u16,
+    events: Vec<Event>,
+    /// The beginning of a line whose end hasn't come.
+    started: Vec<u8>,
+    /// How many lines were read.
+    lines: u64,
+}
+
+impl Script {
+    fn new(alloc: Global, cells: u16) -> Script
+        ensures cells { result.cells ≡ cells }
+        ensures events { result.events.items ≡ [] }
+        ensures started { result.started.items ≡ [] }
+        ensures lines { result.lines ≡ 0 }
+    {
+        Script {
+            alloc,
+            cells,
+            events: Vec::new(alloc),
+            started: Vec::new(alloc),
+            lines: 0,
+        }
+    }
+
+    /// Reads the lines that end in this block, and keeps what is left of it.
+    fn feed(&mut self, block: &[u8]) -> Result<(), Failure>
+        ensures ok { OnOk result (Reads self.old self.new block.now) }
+        ensures bad { (n : ℕ) → result ≡ Err (BadEvent n) → RefusesAt self.old block.now n }
+        ensures supported { result ≢ Err Unsupported }
+    {
+        let mut rest = block;
+        while let Some(end) = memchr(b'\n', rest) {
+            self.end_line(&rest[..end])?;
+            rest = &rest[end + 1..];
+        }
+        self.started.extend_from_slice(rest).map_err(Memory::from)?;
+        Ok(())
+    }
+
+    /// Reads the line that ends with these octets.
+    fn end_line(&mut self, end: &[u8]) -> Result<(), Failure>
+        ensures line { OnOk result (AddsLine self.old self.new (self.old.started.items ++ end.now)) }
+        ensures started { OnOk result (self.new.started.items ≡ []) }
+        ensures bad { (n : ℕ) → result ≡ Err (BadEvent n) → RefusesLine self.old (self.old.started.items ++ end.now) n }
+        ensures supported { result ≢ Err Unsupported }
+    {
+        if self.started.is_empty() {
+            return self.line(end);
+        }
+        self.started.extend_from_slice(end).map_err(Memory::from)?;
+        let started = mem::replace(&mut self.started, Vec::new(self.alloc));
+        self.line(&started)
+    }
+
+    /// Reads a whole line. One that isn't text is no event's.
+    fn line(&mut self, line: &[u8]) -> Result<(), Failure>
+        ensures line { OnOk result (AddsLine self.old self.new line.now) }
+        ensures started { self.new.started.items ≡ self.old.started.items }
+        ensures bad { (n : ℕ) → result ≡ Err (BadEvent n) → RefusesLine self.old line.now n }
+        ensures supported { result ≢ Err Unsupported }
+    {
+        self.lines = self.lines.saturating_add(1);
+        let bad_event = Failure::BadEvent(self.lines);
+        let Ok(line) = str::from_utf8(line) else {
+            return Err(bad_event);
+        };
+        match read_line(self.alloc, self.cells, line) {
+            Ok(event) => {
+                self.events.push(event).map_err(Memory::from)?;
+                Ok(())
+            }
+            Err(LineFault::BadEvent) => Err(bad_event),
+            Err(LineFault::Memory) => Err(Failure::Memory),
+        }
+    }
+
+    /// The events of the whole script. Its last line may lack its line feed.
+    fn finish(mut self) -> Result<Vec<Event>, Failure>
+        ensures ok { IfOk result (λ events. Finishes self events.items) }
+        ensures bad { (n : ℕ) → result ≡ Err (BadEvent n) →
+            (self.started.items ≢ []) × RefusesLine self self.started.items n }
+        ensures supported { result ≢ Err Unsupported }
+    {
+        if !self.started.is_empty() {
+            self.end_line(&[])?;
+        }
+        Ok(self.events)
+    }
+}
+
+/// Reads a script up to its end or its first bad line.
+pub(crate) fn read_script<R: Read>(
+    alloc: Global,
+    cells: u16,
+    input: &mut R,
+) -> Result<Vec<Event>, Failure>
+    ensures read { OnOk result (IsAtEnd (R.remaining input.new)) }
+    ensures events { IfOk result (λ events. IfSome (R.remaining input.old) (λ octets. IsScript cells octets events.items)) }
+    ensures bad { (n : ℕ) → result ≡ Err (BadEvent n) → IfSome (R.remaining input.old) (λ octets. IsBadScript cells octets n) }
+    ensures supported { result ≢ Err Unsupported }
+{
+    let mut script = Script::new(alloc, cells);
+    let mut room = room_for(alloc, BLOCK)?;
+    let block = room.as_mut_slice();
+    let mut reads_left = MOST_READS;
+    while let Some(count) = next_block(input, block, &mut reads_left)? {
+        script.feed(&block[..count])?;
+    }
+    script.finish()
+}
