@@ -6,7 +6,7 @@ use Rattle.hex.proofs.OnLiterals.{hex_on_literals}
 use Rattle.ipa_framing.specs.declared.frame.Frame.{Frame}
 use Rattle.ipa_framing.specs.declared.fault.FrameFault.TheVariants as frame_faults
 use Rattle.rsl_codec.specs.declared.fault.RslFault.TheVariants as faults
-use Rattle.bssmap_codec.specs.declared.fault.Refusal.TheVariants as refusals
+use Rattle.bssmap_codec.specs.declared.fault.InterfaceFault.TheVariants as interface
 use Rattle.dtap_codec.specs.declared.sapi.Sapi.TheVariants.{Zero}
 use Rattle.world.specs.declared.event.Event.TheVariants.{Upper, AirUp, AirAck, SwitchTakes, Handle}
 use Rattle.world.specs.World.{after_all, fixed_world}
@@ -62,7 +62,7 @@ station_faults : map rsl_fault_name (faults.Short ∷ faults.UnknownType ∷ fau
     codes "fault S1" ∷ codes "fault S2" ∷ codes "fault S3" ∷ codes "fault S4" ∷ codes "fault S6" ∷ []
 station_faults = refl
 
-switch_faults : map sccp_fault_name (refusals.Short ∷ refusals.UnknownType ∷ refusals.MissingElement 0x04 ∷ refusals.BadPointer ∷ refusals.TooLong ∷ []) ≡
+switch_faults : map sccp_fault_name (interface.Short ∷ interface.UnknownType ∷ interface.MissingElement 0x04 ∷ interface.BadPointer ∷ interface.TooLong ∷ []) ≡
     codes "fault A1" ∷ codes "fault A2" ∷ codes "fault A3" ∷ codes "fault A4" ∷ codes "fault A5" ∷ []
 switch_faults = refl
 

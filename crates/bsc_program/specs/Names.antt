@@ -1,16 +1,17 @@
 -- The names of what frames carry, as `decode` prints them.
 use Rattle.std.specs.Prelude.{ℕ, ◌==◌, if◌then◌else◌, List, [], ◌∷◌, codes, Result, Ok, Err}
 use Rattle.ipa_framing.specs.declared.frame.Frame.{Frame}
+use Rattle.ipa_framing.specs.declared.streams.TheConstants.{CCM_STREAM, OML_STREAM, PING, PONG, RSL_STREAM, SCCP_STREAM}
 use Rattle.rsl_codec.specs.declared.rsl.Rsl.{Rsl}
 use Rattle.rsl_codec.specs.declared.rsl.Rsl.TheVariants as messages
 use Rattle.rsl_codec.specs.declared.fault.RslFault.{RslFault}
 use Rattle.rsl_codec.specs.declared.fault.RslFault.TheVariants as faults
-use Rattle.rsl_codec.specs.Reading.{reading}
+use Rattle.rsl_codec.specs.RslReading.{rsl_reading}
 use Rattle.bssmap_codec.specs.declared.sccp.Sccp.{Sccp}
 use Rattle.bssmap_codec.specs.declared.sccp.Sccp.TheVariants as connection
-use Rattle.bssmap_codec.specs.declared.fault.Refusal.{Refusal}
-use Rattle.bssmap_codec.specs.declared.fault.Refusal.TheVariants as refusals
-use Rattle.bssmap_codec.specs.SccpReading.{sccp_at}
+use Rattle.bssmap_codec.specs.declared.fault.InterfaceFault.{InterfaceFault}
+use Rattle.bssmap_codec.specs.declared.fault.InterfaceFault.TheVariants as interface
+use Rattle.bssmap_codec.specs.SccpReading.{sccp_reading}
 
 -- a message of a base station link (TS 48.058 clause 8)
 abbrev pub rsl_message_name : Rsl → List ℕ
@@ -34,7 +35,7 @@ rsl_message_name (messages.MeasurementResult _) = codes "MEASUREMENT RESULT"
 rsl_message_name (messages.RfChannelRelease _) = codes "RF CHANNEL RELEASE"
 rsl_message_name (messages.RfChannelReleaseAck _) = codes "RF CHANNEL RELEASE ACK"
 
--- octets that are no such message, by the fault that stands first; reading has no want of memory, so S5 is never printed
+-- octets that are no such message, by the fault that stands first; no reading wants memory, so S5 and A6 are never printed
 abbrev pub rsl_fault_name : RslFault → List ℕ
 rsl_fault_name faults.Short = codes "fault S1"
 rsl_fault_name faults.UnknownType = codes "fault S2"
@@ -48,12 +49,12 @@ rsl_name_by (Ok message) = rsl_message_name message
 rsl_name_by (Err fault) = rsl_fault_name fault
 
 abbrev pub rsl_name : List ℕ → List ℕ
-rsl_name body = rsl_name_by (reading body)
+rsl_name body = rsl_name_by (rsl_reading body)
 
 -- a message of the link's own management, by its first octet
 abbrev pub ccm_name : List ℕ → List ℕ
 ccm_name [] = codes "CCM"
-ccm_name (first ∷ _) = if first == 0x00 then codes "PING" else if first == 0x01 then codes "PONG" else codes "CCM"
+ccm_name (first ∷ _) = if first == PING then codes "PING" else if first == PONG then codes "PONG" else codes "CCM"
 
 -- a message of the switch link (Q.713 clause 4)
 abbrev pub sccp_message_name : Sccp → List ℕ
@@ -65,25 +66,26 @@ sccp_message_name (connection.ReleaseComplete _ _) = codes "RLC"
 sccp_message_name (connection.DataForm1 _ _) = codes "DT1"
 
 -- octets that are no such message, by the fault that stands first
-abbrev pub sccp_fault_name : Refusal → List ℕ
-sccp_fault_name refusals.Short = codes "fault A1"
-sccp_fault_name refusals.UnknownType = codes "fault A2"
-sccp_fault_name (refusals.MissingElement id) = codes "fault A3"
-sccp_fault_name refusals.BadPointer = codes "fault A4"
-sccp_fault_name refusals.TooLong = codes "fault A5"
+abbrev pub sccp_fault_name : InterfaceFault → List ℕ
+sccp_fault_name interface.Short = codes "fault A1"
+sccp_fault_name interface.UnknownType = codes "fault A2"
+sccp_fault_name (interface.MissingElement id) = codes "fault A3"
+sccp_fault_name interface.BadPointer = codes "fault A4"
+sccp_fault_name interface.TooLong = codes "fault A5"
+sccp_fault_name interface.Memory = codes "fault A6"
 
-abbrev pub sccp_name_by : Result Sccp Refusal → List ℕ
+abbrev pub sccp_name_by : Result Sccp InterfaceFault → List ℕ
 sccp_name_by (Ok message) = sccp_message_name message
-sccp_name_by (Err refusal) = sccp_fault_name refusal
+sccp_name_by (Err fault) = sccp_fault_name fault
 
 abbrev pub sccp_name : List ℕ → List ℕ
-sccp_name body = sccp_name_by (sccp_at body)
+sccp_name body = sccp_name_by (sccp_reading body)
 
 -- what a frame carries, by its stream
 abbrev pub name_of : Frame → List ℕ
 name_of frame =
-    if frame.stream == 0x00 then rsl_name frame.body
-    else if frame.stream == 0xfd then sccp_name frame.body
-    else if frame.stream == 0xfe then ccm_name frame.body
-    else if frame.stream == 0xff then codes "OML"
+    if frame.stream == RSL_STREAM then rsl_name frame.body
+    else if frame.stream == SCCP_STREAM then sccp_name frame.body
+    else if frame.stream == CCM_STREAM then ccm_name frame.body
+    else if frame.stream == OML_STREAM then codes "OML"
     else codes "unknown"

@@ -3,7 +3,7 @@ ghost use Rattle.std.specs.Prelude.{◌≡◌, IfOk};
 ghost use Rattle.bsc_program.specs.Names.{ccm_name as ccm_name_of, name_of, rsl_message_name as rsl_message_name_of, rsl_name as rsl_name_of, sccp_message_name as sccp_message_name_of, sccp_name as sccp_name_of};
 
 use bssmap_codec::{InterfaceFault, Sccp, read_sccp};
-use ipa_framing::Frame;
+use ipa_framing::{CCM_STREAM, Frame, OML_STREAM, PING, PONG, RSL_STREAM, SCCP_STREAM};
 use octets::Memory;
 use rsl_codec::{Rsl, RslFault};
 use std::alloc::Global;
@@ -55,8 +55,8 @@ fn ccm_name(body: &[u8]) -> &'static str
     ensures { result.now ≡ ccm_name_of body.now }
 {
     match body {
-        [0x00, ..] => "PING",
-        [0x01, ..] => "PONG",
+        [PING, ..] => "PING",
+        [PONG, ..] => "PONG",
         _ => "CCM",
     }
 }
@@ -95,10 +95,10 @@ pub fn frame_name(alloc: Global, frame: &Frame) -> Result<&'static str, Memory>
     ensures { IfOk result (λ name. name.now ≡ name_of frame.now) }
 {
     match frame.stream {
-        0x00 => rsl_name(alloc, frame.body.as_slice()),
-        0xfd => sccp_name(alloc, frame.body.as_slice()),
-        0xfe => Ok(ccm_name(frame.body.as_slice())),
-        0xff => Ok("OML"),
+        RSL_STREAM => rsl_name(alloc, frame.body.as_slice()),
+        SCCP_STREAM => sccp_name(alloc, frame.body.as_slice()),
+        CCM_STREAM => Ok(ccm_name(frame.body.as_slice())),
+        OML_STREAM => Ok("OML"),
         _ => Ok("unknown"),
     }
 }

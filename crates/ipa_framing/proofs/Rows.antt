@@ -1,9 +1,18 @@
 -- Definitions against literal octets: frames of each stream, and those at the limit of a body, 2048 octets.
 use Rattle.std.proofs.Common.{◌≡◌, ℕ, List, [], ◌∷◌, ◌++◌, replicate, true, false, Some, None, Ok, Err, inl, inr, refl, arith}
+use Rattle.ipa_framing.specs.declared.streams.TheConstants.{CCM_STREAM, OML_STREAM, PING, PONG, RSL_STREAM, SCCP_STREAM}
 use Rattle.ipa_framing.specs.declared.fault.FrameFault.TheVariants.{TooLong, Memory}
 use Rattle.ipa_framing.specs.Frame.{frame_text, write_fault, IsPartial, IsTooLong, Splits}
 use Rattle.ipa_framing.specs.Framer.{FramerState, new_framer, Feeds, Takes, Run, feed, next, octets_of, frames_of}
 use Rattle.ipa_framing.specs.Front.{frame, front_of}
+
+-- ---- streams, and the messages of the link's own management
+
+streams : RSL_STREAM ∷ SCCP_STREAM ∷ CCM_STREAM ∷ OML_STREAM ∷ [] ≡ 0x00 ∷ 0xfd ∷ 0xfe ∷ 0xff ∷ []
+streams = refl
+
+ping_and_pong : PING ∷ PONG ∷ [] ≡ 0x00 ∷ 0x01 ∷ []
+ping_and_pong = refl
 
 -- ---- the octets of a frame
 

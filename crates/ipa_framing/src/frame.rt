@@ -11,9 +11,7 @@ pub const MAX_BODY: usize = 2048;
 /// The octets before the body: two of length, the high one first, and the stream.
 pub(crate) const HEADER_LENGTH: usize = 3;
 
-/// A frame of a link: the stream that it belongs to, and its body.
-///
-/// Streams are `00` RSL, `FD` SCCP, `FE` CCM and `FF` OML.
+/// A frame of a link: the stream that it belongs to (`RSL_STREAM`, ..), and its body.
 #[derive(Drop)]
 pub struct Frame {
     pub stream: u8,

@@ -6,7 +6,9 @@
 pub use fault::FrameFault;
 pub use frame::{Frame, MAX_BODY, write_frame};
 pub use framer::{Framer, stream_is_its_frames};
+pub use streams::{CCM_STREAM, OML_STREAM, PING, PONG, RSL_STREAM, SCCP_STREAM};
 
 mod fault;
 mod frame;
 mod framer;
+mod streams;

@@ -17,9 +17,9 @@ use Rattle.mobile_end.specs.DataLinkState.{DataLinkState}
 use Rattle.mobile_end.specs.DataLink.{waits}
 use Rattle.mobile_end.specs.Lawful.{is_sendable}
 use Rattle.mobile_end.specs.MobileState.{MobileState}
-use Rattle.mobile_end.specs.Mobile.{connected, new_mobile, queueing, numbering, with_link, link_of, refusal_before_connect, framed, after_frame, after_frame_at, after_acked, after_acked_at, is_acknowledged}
+use Rattle.mobile_end.specs.Mobile.{connected_mobile, new_mobile, after_queue, after_number, with_link, link_of, refusal_before_connect, frame_answer, after_frame, after_frame_at, after_acked, after_acked_at, is_acknowledged}
 use Rattle.mobile_end.proofs.Lives.{is_sendable-clear}
-use Rattle.mobile_end.proofs.Numbering.{IsNumbered, IsNumbered-new, IsNumbered-queueing, IsNumbered-frame, IsNumbered-acked}
+use Rattle.mobile_end.proofs.Numbering.{IsNumbered, IsNumbered-new, IsNumbered-after_queue, IsNumbered-frame, IsNumbered-acked}
 use Rattle.world.specs.FixedState.{FixedState}
 use Rattle.world.specs.Queues.{first_of}
 use Rattle.world.specs.Fixed.{fixed_beginning, with_mobile, unless_refused, frame_in, air_up_with, after_taking, after_upper, after_air_up, after_air_ack, after_switch_takes, frame_up}
@@ -38,9 +38,9 @@ modulus-with_link : (mobile : MobileState) (sapi : Sapi) (link : DataLinkState) 
 modulus-with_link mobile Zero link = refl
 modulus-with_link mobile Three link = refl
 
-modulus-queueing : (mobile : MobileState) (sapi : Sapi) (message : List ℕ) → (queueing mobile sapi message).modulus ≡ mobile.modulus
-modulus-queueing mobile sapi message =
-    cond_both (is_flow_message message) (numbering mobile message) (with_link mobile sapi (waits (link_of mobile sapi) message))
+modulus-after_queue : (mobile : MobileState) (sapi : Sapi) (message : List ℕ) → (after_queue mobile sapi message).modulus ≡ mobile.modulus
+modulus-after_queue mobile sapi message =
+    cond_both (is_flow_message message) (after_number mobile message) (with_link mobile sapi (waits (link_of mobile sapi) message))
     (λ (new : MobileState). new.modulus ≡ mobile.modulus) (λ _. refl) (λ _. modulus-with_link mobile sapi (waits (link_of mobile sapi) message))
 
 modulus-after_frame : (stage : Stage) (place : Place) (mobile : MobileState) → (after_frame_at stage place mobile Zero).modulus ≡ mobile.modulus
@@ -73,20 +73,20 @@ unless_refused-step false None old new step = FixedStep-none old
 
 pub upper-step : (world : FixedState) (sapi : Sapi) (message : List ℕ) → FixedStep world (unwrap_or (after_upper world sapi message) world) [] []
 upper-step world sapi message =
-    unless_refused-step (is_sendable sapi message) (refusal_before_connect world.mobile.stage) world (with_mobile world (queueing world.mobile sapi message))
-    (λ lawful. FixedStep-mobile world (queueing world.mobile sapi message) (λ kept. record {
-      numbered = IsNumbered-queueing [] world.mobile (world.switch.taken ++ world.outbox) sapi message (is_sendable-clear sapi message lawful) kept.numbered;
-      modulus = kept.modulus ∙ sym (modulus-queueing world.mobile sapi message);
-      two = subst (λ (m : ℕ). 2 ≤ m) (sym (modulus-queueing world.mobile sapi message)) kept.two;
+    unless_refused-step (is_sendable sapi message) (refusal_before_connect world.mobile.stage) world (with_mobile world (after_queue world.mobile sapi message))
+    (λ lawful. FixedStep-mobile world (after_queue world.mobile sapi message) (λ kept. record {
+      numbered = IsNumbered-after_queue [] world.mobile (world.switch.taken ++ world.outbox) sapi message (is_sendable-clear sapi message lawful) kept.numbered;
+      modulus = kept.modulus ∙ sym (modulus-after_queue world.mobile sapi message);
+      two = subst (λ (m : ℕ). 2 ≤ m) (sym (modulus-after_queue world.mobile sapi message)) kept.two;
     }))
 
-air_up_with-step : (world : FixedState) (answer : Result (Option (List ℕ)) MobileFault) → framed world.mobile Zero ≡ answer → FixedStep world (unwrap_or (air_up_with (frame_in answer) world) world) (option_to_list (frame_in answer)) []
+air_up_with-step : (world : FixedState) (answer : Result (Option (List ℕ)) MobileFault) → frame_answer world.mobile Zero ≡ answer → FixedStep world (unwrap_or (air_up_with (frame_in answer) world) world) (option_to_list (frame_in answer)) []
 air_up_with-step world (Err fault) is = FixedStep-none world
 air_up_with-step world (Ok None) is = FixedStep-none world
 air_up_with-step world (Ok (Some frame)) is = record {
   kept = λ kept.
       let next = IsNumbered-frame [] world.mobile.stage world.mobile.place world.mobile (world.switch.taken ++ world.outbox) kept.numbered in
-      let lent_is : (world.switch.taken ++ world.outbox) ++ frame_lent (framed world.mobile Zero) ≡ world.switch.taken ++ (world.outbox ++ frame ∷ []) =
+      let lent_is : (world.switch.taken ++ world.outbox) ++ frame_lent (frame_answer world.mobile Zero) ≡ world.switch.taken ++ (world.outbox ++ frame ∷ []) =
       ap (λ (answer : Result (Option (List ℕ)) MobileFault). (world.switch.taken ++ world.outbox) ++ frame_lent answer) is ∙ append_assoc world.switch.taken world.outbox (frame ∷ []) in
       record {
         numbered = subst (λ (xs : List (List ℕ)). IsNumbered [] (after_frame world.mobile Zero) xs) lent_is next;
@@ -98,7 +98,7 @@ air_up_with-step world (Ok (Some frame)) is = record {
 }
 
 pub air_up-step : (world : FixedState) → FixedStep world (unwrap_or (after_air_up world) world) (option_to_list (frame_up world)) []
-air_up-step world = air_up_with-step world (framed world.mobile Zero) refl
+air_up-step world = air_up_with-step world (frame_answer world.mobile Zero) refl
 
 air_ack_by-step : (world : FixedState) (acknowledged : Bool) → FixedStep world (unwrap_or (cond acknowledged (Some (with_mobile world (after_acked world.mobile Zero))) None) world) [] []
 air_ack_by-step world false = FixedStep-none world

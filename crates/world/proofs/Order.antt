@@ -6,7 +6,7 @@ use Rattle.std.proofs.lemmas.Option.{cond_some}
 use Rattle.octets.specs.Lists.{IsPrefix}
 use Rattle.dtap_codec.specs.Places.{AreClear, Rise}
 use Rattle.dtap_codec.proofs.Rising.{Rise-cut, Rise-with_numbers_from}
-use Rattle.nsd_filter.specs.AcceptedList.{accepted_list, progress}
+use Rattle.nsd_filter.specs.AcceptedList.{accepted_list as accepted_of, progress}
 use Rattle.nsd_filter.proofs.Accepting.{accepted_list_from-rise, progress_from-rise}
 use Rattle.mobile_end.specs.DataLink.{to_be_taken}
 use Rattle.world.specs.declared.event.Event.{Event}
@@ -46,11 +46,11 @@ taken-rise world kept =
     (cut.0, cut.1)
 
 -- so what the switch accepts is the beginning of the sent list, and there is no gap
-accepted-is_prefix : (world : FixedState) → IsFixedKept world → IsPrefix (accepted_list world.switch.modulus world.switch.taken) world.mobile.sent
+accepted-is_prefix : (world : FixedState) → IsFixedKept world → IsPrefix (accepted_of world.switch.modulus world.switch.taken) world.mobile.sent
 accepted-is_prefix world kept =
     let rise = taken-rise world kept in
-    let front : accepted_list world.switch.modulus world.switch.taken ≡ take rise.0 world.mobile.sent =
-    ap (λ (m : ℕ). accepted_list m world.switch.taken) kept.modulus ∙ accepted_list_from-rise kept.two rise.1 in
+    let front : accepted_of world.switch.modulus world.switch.taken ≡ take rise.0 world.mobile.sent =
+    ap (λ (m : ℕ). accepted_of m world.switch.taken) kept.modulus ∙ accepted_list_from-rise kept.two rise.1 in
     (drop rise.0 world.mobile.sent, ap (λ (xs : List (List ℕ)). xs ++ drop rise.0 world.mobile.sent) front ∙ take-append-drop rise.0 world.mobile.sent)
 
 progress-is_some : (world : FixedState) → IsFixedKept world → (p : Option ℕ) → progress world.switch.modulus world.switch.taken ≡ p → IsSome p

@@ -4,7 +4,7 @@ use Rattle.dtap_codec.specs.declared.sapi.Sapi.{Sapi}
 use Rattle.dtap_codec.specs.declared.sapi.Sapi.TheVariants.{Zero, Three}
 use Rattle.mobile_end.specs.declared.fault.MobileFault.{MobileFault}
 use Rattle.mobile_end.specs.MobileState.{MobileState}
-use Rattle.mobile_end.specs.Mobile.{new_mobile, connected, queueing, refusal_of_send, framed, after_frame, is_acknowledged, after_acked}
+use Rattle.mobile_end.specs.Mobile.{new_mobile, connected_mobile, after_queue, refusal_of_send, frame_answer, after_frame, is_acknowledged, after_acked}
 use Rattle.world.specs.declared.event.Event.{Event}
 use Rattle.world.specs.declared.event.Event.TheVariants.{Upper, AirUp, AirAck, SwitchTakes}
 use Rattle.world.specs.declared.fixed.TheConstants.{FIXED_MOBILE}
@@ -12,7 +12,7 @@ use Rattle.world.specs.FixedState.{FixedState}
 
 -- one mobile, connected without an initial message
 abbrev pub fixed_beginning : ℕ → FixedState
-fixed_beginning m = record { mobile = connected (new_mobile m); outbox = []; switch = record { modulus = m; taken = [] } }
+fixed_beginning m = record { mobile = connected_mobile (new_mobile m); outbox = []; switch = record { modulus = m; taken = [] } }
 
 abbrev pub with_mobile : FixedState → MobileState → FixedState
 with_mobile world mobile = record { mobile = mobile; outbox = world.outbox; switch = world.switch }
@@ -24,7 +24,7 @@ unless_refused None old new = Some new
 
 abbrev pub after_upper : FixedState → Sapi → List ℕ → Option FixedState
 after_upper world sapi message =
-    unless_refused (refusal_of_send world.mobile sapi message) world (with_mobile world (queueing world.mobile sapi message))
+    unless_refused (refusal_of_send world.mobile sapi message) world (with_mobile world (after_queue world.mobile sapi message))
 
 -- the frame that the station can take, if there is one
 abbrev pub frame_in : Result (Option (List ℕ)) MobileFault → Option (List ℕ)
@@ -32,7 +32,7 @@ frame_in (Ok frame) = frame
 frame_in (Err fault) = None
 
 abbrev pub frame_up : FixedState → Option (List ℕ)
-frame_up world = frame_in (framed world.mobile Zero)
+frame_up world = frame_in (frame_answer world.mobile Zero)
 
 -- a frame that the station takes goes to the end of the switch's outbox
 abbrev pub air_up_with : Option (List ℕ) → FixedState → Option FixedState
