@@ -2,7 +2,8 @@
 use Rattle.std.specs.Prelude.{ℕ, nat_lt, Option, Some, List, if◌then◌else◌}
 use Rattle.dtap_codec.specs.declared.sapi.Sapi.{Sapi}
 use Rattle.dtap_codec.specs.declared.sapi.Sapi.TheVariants.{Zero, Three}
-use Rattle.link_model.specs.declared.base_end.TheConstants.{FIRST_SDCCH, MAIN_LINK_SAPI_0, MAIN_LINK_SAPI_3, SACCH_SAPI_3}
+use Rattle.link_model.specs.declared.base_end.TheConstants.{MAIN_LINK_SAPI_0, MAIN_LINK_SAPI_3, SACCH_SAPI_3}
+use Rattle.rsl_codec.specs.declared.channel_number.TheConstants.{FIRST_SDCCH}
 use Rattle.rsl_codec.specs.declared.rsl.Rsl.{Rsl}
 use Rattle.rsl_codec.specs.declared.rsl.Rsl.TheVariants.{DataIndication, EstablishIndication, ChannelActivationAck}
 

@@ -6,13 +6,12 @@ ghost use Rattle.link_model.specs.Base.{is_active, new_base, after_activate, ref
 use crate::LinkFault;
 use dtap_codec::Sapi;
 use octets::{Memory, Octets};
-use rsl_codec::{ActivationAck, ChanNo, Data, Establishment, FrameNumber, LinkId, Rsl};
+use rsl_codec::{
+    ActivationAck, ChanNo, Data, Establishment, FIRST_SDCCH, FrameNumber, LinkId, Rsl,
+};
 use std::alloc::Global;
 use std::collections::VecDeque;
 use std::marker::Model;
-
-/// The first octet of a channel number that is no TCH's (TS 48.058 clause 9.3.1).
-const FIRST_SDCCH: u8 = 0x20;
 
 /// The link identifier of SAPI 0 on the main signalling link (TS 48.058 clause 9.3.2).
 const MAIN_LINK_SAPI_0: u8 = 0x00;

@@ -102,9 +102,6 @@ channel_is es all v channel e h =
     let is = channel_ok v channel h in
     (field_is CHANNEL_NUMBER es octet_of octet_value (octet_is CHANNEL_NUMBER es refl all) v e ∙ ap (λ (n : ℕ). Some (octet_value n)) is.0, is.1)
 
-pub channel_again : (channel : ℕ) → is_channel channel ≡ true → channel_at (octet_value channel) ≡ Ok channel
-channel_again channel is = rw is refl
-
 -- ---- L3 information
 
 pub l3_ok : (v l3 : List ℕ) → l3_at v ≡ Ok l3 → (v ≡ l3) × IsL3 (Some l3)

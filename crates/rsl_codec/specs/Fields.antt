@@ -31,7 +31,7 @@ reference_value r = r.access ∷ number_value r.frame
 abbrev pub octet_field : ℕ → ℕ → Field
 octet_field id n = field id (Some (octet_value n))
 
--- ---- the elements of a message, by the line of the table
+-- ---- the elements of each message
 
 abbrev pub channel_fields : ℕ → List Field
 channel_fields channel = octet_field CHANNEL_NUMBER channel ∷ []

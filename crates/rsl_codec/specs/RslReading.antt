@@ -72,7 +72,7 @@ optional_l3_at (Some value) = do
   l3 ← l3_at value
   Ok (Some l3)
 
--- ---- a message, by the line of the table
+-- ---- each message: the elements that it needs, in written order, then the channel number, then its L3 information
 
 unfoldable pub channel_only_at : List Element → Result ℕ RslFault
 channel_only_at es = do

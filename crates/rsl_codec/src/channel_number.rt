@@ -4,6 +4,21 @@ ghost use Rattle.rsl_codec.specs.ChannelNumber.{channel_by};
 use crate::RslFault;
 use std::marker::Model;
 
+/// The first octet of a TCH's number. From it on, the numbers of TCH/F, TCH/H, SDCCH/4 and SDCCH/8 stand without a gap.
+pub const FIRST_TCH: u8 = 0x08;
+
+/// The first octet of an SDCCH's number.
+pub const FIRST_SDCCH: u8 = 0x20;
+
+/// The last octet of an SDCCH's number.
+pub const LAST_SDCCH: u8 = 0x7f;
+
+/// The number of the RACH.
+pub const RACH: u8 = 0x88;
+
+/// The number of the PCH and the AGCH.
+pub const PCH_AND_AGCH: u8 = 0x90;
+
 /// A channel number (TS 48.058 clause 9.3.1): the kind of channel in bits 8 to 4, the timeslot in bits 3 to 1.
 ///
 /// The octets are `08` to `0F` TCH/F, `10` to `1F` TCH/H, `20` to `3F` SDCCH/4, `40` to `7F` SDCCH/8, `88` RACH and
@@ -32,7 +47,7 @@ impl ChanNo {
         ensures { result ≡ channel_by octet }
     {
         match octet {
-            0x08..=0x7f | 0x88 | 0x90 => Ok(ChanNo { octet }),
+            FIRST_TCH..=LAST_SDCCH | RACH | PCH_AND_AGCH => Ok(ChanNo { octet }),
             _ => Err(RslFault::BadChannel),
         }
     }

@@ -1,6 +1,7 @@
 use octets::element::{Entry, Format};
 
-/// The element identifiers (TS 48.058 clause 9.3).
+// The element identifiers (TS 48.058 clause 9.3).
+
 pub const CHANNEL_NUMBER: u8 = 0x01;
 
 pub const LINK_IDENTIFIER: u8 = 0x02;

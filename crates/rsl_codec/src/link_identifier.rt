@@ -2,6 +2,9 @@ ghost use Rattle.std.specs.Prelude.{◌≡◌, ◌%◌};
 
 use std::marker::Model;
 
+/// The SAPI in a link identifier: bits 3 to 1.
+const SAPI_BITS: u8 = 0x07;
+
 /// A link identifier (TS 48.058 clause 9.3.2): bits 8 and 7 are 00 on the main signalling channel and 01 on the SACCH,
 /// bits 3 to 1 are the SAPI. It holds every octet as it was read.
 #[derive(Clone, Copy)]
@@ -38,6 +41,6 @@ impl LinkId {
     pub fn sapi(self) -> u8
         ensures { result ≡ self % 8 }
     {
-        0x07 & self.octet
+        SAPI_BITS & self.octet
     }
 }

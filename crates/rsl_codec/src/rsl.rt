@@ -101,7 +101,7 @@ impl Rsl {
     ///
     /// Elements stand in any order; of a repeated one the first counts; from the first identifier outside the table on
     /// nothing is looked at. Refused are, in this order, fewer than two octets, an unknown discriminator with type, an
-    /// element that is cut, a missing element in the order of the message's line, a bad channel number, L3 information
+    /// element that is cut, a missing element in written order, a bad channel number, L3 information
     /// without octets, one of more than 251, and want of memory.
     pub fn read(alloc: Global, octets: &[u8]) -> Result<Rsl, RslFault>
         // What is answered is what the octets are read as.

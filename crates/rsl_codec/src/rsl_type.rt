@@ -13,7 +13,8 @@ pub const DEDICATED_CHANNEL: u8 = 0x08;
 /// The message discriminator of common channel management.
 pub const COMMON_CHANNEL: u8 = 0x0c;
 
-/// The message types (TS 48.058 clause 9.2).
+// The message types (TS 48.058 clause 9.2).
+
 pub const DATA_REQUEST: u8 = 0x01;
 
 pub const DATA_INDICATION: u8 = 0x02;
