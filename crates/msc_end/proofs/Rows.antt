@@ -1,5 +1,5 @@
 -- What the switch end does with literal messages.
-use Rattle.std.proofs.Common.{◌≡◌, ℕ, List, [], ◌∷◌, ◌++◌, length, Option, Some, None, refl}
+use Rattle.std.proofs.Common.{◌≡◌, ℕ, List, [], ◌∷◌, ◌++◌, length, Some, None, refl}
 use Rattle.std.specs.List.{flat_map}
 use Rattle.octets.specs.Front.{octet_at}
 use Rattle.octets.specs.Walk.{walk}
@@ -27,7 +27,6 @@ initial = (0x05 ∷ 0x24 ∷ 0x71 ∷ [])
 abbrev request : Sccp
 request = ConnectionRequest 0x010203 (Some (0x00 ∷ 0x10 ∷ 0x57 ∷ 0x05 ∷ 0x08 ∷ 0x00 ∷ 0x00 ∷ 0xf1 ∷ 0x10 ∷ 0x00 ∷ 0x01 ∷ 0x00 ∷ 0x01 ∷ 0x17 ∷ 0x03 ∷ 0x05 ∷ 0x24 ∷ 0x71 ∷ []))
 
-abbrev uplink : List ℕ → Sccp
 -- DTAP on the first connection
 abbrev uplink : List ℕ → Sccp
 uplink message = DataForm1 0x800001 (0x01 ∷ 0x80 ∷ length message ∷ message)

@@ -66,11 +66,11 @@ impl MscEnd {
     fn on_request(
         &mut self,
         source: Reference,
-        data: &Option<Octets>,
+        user: &Option<Octets>,
         out: &mut Vec<Sccp>,
     ) -> Result<(), Memory>
-        ensures state { OnOk result (self.new ≡ after self.old (Sccp.ConnectionRequest source data.now)) }
-        ensures replies { OnOk result (out.new.items ≡ out.old.items ++ replies self.old.connections (Sccp.ConnectionRequest source data.now)) }
+        ensures state { OnOk result (self.new ≡ after self.old (Sccp.ConnectionRequest source user.now)) }
+        ensures replies { OnOk result (out.new.items ≡ out.old.items ++ replies self.old.connections (Sccp.ConnectionRequest source user.now)) }
         ensures unchanged { OnErr result (self.new ≡ self.old) }
         ensures unanswered { OnErr result (out.new.items ≡ out.old.items) }
     {
@@ -83,7 +83,7 @@ impl MscEnd {
             return Ok(());
         }
         self.connections.reserve(1)?;
-        let reception = first_taken(self.alloc, self.modulus, data)?;
+        let reception = first_taken(self.alloc, self.modulus, user)?;
         let number = Reference::new(REFERENCE_BASE + (count as u32 + 1));
         self.connections.push_reserved(Connection {
             peer: source,
@@ -102,11 +102,11 @@ impl MscEnd {
     fn on_data(
         &mut self,
         destination: Reference,
-        data: &Octets,
+        user: &Octets,
         out: &mut Vec<Sccp>,
     ) -> Result<(), Memory>
-        ensures state { OnOk result (self.new ≡ after self.old (Sccp.DataForm1 destination data.now)) }
-        ensures replies { OnOk result (out.new.items ≡ out.old.items ++ replies self.old.connections (Sccp.DataForm1 destination data.now)) }
+        ensures state { OnOk result (self.new ≡ after self.old (Sccp.DataForm1 destination user.now)) }
+        ensures replies { OnOk result (out.new.items ≡ out.old.items ++ replies self.old.connections (Sccp.DataForm1 destination user.now)) }
         ensures unchanged { OnErr result (self.new ≡ self.old) }
         ensures unanswered { OnErr result (out.new.items ≡ out.old.items) }
     {
@@ -115,7 +115,7 @@ impl MscEnd {
         if number == 0 || number > self.connections.len() {
             return Ok(());
         }
-        let Some(message) = read_data(self.alloc, data.as_slice())? else {
+        let Some(message) = read_data(self.alloc, user.as_slice())? else {
             return Ok(());
         };
         let alloc = self.alloc;
@@ -248,10 +248,10 @@ impl MscEnd {
 }
 
 // What is taken of a connection request: the initial message, where there is one.
-fn first_taken(alloc: Global, modulus: Modulus, data: &Option<Octets>) -> Result<Reception, Memory>
-    ensures { IfOk result (λ reception. reception ≡ record { modulus = count_of modulus; taken = initial_messages data.now }) }
+fn first_taken(alloc: Global, modulus: Modulus, user: &Option<Octets>) -> Result<Reception, Memory>
+    ensures { IfOk result (λ reception. reception ≡ record { modulus = count_of modulus; taken = initial_messages user.now }) }
 {
-    match data {
+    match user {
         Some(data) => {
             let message = read_data(alloc, data.as_slice())?;
             started(alloc, modulus, initial_message(message))

@@ -15,27 +15,27 @@ returns-then-number-eq0-clause-replies c =
     c.reserve.ensures.items ∙ sym (append-nil c.args.out.now.items)
     ∙ ap (λ (ys : List Sccp). c.args.out.now.items ++ ys)
     ((elim c.then-number-eq0.branch [
-      | then-number-eq0-via-then-number-eq0 w ↦ silent c.self.inside.connections.items _ c.args.destination (message_in c.args.data.now) n (inl (omega arith))
-      | then-number-eq0-via-else-number-eq0+then-number-len w ↦ silent c.self.inside.connections.items _ c.args.destination (message_in c.args.data.now) n (inr (omega arith))
-    ]) ∙ ap (λ (cs : List Connection). replies_by (connection_of cs (c.args.destination - REFERENCE_BASE)) (message_in c.args.data.now)) view)
+      | then-number-eq0-via-then-number-eq0 w ↦ silent c.self.inside.connections.items _ c.args.destination (message_in c.args.user.now) n (inl (omega arith))
+      | then-number-eq0-via-else-number-eq0+then-number-len w ↦ silent c.self.inside.connections.items _ c.args.destination (message_in c.args.user.now) n (inr (omega arith))
+    ]) ∙ ap (λ (cs : List Connection). replies_by (connection_of cs (c.args.destination - REFERENCE_BASE)) (message_in c.args.user.now)) view)
 
 pub returns-clause-state : goal.returns-clause-state
 returns-clause-state c =
     let n : c.saturating_sub-number.result ≡ c.args.destination - REFERENCE_BASE = omega arith in
-    let hm : message_in c.args.data.now ≡ Some c.in-Some.message = sym (c.in_ok-message.ensures ∙ ap message_in c.as_slice.ensures) ∙ c.in-Some.is in
-    switch_is c.args.self.now _ c.self.inside.connections.items _ c.args.destination c.index_mut-connection.result.now _ c.in-Some.message c.args.data.now c.self.view_is n c.if-number-eq0.false (omega arith) c.index_mut-connection.ensures.value hm c.in_ok-reply.ensures.state
+    let hm : message_in c.args.user.now ≡ Some c.in-Some.message = sym (c.in_ok-message.ensures ∙ ap message_in c.as_slice.ensures) ∙ c.in-Some.is in
+    switch_is c.args.self.now _ c.self.inside.connections.items _ c.args.destination c.index_mut-connection.result.now _ c.in-Some.message c.args.user.now c.self.view_is n c.if-number-eq0.false (omega arith) c.index_mut-connection.ensures.value hm c.in_ok-reply.ensures.state
 
 pub returns-clause-replies : goal.returns-clause-replies
 returns-clause-replies c =
     let n : c.saturating_sub-number.result ≡ c.args.destination - REFERENCE_BASE = omega arith in
     let view : c.self.inside.connections.items ≡ c.args.self.now.connections = ap (λ (s : SwitchState). s.connections) c.self.view_is in
-    let hm : message_in c.args.data.now ≡ Some c.in-Some.message = sym (c.in_ok-message.ensures ∙ ap message_in c.as_slice.ensures) ∙ c.in-Some.is in
+    let hm : message_in c.args.user.now ≡ Some c.in-Some.message = sym (c.in_ok-message.ensures ∙ ap message_in c.as_slice.ensures) ∙ c.in-Some.is in
     (elim c.match-reply.branch [
       | in-Some-reply w ↦ ap (λ v. v.items) w.out-is ∙ w.push_reserved.ensures.items ∙ ap (λ (xs : List Sccp). xs ++ w.in-Some-reply.reply ∷ []) c.reserve.ensures.items
           ∙ ap (λ (ys : List Sccp). c.args.out.now.items ++ ys)
-          (reply_is c.self.inside.connections.items _ c.args.destination c.index_mut-connection.result.now c.in-Some.message (message_in c.args.data.now) (Some w.in-Some-reply.reply) n c.if-number-eq0.false (omega arith) c.index_mut-connection.ensures.value hm (sym w.in-Some-reply.is ∙ c.in_ok-reply.ensures.reply))
+          (reply_is c.self.inside.connections.items _ c.args.destination c.index_mut-connection.result.now c.in-Some.message (message_in c.args.user.now) (Some w.in-Some-reply.reply) n c.if-number-eq0.false (omega arith) c.index_mut-connection.ensures.value hm (sym w.in-Some-reply.is ∙ c.in_ok-reply.ensures.reply))
       | in_default-reply w ↦ ap (λ v. v.items) w.out-is ∙ c.reserve.ensures.items ∙ sym (append-nil c.args.out.now.items)
           ∙ ap (λ (ys : List Sccp). c.args.out.now.items ++ ys)
-          (reply_is c.self.inside.connections.items _ c.args.destination c.index_mut-connection.result.now c.in-Some.message (message_in c.args.data.now) None n c.if-number-eq0.false (omega arith) c.index_mut-connection.ensures.value hm (sym w.in_default-reply.is ∙ c.in_ok-reply.ensures.reply))
+          (reply_is c.self.inside.connections.items _ c.args.destination c.index_mut-connection.result.now c.in-Some.message (message_in c.args.user.now) None n c.if-number-eq0.false (omega arith) c.index_mut-connection.ensures.value hm (sym w.in_default-reply.is ∙ c.in_ok-reply.ensures.reply))
     ])
-    ∙ ap (λ (cs : List Connection). c.args.out.now.items ++ replies_by (connection_of cs (c.args.destination - REFERENCE_BASE)) (message_in c.args.data.now)) view
+    ∙ ap (λ (cs : List Connection). c.args.out.now.items ++ replies_by (connection_of cs (c.args.destination - REFERENCE_BASE)) (message_in c.args.user.now)) view
