@@ -5,6 +5,14 @@ use octets::{Memory, Octets};
 use std::alloc::Global;
 use std::marker::Model;
 
+/// The SAPI of signalling, and that of short messages (TS 48.006 clause 9.3.2).
+const SIGNALLING_SAPI: u8 = 0;
+
+const SHORT_MESSAGE_SAPI: u8 = 3;
+
+/// Speech, bits 4 to 1 of the first octet of a channel type (TS 48.008 clause 3.2.2.11).
+const SPEECH: u8 = 1;
+
 /// The data link connection identifier of a DTAP message (TS 48.006 clause 9.3.2): bits 3 to 1 are the SAPI, 0 or 3;
 /// bits 8 and 7 name the channel, and are kept as they are, as are the others. Contracts see its octet.
 #[derive(Clone, Copy)]
@@ -38,7 +46,7 @@ impl Dlci {
     pub fn read(octet: u8) -> Option<Dlci>
         ensures { result ≡ dlci_of octet }
     {
-        if octet % 8 == 0 || octet % 8 == 3 {
+        if octet % 8 == SIGNALLING_SAPI || octet % 8 == SHORT_MESSAGE_SAPI {
             Some(Dlci { octet })
         } else {
             None
@@ -84,12 +92,12 @@ pub struct CellIdentifier(pub Octets);
 pub struct ChannelType(pub Octets);
 
 impl ChannelType {
-    /// Whether it asks for speech: bits 4 to 1 of its first octet are 1. The rate isn't looked at.
+    /// Whether it asks for speech: bits 4 to 1 of its first octet say so. The rate isn't looked at.
     pub fn is_speech(&self) -> bool
         ensures { result ≡ is_speech_type self.now.0 }
     {
         match self.0.as_slice().first() {
-            Some(first) => *first % 16 == 1,
+            Some(first) => *first % 16 == SPEECH,
             None => false,
         }
     }

@@ -2,6 +2,8 @@
 #![tactic(auto)]
 
 #[cfg(test)]
+mod bssmap;
+#[cfg(test)]
 mod dtap;
 #[cfg(test)]
 mod framing;

@@ -1,32 +1,33 @@
 -- What the switch end does with a message, as functions of the connections that it has, the first one first.
 use Rattle.std.specs.Prelude.{ℕ, ◌+◌, ◌-◌, nat_le, ◌==◌, if◌then◌else◌, List, [], ◌∷◌, ◌++◌, length, slice_get, slice_set, Option, Some, None, option_to_list}
 use Rattle.std.specs.Result.{result_ok}
-use Rattle.bssmap_codec.specs.declared.bssmap.Bssap.{Bssap}
-use Rattle.bssmap_codec.specs.declared.bssmap.Bssap.TheVariants.{Management, Transfer}
+use Rattle.bssmap_codec.specs.declared.bssap.Bssap.{Bssap}
+use Rattle.bssmap_codec.specs.declared.bssap.Bssap.TheVariants.{Management, Transfer}
 use Rattle.bssmap_codec.specs.declared.bssmap.Bssmap.TheVariants.{AssignmentRequest, ClearCommand, ClearComplete, ClearRequest, CompleteLayer3Information}
-use Rattle.bssmap_codec.specs.declared.fault.Refusal.{Refusal}
+use Rattle.bssmap_codec.specs.declared.fault.InterfaceFault.{InterfaceFault}
 use Rattle.bssmap_codec.specs.declared.sccp.Sccp.{Sccp}
 use Rattle.bssmap_codec.specs.declared.sccp.Sccp.TheVariants.{ConnectionRequest, ConnectionConfirm, ConnectionRefused, Released, DataForm1}
-use Rattle.bssmap_codec.specs.BssapReading.{bssap_at, cause_of, channel_of}
-use Rattle.bssmap_codec.specs.BssapWritten.{bssap_refusal, bssap_text}
+use Rattle.bssmap_codec.specs.BssapReading.{bssap_reading, cause_of, channel_of}
+use Rattle.bssmap_codec.specs.BssapText.{bssap_text, bssap_write_fault}
 use Rattle.dtap_codec.specs.declared.sapi.Sapi.{Sapi}
 use Rattle.dtap_codec.specs.declared.sapi.Sapi.TheVariants.{Zero, Three}
 use Rattle.msc_end.specs.declared.connection.Connection.{Connection}
 use Rattle.msc_end.specs.declared.connection.Stage.{Stage}
 use Rattle.msc_end.specs.declared.connection.Stage.TheVariants.{Open, Clearing, Ended}
+use Rattle.msc_end.specs.declared.parameters.TheConstants.{CALL_CONTROL_CAUSE, CONNECTION_LIMIT, REFERENCE_BASE, SAPI_0_LINK, SAPI_3_LINK, SPEECH_CHANNEL}
 use Rattle.msc_end.specs.SwitchState.{SwitchState}
 
 -- the message that octets are read as; None where they are refused
-abbrev pub heard : List ℕ → Option Bssap
-heard octets = result_ok (bssap_at octets)
+abbrev pub message_in : List ℕ → Option Bssap
+message_in octets = result_ok (bssap_reading octets)
 
-abbrev pub sent_by : Option Refusal → Sccp → Option Sccp
-sent_by None message = Some message
-sent_by (Some refusal) message = None
+abbrev pub data_form_by : Option InterfaceFault → Sccp → Option Sccp
+data_form_by None form = Some form
+data_form_by (Some fault) form = None
 
 -- the data form 1 that carries a message; None where the message isn't written
-abbrev pub sent_to : ℕ → Bssap → Option Sccp
-sent_to destination message = sent_by (bssap_refusal message) (DataForm1 destination (bssap_text message))
+abbrev pub data_form : ℕ → Bssap → Option Sccp
+data_form destination message = data_form_by (bssap_write_fault message) (DataForm1 destination (bssap_text message))
 
 abbrev pub with_stage : Connection → Stage → Connection
 with_stage c stage = record { peer = c.peer; stage = stage; reception = c.reception; number = c.number }
@@ -35,31 +36,31 @@ abbrev pub with_message : Connection → List ℕ → Connection
 with_message c message = record { peer = c.peer; stage = c.stage; reception = record { modulus = c.reception.modulus; taken = c.reception.taken ++ message ∷ [] }; number = c.number }
 
 -- a connection that hasn't ended, after a message: DTAP is taken, CLEAR REQUEST clears, CLEAR COMPLETE ends
-abbrev pub taking : Connection → Bssap → Connection
-taking c (Transfer dlci message) = with_message c message
-taking c (Management (ClearRequest cause)) = with_stage c Clearing
-taking c (Management ClearComplete) = with_stage c Ended
-taking c (Management _) = c
+abbrev pub live_connection_after : Connection → Bssap → Connection
+live_connection_after c (Transfer dlci message) = with_message c message
+live_connection_after c (Management (ClearRequest cause)) = with_stage c Clearing
+live_connection_after c (Management ClearComplete) = with_stage c Ended
+live_connection_after c (Management _) = c
 
 -- what is answered on it
-abbrev pub answering : Connection → Bssap → Option Sccp
-answering c (Management (ClearRequest cause)) = sent_to c.peer (Management (ClearCommand cause))
-answering c (Management ClearComplete) = Some (Released c.peer c.number)
-answering c _ = None
+abbrev pub live_reply_of : Connection → Bssap → Option Sccp
+live_reply_of c (Management (ClearRequest cause)) = data_form c.peer (Management (ClearCommand cause))
+live_reply_of c (Management ClearComplete) = Some (Released c.peer c.number)
+live_reply_of c _ = None
 
-abbrev pub after_by : Stage → Connection → Bssap → Connection
-after_by Open c message = taking c message
-after_by Clearing c message = taking c message
-after_by Ended c message = c
+abbrev pub connection_by : Stage → Connection → Bssap → Connection
+connection_by Open c message = live_connection_after c message
+connection_by Clearing c message = live_connection_after c message
+connection_by Ended c message = c
 
 abbrev pub reply_by : Stage → Connection → Bssap → Option Sccp
-reply_by Open c message = answering c message
-reply_by Clearing c message = answering c message
+reply_by Open c message = live_reply_of c message
+reply_by Clearing c message = live_reply_of c message
 reply_by Ended c message = None
 
 -- a connection after a message; one that ended stays as it is
 abbrev pub connection_after : Connection → Bssap → Connection
-connection_after c message = after_by c.stage c message
+connection_after c message = connection_by c.stage c message
 
 abbrev pub reply_of : Connection → Bssap → Option Sccp
 reply_of c message = reply_by c.stage c message
@@ -68,38 +69,33 @@ reply_of c message = reply_by c.stage c message
 abbrev pub connection_of : List Connection → ℕ → Option Connection
 connection_of connections n = if n == 0 then None else slice_get connections (n - 1)
 
--- the initial message of a connection
-abbrev pub initial_of : Option Bssap → List (List ℕ)
-initial_of (Some (Management (CompleteLayer3Information cell layer3))) = layer3 ∷ []
-initial_of _ = []
+-- the initial message that a message carries
+abbrev pub initial_message_of : Option Bssap → List (List ℕ)
+initial_message_of (Some (Management (CompleteLayer3Information cell layer3))) = layer3 ∷ []
+initial_message_of _ = []
 
-abbrev pub initial : Option (List ℕ) → List (List ℕ)
-initial None = []
-initial (Some octets) = initial_of (heard octets)
+-- what is taken of the data of a connection request
+abbrev pub initial_messages : Option (List ℕ) → List (List ℕ)
+initial_messages None = []
+initial_messages (Some octets) = initial_message_of (message_in octets)
 
--- how many connections there can be, and the reference before that of the first
-abbrev pub limit : ℕ
-limit = 0x7fffff
+-- the connections with one more, which a connection request asks for
+abbrev pub with_connection : ℕ → List Connection → ℕ → Option (List ℕ) → List Connection
+with_connection m connections source user =
+    connections ++ record { peer = source; stage = Open; reception = record { modulus = m; taken = initial_messages user }; number = REFERENCE_BASE + (length connections + 1) } ∷ []
 
-abbrev pub base : ℕ
-base = 0x800000
+abbrev pub connections_by : List Connection → ℕ → Option Connection → Option Bssap → List Connection
+connections_by connections n (Some c) (Some message) = slice_set connections (n - 1) (connection_after c message)
+connections_by connections n _ _ = connections
 
-abbrev pub opened : ℕ → List Connection → ℕ → Option (List ℕ) → List Connection
-opened m connections source user =
-    connections ++ record { peer = source; stage = Open; reception = record { modulus = m; taken = initial user }; number = base + (length connections + 1) } ∷ []
-
-abbrev pub heard_on : List Connection → ℕ → Option Connection → Option Bssap → List Connection
-heard_on connections n (Some c) (Some message) = slice_set connections (n - 1) (connection_after c message)
-heard_on connections n _ _ = connections
-
-abbrev pub reply_on : Option Connection → Option Bssap → List Sccp
-reply_on (Some c) (Some message) = option_to_list (reply_of c message)
-reply_on _ _ = []
+abbrev pub replies_by : Option Connection → Option Bssap → List Sccp
+replies_by (Some c) (Some message) = option_to_list (reply_of c message)
+replies_by _ _ = []
 
 -- the connections after a message from the base station controller, m being the modulus
 abbrev pub connections_after : ℕ → List Connection → Sccp → List Connection
-connections_after m connections (ConnectionRequest source user) = if nat_le limit (length connections) then connections else opened m connections source user
-connections_after m connections (DataForm1 destination user) = heard_on connections (destination - base) (connection_of connections (destination - base)) (heard user)
+connections_after m connections (ConnectionRequest source user) = if nat_le CONNECTION_LIMIT (length connections) then connections else with_connection m connections source user
+connections_after m connections (DataForm1 destination user) = connections_by connections (destination - REFERENCE_BASE) (connection_of connections (destination - REFERENCE_BASE)) (message_in user)
 connections_after m connections _ = connections
 
 -- the switch end after it
@@ -109,30 +105,30 @@ after switch message = record { modulus = switch.modulus; connections = connecti
 -- what is replied to it
 abbrev pub replies : List Connection → Sccp → List Sccp
 replies connections (ConnectionRequest source user) =
-    if nat_le limit (length connections) then ConnectionRefused source ∷ [] else ConnectionConfirm source (base + (length connections + 1)) ∷ []
-replies connections (DataForm1 destination user) = reply_on (connection_of connections (destination - base)) (heard user)
+    if nat_le CONNECTION_LIMIT (length connections) then ConnectionRefused source ∷ [] else ConnectionConfirm source (REFERENCE_BASE + (length connections + 1)) ∷ []
+replies connections (DataForm1 destination user) = replies_by (connection_of connections (destination - REFERENCE_BASE)) (message_in user)
 replies connections _ = []
 
 -- the octet of a SAPI's DLCI
 abbrev pub dlci_for : Sapi → ℕ
-dlci_for Zero = 0x00
-dlci_for Three = 0x03
+dlci_for Zero = SAPI_0_LINK
+dlci_for Three = SAPI_3_LINK
 
-abbrev pub assignment : Bssap
-assignment = Management (AssignmentRequest (channel_of (0x01 ∷ 0x08 ∷ 0x01 ∷ [])))
+abbrev pub assignment_request : Bssap
+assignment_request = Management (AssignmentRequest (channel_of SPEECH_CHANNEL))
 
-abbrev pub clearing : Bssap
-clearing = Management (ClearCommand (cause_of (0x09 ∷ [])))
+abbrev pub clear_command : Bssap
+clear_command = Management (ClearCommand (cause_of (CALL_CONTROL_CAUSE ∷ [])))
 
 -- what is sent on a connection of its own accord
-abbrev pub sent_on : Option Connection → Bssap → List Sccp
-sent_on None message = []
-sent_on (Some c) message = option_to_list (sent_to c.peer message)
+abbrev pub data_forms_on : Option Connection → Bssap → List Sccp
+data_forms_on None message = []
+data_forms_on (Some c) message = option_to_list (data_form c.peer message)
 
--- the connections after a CLEAR COMMAND on one of them
-abbrev pub cleared : List Connection → ℕ → Option Connection → List Connection
-cleared connections n None = connections
-cleared connections n (Some c) = slice_set connections (n - 1) (with_stage c Clearing)
+abbrev pub connections_after_clear : List Connection → ℕ → Option Connection → List Connection
+connections_after_clear connections n None = connections
+connections_after_clear connections n (Some c) = slice_set connections (n - 1) (with_stage c Clearing)
 
-abbrev pub cleared_in : SwitchState → ℕ → SwitchState
-cleared_in switch n = record { modulus = switch.modulus; connections = cleared switch.connections n (connection_of switch.connections n) }
+-- the switch end after a CLEAR COMMAND of its own on one of its connections
+abbrev pub after_clear : SwitchState → ℕ → SwitchState
+after_clear switch n = record { modulus = switch.modulus; connections = connections_after_clear switch.connections n (connection_of switch.connections n) }

@@ -1,14 +1,14 @@
 ghost use Rattle.std.specs.Prelude.{◌≡◌, OnOk, OnErr, IfOk};
-ghost use Rattle.msc_end.specs.Switch.{answering, connection_after, reply_of, taking};
+ghost use Rattle.msc_end.specs.Switch.{connection_after, live_connection_after, live_reply_of, reply_of};
 
-use crate::hearing::data;
+use crate::bssap_data::data_form;
 use bssmap_codec::{Bssap, Bssmap, Reference, Sccp};
 use nsd_filter::Reception;
 use octets::Memory;
 use std::alloc::Global;
 
 /// How far a connection has come.
-#[derive(Clone, Copy, Debug, PartialEq, Eq)]
+#[derive(Clone, Copy)]
 pub enum Stage {
     /// It carries messages both ways.
     Open,
@@ -46,8 +46,8 @@ impl Connection {
 
     // Takes a message of BSSAP on a connection that hasn't ended.
     fn take(&mut self, alloc: Global, message: Bssap) -> Result<Option<Sccp>, Memory>
-        ensures state { OnOk result (self.new ≡ taking self.old message) }
-        ensures reply { IfOk result (λ reply. reply ≡ answering self.old message) }
+        ensures state { OnOk result (self.new ≡ live_connection_after self.old message) }
+        ensures reply { IfOk result (λ reply. reply ≡ live_reply_of self.old message) }
         ensures err { OnErr result (self.new ≡ self.old) }
     {
         match message {
@@ -57,7 +57,7 @@ impl Connection {
             }
             Bssap::Management(Bssmap::ClearRequest { cause }) => {
                 let command = Bssap::Management(Bssmap::ClearCommand { cause });
-                let reply = data(alloc, self.peer, &command)?;
+                let reply = data_form(alloc, self.peer, &command)?;
                 self.stage = Stage::Clearing;
                 Ok(reply)
             }

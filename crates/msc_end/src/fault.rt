@@ -2,7 +2,7 @@ use octets::Memory;
 use thiserror::Error;
 
 /// Why the switch end sends nothing.
-#[derive(Clone, Copy, Debug, PartialEq, Eq, Error)]
+#[derive(Clone, Copy, Debug, Error)]
 pub enum MscFault {
     /// There is no connection of that number.
     #[error("no such connection")]

@@ -6,9 +6,8 @@ pub use connection::{Connection, Stage};
 pub use fault::MscFault;
 pub use msc::MscEnd;
 
+mod bssap_data;
 mod connection;
 mod fault;
-mod hearing;
 mod msc;
-#[cfg(test)]
-mod tests;
+mod parameters;

@@ -5,9 +5,12 @@ ghost use Rattle.nsd_filter.specs.AcceptedList.{accepted_list, not_of_the_flow};
 ghost use Rattle.msc_end.specs.declared.connection.Stage.TheVariants.{Clearing};
 ghost use Rattle.msc_end.specs.declared.fault.MscFault.TheVariants.{Memory as OutOfMemory};
 ghost use Rattle.msc_end.specs.Refusal.{send_fault};
-ghost use Rattle.msc_end.specs.Switch.{after, replies, assignment, cleared_in, clearing, connection_of, dlci_for, initial, initial_of, sent_on, sent_to};
+ghost use Rattle.msc_end.specs.Switch.{after, after_clear, assignment_request, clear_command, connection_of, data_form as data_form_of, data_forms_on, dlci_for, initial_message_of, initial_messages, replies};
 
-use crate::hearing::{data, hear};
+use crate::bssap_data::{data_form, read_data};
+use crate::parameters::{
+    CALL_CONTROL_CAUSE, CONNECTION_LIMIT, REFERENCE_BASE, SAPI_0_LINK, SAPI_3_LINK, SPEECH_CHANNEL,
+};
 use crate::{Connection, MscFault, Stage};
 use bssmap_codec::{Bssap, Bssmap, Cause, ChannelType, Dlci, Reference, Sccp};
 use dtap_codec::{Modulus, Sapi};
@@ -15,12 +18,6 @@ use nsd_filter::Reception;
 use octets::{Memory, Octets};
 use std::alloc::Global;
 use std::marker::Model;
-
-/// How many connections the switch end gives out.
-const CONNECTION_LIMIT: usize = 0x7f_ffff;
-
-/// The reference before that of the first connection.
-const REFERENCE_BASE: u32 = 0x80_0000;
 
 /// The switch end. The n-th connection request gets connection n and the reference 800000 hexadecimal plus n.
 #[derive(Drop)]
@@ -69,11 +66,11 @@ impl MscEnd {
     fn on_request(
         &mut self,
         source: Reference,
-        data: &Option<Octets>,
+        user: &Option<Octets>,
         out: &mut Vec<Sccp>,
     ) -> Result<(), Memory>
-        ensures state { OnOk result (self.new ≡ after self.old (Sccp.ConnectionRequest source data.now)) }
-        ensures replies { OnOk result (out.new.items ≡ out.old.items ++ replies self.old.connections (Sccp.ConnectionRequest source data.now)) }
+        ensures state { OnOk result (self.new ≡ after self.old (Sccp.ConnectionRequest source user.now)) }
+        ensures replies { OnOk result (out.new.items ≡ out.old.items ++ replies self.old.connections (Sccp.ConnectionRequest source user.now)) }
         ensures unchanged { OnErr result (self.new ≡ self.old) }
         ensures unanswered { OnErr result (out.new.items ≡ out.old.items) }
     {
@@ -86,7 +83,7 @@ impl MscEnd {
             return Ok(());
         }
         self.connections.reserve(1)?;
-        let reception = first_taken(self.alloc, self.modulus, data)?;
+        let reception = first_taken(self.alloc, self.modulus, user)?;
         let number = Reference::new(REFERENCE_BASE + (count as u32 + 1));
         self.connections.push_reserved(Connection {
             peer: source,
@@ -105,11 +102,11 @@ impl MscEnd {
     fn on_data(
         &mut self,
         destination: Reference,
-        data: &Octets,
+        user: &Octets,
         out: &mut Vec<Sccp>,
     ) -> Result<(), Memory>
-        ensures state { OnOk result (self.new ≡ after self.old (Sccp.DataForm1 destination data.now)) }
-        ensures replies { OnOk result (out.new.items ≡ out.old.items ++ replies self.old.connections (Sccp.DataForm1 destination data.now)) }
+        ensures state { OnOk result (self.new ≡ after self.old (Sccp.DataForm1 destination user.now)) }
+        ensures replies { OnOk result (out.new.items ≡ out.old.items ++ replies self.old.connections (Sccp.DataForm1 destination user.now)) }
         ensures unchanged { OnErr result (self.new ≡ self.old) }
         ensures unanswered { OnErr result (out.new.items ≡ out.old.items) }
     {
@@ -118,7 +115,7 @@ impl MscEnd {
         if number == 0 || number > self.connections.len() {
             return Ok(());
         }
-        let Some(message) = hear(self.alloc, data.as_slice())? else {
+        let Some(message) = read_data(self.alloc, user.as_slice())? else {
             return Ok(());
         };
         let alloc = self.alloc;
@@ -140,7 +137,7 @@ impl MscEnd {
     ) -> Result<(), MscFault>
         requires some { 1 ≤ length message.now }
         requires few { length message.now ≤ 251 }
-        ensures ok { OnOk result (out.new.items ≡ out.old.items ++ sent_on (connection_of self.now.connections conn) (Bssap.Transfer (dlci_for sapi) message.now)) }
+        ensures ok { OnOk result (out.new.items ≡ out.old.items ++ data_forms_on (connection_of self.now.connections conn) (Bssap.Transfer (dlci_for sapi) message.now)) }
         ensures err { OnErr result (out.new.items ≡ out.old.items) }
         ensures refused { RefusesBy OutOfMemory result (send_fault (connection_of self.now.connections conn)) }
     {
@@ -155,12 +152,12 @@ impl MscEnd {
 
     /// Asks for a speech channel for a connection. An `Err` changes nothing: `NoConnection`, then `Closed`, then `Memory`.
     pub fn assign(&self, conn: u32, out: &mut Vec<Sccp>) -> Result<(), MscFault>
-        ensures ok { OnOk result (out.new.items ≡ out.old.items ++ sent_on (connection_of self.now.connections conn) assignment) }
+        ensures ok { OnOk result (out.new.items ≡ out.old.items ++ data_forms_on (connection_of self.now.connections conn) assignment_request) }
         ensures err { OnErr result (out.new.items ≡ out.old.items) }
         ensures refused { RefusesBy OutOfMemory result (send_fault (connection_of self.now.connections conn)) }
     {
         let peer = self.open_peer(conn)?;
-        let channel_type = ChannelType(Octets::copy(self.alloc, &[0x01, 0x08, 0x01])?);
+        let channel_type = ChannelType(Octets::copy(self.alloc, &SPEECH_CHANNEL)?);
         let message = Bssap::Management(Bssmap::AssignmentRequest { channel_type });
         send(self.alloc, peer, &message, out)?;
         Ok(())
@@ -168,14 +165,14 @@ impl MscEnd {
 
     /// Sends CLEAR COMMAND, cause call control, on a connection. An `Err` changes nothing: `NoConnection`, then `Closed`, then `Memory`.
     pub fn clear(&mut self, conn: u32, out: &mut Vec<Sccp>) -> Result<(), MscFault>
-        ensures ok { OnOk result (out.new.items ≡ out.old.items ++ sent_on (connection_of self.old.connections conn) clearing) }
-        ensures state { OnOk result (self.new ≡ cleared_in self.old conn) }
+        ensures ok { OnOk result (out.new.items ≡ out.old.items ++ data_forms_on (connection_of self.old.connections conn) clear_command) }
+        ensures state { OnOk result (self.new ≡ after_clear self.old conn) }
         ensures err { OnErr result (out.new.items ≡ out.old.items) }
         ensures unchanged { OnErr result (self.new ≡ self.old) }
         ensures refused { RefusesBy OutOfMemory result (send_fault (connection_of self.old.connections conn)) }
     {
         let peer = self.open_peer(conn)?;
-        let cause = Cause::one(self.alloc, 0x09)?;
+        let cause = Cause::one(self.alloc, CALL_CONTROL_CAUSE)?;
         let message = Bssap::Management(Bssmap::ClearCommand { cause });
         send(self.alloc, peer, &message, out)?;
         self.begin_clear(conn);
@@ -184,7 +181,7 @@ impl MscEnd {
 
     // Marks a connection as cleared.
     fn begin_clear(&mut self, conn: u32)
-        ensures state { self.new ≡ cleared_in self.old conn }
+        ensures state { self.new ≡ after_clear self.old conn }
     {
         let number = conn as usize;
         if number == 0 || number > self.connections.len() {
@@ -251,12 +248,12 @@ impl MscEnd {
 }
 
 // What is taken of a connection request: the initial message, where there is one.
-fn first_taken(alloc: Global, modulus: Modulus, data: &Option<Octets>) -> Result<Reception, Memory>
-    ensures { IfOk result (λ reception. reception ≡ record { modulus = count_of modulus; taken = initial data.now }) }
+fn first_taken(alloc: Global, modulus: Modulus, user: &Option<Octets>) -> Result<Reception, Memory>
+    ensures { IfOk result (λ reception. reception ≡ record { modulus = count_of modulus; taken = initial_messages user.now }) }
 {
-    match data {
+    match user {
         Some(data) => {
-            let message = hear(alloc, data.as_slice())?;
+            let message = read_data(alloc, data.as_slice())?;
             started(alloc, modulus, initial_message(message))
         }
         None => Ok(Reception::new(alloc, modulus)),
@@ -265,7 +262,7 @@ fn first_taken(alloc: Global, modulus: Modulus, data: &Option<Octets>) -> Result
 
 // The initial message that a message carries.
 fn initial_message(message: Option<Bssap>) -> Option<Octets>
-    ensures { option_to_list result ≡ initial_of message }
+    ensures { option_to_list result ≡ initial_message_of message }
 {
     match message {
         Some(Bssap::Management(message)) => layer3_of(message),
@@ -275,7 +272,7 @@ fn initial_message(message: Option<Bssap>) -> Option<Octets>
 }
 
 fn layer3_of(message: Bssmap) -> Option<Octets>
-    ensures { option_to_list result ≡ initial_of (Some (Bssap.Management message)) }
+    ensures { option_to_list result ≡ initial_message_of (Some (Bssap.Management message)) }
 {
     match message {
         Bssmap::CompleteLayer3Information { layer3, .. } => Some(layer3),
@@ -302,19 +299,19 @@ fn dlci(sapi: Sapi) -> Dlci
     ensures { result ≡ dlci_for sapi }
 {
     match sapi {
-        Sapi::Zero => Dlci::new(0x00),
-        Sapi::Three => Dlci::new(0x03),
+        Sapi::Zero => Dlci::new(SAPI_0_LINK),
+        Sapi::Three => Dlci::new(SAPI_3_LINK),
     }
 }
 
 // Appends the data that carry a message.
 fn send(alloc: Global, peer: Reference, message: &Bssap, out: &mut Vec<Sccp>) -> Result<(), Memory>
-    ensures ok { OnOk result (out.new.items ≡ out.old.items ++ option_to_list (sent_to peer message.now)) }
+    ensures ok { OnOk result (out.new.items ≡ out.old.items ++ option_to_list (data_form_of peer message.now)) }
     ensures err { OnErr result (out.new.items ≡ out.old.items) }
 {
     out.reserve(1)?;
-    if let Some(sent) = data(alloc, peer, message)? {
-        out.push_reserved(sent);
+    if let Some(form) = data_form(alloc, peer, message)? {
+        out.push_reserved(form);
     }
     Ok(())
 }

@@ -11,6 +11,8 @@ mod hold;
 #[cfg(test)]
 mod mobile;
 #[cfg(test)]
+mod msc_end;
+#[cfg(test)]
 mod nsd_filter;
 #[cfg(test)]
 mod program;

@@ -1,5 +1,6 @@
 use Rattle.std.proofs.Common.{◌≡◌, ◌-◌, List, [], ◌∷◌, ◌++◌, Some, None, sym, ap, ◌∙◌, arith, append-nil, inl, inr}
-use Rattle.msc_end.specs.Switch.{base, connection_of, heard, reply_on}
+use Rattle.msc_end.specs.Switch.{connection_of, message_in, replies_by}
+use Rattle.msc_end.specs.declared.parameters.TheConstants.{REFERENCE_BASE}
 use Rattle.msc_end.specs.SwitchState.{SwitchState}
 use Rattle.msc_end.specs.declared.connection.Connection.{Connection}
 use Rattle.bssmap_codec.specs.declared.sccp.Sccp.{Sccp}
@@ -9,32 +10,32 @@ use Rattle.msc_end.proofs.msc.MscEnd.on_data.Goals.{then-number-eq0-via-then-num
 
 pub returns-then-number-eq0-clause-replies : goal.returns-then-number-eq0-clause-replies
 returns-then-number-eq0-clause-replies c =
-    let n : c.saturating_sub-number.result ≡ c.args.destination - base = omega arith in
+    let n : c.saturating_sub-number.result ≡ c.args.destination - REFERENCE_BASE = omega arith in
     let view : c.self.inside.connections.items ≡ c.args.self.now.connections = ap (λ (s : SwitchState). s.connections) c.self.view_is in
     c.reserve.ensures.items ∙ sym (append-nil c.args.out.now.items)
     ∙ ap (λ (ys : List Sccp). c.args.out.now.items ++ ys)
     ((elim c.then-number-eq0.branch [
-      | then-number-eq0-via-then-number-eq0 w ↦ silent c.self.inside.connections.items _ c.args.destination (heard c.args.data.now) n (inl (omega arith))
-      | then-number-eq0-via-else-number-eq0+then-number-len w ↦ silent c.self.inside.connections.items _ c.args.destination (heard c.args.data.now) n (inr (omega arith))
-    ]) ∙ ap (λ (cs : List Connection). reply_on (connection_of cs (c.args.destination - base)) (heard c.args.data.now)) view)
+      | then-number-eq0-via-then-number-eq0 w ↦ silent c.self.inside.connections.items _ c.args.destination (message_in c.args.user.now) n (inl (omega arith))
+      | then-number-eq0-via-else-number-eq0+then-number-len w ↦ silent c.self.inside.connections.items _ c.args.destination (message_in c.args.user.now) n (inr (omega arith))
+    ]) ∙ ap (λ (cs : List Connection). replies_by (connection_of cs (c.args.destination - REFERENCE_BASE)) (message_in c.args.user.now)) view)
 
 pub returns-clause-state : goal.returns-clause-state
 returns-clause-state c =
-    let n : c.saturating_sub-number.result ≡ c.args.destination - base = omega arith in
-    let hm : heard c.args.data.now ≡ Some c.in-Some.message = sym (c.in_ok-message.ensures ∙ ap heard c.as_slice.ensures) ∙ c.in-Some.is in
-    switch_is c.args.self.now _ c.self.inside.connections.items _ c.args.destination c.index_mut-connection.result.now _ c.in-Some.message c.args.data.now c.self.view_is n c.if-number-eq0.false (omega arith) c.index_mut-connection.ensures.value hm c.in_ok-reply.ensures.state
+    let n : c.saturating_sub-number.result ≡ c.args.destination - REFERENCE_BASE = omega arith in
+    let hm : message_in c.args.user.now ≡ Some c.in-Some.message = sym (c.in_ok-message.ensures ∙ ap message_in c.as_slice.ensures) ∙ c.in-Some.is in
+    switch_is c.args.self.now _ c.self.inside.connections.items _ c.args.destination c.index_mut-connection.result.now _ c.in-Some.message c.args.user.now c.self.view_is n c.if-number-eq0.false (omega arith) c.index_mut-connection.ensures.value hm c.in_ok-reply.ensures.state
 
 pub returns-clause-replies : goal.returns-clause-replies
 returns-clause-replies c =
-    let n : c.saturating_sub-number.result ≡ c.args.destination - base = omega arith in
+    let n : c.saturating_sub-number.result ≡ c.args.destination - REFERENCE_BASE = omega arith in
     let view : c.self.inside.connections.items ≡ c.args.self.now.connections = ap (λ (s : SwitchState). s.connections) c.self.view_is in
-    let hm : heard c.args.data.now ≡ Some c.in-Some.message = sym (c.in_ok-message.ensures ∙ ap heard c.as_slice.ensures) ∙ c.in-Some.is in
+    let hm : message_in c.args.user.now ≡ Some c.in-Some.message = sym (c.in_ok-message.ensures ∙ ap message_in c.as_slice.ensures) ∙ c.in-Some.is in
     (elim c.match-reply.branch [
       | in-Some-reply w ↦ ap (λ v. v.items) w.out-is ∙ w.push_reserved.ensures.items ∙ ap (λ (xs : List Sccp). xs ++ w.in-Some-reply.reply ∷ []) c.reserve.ensures.items
           ∙ ap (λ (ys : List Sccp). c.args.out.now.items ++ ys)
-          (reply_is c.self.inside.connections.items _ c.args.destination c.index_mut-connection.result.now c.in-Some.message (heard c.args.data.now) (Some w.in-Some-reply.reply) n c.if-number-eq0.false (omega arith) c.index_mut-connection.ensures.value hm (sym w.in-Some-reply.is ∙ c.in_ok-reply.ensures.reply))
+          (reply_is c.self.inside.connections.items _ c.args.destination c.index_mut-connection.result.now c.in-Some.message (message_in c.args.user.now) (Some w.in-Some-reply.reply) n c.if-number-eq0.false (omega arith) c.index_mut-connection.ensures.value hm (sym w.in-Some-reply.is ∙ c.in_ok-reply.ensures.reply))
       | in_default-reply w ↦ ap (λ v. v.items) w.out-is ∙ c.reserve.ensures.items ∙ sym (append-nil c.args.out.now.items)
           ∙ ap (λ (ys : List Sccp). c.args.out.now.items ++ ys)
-          (reply_is c.self.inside.connections.items _ c.args.destination c.index_mut-connection.result.now c.in-Some.message (heard c.args.data.now) None n c.if-number-eq0.false (omega arith) c.index_mut-connection.ensures.value hm (sym w.in_default-reply.is ∙ c.in_ok-reply.ensures.reply))
+          (reply_is c.self.inside.connections.items _ c.args.destination c.index_mut-connection.result.now c.in-Some.message (message_in c.args.user.now) None n c.if-number-eq0.false (omega arith) c.index_mut-connection.ensures.value hm (sym w.in_default-reply.is ∙ c.in_ok-reply.ensures.reply))
     ])
-    ∙ ap (λ (cs : List Connection). c.args.out.now.items ++ reply_on (connection_of cs (c.args.destination - base)) (heard c.args.data.now)) view
+    ∙ ap (λ (cs : List Connection). c.args.out.now.items ++ replies_by (connection_of cs (c.args.destination - REFERENCE_BASE)) (message_in c.args.user.now)) view

@@ -1,13 +1,13 @@
 ghost use Rattle.std.specs.Prelude.{◌≡◌, IfOk};
-ghost use Rattle.msc_end.specs.Switch.{heard, sent_to};
+ghost use Rattle.msc_end.specs.Switch.{data_form as data_form_of, message_in};
 
 use bssmap_codec::{Bssap, InterfaceFault, Reference, Sccp, read_bssap, write_bssap};
 use octets::{Memory, Octets};
 use std::alloc::Global;
 
 /// The message of BSSAP that the octets are read as; none where they are refused.
-pub fn hear(alloc: Global, octets: &[u8]) -> Result<Option<Bssap>, Memory>
-    ensures { IfOk result (λ message. message ≡ heard octets.now) }
+pub fn read_data(alloc: Global, octets: &[u8]) -> Result<Option<Bssap>, Memory>
+    ensures { IfOk result (λ message. message ≡ message_in octets.now) }
 {
     match read_bssap(alloc, octets) {
         Ok(message) => Ok(Some(message)),
@@ -17,8 +17,12 @@ pub fn hear(alloc: Global, octets: &[u8]) -> Result<Option<Bssap>, Memory>
 }
 
 /// The data form 1 that carries a message of BSSAP; none where the message isn't written.
-pub fn data(alloc: Global, destination: Reference, message: &Bssap) -> Result<Option<Sccp>, Memory>
-    ensures { IfOk result (λ sent. sent ≡ sent_to destination message.now) }
+pub fn data_form(
+    alloc: Global,
+    destination: Reference,
+    message: &Bssap,
+) -> Result<Option<Sccp>, Memory>
+    ensures { IfOk result (λ form. form ≡ data_form_of destination message.now) }
 {
     let mut text = Vec::new(alloc);
     match write_bssap(alloc, message, &mut text) {
