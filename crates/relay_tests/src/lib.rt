@@ -2,6 +2,6 @@
 #![tactic(auto)]
 
 #[cfg(test)]
-mod program;
+mod fixed_world;
 #[cfg(test)]
-mod world;
+mod program;
