@@ -7,6 +7,8 @@ mod base_end;
 #[cfg(test)]
 mod decision;
 #[cfg(test)]
+mod fixed_world;
+#[cfg(test)]
 mod hold;
 #[cfg(test)]
 mod mobile;
@@ -16,5 +18,3 @@ mod msc_end;
 mod nsd_filter;
 #[cfg(test)]
 mod program;
-#[cfg(test)]
-mod world;

@@ -1,4 +1,4 @@
-use ::world::{World, read_line};
+use world::{World, read_line};
 use dtap_codec::Modulus;
 use octets::Octets;
 use std::process::Abort;
