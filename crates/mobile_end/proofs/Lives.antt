@@ -134,20 +134,20 @@ IsLastTaken-queueing mobile taken sapi message last =
 
 IsGoing-queueing : (m : ℕ) (before : List (List ℕ)) (mobile : MobileState) (taken : List (List ℕ)) (sapi : Sapi) (message : List ℕ) → has_clear_number message ≡ true → IsGoing m before mobile taken → IsGoing m before (queueing mobile sapi message) taken
 IsGoing-queueing m before mobile taken sapi message clear going = record {
-  with_number = IsNumbered-queueing before mobile taken sapi message clear going.numbered;
+  with_number = IsNumbered-queueing before mobile taken sapi message clear going.with_number;
   last = IsLastTaken-queueing mobile taken sapi message going.last;
   modulus = (IsKept-queueing mobile sapi message).modulus ∙ going.modulus;
 }
 
 IsGoing-connect : (m : ℕ) (before : List (List ℕ)) (mobile : MobileState) (taken : List (List ℕ)) (initial : Option (List ℕ)) → IsGoing m before mobile taken → IsGoing m before (unless_refused (refusal_of_connect initial) mobile (after_connect mobile initial)) taken
 IsGoing-connect m before mobile taken None going =
-    let with_number = going.numbered in
+    let with_number = going.with_number in
     record { with_number = record { after = with_number.after; parts = with_number.parts; numbers = with_number.numbers; clear = with_number.clear }; last = going.last; modulus = going.modulus }
 IsGoing-connect m before mobile taken (Some initial) going =
     unless_refused-by (λ new. IsGoing m before new taken) (is_initial initial) None mobile (after_connect mobile (Some initial)) going
     (λ lawful.
     let queued = IsGoing-queueing m before mobile taken Zero initial (is_initial-clear initial lawful) going in
-    let with_number = queued.numbered in
+    let with_number = queued.with_number in
     record { with_number = record { after = with_number.after; parts = with_number.parts; numbers = with_number.numbers; clear = with_number.clear }; last = queued.last; modulus = queued.modulus })
 
 -- what a frame of SAPI 3 or an acknowledgement changes isn't seen on SAPI 0
@@ -155,7 +155,7 @@ IsGoing-frame_three : (m : ℕ) (before : List (List ℕ)) (stage : Stage) (plac
 IsGoing-frame_three m before New place mobile taken going = going
 IsGoing-frame_three m before Connected Moving mobile taken going = going
 IsGoing-frame_three m before Connected OnChannel mobile taken going =
-    let with_number = going.numbered in
+    let with_number = going.with_number in
     record { with_number = record { after = with_number.after; parts = with_number.parts; numbers = with_number.numbers; clear = with_number.clear }; last = going.last; modulus = going.modulus }
 
 IsLastTaken-acked : (place : Place) (mobile : MobileState) (taken : List (List ℕ)) (sapi : Sapi) → IsLastTaken mobile.zero.air taken → IsLastTaken (after_acked_at place mobile sapi).zero.air taken
@@ -185,18 +185,18 @@ IsGoing-call m before mobile taken (sends sapi message) doesnt going =
     nothing_taken m before _ taken (unless_refused-by (λ new. IsGoing m before new taken) (is_sendable sapi message) (refusal_before_connect mobile.stage) mobile (queueing mobile sapi message) going
     (λ lawful. IsGoing-queueing m before mobile taken sapi message (is_sendable-clear sapi message lawful) going))
 IsGoing-call m before mobile taken (frames Zero) doesnt going = record {
-  with_number = IsNumbered-frame before mobile.stage mobile.place mobile taken going.numbered;
+  with_number = IsNumbered-frame before mobile.stage mobile.place mobile taken going.with_number;
   last = IsLastTaken-frame mobile.stage mobile.place mobile taken going.last;
   modulus = (IsKept-frame mobile.stage mobile.place mobile Zero).modulus ∙ going.modulus;
 }
 IsGoing-call m before mobile taken (frames Three) doesnt going = nothing_taken m before _ taken (IsGoing-frame_three m before mobile.stage mobile.place mobile taken going)
 IsGoing-call m before mobile taken (acknowledges sapi) doesnt going = nothing_taken m before _ taken (record {
-  with_number = IsNumbered-acked before mobile.place mobile taken sapi going.numbered;
+  with_number = IsNumbered-acked before mobile.place mobile taken sapi going.with_number;
   last = IsLastTaken-acked mobile.place mobile taken sapi going.last;
   modulus = (IsKept-acked mobile.place mobile sapi).modulus ∙ going.modulus;
 })
 IsGoing-call m before mobile taken leaves doesnt going =
-    let with_number = going.numbered in
+    let with_number = going.with_number in
     nothing_taken m before _ taken (record { with_number = record { after = with_number.after; parts = with_number.parts; numbers = with_number.numbers; clear = with_number.clear }; last = going.last; modulus = going.modulus })
 IsGoing-call m before mobile taken (arrives complete) doesnt going = nothing_taken m before _ taken (IsGoing-refused m before mobile taken complete doesnt going)
 IsGoing-call m before mobile taken (gives_up failure) doesnt going = nothing_taken m before _ taken (IsGoing-refused m before mobile taken failure doesnt going)
@@ -296,7 +296,7 @@ joined-establishments mobile taken (call ∷ calls) =
 
 -- what was sent is clear
 AreClear-calls : (m : ℕ) (before : List (List ℕ)) (mobile : MobileState) (taken : List (List ℕ)) (calls : List Call) → IsGoing m before mobile taken → AreClear (after_calls mobile calls).sent
-AreClear-calls m before mobile taken [] going = going.numbered.clear
+AreClear-calls m before mobile taken [] going = going.with_number.clear
 AreClear-calls m before mobile taken (call ∷ calls) going =
     elim (cases_Bool (begins mobile call)) [
       | inl does ↦

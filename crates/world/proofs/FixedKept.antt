@@ -75,7 +75,7 @@ pub upper-step : (world : FixedState) (sapi : Sapi) (message : List ℕ) → Fix
 upper-step world sapi message =
     sent_unless-step (is_sendable sapi message) (refusal_before_connect world.mobile.stage) world (with_mobile world (queueing world.mobile sapi message))
     (λ lawful. FixedStep-mobile world (queueing world.mobile sapi message) (λ kept. record {
-      with_number = IsNumbered-queueing [] world.mobile (world.switch.taken ++ world.outbox) sapi message (is_sendable-clear sapi message lawful) kept.numbered;
+      with_number = IsNumbered-queueing [] world.mobile (world.switch.taken ++ world.outbox) sapi message (is_sendable-clear sapi message lawful) kept.with_number;
       modulus = kept.modulus ∙ sym (modulus-queueing world.mobile sapi message);
       two = subst (λ (m : ℕ). 2 ≤ m) (sym (modulus-queueing world.mobile sapi message)) kept.two;
     }))
@@ -85,7 +85,7 @@ air_up_with-step world (Err fault) is = FixedStep-none world
 air_up_with-step world (Ok None) is = FixedStep-none world
 air_up_with-step world (Ok (Some frame)) is = record {
   kept = λ kept.
-      let next = IsNumbered-frame [] world.mobile.stage world.mobile.place world.mobile (world.switch.taken ++ world.outbox) kept.numbered in
+      let next = IsNumbered-frame [] world.mobile.stage world.mobile.place world.mobile (world.switch.taken ++ world.outbox) kept.with_number in
       let lent_is : (world.switch.taken ++ world.outbox) ++ frame_lent (framed world.mobile Zero) ≡ world.switch.taken ++ (world.outbox ++ frame ∷ []) =
       ap (λ (answer : Result (Option (List ℕ)) MobileFault). (world.switch.taken ++ world.outbox) ++ frame_lent answer) is ∙ append_assoc world.switch.taken world.outbox (frame ∷ []) in
       record {
@@ -103,7 +103,7 @@ air_up-step world = air_up_with-step world (framed world.mobile Zero) refl
 air_ack_by-step : (world : FixedState) (acknowledged : Bool) → FixedStep world (unwrap_or (cond acknowledged (Some (with_mobile world (after_acked world.mobile Zero))) None) world) [] []
 air_ack_by-step world false = FixedStep-none world
 air_ack_by-step world true = FixedStep-mobile world (after_acked world.mobile Zero) (λ kept. record {
-  with_number = IsNumbered-acked [] world.mobile.place world.mobile (world.switch.taken ++ world.outbox) Zero kept.numbered;
+  with_number = IsNumbered-acked [] world.mobile.place world.mobile (world.switch.taken ++ world.outbox) Zero kept.with_number;
   modulus = kept.modulus ∙ sym (modulus-after_acked world.mobile.place world.mobile);
   two = subst (λ (m : ℕ). 2 ≤ m) (sym (modulus-after_acked world.mobile.place world.mobile)) kept.two;
 })
@@ -115,7 +115,7 @@ taking_from-step : (world : FixedState) (messages : List (List ℕ)) → world.o
 taking_from-step world [] is = FixedStep-none world
 taking_from-step world (first ∷ others) is = record {
   kept = λ kept. record {
-    with_number = subst (λ (xs : List (List ℕ)). IsNumbered [] world.mobile xs) (ap (λ (xs : List (List ℕ)). world.switch.taken ++ xs) is ∙ sym (append_assoc world.switch.taken (first ∷ []) others)) kept.numbered;
+    with_number = subst (λ (xs : List (List ℕ)). IsNumbered [] world.mobile xs) (ap (λ (xs : List (List ℕ)). world.switch.taken ++ xs) is ∙ sym (append_assoc world.switch.taken (first ∷ []) others)) kept.with_number;
     modulus = kept.modulus;
     two = kept.two;
   };
