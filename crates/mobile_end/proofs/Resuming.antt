@@ -153,8 +153,8 @@ cut-by m before after sent taken waiting (Reached x) parts last numbers =
 -- the cut that a change of channel makes
 pub arrival-cut : (m : ℕ) (before : List (List ℕ)) (mobile : MobileState) (taken : List (List ℕ)) → IsGoing m before mobile taken → IsCut m before mobile.sent taken (outstanding_messages mobile.zero)
 arrival-cut m before mobile taken going =
-    cut-by m before going.with_number.after mobile.sent taken mobile.zero.waiting mobile.zero.air going.with_number.parts going.last
-    (going.with_number.numbers ∙ ap (λ (n : ℕ). with_numbers_from n (length before) going.with_number.after) going.modulus)
+    cut-by m before going.numbered.after mobile.sent taken mobile.zero.waiting mobile.zero.air going.numbered.parts going.last
+    (going.numbered.numbers ∙ ap (λ (n : ℕ). with_numbers_from n (length before) going.numbered.after) going.modulus)
 
 -- and what is known of the mobile on the new channel
 pub arrival-going : (m : ℕ) (before : List (List ℕ)) (mobile : MobileState) (taken : List (List ℕ)) (control : List ℕ) → is_control control ≡ true → (going : IsGoing m before mobile taken) → IsGoing m (arrival-cut m before mobile taken going).next (after_arrival mobile control) []
@@ -167,7 +167,7 @@ arrival-going m before mobile taken control is going =
         numbers =
             filter-apart control (without_control (outstanding_messages mobile.zero)) (is_control-apart control is) ∙ without_control-flow (outstanding_messages mobile.zero)
             ∙ cut.unsent_is ∙ ap (λ (n : ℕ). with_numbers_from n (length cut.next) cut.others) (sym going.modulus);
-        clear = going.with_number.clear;
+        clear = going.numbered.clear;
       };
       last = tt;
       modulus = going.modulus;

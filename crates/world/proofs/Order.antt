@@ -39,8 +39,8 @@ taken-rise : (world : FixedState) → IsFixedKept world → (k : ℕ) × Rise wo
 taken-rise world kept =
     let sent = world.mobile.sent in
     let behind : List (List ℕ) = world.outbox ++ to_be_taken world.mobile.zero in
-    let clear = subst AreClear (sym kept.with_number.parts) kept.with_number.clear in
-    let whole = Rise-with_numbers_from world.mobile.modulus sent _ [] kept.with_number.after 0 kept.with_number.parts refl clear kept.with_number.numbers in
+    let clear = subst AreClear (sym kept.numbered.parts) kept.numbered.clear in
+    let whole = Rise-with_numbers_from world.mobile.modulus sent _ [] kept.numbered.after 0 kept.numbered.parts refl clear kept.numbered.numbers in
     let regrouped = subst (λ (xs : List (List ℕ)). Rise world.mobile.modulus sent 0 xs (length sent)) (append_assoc world.switch.taken world.outbox (to_be_taken world.mobile.zero)) whole in
     let cut = Rise-cut world.switch.taken behind regrouped in
     (cut.0, cut.1)
