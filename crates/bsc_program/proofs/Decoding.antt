@@ -9,7 +9,7 @@ use Rattle.std.proofs.lemmas.Grind.{flat_map-append}
 use Rattle.ipa_framing.specs.declared.frame.Frame.{Frame}
 use Rattle.bsc_program.proofs.Pieces.{all_both}
 use Rattle.ipa_framing.specs.Frame.{IsFrame, IsPartial, IsTooLong, Splits, frame_text}
-use Rattle.ipa_framing.specs.Held.{Held, BeginsWith, Feeds, nothing_held}
+use Rattle.ipa_framing.specs.Framer.{FramerState, BeginsWith, Feeds, new_framer}
 use Rattle.ipa_framing.specs.declared.fault.FrameFault.{FrameFault}
 use Rattle.ipa_framing.specs.declared.fault.FrameFault.TheVariants as faults
 use Rattle.bsc_program.specs.declared.decode_command.Stop.TheVariants.{TooLong}
@@ -18,7 +18,7 @@ use Rattle.bsc_program.specs.Decoded.{Decodes, IsDecoded, PrintsFrames, RefusesW
 
 -- ---- frames one behind the other
 
-pub prints_more : (held between left : Held) (old mid new : Option (List ℕ)) (f : Frame) → PrintsFrames held between old mid
+pub prints_more : (held between left : FramerState) (old mid new : Option (List ℕ)) (f : Frame) → PrintsFrames held between old mid
     → BeginsWith between.octets f left.octets → Appends mid new (frame_line f) → PrintsFrames held left old new
 prints_more held between left old mid new f some begins line = record {
   frames = some.frames ++ f ∷ [];
@@ -45,26 +45,26 @@ no_rest (octet ∷ octets) n o is none = absurd (omega arith)
 -- ---- the stream
 
 -- What was read were these frames and what the framer holds, and their lines were printed.
-pub record ReadsFrames (start now : Option (List ℕ)) (held : Held) (old new : Option (List ℕ)) : Type 0 where
+pub record ReadsFrames (start now : Option (List ℕ)) (held : FramerState) (old new : Option (List ℕ)) : Type 0 where
   pub frames : List Frame
   pub each : AllByRecursion IsFrame frames
   pub read : Consumes start now (flat_map frame_text frames ++ held.octets)
   pub printed : Appends old new (frame_lines frames)
 
 -- A read has been decoded: what the framer holds begins no whole frame, and none was too long.
-abbrev pub DecodesSome : Option (List ℕ) → Option (List ℕ) → Held → Option (List ℕ) → Option (List ℕ) → Type 0
+abbrev pub DecodesSome : Option (List ℕ) → Option (List ℕ) → FramerState → Option (List ℕ) → Option (List ℕ) → Type 0
 DecodesSome start now held old new = ReadsFrames start now held old new × IsPartial held.octets × (held.failed ≡ false)
 
-pub decodes_none : (start old : Option (List ℕ)) (held : Held) → held ≡ nothing_held → DecodesSome start start held old old
+pub decodes_none : (start old : Option (List ℕ)) (held : FramerState) → held ≡ new_framer → DecodesSome start start held old old
 decodes_none start old held new =
-    let none : [] ≡ held.octets = sym (ap (λ (h : Held). h.octets) new) in (
+    let none : [] ≡ held.octets = sym (ap (λ (h : FramerState). h.octets) new) in (
       record { frames = []; each = tt; read = subst (Consumes start start) none (Consumes-nil start); printed = Appends-nil old },
       subst IsPartial none tt,
-      ap (λ (h : Held). h.failed) new,
+      ap (λ (h : FramerState). h.failed) new,
     )
 
 -- a piece was read and fed, and frames were printed
-reads_more : (start now later old mid new : Option (List ℕ)) (held fed left : Held) (piece : List ℕ) → ReadsFrames start now held old mid → Consumes now later piece
+reads_more : (start now later old mid new : Option (List ℕ)) (held fed left : FramerState) (piece : List ℕ) → ReadsFrames start now held old mid → Consumes now later piece
     → fed.octets ≡ held.octets ++ piece → PrintsFrames fed left mid new → ReadsFrames start later left old new
 reads_more start now later old mid new held fed left piece some read feeds prints =
     let first : List ℕ = flat_map frame_text some.frames in
@@ -79,17 +79,17 @@ reads_more start now later old mid new held fed left piece some read feeds print
       printed = subst (Appends old new) (sym (flat_map-append frame_line some.frames prints.frames)) (Appends-trans old mid new (frame_lines some.frames) (frame_lines prints.frames) some.printed prints.printed);
     }
 
-pub decodes_more : (start now later old mid new last : Option (List ℕ)) (held fed left : Held) (piece : List ℕ) → DecodesSome start now held old mid → Consumes now later piece
+pub decodes_more : (start now later old mid new last : Option (List ℕ)) (held fed left : FramerState) (piece : List ℕ) → DecodesSome start now held old mid → Consumes now later piece
     → (held.failed ≡ false) × (fed ≡ record { octets = held.octets ++ piece; failed = false })
     → PrintsFrames fed left mid new × IsPartial left.octets × (left.failed ≡ fed.failed) → Keeps new last → DecodesSome start later left old last
 decodes_more start now later old mid new last held fed left piece some read feeds prints keeps =
-    let more = reads_more start now later old mid new held fed left piece some.0 read (ap (λ (h : Held). h.octets) feeds.1) prints.0 in (
+    let more = reads_more start now later old mid new held fed left piece some.0 read (ap (λ (h : FramerState). h.octets) feeds.1) prints.0 in (
       record { frames = more.frames; each = more.each; read = more.read; printed = Appends-kept old new last (frame_lines more.frames) more.printed keeps },
       prints.1,
-      prints.2 ∙ ap (λ (h : Held). h.failed) feeds.1,
+      prints.2 ∙ ap (λ (h : FramerState). h.failed) feeds.1,
     )
 
-pub decodes_all : (start now end old mid new : Option (List ℕ)) (held : Held) → DecodesSome start now held old mid → Consumes now end [] → IsAtEnd end
+pub decodes_all : (start now end old mid new : Option (List ℕ)) (held : FramerState) → DecodesSome start now held old mid → Consumes now end [] → IsAtEnd end
     → Appends mid new (rest_line held.octets) → Decodes start old new
 decodes_all start now end old mid new held some read at_end rest =
     let octets : List ℕ = flat_map frame_text some.0.frames ++ held.octets in
@@ -113,7 +113,7 @@ long_with (high ∷ []) more long = absurd long
 long_with (high ∷ low ∷ octets) more long = long
 
 -- what was read begins the stream
-refused_by : (start now : Option (List ℕ)) (held : Held) (old new : Option (List ℕ)) → ReadsFrames start now held old new → IsTooLong held.octets → RefusesWith [] start old new
+refused_by : (start now : Option (List ℕ)) (held : FramerState) (old new : Option (List ℕ)) → ReadsFrames start now held old new → IsTooLong held.octets → RefusesWith [] start old new
 refused_by None now held old new some long = tt
 refused_by (Some stream) None held old new some long = absurd some.read
 refused_by (Some stream) (Some behind) held old new some long = (
@@ -133,16 +133,16 @@ refused_by (Some stream) (Some behind) held old new some long = (
   subst (Appends old new) (sym (append-nil (frame_lines some.frames))) some.printed,
 )
 
-pub decodes_long : (start now later old mid new : Option (List ℕ)) (held fed left : Held) (piece : List ℕ) → DecodesSome start now held old mid → Consumes now later piece
+pub decodes_long : (start now later old mid new : Option (List ℕ)) (held fed left : FramerState) (piece : List ℕ) → DecodesSome start now held old mid → Consumes now later piece
     → (held.failed ≡ false) × (fed ≡ record { octets = held.octets ++ piece; failed = false })
     → PrintsFrames fed left mid new × IsTooLong left.octets → RefusesWith [] start old new
 decodes_long start now later old mid new held fed left piece some read feeds prints =
     refused_by start later left old new
-    (reads_more start now later old mid new held fed left piece some.0 read (ap (λ (h : Held). h.octets) feeds.1) prints.0)
+    (reads_more start now later old mid new held fed left piece some.0 read (ap (λ (h : FramerState). h.octets) feeds.1) prints.0)
     prints.1
 
 -- while no frame was met as too long, none is refused so by feeding
-pub feeds_on : (X : Type 0) (P : Type 0) (held fed : Held) (piece : List ℕ) (fault : FrameFault) → held.failed ≡ false → Feeds held piece (let refused : Result X FrameFault = Err fault in refused) fed
+pub feeds_on : (X : Type 0) (P : Type 0) (held fed : FramerState) (piece : List ℕ) (fault : FrameFault) → held.failed ≡ false → Feeds held piece (let refused : Result X FrameFault = Err fault in refused) fed
     → TooLong ≡ stop_of fault → P
 feeds_on X P held fed piece faults.TooLong good feeds is = absurd (cc (good, feeds.0))
 feeds_on X P held fed piece faults.Memory good feeds is = absurd (cc is)

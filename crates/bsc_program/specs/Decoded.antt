@@ -5,7 +5,7 @@ use Rattle.std.specs.Io.KnownBytes.{Appends}
 use Rattle.hex.specs.Hex.{encode_lower}
 use Rattle.ipa_framing.specs.declared.frame.Frame.{Frame}
 use Rattle.ipa_framing.specs.Frame.{IsFrame, IsPartial, IsTooLong, Splits, frame_text}
-use Rattle.ipa_framing.specs.Held.{Held}
+use Rattle.ipa_framing.specs.Framer.{FramerState}
 use Rattle.bsc_program.specs.Names.{name_of}
 
 -- a frame's line: its stream in two digits, and the name of what it carries
@@ -48,7 +48,7 @@ abbrev pub RefusesWith : List ℕ → Option (List ℕ) → Option (List ℕ) �
 RefusesWith last start old new = IfSome start (λ stream. (text : List ℕ) × IsRefused stream text × Appends old new (text ++ last))
 
 -- What a framer held were frames and behind them what it holds now. Known contents grew by the lines of the frames.
-pub record PrintsFrames (held left : Held) (old new : Option (List ℕ)) : Type 0 where
+pub record PrintsFrames (held left : FramerState) (old new : Option (List ℕ)) : Type 0 where
   pub frames : List Frame
   pub each : AllByRecursion IsFrame frames
   pub whole : held.octets ≡ flat_map frame_text frames ++ left.octets

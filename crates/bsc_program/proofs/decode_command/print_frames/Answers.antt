@@ -1,5 +1,5 @@
 use Rattle.std.proofs.Common.{Ok, subst, ◌∙◌}
-use Rattle.ipa_framing.specs.Held.{Takes}
+use Rattle.ipa_framing.specs.Framer.{Takes}
 use Rattle.bsc_program.proofs.Decoding.{prints_more}
 use Rattle.bsc_program.proofs.decode_command.print_frames.Goals as goal
 
