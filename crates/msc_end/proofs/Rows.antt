@@ -4,7 +4,7 @@ use Rattle.std.specs.List.{flat_map}
 use Rattle.octets.specs.Front.{octet_at}
 use Rattle.octets.specs.Walk.{walk}
 use Rattle.dtap_codec.specs.declared.sapi.Sapi.TheVariants.{Zero, Three}
-use Rattle.nsd_filter.specs.Accepted.{accepted, not_of_the_flow}
+use Rattle.nsd_filter.specs.AcceptedList.{accepted_list, not_of_the_flow}
 use Rattle.bssmap_codec.specs.declared.bssap.Bssap.TheVariants.{Transfer}
 use Rattle.bssmap_codec.specs.declared.sccp.Sccp.{Sccp}
 use Rattle.bssmap_codec.specs.declared.sccp.Sccp.TheVariants.{ConnectionRequest, ConnectionConfirm, ConnectionRefused, Released, ReleaseComplete, DataForm1}
@@ -254,23 +254,23 @@ repeated_message_taken : taken_of (switch_after (switch_at Open (initial ∷ [])
 unfolding bssap_reading octet_at management_at transfer_at bssmap_type message_at breaks_off elements_of walk needed_value layer3_at cause_at complete_layer3_at
 repeated_message_taken = refl
 
-repeated_message_accepted_once : accepted 4 (taken_of (switch_after (switch_at Open (initial ∷ [])) ((0x03 ∷ 0x45 ∷ []) ∷ (0x03 ∷ 0x45 ∷ []) ∷ (0x03 ∷ 0x45 ∷ []) ∷ []))) ≡ ((0x05 ∷ 0x24 ∷ 0x71 ∷ []) ∷ (0x03 ∷ 0x05 ∷ []) ∷ [])
+repeated_message_accepted_once : accepted_list 4 (taken_of (switch_after (switch_at Open (initial ∷ [])) ((0x03 ∷ 0x45 ∷ []) ∷ (0x03 ∷ 0x45 ∷ []) ∷ (0x03 ∷ 0x45 ∷ []) ∷ []))) ≡ ((0x05 ∷ 0x24 ∷ 0x71 ∷ []) ∷ (0x03 ∷ 0x05 ∷ []) ∷ [])
 unfolding bssap_reading octet_at management_at transfer_at bssmap_type message_at breaks_off elements_of walk needed_value layer3_at cause_at complete_layer3_at
 repeated_message_accepted_once = refl
 
-numbers_run_on : accepted 4 (taken_of (switch_after (switch_at Open (initial ∷ [])) ((0x03 ∷ 0x45 ∷ []) ∷ (0x03 ∷ 0x8f ∷ []) ∷ []))) ≡ ((0x05 ∷ 0x24 ∷ 0x71 ∷ []) ∷ (0x03 ∷ 0x05 ∷ []) ∷ (0x03 ∷ 0x0f ∷ []) ∷ [])
+numbers_run_on : accepted_list 4 (taken_of (switch_after (switch_at Open (initial ∷ [])) ((0x03 ∷ 0x45 ∷ []) ∷ (0x03 ∷ 0x8f ∷ []) ∷ []))) ≡ ((0x05 ∷ 0x24 ∷ 0x71 ∷ []) ∷ (0x03 ∷ 0x05 ∷ []) ∷ (0x03 ∷ 0x0f ∷ []) ∷ [])
 unfolding bssap_reading octet_at management_at transfer_at bssmap_type message_at breaks_off elements_of walk needed_value layer3_at cause_at complete_layer3_at
 numbers_run_on = refl
 
-nothing_accepted_behind_a_gap : accepted 4 (taken_of (switch_after (switch_at Open (initial ∷ [])) ((0x03 ∷ 0x85 ∷ []) ∷ (0x03 ∷ 0x45 ∷ []) ∷ []))) ≡ ((0x05 ∷ 0x24 ∷ 0x71 ∷ []) ∷ [])
+nothing_accepted_behind_a_gap : accepted_list 4 (taken_of (switch_after (switch_at Open (initial ∷ [])) ((0x03 ∷ 0x85 ∷ []) ∷ (0x03 ∷ 0x45 ∷ []) ∷ []))) ≡ ((0x05 ∷ 0x24 ∷ 0x71 ∷ []) ∷ [])
 unfolding bssap_reading octet_at management_at transfer_at bssmap_type message_at breaks_off elements_of walk needed_value layer3_at cause_at complete_layer3_at
 nothing_accepted_behind_a_gap = refl
 
-numbers_begin_again_after_the_last : accepted 4 (taken_of (switch_after (switch_at Open []) ((0x03 ∷ 0x01 ∷ []) ∷ (0x03 ∷ 0x41 ∷ []) ∷ (0x03 ∷ 0x81 ∷ []) ∷ (0x03 ∷ 0xc1 ∷ []) ∷ (0x03 ∷ 0x01 ∷ []) ∷ (0x03 ∷ 0x41 ∷ []) ∷ []))) ≡ ((0x03 ∷ 0x01 ∷ []) ∷ (0x03 ∷ 0x01 ∷ []) ∷ (0x03 ∷ 0x01 ∷ []) ∷ (0x03 ∷ 0x01 ∷ []) ∷ (0x03 ∷ 0x01 ∷ []) ∷ (0x03 ∷ 0x01 ∷ []) ∷ [])
+numbers_begin_again_after_the_last : accepted_list 4 (taken_of (switch_after (switch_at Open []) ((0x03 ∷ 0x01 ∷ []) ∷ (0x03 ∷ 0x41 ∷ []) ∷ (0x03 ∷ 0x81 ∷ []) ∷ (0x03 ∷ 0xc1 ∷ []) ∷ (0x03 ∷ 0x01 ∷ []) ∷ (0x03 ∷ 0x41 ∷ []) ∷ []))) ≡ ((0x03 ∷ 0x01 ∷ []) ∷ (0x03 ∷ 0x01 ∷ []) ∷ (0x03 ∷ 0x01 ∷ []) ∷ (0x03 ∷ 0x01 ∷ []) ∷ (0x03 ∷ 0x01 ∷ []) ∷ (0x03 ∷ 0x01 ∷ []) ∷ [])
 unfolding bssap_reading octet_at management_at transfer_at bssmap_type message_at breaks_off elements_of walk needed_value layer3_at cause_at complete_layer3_at
 numbers_begin_again_after_the_last = refl
 
-initial_message_without_number : accepted 4 (taken_of (switch_after (switch_at Open ((0x06 ∷ 0x27 ∷ 0x71 ∷ []) ∷ [])) ((0x03 ∷ 0x05 ∷ []) ∷ []))) ≡ ((0x03 ∷ 0x05 ∷ []) ∷ [])
+initial_message_without_number : accepted_list 4 (taken_of (switch_after (switch_at Open ((0x06 ∷ 0x27 ∷ 0x71 ∷ []) ∷ [])) ((0x03 ∷ 0x05 ∷ []) ∷ []))) ≡ ((0x03 ∷ 0x05 ∷ []) ∷ [])
 unfolding bssap_reading octet_at management_at transfer_at bssmap_type message_at breaks_off elements_of walk needed_value layer3_at cause_at complete_layer3_at
 initial_message_without_number = refl
 
