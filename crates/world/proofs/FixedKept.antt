@@ -17,7 +17,7 @@ use Rattle.mobile_end.specs.DataLinkState.{DataLinkState}
 use Rattle.mobile_end.specs.DataLink.{waits}
 use Rattle.mobile_end.specs.Lawful.{is_sendable}
 use Rattle.mobile_end.specs.MobileState.{MobileState}
-use Rattle.mobile_end.specs.Mobile.{connected, new_mobile, queueing, numbering, with_link, link_of, refusal_before_connect, framed, after_frame, after_frame_at, after_acked, after_acked_at, is_acknowledged}
+use Rattle.mobile_end.specs.Mobile.{queueing, numbering, with_link, link_of, refusal_before_connect, framed, after_frame, after_frame_at, after_acked, after_acked_at, is_acknowledged}
 use Rattle.mobile_end.proofs.Lives.{is_sendable-clear}
 use Rattle.mobile_end.proofs.Numbering.{IsNumbered, IsNumbered-new, IsNumbered-queueing, IsNumbered-frame, IsNumbered-acked}
 use Rattle.world.specs.FixedState.{FixedState}
