@@ -1,9 +1,8 @@
 -- Definitions against literal frames, scripts and worlds.
-use Rattle.std.proofs.Common.{◌≡◌, ℕ, List, [], ◌∷◌, ◌++◌, map, Option, Some, None, refl}
+use Rattle.std.proofs.Common.{◌≡◌, ℕ, List, [], ◌∷◌, ◌++◌, map, Some, None, refl}
 use Rattle.std.specs.Prelude.{◌^◌, codes, decimal}
 use Rattle.std.specs.declared.io.ErrorKind.TheVariants as kinds
 use Rattle.hex.proofs.OnLiterals.{hex_on_literals}
-use Rattle.ipa_framing.specs.declared.frame.Frame.{Frame}
 use Rattle.ipa_framing.specs.declared.fault.FrameFault.TheVariants as frame_faults
 use Rattle.rsl_codec.specs.declared.fault.RslFault.TheVariants as faults
 use Rattle.bssmap_codec.specs.declared.fault.InterfaceFault.TheVariants as interface
@@ -15,7 +14,7 @@ use Rattle.bsc_program.specs.declared.block.TheConstants.{MOST_READS}
 use Rattle.bsc_program.specs.declared.decode_command.Stop.TheVariants.{TooLong, Failed}
 use Rattle.bsc_program.specs.declared.failure.Failure.TheVariants.{Unsupported, BadEvent, Memory, Device}
 use Rattle.bsc_program.specs.Decoded.{frame_lines, rest_line}
-use Rattle.bsc_program.specs.Names.{ccm_name, name_of, rsl_fault_name, sccp_fault_name}
+use Rattle.bsc_program.specs.Names.{ccm_name, rsl_fault_name, sccp_fault_name}
 use Rattle.bsc_program.specs.Report.{connection_text, mobile_text, not_taken_line}
 use Rattle.bsc_program.specs.Script.{line_count, lines_text}
 use Rattle.bsc_program.specs.Status.{failure_of, status_of, stop_of}

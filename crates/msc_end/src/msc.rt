@@ -1,5 +1,6 @@
 ghost use Rattle.std.specs.Prelude.{◌≡◌, ◌≤◌, ◌+◌, ◌-◌, ◌∷◌, [], ◌++◌, length, Some, None, OnOk, OnErr, IfOk, MatchResult, option_map, option_to_list, slice_set};
 ghost use Rattle.octets.specs.Refusal.{RefusesBy};
+ghost use Rattle.octets.specs.declared.limits.TheConstants.{MESSAGE_LIMIT};
 ghost use Rattle.dtap_codec.specs.Number.{count_of};
 ghost use Rattle.nsd_filter.specs.AcceptedList.{accepted_list, not_of_the_flow};
 ghost use Rattle.msc_end.specs.declared.connection.Stage.TheVariants.{Clearing};
@@ -136,7 +137,7 @@ impl MscEnd {
         out: &mut Vec<Sccp>,
     ) -> Result<(), MscFault>
         requires some { 1 ≤ length message.now }
-        requires few { length message.now ≤ 251 }
+        requires few { length message.now ≤ MESSAGE_LIMIT }
         ensures ok { OnOk result (out.new.items ≡ out.old.items ++ data_forms_on (connection_of self.now.connections conn) (Bssap.Transfer (dlci_for sapi) message.now)) }
         ensures err { OnErr result (out.new.items ≡ out.old.items) }
         ensures refused { RefusesBy OutOfMemory result (send_fault (connection_of self.now.connections conn)) }

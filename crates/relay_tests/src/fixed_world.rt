@@ -1,8 +1,8 @@
-use world::{World, read_line};
 use dtap_codec::Modulus;
 use octets::Octets;
 use std::process::Abort;
 use std::test::Fail;
+use world::{World, read_line};
 
 /// Asserts that a list of messages is there and as expected.
 fn are(rt: &(impl Abort + AllocGlobal), found: Option<&[Octets]>, expected: &[&[u8]]) {
@@ -36,6 +36,10 @@ fn events_act_one_by_one(rt: HostRuntime) -> Result<(), Fail> {
     assert!(rt; world.not_taken() == 4);
     are(&rt, world.sent(1), &[&[0x05, 0x24, 0x71], &[0x03, 0x05]]);
     are(&rt, world.taken(1), &[&[0x05, 0x24, 0x71], &[0x03, 0x45]]);
-    are(&rt, world.accepted(1), &[&[0x05, 0x24, 0x71], &[0x03, 0x05]]);
+    are(
+        &rt,
+        world.accepted(1),
+        &[&[0x05, 0x24, 0x71], &[0x03, 0x05]],
+    );
     Ok(())
 }

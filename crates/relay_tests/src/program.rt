@@ -18,7 +18,8 @@ const SIX_MESSAGES: &[u8] = b"upper 1 0 0301\nairup 1 0\nairack 1 0\nswitchtakes
     upper 1 0 0301\nairup 1 0\nairack 1 0\nswitchtakes\nupper 1 0 0301\nairup 1 0\nairack 1 0\nswitchtakes\n\
     upper 1 0 0301\nairup 1 0\nairack 1 0\nswitchtakes\n";
 
-const SIX_REPORTED: &str = "mobile 1 sent 6\n0301\n0301\n0301\n0301\n0301\n0301\nmobile 1 received 0\n\
+const SIX_REPORTED: &str =
+    "mobile 1 sent 6\n0301\n0301\n0301\n0301\n0301\n0301\nmobile 1 received 0\n\
     conn 1 taken 6\n0301\n0341\n0381\n03c1\n0301\n0341\n\
     conn 1 accepted 6\n0301\n0301\n0301\n0301\n0301\n0301\nconn 1 unnumbered 0\nevents not taken 0\n";
 
@@ -29,7 +30,8 @@ const FRAMES: &[u8] = &[
     0x00, 0xfd, 0x00, 0x00, 0xff, 0x00, 0x00, 0x01, 0x00, 0x00, 0x00, 0x00, 0x01, 0xff,
 ];
 
-const FRAMES_NAMED: &str = "fe PING\nfe CCM\n00 DATA INDICATION\nfd RLC\nfd fault A1\nff OML\n01 unknown\n\
+const FRAMES_NAMED: &str =
+    "fe PING\nfe CCM\n00 DATA INDICATION\nfd RLC\nfd fault A1\nff OML\n01 unknown\n\
     00 fault S1\nrest 3\n";
 
 /// A reader that gives its octets some at a time, and at their end gives none or fails.
@@ -78,7 +80,11 @@ impl Write for Full {
 /// Asserts the status, the output and the errors of `replay` or `decode` over a row's input, in pieces of this size.
 fn answers(rt: &(impl Abort + AllocGlobal), replays: bool, row: Row<'_>, size: usize, fails: bool) {
     let (octets, wanted, text, told) = row;
-    let mut input = Pieces { octets, size, fails };
+    let mut input = Pieces {
+        octets,
+        size,
+        fails,
+    };
     let mut output = Vec::new(rt.alloc());
     let mut errors = Vec::new(rt.alloc());
     let status = if replays {
@@ -105,7 +111,12 @@ fn scripts_are_reported_however_they_come(rt: HostRuntime) {
         ),
         (b"airup 1", 2, "", "bsc: line 1: bad event\n"),
         (b"handle\n\nairup 1\n", 2, "", "bsc: line 2: bad event\n"),
-        (b"handle\nhandle\nupper \xff 0 0305\n", 2, "", "bsc: line 3: bad event\n"),
+        (
+            b"handle\nhandle\nupper \xff 0 0305\n",
+            2,
+            "",
+            "bsc: line 3: bad event\n",
+        ),
     ];
     for row in rows {
         for size in [1, 7, 65536] {
@@ -119,7 +130,12 @@ fn frames_are_named_however_they_come(rt: HostRuntime) {
     let rows: [Row<'_>; 3] = [
         (FRAMES, 0, FRAMES_NAMED, ""),
         (b"", 0, "", ""),
-        (&[0x00, 0x01, 0xfe, 0x01, 0x08, 0x01, 0x00], 3, "fe PONG\nfault F1\n", ""),
+        (
+            &[0x00, 0x01, 0xfe, 0x01, 0x08, 0x01, 0x00],
+            3,
+            "fe PONG\nfault F1\n",
+            "",
+        ),
     ];
     for row in rows {
         for size in [1, 7, 65536] {
@@ -133,12 +149,25 @@ fn a_device_that_fails_in_mid_stream_is_told(rt: HostRuntime) {
     let failed = "bsc: device failed\n";
     // what was read is printed before the break, and a bad line before it comes first
     answers(&rt, true, (THREE_MESSAGES, 3, "", failed), 3, true);
-    answers(&rt, true, (b"bad\nhandle\n", 2, "", "bsc: line 1: bad event\n"), 3, true);
+    answers(
+        &rt,
+        true,
+        (b"bad\nhandle\n", 2, "", "bsc: line 1: bad event\n"),
+        3,
+        true,
+    );
     answers(&rt, false, (&FRAMES[..5], 3, "fe PING\n", failed), 3, true);
     for fails in [true, false] {
         let mut full = Full { room: 10, fails };
         let mut errors = Vec::new(rt.alloc());
-        let status = replay(rt.alloc(), None, None, &mut &*THREE_MESSAGES, &mut full, &mut errors);
+        let status = replay(
+            rt.alloc(),
+            None,
+            None,
+            &mut &*THREE_MESSAGES,
+            &mut full,
+            &mut errors,
+        );
         assert!(rt; status == 3 && errors.as_slice() == failed.as_bytes());
         let mut full = Full { room: 10, fails };
         errors.clear();

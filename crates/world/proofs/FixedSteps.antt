@@ -1,17 +1,17 @@
 -- The fixed world over any list of events.
 use Rattle.std.proofs.Common.{◌≡◌, ℕ, Bool, true, false, Option, Some, None, List, [], ◌∷◌, ◌++◌, refl, sym, ap, ◌∙◌, append_assoc, unwrap_or, option_to_list, option_map, cond, nat_eq, map}
 use Rattle.std.proofs.lemmas.List.{map-append}
-use Rattle.dtap_codec.specs.declared.sapi.Sapi.TheVariants.{Zero, Three}
+use Rattle.dtap_codec.specs.declared.sapi.Sapi.TheVariants.{Zero}
 use Rattle.world.specs.declared.event.Event.{Event}
 use Rattle.world.specs.declared.event.Event.TheVariants.{Upper, AirUp, AirAck, SwitchTakes}
 use Rattle.world.specs.declared.fixed.TheConstants.{FIXED_MOBILE}
 use Rattle.world.specs.declared.world.Scene.{Scene}
 use Rattle.world.specs.declared.world.Scene.TheVariants.{Fixed}
 use Rattle.world.specs.FixedState.{FixedState}
-use Rattle.world.specs.Fixed.{fixed_after, where_fixed, after_upper, after_air_up, after_air_ack, frame_up}
+use Rattle.world.specs.Fixed.{fixed_after, after_upper, after_air_up, after_air_ack, frame_up}
 use Rattle.world.specs.Queues.{Queue, Queued, outbox, inbox, message, in_switch_outbox, fixed_messages_put, fixed_messages_taken, messages_put, messages_taken, all_messages_put, all_messages_taken}
 use Rattle.world.specs.World.{actors_after}
-use Rattle.world.proofs.FixedKept.{IsFixedKept, FixedStep, FixedStep-none, upper-step, air_up-step, air_ack-step, switch_takes-step}
+use Rattle.world.proofs.FixedKept.{FixedStep, FixedStep-none, upper-step, air_up-step, air_ack-step, switch_takes-step}
 
 -- an event of another mobile does nothing
 where_fixed-step : (b : Bool) (world : FixedState) (next : Option FixedState) → FixedStep world (unwrap_or next world) [] [] → FixedStep world (unwrap_or (cond b next None) world) [] []

@@ -1,5 +1,5 @@
 -- Which words are octets in hexadecimal digits.
-use Rattle.std.proofs.Common.{◌≡◌, ℕ, ◌%◌, Bool, true, false, Option, Some, None, Result, Ok, Err, List, [], ◌∷◌, length, refl, sym, ap, ◌∙◌, inl, inr, is_some, nat_eq}
+use Rattle.std.proofs.Common.{◌≡◌, ℕ, ◌%◌, true, false, None, Result, Ok, Err, List, length, refl, sym, ap, ◌∙◌, inl, inr, is_some, nat_eq}
 use Rattle.std.specs.List.{list_all}
 use Rattle.std.specs.Result.{result_ok}
 use Rattle.std.proofs.lemmas.Bool.{cases_Bool, cond-false, eqb-true}

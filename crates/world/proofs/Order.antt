@@ -1,5 +1,5 @@
 -- The order of messages in every world that events have made from a beginning.
-use Rattle.std.proofs.Common.{◌≡◌, ℕ, ◌≤◌, Bool, true, false, Option, Some, None, IsSome, List, [], ◌∷◌, ◌++◌, length, take, drop, refl, sym, ap, ◌∙◌, subst, append_assoc, nat_eq}
+use Rattle.std.proofs.Common.{◌≡◌, ℕ, ◌≤◌, Option, Some, IsSome, List, [], ◌∷◌, ◌++◌, length, take, drop, refl, sym, ap, ◌∙◌, subst, append_assoc, nat_eq}
 use Rattle.std.proofs.lemmas.Bool.{cond-true}
 use Rattle.std.proofs.lemmas.List.{take-append-drop}
 use Rattle.std.proofs.lemmas.Option.{cond_some}
@@ -17,12 +17,11 @@ use Rattle.world.specs.FixedState.{FixedState}
 use Rattle.world.specs.Fixed.{fixed_beginning}
 use Rattle.world.specs.WorldState.{WorldState}
 use Rattle.world.specs.World.{fixed_world, after, after_all, actors_after}
-use Rattle.world.specs.Views.{accepted_list, progress_in}
-use Rattle.world.specs.Queues.{Queue, outbox, in_switch_outbox, all_messages_put, all_messages_taken, messages_left}
-use Rattle.world.specs.Headline.{Begins, IsBeginningOfSent, IsInOrder}
+use Rattle.world.specs.Queues.{outbox, in_switch_outbox}
+use Rattle.world.specs.Headline.{Begins, IsInOrder}
 use Rattle.world.specs.Headline.Begins.{fixed}
 use Rattle.world.proofs.FixedKept.{IsFixedKept, IsFixedKept-beginning}
-use Rattle.world.proofs.FixedSteps.{fixed_next, fixed_all, all_fixed_messages_put, all_fixed_messages_taken, fixed-steps, actors_after-fixed, in_switch_outbox-append, all_messages_put-fixed, all_messages_taken-fixed}
+use Rattle.world.proofs.FixedSteps.{fixed_next, fixed_all, all_fixed_messages_taken, fixed-steps, actors_after-fixed, in_switch_outbox-append, all_messages_put-fixed, all_messages_taken-fixed}
 
 -- events after events
 pub after_all-append : (world : WorldState) (before events : List Event) → after_all world (before ++ events) ≡ after_all (after_all world before) events

@@ -1,19 +1,15 @@
 -- What is read from a line's words is the event whose text they are.
-use Rattle.std.proofs.Common.{◌≡◌, ℕ, Bool, true, false, Option, Some, None, List, [], ◌∷◌, ◌++◌, refl, sym, ap, ◌∙◌, subst, find, inl, inr}
+use Rattle.std.proofs.Common.{◌≡◌, ℕ, Bool, true, Option, Some, None, List, [], ◌∷◌, refl, sym, ap, ◌∙◌, subst, find, inl, inr}
 use Rattle.std.proofs.lemmas.Bool.{cases_Bool, cond-true, cond-false}
 use Rattle.std.proofs.lemmas.Slice.Eq.{bytes_eq-Decides}
 use Rattle.std.specs.Str.{bytes_eq}
-use Rattle.dtap_codec.specs.declared.sapi.Sapi.{Sapi}
-use Rattle.world.specs.declared.event.Event.{Event}
-use Rattle.world.specs.declared.event.Event.TheVariants.{Upper, Connect, AirUp, AirAck, AirDown, AirDownLost, Move, Touch, Arrive, Return, BaseTakes, BasePush, Handle, SwitchTakes, SwitchDoes, Tick, BaseDown, Report}
-use Rattle.world.specs.declared.event.SwitchAction.TheVariants.{Assign, Clear, Dtap}
 use Rattle.world.specs.declared.script.Kind.{Kind}
 use Rattle.world.specs.declared.script.Kind.TheVariants as kind
 use Rattle.world.specs.declared.script.Action.{Action}
 use Rattle.world.specs.declared.script.Action.TheVariants as action
-use Rattle.world.specs.Words.{value_at, and_rest, end_of, mobile_in, station_in, source_in, any_number_in, sapi_in, answer_in, octets_in}
-use Rattle.world.specs.Script.{Word, keyword, mobile, station, source, any_number, sapi, answer, octets, IsWord, AreWords, words_of, name_of, name_of_action}
-use Rattle.world.specs.ScriptReading.{◌>>=◌, last_at, kind_in, action_in, all_kinds, mobile_and_sapi_in, mobile_at, mobile_and_sapi_at, upper_at, connect_at, report_at, dtap_at, action_at, switch_does_at, event_at, line_at}
+use Rattle.world.specs.Words.{value_at, and_rest, end_of}
+use Rattle.world.specs.Script.{name_of, name_of_action}
+use Rattle.world.specs.ScriptReading.{◌>>=◌, last_at, kind_in, action_in, all_kinds}
 
 -- ---- steps, in both directions
 

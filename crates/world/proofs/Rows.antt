@@ -9,8 +9,7 @@ use Rattle.world.specs.declared.event.Event.TheVariants.{Upper, Connect, AirUp, 
 use Rattle.world.specs.declared.event.SwitchAction.TheVariants.{Assign, Clear, Dtap}
 use Rattle.world.specs.declared.fixed.TheConstants.{FIXED_CONNECTION, FIXED_MOBILE}
 use Rattle.world.specs.WordsLeft.{is_space}
-use Rattle.world.specs.Words.{number_in, mobile_in, station_in, source_in, any_number_in, sapi_in, answer_in, octets_in}
-use Rattle.world.specs.Script.{name_of, words_of}
+use Rattle.world.specs.Words.{mobile_in, station_in, source_in, any_number_in, sapi_in, answer_in, octets_in}
 use Rattle.world.specs.ScriptReading.{action_in, connect_at, dtap_at, event_at, kind_in, line_at, report_at, switch_does_at, upper_at}
 use Rattle.world.specs.Views.{accepted_list, progress_in, received_list, sent_list, taken_list, unnumbered_list}
 use Rattle.world.specs.World.{after_all, fixed_world}

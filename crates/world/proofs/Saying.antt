@@ -1,5 +1,5 @@
 -- The words of a line say the event that is read from them, and no other.
-use Rattle.std.proofs.Common.{◌≡◌, ℕ, Bool, true, false, Option, Some, None, List, [], ◌∷◌, ◌++◌, refl, sym, ap, ◌∙◌, subst}
+use Rattle.std.proofs.Common.{◌≡◌, ℕ, Option, Some, List, [], ◌∷◌, refl, sym, ap, ◌∙◌, subst}
 use Rattle.dtap_codec.specs.declared.sapi.Sapi.{Sapi}
 use Rattle.world.specs.declared.event.Event.{Event}
 use Rattle.world.specs.declared.event.Event.TheVariants.{Upper, Connect, AirUp, AirAck, AirDown, AirDownLost, Move, Touch, Arrive, Return, BaseTakes, BasePush, Handle, SwitchTakes, SwitchDoes, Tick, BaseDown, Report}
@@ -8,9 +8,9 @@ use Rattle.world.specs.declared.script.Kind.{Kind}
 use Rattle.world.specs.declared.script.Kind.TheVariants as kind
 use Rattle.world.specs.declared.script.Action.{Action}
 use Rattle.world.specs.declared.script.Action.TheVariants as action
-use Rattle.world.specs.Words.{value_at, and_rest, end_of, mobile_in, station_in, source_in, any_number_in, sapi_in, answer_in, octets_in}
-use Rattle.world.specs.Script.{Word, keyword, mobile, station, source, any_number, sapi, answer, octets, IsWord, AreWords, words_of, name_of, name_of_action}
-use Rattle.world.specs.ScriptReading.{◌>>=◌, last_at, kind_in, action_in, mobile_and_sapi_in, mobile_at, mobile_and_sapi_at, upper_at, connect_at, report_at, dtap_at, action_at, switch_does_at, event_at, line_at}
+use Rattle.world.specs.Words.{value_at, end_of, mobile_in, station_in, source_in, any_number_in, sapi_in, answer_in, octets_in}
+use Rattle.world.specs.Script.{AreWords, words_of, name_of, name_of_action}
+use Rattle.world.specs.ScriptReading.{◌>>=◌, last_at, kind_in, action_in, mobile_and_sapi_in, mobile_and_sapi_at, upper_at, connect_at, report_at, dtap_at, action_at, switch_does_at, event_at, line_at}
 use Rattle.world.proofs.Reading.{chain_some, chain_again, value_at-some, value_at-again, end_of-some, last_at-some, last_at-again, kind_in-some, action_in-some, kind_in-name, action_in-name}
 
 -- ---- what is read is what the words say

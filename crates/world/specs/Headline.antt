@@ -4,7 +4,7 @@ use Rattle.std.specs.Prelude.{◌≡◌, ℕ, ◌≤◌, Option, Some, IsSome, L
 use Rattle.octets.specs.Lists.{IsPrefix}
 use Rattle.world.specs.declared.event.Event.{Event}
 use Rattle.world.specs.declared.world.Scene.{Scene}
-use Rattle.world.specs.Queues.{Queue, Queued, outbox, all_messages_put, all_messages_taken, messages_left, IsTakenBySwitch}
+use Rattle.world.specs.Queues.{Queue, outbox, all_messages_put, all_messages_taken, messages_left, IsTakenBySwitch}
 use Rattle.world.specs.Views.{sent_list, accepted_list, progress_in, opener_in}
 use Rattle.world.specs.World.{fixed_world}
 use Rattle.world.specs.WorldState.{WorldState}

@@ -1,7 +1,6 @@
-use Rattle.std.proofs.Common.{arith, rules, take, subst}
-use Rattle.std.proofs.lemmas.Result.{on_ok_weaker}
-use Rattle.bsc_program.proofs.Ends.{error_as, on_ok}
-use Rattle.bsc_program.proofs.Decoding.{decodes_all, decodes_long, decodes_more, decodes_none, feeds_on}
+use Rattle.std.proofs.Common.{rules, subst}
+use Rattle.bsc_program.proofs.Ends.{error_as}
+use Rattle.bsc_program.proofs.Decoding.{decodes_all, decodes_long, decodes_more, decodes_none}
 use Rattle.bsc_program.specs.Block.{ReadsBlock}
 use Rattle.bsc_program.specs.declared.decode_command.Stop.TheVariants.{TooLong}
 use Rattle.bsc_program.proofs.decode_command.print_stream.Goals as goal

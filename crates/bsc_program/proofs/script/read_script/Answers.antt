@@ -1,8 +1,8 @@
-use Rattle.std.proofs.Common.{arith, rules, take, refl, subst}
+use Rattle.std.proofs.Common.{rules, subst}
 use Rattle.std.proofs.lemmas.Result.{IfOk-weaker}
 use Rattle.bsc_program.specs.Block.{ReadsBlock}
-use Rattle.bsc_program.specs.declared.failure.Failure.TheVariants.{BadEvent, Unsupported}
-use Rattle.bsc_program.proofs.Ends.{error_as, no_device, on_ok}
+use Rattle.bsc_program.specs.declared.failure.Failure.TheVariants.{BadEvent}
+use Rattle.bsc_program.proofs.Ends.{error_as}
 use Rattle.bsc_program.proofs.Scripts.{script_all, script_bad_at, script_bad_last, script_more, script_none}
 use Rattle.bsc_program.proofs.script.read_script.Goals as goal
 

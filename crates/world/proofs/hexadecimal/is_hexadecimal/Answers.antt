@@ -1,4 +1,4 @@
-use Rattle.std.proofs.Common.{◌≡◌, ℕ, ◌%◌, Bool, true, false, List, length, nat_eq, Option, None, sym, ap, ◌∙◌, arith, rules, is_some}
+use Rattle.std.proofs.Common.{◌≡◌, ℕ, ◌%◌, true, false, List, length, nat_eq, sym, ◌∙◌, rules}
 use Rattle.hex.specs.Hex.{is_hex_digit}
 use Rattle.std.specs.List.{list_all}
 use Rattle.world.proofs.HexadecimalLemmas.{is_some-octets_in}

@@ -1,4 +1,4 @@
-use Rattle.std.proofs.Common.{◌≡◌, ◌⊎◌, ℕ, Result, Ok, Err, Option, Some, None, IsSome, IfOk, List, refl, sym, ap, ◌∙◌, subst, inl, inr, rules}
+use Rattle.std.proofs.Common.{◌≡◌, ◌⊎◌, ℕ, Result, Ok, Err, Option, Some, None, IsSome, IfOk, List, refl, subst, inl, inr}
 use Rattle.std.specs.List.{slice_split}
 use Rattle.world.specs.declared.event.Event.{Event}
 use Rattle.world.specs.declared.line_fault.LineFault.{LineFault}

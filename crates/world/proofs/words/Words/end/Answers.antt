@@ -1,6 +1,5 @@
 use Rattle.std.proofs.Common.{◌≡◌, option_map, sym, ap, ◌∙◌}
 use Rattle.world.specs.WordsLeft.{is_space, words_left}
-use Rattle.world.specs.Words.{end_of}
 use Rattle.world.proofs.Splitting.{slice_split-some, end_of-some}
 use Rattle.world.proofs.words.Words.end.Goals as goal
 

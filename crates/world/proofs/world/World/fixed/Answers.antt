@@ -1,7 +1,5 @@
-use Rattle.std.proofs.Common.{sym, subst, rules}
 use Rattle.dtap_codec.specs.Number.{count_of}
 use Rattle.dtap_codec.proofs.Numbers.{count_of-two}
-use Rattle.world.specs.Headline.{Begins}
 use Rattle.world.specs.Headline.Begins.{fixed}
 use Rattle.world.proofs.world.World.fixed.Goals as goal
 

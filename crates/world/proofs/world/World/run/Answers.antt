@@ -1,6 +1,5 @@
-use Rattle.std.proofs.Common.{◌≡◌, List, ◌++◌, sym, ap, ◌∙◌, subst, arith}
+use Rattle.std.proofs.Common.{◌≡◌, ◌++◌, sym, ap, ◌∙◌, subst, arith}
 use Rattle.std.proofs.lemmas.Grind.{common_steps}
-use Rattle.world.specs.declared.event.Event.{Event}
 use Rattle.world.specs.WorldState.{WorldState}
 use Rattle.world.specs.World.{after_all}
 use Rattle.world.specs.Headline.{IsInOrder}
