@@ -13,8 +13,8 @@ mod hold;
 #[cfg(test)]
 mod mobile;
 #[cfg(test)]
-mod msc_end;
-#[cfg(test)]
-mod nsd_filter;
-#[cfg(test)]
 mod program;
+#[cfg(test)]
+mod reception;
+#[cfg(test)]
+mod switch;

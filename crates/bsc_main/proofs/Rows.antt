@@ -1,0 +1,20 @@
+-- Definitions against literal values. Words of the command line are tried on the built program, by tests/statuses: the model
+-- that `clap` brings with it doesn't compute.
+use Rattle.std.specs.Prelude.{◌≡◌, None, Some, [], codes}
+use Rattle.std.proofs.Common.{refl}
+use Rattle.bsc_main.specs.declared.words.Task.TheVariants.{Decode, Replay}
+use Rattle.bsc_main.specs.declared.words.TaskFault.TheVariants.{Words, Memory}
+use Rattle.bsc_main.specs.CommandLine.{IsTask}
+use Rattle.bsc_main.specs.Status.{status_of_words}
+
+wrong_words : status_of_words Words ≡ 2
+wrong_words = refl
+
+no_memory : status_of_words Memory ≡ 3
+no_memory = refl
+
+decode : IsTask Decode (Some (codes "decode", []))
+decode = refl
+
+replay_without_options : IsTask (Replay None None) (Some (codes "replay", []))
+replay_without_options = (refl, refl, refl)
