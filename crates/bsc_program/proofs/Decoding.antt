@@ -1,5 +1,5 @@
 -- What is printed of a stream so far, and how a frame, a read and the end of the input carry it on.
-use Rattle.std.proofs.Common.{◌≡◌, ℕ, ◌<◌, ◌≤◌, List, [], ◌∷◌, ◌++◌, length, Option, Some, None, refl, sym, ap, subst, ◌∙◌, append_assoc, arith, inl, inr, false, Result, Err}
+use Rattle.std.proofs.Common.{◌≡◌, ℕ, ◌<◌, ◌≤◌, List, [], ◌∷◌, ◌++◌, length, Option, Some, None, refl, sym, ap, subst, ◌∙◌, append_assoc, arith, inl, inr, false}
 use Rattle.std.specs.Prelude.{codes, decimal}
 use Rattle.std.specs.List.{flat_map, AllByRecursion}
 use Rattle.std.specs.Io.KnownBytes.{Appends, Consumes, IsAtEnd, Keeps}
@@ -9,11 +9,7 @@ use Rattle.std.proofs.lemmas.Grind.{flat_map-append}
 use Rattle.ipa_framing.specs.declared.frame.Frame.{Frame}
 use Rattle.bsc_program.proofs.Pieces.{all_both}
 use Rattle.ipa_framing.specs.Frame.{IsFrame, IsPartial, IsTooLong, Splits, frame_text}
-use Rattle.ipa_framing.specs.Framer.{FramerState, BeginsWith, Feeds, new_framer}
-use Rattle.ipa_framing.specs.declared.fault.FrameFault.{FrameFault}
-use Rattle.ipa_framing.specs.declared.fault.FrameFault.TheVariants as faults
-use Rattle.bsc_program.specs.declared.decode_command.Stop.TheVariants.{TooLong}
-use Rattle.bsc_program.specs.Status.{stop_of}
+use Rattle.ipa_framing.specs.Framer.{FramerState, BeginsWith, new_framer}
 use Rattle.bsc_program.specs.Decoded.{Decodes, IsDecoded, PrintsFrames, RefusesWith, frame_line, frame_lines, rest_line}
 
 -- ---- frames one behind the other
@@ -140,9 +136,3 @@ decodes_long start now later old mid new held fed left piece some read feeds pri
     refused_by start later left old new
     (reads_more start now later old mid new held fed left piece some.0 read (ap (λ (h : FramerState). h.octets) feeds.1) prints.0)
     prints.1
-
--- while no frame was met as too long, none is refused so by feeding
-pub feeds_on : (X : Type 0) (P : Type 0) (held fed : FramerState) (piece : List ℕ) (fault : FrameFault) → held.failed ≡ false → Feeds held piece (let refused : Result X FrameFault = Err fault in refused) fed
-    → TooLong ≡ stop_of fault → P
-feeds_on X P held fed piece faults.TooLong good feeds is = absurd (cc (good, feeds.0))
-feeds_on X P held fed piece faults.Memory good feeds is = absurd (cc is)

@@ -1,12 +1,8 @@
 -- What holds of a success that stands anyway, and what is said of an error.
-use Rattle.std.proofs.Common.{◌≡◌, Result, Ok, Err, OnOk, ap, subst}
+use Rattle.std.proofs.Common.{◌≡◌, Result, Ok, Err, ap, subst}
 use Rattle.bsc_program.specs.Status.{status_of}
 use Rattle.bsc_program.specs.declared.failure.Failure.{Failure}
 use Rattle.std.specs.Result.{IsErrAnd}
-
-pub on_ok : {A E P : Type 0} (r : Result A E) → P → OnOk r P
-on_ok (Ok x) p = p
-on_ok (Err e) p = tt
 
 same_error : {X E : Type 0} (a b : E) → (let x : Result X E = Err a in x) ≡ Err b → a ≡ b
 same_error a b e = cc

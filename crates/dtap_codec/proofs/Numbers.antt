@@ -43,12 +43,6 @@ with_numbers_from-append m k (x ∷ xs) ys =
     let place : k + 1 + length xs ≡ k + length (x ∷ xs) = omega arith in
     ap (λ (more : List (List ℕ)). with_number (k % m) x ∷ more) (with_numbers_from-append m (k + 1) xs ys ∙ ap (λ (n : ℕ). with_numbers_from m (k + 1) xs ++ with_numbers_from m n ys) place)
 
--- the numbers with one more message
-pub with_numbers_from-push : (m : ℕ) (xs : List (List ℕ)) (y : List ℕ) → with_numbers_from m 0 (xs ++ y ∷ []) ≡ with_numbers_from m 0 xs ++ with_number (length xs % m) y ∷ []
-with_numbers_from-push m xs y =
-    let place : 0 + length xs ≡ length xs = omega arith in
-    with_numbers_from-append m 0 xs (y ∷ []) ∙ ap (λ (n : ℕ). with_numbers_from m 0 xs ++ with_number (n % m) y ∷ []) place
-
 -- one more message, cleared and of the flow
 pub AreClear-push : (xs : List (List ℕ)) (y : List ℕ) → AreClear xs → IsClear y → AreClear (xs ++ y ∷ [])
 AreClear-push [] y clear one = (one, tt)

@@ -19,9 +19,6 @@ pub chosen : (s : Settings) (reports : List Report) (many : ℕ) (d : Decision) 
 chosen s reports many Stay wanted h = h.0
 chosen s reports many (Move number) wanted h = (h.0, h.1, h.2)
 
-pub none_yet : (s : Settings) (reports : List Report) → Wants s reports 0 Stay (bound s reports)
-none_yet s reports = (λ place other. absurd (omega (arith, other.there)), refl)
-
 -- a place among one more is among the others or the last
 before_or_last : (s : Settings) (many place : ℕ) → IsOther s (many + 1) place → IsOther s many place ⊎ (place ≡ many)
 before_or_last s many place h =
