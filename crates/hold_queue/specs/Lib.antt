@@ -1,2 +1,3 @@
+pub mod ChainState
 pub mod HoldState
 pub mod Refusal
