@@ -7,20 +7,11 @@ use crate::LinkFault;
 use dtap_codec::Sapi;
 use octets::{Memory, Octets};
 use rsl_codec::{
-    ActivationAck, ChanNo, Data, Establishment, FIRST_SDCCH, FrameNumber, LinkId, Rsl,
+    ActivationAck, ChanNo, Data, Establishment, FrameNumber, LinkId, Rsl,
 };
 use std::alloc::Global;
 use std::collections::VecDeque;
 use std::marker::Model;
-
-/// The link identifier of SAPI 0 on the main signalling link (TS 48.058 clause 9.3.2).
-const MAIN_LINK_SAPI_0: u8 = 0x00;
-
-/// The link identifier of SAPI 3 on the main signalling link.
-const MAIN_LINK_SAPI_3: u8 = 0x03;
-
-/// The link identifier of SAPI 3 on the SACCH.
-const SACCH_SAPI_3: u8 = 0x43;
 
 /// A base station's end of its link to the controller: which channels are active, and the messages that it made and that
 /// weren't given out yet, in order.
@@ -188,8 +179,7 @@ fn link_on(channel: ChanNo, sapi: Sapi) -> LinkId
     ensures { result ≡ link_on channel sapi }
 {
     match sapi {
-        Sapi::Zero => LinkId::read(MAIN_LINK_SAPI_0),
-        Sapi::Three if channel.octet() < FIRST_SDCCH => LinkId::read(SACCH_SAPI_3),
-        Sapi::Three => LinkId::read(MAIN_LINK_SAPI_3),
+        Sapi::Zero => LinkId::signalling(),
+        Sapi::Three => LinkId::short_messages(channel),
     }
 }

@@ -5,7 +5,8 @@ use Rattle.octets.specs.declared.limits.TheConstants.{MESSAGE_LIMIT}
 use Rattle.dtap_codec.specs.declared.message.TheConstants.{MOBILITY_MANAGEMENT, RADIO_RESOURCE, SHORT_MESSAGES}
 use Rattle.dtap_codec.specs.declared.sapi.Sapi.{Sapi}
 use Rattle.dtap_codec.specs.declared.sapi.Sapi.TheVariants.{Zero, Three}
-use Rattle.mobile_end.specs.declared.lawful.TheConstants.{INITIAL_LIMIT, NUMBER_BIT}
+use Rattle.mobile_end.specs.declared.lawful.TheConstants.{NUMBER_BIT}
+use Rattle.octets.specs.declared.limits.TheConstants.{INITIAL_LIMIT}
 
 -- of a protocol that numbers its messages, one has both octets of its header, and bits 8 and 7 of the second are clear
 abbrev pub has_clear_number : List ℕ → Bool

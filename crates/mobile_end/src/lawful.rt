@@ -5,11 +5,7 @@ use dtap_codec::{
     CALL_CONTROL, MOBILITY_MANAGEMENT, RADIO_RESOURCE, SHORT_MESSAGES, SUPPLEMENTARY_SERVICES,
     Sapi, pd_of,
 };
-use octets::MESSAGE_LIMIT;
-
-/// The octets that an initial message has at most: with the cell and its headers they fill the user data of an SCCP
-/// connection request (Q.713).
-pub const INITIAL_LIMIT: usize = 113;
+use octets::{INITIAL_LIMIT, MESSAGE_LIMIT};
 
 /// Bit 7 of the second octet, the lower one of the two of the send sequence number: below it both are clear.
 const NUMBER_BIT: u8 = 0x40;

@@ -3,7 +3,6 @@
 #![tactic(auto)]
 
 pub use fault::MobileFault;
-pub use lawful::INITIAL_LIMIT;
 pub use laws::{numbers_run_on, repeats_at_most_one};
 pub use mobile_end::{MobileEnd, Place, Stage};
 

@@ -1,7 +1,7 @@
 //! What every crate of the relay stands on: the octets of a message, and the fault of calls that can only want memory.
 #![tactic(auto)]
 
-pub use limits::{LENGTH_LIMIT, MESSAGE_LIMIT};
+pub use limits::{INITIAL_LIMIT, LENGTH_LIMIT, MESSAGE_LIMIT};
 pub use memory::Memory;
 pub use octets::Octets;
 

@@ -1,5 +1,6 @@
 pub mod ChannelNumber
 pub mod Fields
+pub mod LinkIdentifier
 pub mod Rsl
 pub mod RslReading
 pub mod RslText

@@ -7,6 +7,9 @@ use std::marker::Model;
 /// The first octet of a TCH's number. From it on, the numbers of TCH/F, TCH/H, SDCCH/4 and SDCCH/8 stand without a gap.
 pub const FIRST_TCH: u8 = 0x08;
 
+/// The first octet of a TCH/H's number.
+pub const FIRST_TCH_H: u8 = 0x10;
+
 /// The first octet of an SDCCH's number.
 pub const FIRST_SDCCH: u8 = 0x20;
 

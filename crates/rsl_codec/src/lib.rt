@@ -2,7 +2,7 @@
 //! and written to octets.
 #![tactic(auto)]
 
-pub use channel_number::{ChanNo, FIRST_SDCCH};
+pub use channel_number::{ChanNo, FIRST_SDCCH, FIRST_TCH_H};
 pub use common_channel::{ChannelRequired, ImmediateAssignment};
 pub use dedicated_channel::{Activation, ActivationAck, Detection, Failure, MeasurementResult};
 pub use fault::RslFault;
@@ -11,8 +11,9 @@ pub use radio_link::{Data, ErrorReport, Establishment, Link, Release};
 pub use rsl::{Rsl, rsl_text_is_read};
 pub use rsl_type::RslType;
 pub use values::{
-    AccessDelay, ActivationType, BsPower, Cause, ChannelMode, FrameNumber, HandoverReference,
-    L1Information, MeasurementNumber, ReleaseMode, RequestReference, RlmCause, UplinkMeasurements,
+    ASYNCHRONOUS_HANDOVER, AccessDelay, ActivationType, BsPower, Cause, ChannelMode, FrameNumber,
+    HandoverReference, IMMEDIATE_ASSIGNMENT, L1Information, MeasurementNumber, NORMAL_ASSIGNMENT,
+    ReleaseMode, RequestReference, RlmCause, UplinkMeasurements,
 };
 
 mod channel_number;

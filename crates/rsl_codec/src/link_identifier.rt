@@ -1,6 +1,18 @@
 ghost use Rattle.std.specs.Prelude.{◌≡◌, ◌%◌};
+ghost use Rattle.rsl_codec.specs.LinkIdentifier.{short_message_link};
 
+use crate::ChanNo;
+use crate::channel_number::FIRST_SDCCH;
 use std::marker::Model;
+
+/// The link identifier of SAPI 0 on the main signalling link.
+pub const MAIN_LINK_SAPI_0: u8 = 0x00;
+
+/// The link identifier of SAPI 3 on the main signalling link.
+pub const MAIN_LINK_SAPI_3: u8 = 0x03;
+
+/// The link identifier of SAPI 3 on the SACCH.
+pub const SACCH_SAPI_3: u8 = 0x43;
 
 /// The SAPI in a link identifier: bits 3 to 1.
 const SAPI_BITS: u8 = 0x07;
@@ -27,6 +39,27 @@ impl LinkId {
     pub fn read(octet: u8) -> LinkId
         ensures { result ≡ octet }
     {
+        LinkId { octet }
+    }
+
+    /// The link of SAPI 0, on the main signalling channel.
+    pub fn signalling() -> LinkId
+        ensures { result ≡ MAIN_LINK_SAPI_0 }
+    {
+        LinkId {
+            octet: MAIN_LINK_SAPI_0,
+        }
+    }
+
+    /// The link of SAPI 3: on an SDCCH it is on the main signalling channel, on a TCH on its SACCH.
+    pub fn short_messages(channel: ChanNo) -> LinkId
+        ensures { result ≡ short_message_link channel }
+    {
+        let octet = if channel.octet() >= FIRST_SDCCH {
+            MAIN_LINK_SAPI_3
+        } else {
+            SACCH_SAPI_3
+        };
         LinkId { octet }
     }
 

@@ -4,13 +4,14 @@ use octets::Octets;
 #[derive(Clone, Copy)]
 pub struct ActivationType(pub u8);
 
-impl ActivationType {
-    pub const IMMEDIATE_ASSIGNMENT: ActivationType = ActivationType(0x00);
+/// A channel is activated for access.
+pub const IMMEDIATE_ASSIGNMENT: ActivationType = ActivationType(0x00);
 
-    pub const NORMAL_ASSIGNMENT: ActivationType = ActivationType(0x01);
+/// A channel is activated for an assignment.
+pub const NORMAL_ASSIGNMENT: ActivationType = ActivationType(0x01);
 
-    pub const ASYNCHRONOUS_HANDOVER: ActivationType = ActivationType(0x02);
-}
+/// A channel is activated for a handover to a cell whose timing the mobile doesn't know.
+pub const ASYNCHRONOUS_HANDOVER: ActivationType = ActivationType(0x02);
 
 /// The power of a base station (TS 48.058 clause 9.3.4).
 #[derive(Clone, Copy)]

@@ -1,0 +1,3 @@
+pub mod Out
+pub mod StationMessage
+pub mod SwitchMessage

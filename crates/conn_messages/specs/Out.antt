@@ -1,0 +1,46 @@
+-- The frames that carry the messages of a connection.
+use Rattle.std.specs.Prelude.{◌≡◌, ℕ, ◌≤◌, List, length, map, Some, None}
+use Rattle.octets.specs.declared.limits.TheConstants.{LENGTH_LIMIT}
+use Rattle.bssmap_codec.specs.declared.bssap.Bssap.{Bssap}
+use Rattle.bssmap_codec.specs.declared.sccp.Sccp.{Sccp}
+use Rattle.bssmap_codec.specs.declared.sccp.Sccp.TheVariants as sccp
+use Rattle.bssmap_codec.specs.BssapText.{bssap_text, bssap_write_fault}
+use Rattle.bssmap_codec.specs.SccpText.{sccp_text}
+use Rattle.conn_messages.specs.declared.message.Message.{Message}
+use Rattle.conn_messages.specs.declared.message.Message.TheVariants.{Station, Request, Data, ReleaseComplete}
+use Rattle.conn_messages.specs.declared.out.Out.{Out}
+use Rattle.conn_messages.specs.declared.parameters.TheConstants.{SWITCH_LINK}
+use Rattle.ipa_framing.specs.declared.streams.TheConstants.{RSL_STREAM, SCCP_STREAM}
+use Rattle.rsl_codec.specs.declared.rsl.Rsl.{Rsl}
+use Rattle.rsl_codec.specs.RslText.{rsl_text, rsl_write_fault}
+
+-- RSL on the link of a station
+abbrev pub station_out : ℕ → ℕ → Rsl → Out
+station_out number station message = record { to = station; conn = number; frame = record { stream = RSL_STREAM; body = rsl_text message } }
+
+-- SCCP on the link of the switch
+abbrev pub switch_out : ℕ → Sccp → Out
+switch_out number message = record { to = SWITCH_LINK; conn = number; frame = record { stream = SCCP_STREAM; body = sccp_text message } }
+
+-- the frame of a message of the connection with this number, which is its reference too
+unfoldable pub out_of : ℕ → Message → Out
+out_of number (Station station message) = station_out number station message
+out_of number (Request message) = switch_out number (sccp.ConnectionRequest number (Some (bssap_text message)))
+out_of number (Data destination message) = switch_out number (sccp.DataForm1 destination (bssap_text message))
+out_of number (ReleaseComplete destination) = switch_out number (sccp.ReleaseComplete destination number)
+
+abbrev pub outs_of : ℕ → List Message → List Out
+outs_of number = map (out_of number)
+
+-- ---- what can be written
+
+-- BSSAP that the user data of SCCP holds
+pub record IsCarried (message : Bssap) : Type 0 where
+  pub written : bssap_write_fault message ≡ None
+  pub short : length (bssap_text message) ≤ LENGTH_LIMIT
+
+abbrev pub IsWritable : Message → Type 0
+IsWritable (Station station message) = rsl_write_fault message ≡ None
+IsWritable (Request message) = IsCarried message
+IsWritable (Data destination message) = IsCarried message
+IsWritable (ReleaseComplete destination) = Unit {0}

@@ -1,0 +1,5 @@
+pub mod Connection
+pub mod Standing
+pub mod Steps
+pub mod Streams
+pub mod Table

@@ -1,0 +1,10 @@
+//! The table of a connection: its states and inputs, and what each input makes of it. The table stands in `specs`.
+#![tactic(auto)]
+
+pub use input::Input;
+pub use limits::{DOWN_LIMIT, DRAIN_LIMIT, UP_LIMIT};
+pub use state::{Clearing, Drain, ShortMessageLink, Stage, State, Target};
+
+mod input;
+mod limits;
+mod state;
