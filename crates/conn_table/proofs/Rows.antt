@@ -1,0 +1,767 @@
+-- The table against literal rows: lives of a connection with number 1 over cells 1 and 2, octet by octet.
+use Rattle.std.proofs.Common.{◌≡◌, ℕ, Bool, true, false, List, [], ◌∷◌, ◌++◌, map, replicate, Option, Some, None, refl}
+use Rattle.conn_messages.specs.declared.channel.Change.TheVariants.{Assignment, Handover}
+use Rattle.conn_messages.specs.declared.channel.Channel.{Channel}
+use Rattle.conn_messages.specs.declared.channel.Place.{Place}
+use Rattle.conn_messages.specs.declared.out.Out.{Out}
+use Rattle.conn_messages.specs.Out.{out_of, outs_of}
+use Rattle.conn_table.specs.declared.input.Input.{Input}
+use Rattle.conn_table.specs.declared.input.Input.TheVariants as inputs
+use Rattle.conn_table.specs.declared.state.Clearing.TheVariants.{Due, Asked, Complete}
+use Rattle.conn_table.specs.declared.state.ShortMessageLink.TheVariants as links
+use Rattle.conn_table.specs.declared.state.Stage.TheVariants.{Active, Preparing, Changing, Draining}
+use Rattle.conn_table.specs.declared.state.State.{State}
+use Rattle.conn_table.specs.declared.state.State.TheVariants.{WaitActivation, WaitEstablish, WaitConfirm, Live, Closed, Removed}
+use Rattle.conn_table.specs.Connection.{Connection, new_connection}
+use Rattle.conn_table.specs.Steps.{Row}
+use Rattle.conn_table.specs.Table.{row_of}
+use Rattle.dtap_codec.specs.declared.sapi.Sapi.TheVariants.{Zero, Three}
+use Rattle.rsl_codec.specs.RslText.{rsl_element_text}
+
+-- ---- lives
+
+-- a frame's link and body
+record Put : Type 0 where
+  link : ℕ
+  body : List ℕ
+
+abbrev put : ℕ → List ℕ → Put
+put link body = record { link = link; body = body }
+
+abbrev put_of : Out → Put
+put_of out = put out.to out.frame.body
+
+-- an input, and what is offered to a change that begins with it
+record Turn : Type 0 where
+  input : Input
+  offer : Option Channel
+
+abbrev turn : Input → Option Channel → Turn
+turn input offer = record { input = input; offer = offer }
+
+abbrev puts_of : Option Row → Option (List Put)
+puts_of None = None
+puts_of (Some r) = Some (map put_of (outs_of 1 r.outs))
+
+abbrev next_of : Connection → Option Row → Connection
+next_of s None = s
+next_of s (Some r) = r.next
+
+-- what each turn puts; None where no row fits
+abbrev played : Connection → List Turn → List (Option (List Put))
+played s [] = []
+played s (t ∷ ts) = puts_of (row_of s t.input t.offer) ∷ played (next_of s (row_of s t.input t.offer)) ts
+
+abbrev after : Connection → List Turn → Connection
+after s [] = s
+after s (t ∷ ts) = after (next_of s (row_of s t.input t.offer)) ts
+
+-- ---- two cells
+
+abbrev cell_1 : ℕ → Channel
+cell_1 number = record { station = 1; number = number; cell = 0x00 ∷ 0x00 ∷ 0xf1 ∷ 0x10 ∷ 0x00 ∷ 0x01 ∷ 0x00 ∷ 0x01 ∷ [];
+    description = record { arfcn = 20; ncc = 1; bcc = 1 }; reference = record { 0 = 0 } }
+
+abbrev cell_2 : ℕ → Channel
+cell_2 number = record { station = 2; number = number; cell = 0x00 ∷ 0x00 ∷ 0xf1 ∷ 0x10 ∷ 0x00 ∷ 0x01 ∷ 0x00 ∷ 0x02 ∷ [];
+    description = record { arfcn = 30; ncc = 2; bcc = 2 }; reference = record { 0 = 0 } }
+
+-- with the reference of the second handover
+abbrev again : Channel → Channel
+again channel = record channel { reference = record { 0 = 1 } }
+
+abbrev on_1 : ℕ → Place
+on_1 number = record { station = 1; number = number }
+
+abbrev on_2 : ℕ → Place
+on_2 number = record { station = 2; number = number }
+
+abbrev request : Input
+request = inputs.AssignmentRequest true
+
+-- ---- access and establishment
+
+abbrev fresh : Connection
+fresh = new_connection 1 (cell_1 0x41) (record { access = 0x7f; frame = 0x0102 }) 5
+
+opens : played fresh (turn (inputs.ActivationAck (on_1 0x41)) None
+    ∷ turn (inputs.EstablishIndication (on_1 0x41) Zero (Some (0x05 ∷ 0x24 ∷ 0x71 ∷ []))) None
+    ∷ turn (inputs.ConnectionConfirm 0x800001) None ∷ [])
+    ≡ Some (put 1 (0x0c ∷ 0x16 ∷ 0x01 ∷ 0x90 ∷ 0x2b ∷ 0x17 ∷ 0x2d ∷ 0x06 ∷ 0x3f ∷ 0x00 ∷ 0x41 ∷ 0x20 ∷ 0x14 ∷ 0x7f ∷ 0x01 ∷ 0x02 ∷ 0x05 ∷ 0x00 ∷ 0x2b ∷ 0x2b ∷ 0x2b ∷ 0x2b ∷ 0x2b ∷ 0x2b ∷ 0x2b ∷ 0x2b ∷ 0x2b ∷ 0x2b ∷ 0x2b ∷ []) ∷ [])
+    ∷ Some (put 0 (0x01 ∷ 0x00 ∷ 0x00 ∷ 0x01 ∷ 0x02 ∷ 0x02 ∷ 0x04 ∷ 0x02 ∷ 0x42 ∷ 0xfe ∷ 0x0f ∷ 0x12 ∷ 0x00 ∷ 0x10 ∷ 0x57 ∷ 0x05 ∷ 0x08 ∷ 0x00 ∷ 0x00 ∷ 0xf1 ∷ 0x10 ∷ 0x00 ∷ 0x01 ∷ 0x00 ∷ 0x01 ∷ 0x17 ∷ 0x03 ∷ 0x05 ∷ 0x24 ∷ 0x71 ∷ 0x00 ∷ []) ∷ [])
+    ∷ Some [] ∷ []
+unfolding row_of out_of rsl_element_text
+opens = refl
+
+abbrev active : Connection
+active = after fresh (turn (inputs.ActivationAck (on_1 0x41)) None ∷ turn (inputs.EstablishIndication (on_1 0x41) Zero (Some (0x05 ∷ 0x24 ∷ 0x71 ∷ []))) None ∷ turn (inputs.ConnectionConfirm 0x800001) None ∷ [])
+
+is_active : (active).state ≡ Live 0x800001 Active
+unfolding row_of
+is_active = refl
+
+abbrev unconfirmed : Connection
+unconfirmed = after fresh (turn (inputs.ActivationAck (on_1 0x41)) None ∷ turn (inputs.EstablishIndication (on_1 0x41) Zero (Some (0x05 ∷ 0x24 ∷ 0x71 ∷ []))) None ∷ [])
+
+refuses_the_channel : played fresh (turn (inputs.ActivationNack (on_1 0x41)) None ∷ [])
+    ≡ Some [] ∷ []
+unfolding row_of out_of rsl_element_text
+refuses_the_channel = refl
+
+is_gone_without_channel : (after fresh (turn (inputs.ActivationNack (on_1 0x41)) None ∷ [])).state ≡ Removed
+unfolding row_of
+is_gone_without_channel = refl
+
+-- an initial message of 113 octets is passed on, one of 114 drops the channel
+abbrev established : List ℕ → Turn
+established initial = turn (inputs.EstablishIndication (on_1 0x41) Zero (Some initial)) None
+
+passes_113 : (after fresh (turn (inputs.ActivationAck (on_1 0x41)) None ∷ established (replicate 113 0x05) ∷ [])).state ≡ WaitConfirm
+unfolding row_of
+passes_113 = refl
+
+drops_114 : played fresh (turn (inputs.ActivationAck (on_1 0x41)) None ∷ established (replicate 114 0x05) ∷ [])
+    ≡ Some (put 1 (0x0c ∷ 0x16 ∷ 0x01 ∷ 0x90 ∷ 0x2b ∷ 0x17 ∷ 0x2d ∷ 0x06 ∷ 0x3f ∷ 0x00 ∷ 0x41 ∷ 0x20 ∷ 0x14 ∷ 0x7f ∷ 0x01 ∷ 0x02 ∷ 0x05 ∷ 0x00 ∷ 0x2b ∷ 0x2b ∷ 0x2b ∷ 0x2b ∷ 0x2b ∷ 0x2b ∷ 0x2b ∷ 0x2b ∷ 0x2b ∷ 0x2b ∷ 0x2b ∷ []) ∷ []) ∷ Some (put 1 (0x08 ∷ 0x2e ∷ 0x01 ∷ 0x41 ∷ []) ∷ []) ∷ []
+unfolding row_of out_of rsl_element_text
+drops_114 = refl
+
+abbrev waiting_for_mobile : Connection
+waiting_for_mobile = after fresh (turn (inputs.ActivationAck (on_1 0x41)) None ∷ [])
+
+drops_without_message : played waiting_for_mobile (turn (inputs.EstablishIndication (on_1 0x41) Zero None) None ∷ [])
+    ≡ Some (put 1 (0x08 ∷ 0x2e ∷ 0x01 ∷ 0x41 ∷ []) ∷ []) ∷ []
+unfolding row_of out_of rsl_element_text
+drops_without_message = refl
+
+drops_at_dtap : played waiting_for_mobile (turn (inputs.Dtap (on_1 0x41) Zero (0x03 ∷ 0x45 ∷ [])) None ∷ [])
+    ≡ Some (put 1 (0x08 ∷ 0x2e ∷ 0x01 ∷ 0x41 ∷ []) ∷ []) ∷ []
+unfolding row_of out_of rsl_element_text
+drops_at_dtap = refl
+
+drops_at_release : played waiting_for_mobile (turn (inputs.ReleaseIndication (on_1 0x41) Zero) None ∷ [])
+    ≡ Some (put 1 (0x08 ∷ 0x2e ∷ 0x01 ∷ 0x41 ∷ []) ∷ []) ∷ []
+unfolding row_of out_of rsl_element_text
+drops_at_release = refl
+
+drops_at_failure : played waiting_for_mobile (turn (inputs.ConnectionFailure (on_1 0x41)) None ∷ [])
+    ≡ Some (put 1 (0x08 ∷ 0x2e ∷ 0x01 ∷ 0x41 ∷ []) ∷ []) ∷ []
+unfolding row_of out_of rsl_element_text
+drops_at_failure = refl
+
+drops_at_expiry : played waiting_for_mobile (turn inputs.Expiry None ∷ [])
+    ≡ Some (put 1 (0x08 ∷ 0x2e ∷ 0x01 ∷ 0x41 ∷ []) ∷ []) ∷ []
+unfolding row_of out_of rsl_element_text
+drops_at_expiry = refl
+
+drops_for_the_switch : played waiting_for_mobile (turn inputs.SwitchDown None ∷ [])
+    ≡ Some (put 1 (0x08 ∷ 0x2e ∷ 0x01 ∷ 0x41 ∷ []) ∷ []) ∷ []
+unfolding row_of out_of rsl_element_text
+drops_for_the_switch = refl
+
+gives_up_with_its_station : played waiting_for_mobile (turn (inputs.StationDown 1) None ∷ [])
+    ≡ Some [] ∷ []
+unfolding row_of out_of rsl_element_text
+gives_up_with_its_station = refl
+
+stays_without_another_station : played waiting_for_mobile (turn (inputs.StationDown 2) None ∷ [])
+    ≡ None ∷ []
+unfolding row_of out_of rsl_element_text
+stays_without_another_station = refl
+
+dismisses_when_refused : played unconfirmed (turn inputs.ConnectionRefused None ∷ [])
+    ≡ Some (put 1 (0x03 ∷ 0x01 ∷ 0x01 ∷ 0x41 ∷ 0x02 ∷ 0x00 ∷ 0x0b ∷ 0x00 ∷ 0x03 ∷ 0x06 ∷ 0x0d ∷ 0x01 ∷ []) ∷ put 1 (0x08 ∷ 0x2e ∷ 0x01 ∷ 0x41 ∷ []) ∷ []) ∷ []
+unfolding row_of out_of rsl_element_text
+dismisses_when_refused = refl
+
+-- before CC sixteen messages are held
+abbrev sixteen_held : Connection
+sixteen_held = after unconfirmed (replicate 16 (turn (inputs.Dtap (on_1 0x41) Zero (0x03 ∷ 0x45 ∷ [])) None))
+
+holds_sixteen : played unconfirmed (replicate 16 (turn (inputs.Dtap (on_1 0x41) Zero (0x03 ∷ 0x45 ∷ [])) None)) ≡ replicate 16 (Some [])
+unfolding row_of
+holds_sixteen = refl
+
+fails_at_the_seventeenth : played sixteen_held (turn (inputs.Dtap (on_1 0x41) Zero (0x03 ∷ 0x45 ∷ [])) None
+    ∷ turn (inputs.ConnectionConfirm 0x800001) None
+    ∷ turn (inputs.ConnectionConfirm 0x800001) None
+    ∷ turn inputs.ClearCommand None
+    ∷ turn inputs.ClearCommand None ∷ [])
+    ≡ Some (put 1 (0x03 ∷ 0x01 ∷ 0x01 ∷ 0x41 ∷ 0x02 ∷ 0x00 ∷ 0x0b ∷ 0x00 ∷ 0x03 ∷ 0x06 ∷ 0x0d ∷ 0x01 ∷ []) ∷ put 1 (0x08 ∷ 0x2e ∷ 0x01 ∷ 0x41 ∷ []) ∷ [])
+    ∷ Some (put 0 (0x06 ∷ 0x80 ∷ 0x00 ∷ 0x01 ∷ 0x00 ∷ 0x01 ∷ 0x06 ∷ 0x00 ∷ 0x04 ∷ 0x22 ∷ 0x04 ∷ 0x01 ∷ 0x20 ∷ []) ∷ [])
+    ∷ None
+    ∷ Some (put 0 (0x06 ∷ 0x80 ∷ 0x00 ∷ 0x01 ∷ 0x00 ∷ 0x01 ∷ 0x03 ∷ 0x00 ∷ 0x01 ∷ 0x21 ∷ []) ∷ [])
+    ∷ None ∷ []
+unfolding row_of out_of rsl_element_text
+fails_at_the_seventeenth = refl
+
+relays_what_was_held : played unconfirmed (turn (inputs.Dtap (on_1 0x41) Three (0x09 ∷ 0x01 ∷ [])) None
+    ∷ turn (inputs.Dtap (on_1 0x41) Zero (0x03 ∷ 0x45 ∷ [])) None
+    ∷ turn (inputs.ConnectionConfirm 0x800001) None ∷ [])
+    ≡ Some []
+    ∷ Some []
+    ∷ Some (put 0 (0x06 ∷ 0x80 ∷ 0x00 ∷ 0x01 ∷ 0x00 ∷ 0x01 ∷ 0x05 ∷ 0x01 ∷ 0x00 ∷ 0x02 ∷ 0x03 ∷ 0x45 ∷ []) ∷ put 0 (0x06 ∷ 0x80 ∷ 0x00 ∷ 0x01 ∷ 0x00 ∷ 0x01 ∷ 0x05 ∷ 0x01 ∷ 0x83 ∷ 0x02 ∷ 0x09 ∷ 0x01 ∷ []) ∷ []) ∷ []
+unfolding row_of out_of rsl_element_text
+relays_what_was_held = refl
+
+-- ---- both ways, and clear
+
+relays : played active (turn (inputs.Dtap (on_1 0x41) Zero (0x03 ∷ 0x45 ∷ [])) None
+    ∷ turn (inputs.Downlink Zero (0x83 ∷ 0x02 ∷ [])) None ∷ [])
+    ≡ Some (put 0 (0x06 ∷ 0x80 ∷ 0x00 ∷ 0x01 ∷ 0x00 ∷ 0x01 ∷ 0x05 ∷ 0x01 ∷ 0x00 ∷ 0x02 ∷ 0x03 ∷ 0x45 ∷ []) ∷ [])
+    ∷ Some (put 1 (0x03 ∷ 0x01 ∷ 0x01 ∷ 0x41 ∷ 0x02 ∷ 0x00 ∷ 0x0b ∷ 0x00 ∷ 0x02 ∷ 0x83 ∷ 0x02 ∷ []) ∷ []) ∷ []
+unfolding row_of out_of rsl_element_text
+relays = refl
+
+clears_in_active : played active (turn inputs.ClearCommand None
+    ∷ turn (inputs.Dtap (on_1 0x41) Zero (0x03 ∷ 0x45 ∷ [])) None
+    ∷ turn (inputs.Released 0x800001) None ∷ [])
+    ≡ Some (put 1 (0x03 ∷ 0x01 ∷ 0x01 ∷ 0x41 ∷ 0x02 ∷ 0x00 ∷ 0x0b ∷ 0x00 ∷ 0x03 ∷ 0x06 ∷ 0x0d ∷ 0x00 ∷ []) ∷ put 1 (0x08 ∷ 0x2e ∷ 0x01 ∷ 0x41 ∷ []) ∷ put 0 (0x06 ∷ 0x80 ∷ 0x00 ∷ 0x01 ∷ 0x00 ∷ 0x01 ∷ 0x03 ∷ 0x00 ∷ 0x01 ∷ 0x21 ∷ []) ∷ [])
+    ∷ None
+    ∷ Some (put 0 (0x05 ∷ 0x80 ∷ 0x00 ∷ 0x01 ∷ 0x00 ∷ 0x00 ∷ 0x01 ∷ []) ∷ []) ∷ []
+unfolding row_of out_of rsl_element_text
+clears_in_active = refl
+
+is_released : played active (turn (inputs.Released 0x800001) None ∷ [])
+    ≡ Some (put 1 (0x03 ∷ 0x01 ∷ 0x01 ∷ 0x41 ∷ 0x02 ∷ 0x00 ∷ 0x0b ∷ 0x00 ∷ 0x03 ∷ 0x06 ∷ 0x0d ∷ 0x01 ∷ []) ∷ put 1 (0x08 ∷ 0x2e ∷ 0x01 ∷ 0x41 ∷ []) ∷ put 0 (0x05 ∷ 0x80 ∷ 0x00 ∷ 0x01 ∷ 0x00 ∷ 0x00 ∷ 0x01 ∷ []) ∷ []) ∷ []
+unfolding row_of out_of rsl_element_text
+is_released = refl
+
+rejects_ciphering : played active (turn inputs.CipherModeCommand None ∷ [])
+    ≡ Some (put 0 (0x06 ∷ 0x80 ∷ 0x00 ∷ 0x01 ∷ 0x00 ∷ 0x01 ∷ 0x06 ∷ 0x00 ∷ 0x04 ∷ 0x59 ∷ 0x04 ∷ 0x01 ∷ 0x40 ∷ []) ∷ []) ∷ []
+unfolding row_of out_of rsl_element_text
+rejects_ciphering = refl
+
+fails_at_release : played active (turn (inputs.ReleaseIndication (on_1 0x41) Zero) None ∷ [])
+    ≡ Some (put 0 (0x06 ∷ 0x80 ∷ 0x00 ∷ 0x01 ∷ 0x00 ∷ 0x01 ∷ 0x06 ∷ 0x00 ∷ 0x04 ∷ 0x22 ∷ 0x04 ∷ 0x01 ∷ 0x01 ∷ []) ∷ put 1 (0x03 ∷ 0x01 ∷ 0x01 ∷ 0x41 ∷ 0x02 ∷ 0x00 ∷ 0x0b ∷ 0x00 ∷ 0x03 ∷ 0x06 ∷ 0x0d ∷ 0x01 ∷ []) ∷ put 1 (0x08 ∷ 0x2e ∷ 0x01 ∷ 0x41 ∷ []) ∷ []) ∷ []
+unfolding row_of out_of rsl_element_text
+fails_at_release = refl
+
+fails_at_connection_failure : played active (turn (inputs.ConnectionFailure (on_1 0x41)) None ∷ [])
+    ≡ Some (put 0 (0x06 ∷ 0x80 ∷ 0x00 ∷ 0x01 ∷ 0x00 ∷ 0x01 ∷ 0x06 ∷ 0x00 ∷ 0x04 ∷ 0x22 ∷ 0x04 ∷ 0x01 ∷ 0x01 ∷ []) ∷ put 1 (0x03 ∷ 0x01 ∷ 0x01 ∷ 0x41 ∷ 0x02 ∷ 0x00 ∷ 0x0b ∷ 0x00 ∷ 0x03 ∷ 0x06 ∷ 0x0d ∷ 0x01 ∷ []) ∷ put 1 (0x08 ∷ 0x2e ∷ 0x01 ∷ 0x41 ∷ []) ∷ []) ∷ []
+unfolding row_of out_of rsl_element_text
+fails_at_connection_failure = refl
+
+ends_with_the_switch : played active (turn inputs.SwitchDown None ∷ [])
+    ≡ Some (put 1 (0x03 ∷ 0x01 ∷ 0x01 ∷ 0x41 ∷ 0x02 ∷ 0x00 ∷ 0x0b ∷ 0x00 ∷ 0x03 ∷ 0x06 ∷ 0x0d ∷ 0x01 ∷ []) ∷ put 1 (0x08 ∷ 0x2e ∷ 0x01 ∷ 0x41 ∷ []) ∷ []) ∷ []
+unfolding row_of out_of rsl_element_text
+ends_with_the_switch = refl
+
+fails_with_its_station : played active (turn (inputs.StationDown 1) None ∷ [])
+    ≡ Some (put 0 (0x06 ∷ 0x80 ∷ 0x00 ∷ 0x01 ∷ 0x00 ∷ 0x01 ∷ 0x06 ∷ 0x00 ∷ 0x04 ∷ 0x22 ∷ 0x04 ∷ 0x01 ∷ 0x20 ∷ []) ∷ []) ∷ []
+unfolding row_of out_of rsl_element_text
+fails_with_its_station = refl
+
+-- ---- assignment
+
+answers_without_speech : played active (turn (inputs.AssignmentRequest false) (Some (cell_1 0x0a)) ∷ [])
+    ≡ Some (put 0 (0x06 ∷ 0x80 ∷ 0x00 ∷ 0x01 ∷ 0x00 ∷ 0x01 ∷ 0x06 ∷ 0x00 ∷ 0x04 ∷ 0x03 ∷ 0x04 ∷ 0x01 ∷ 0x25 ∷ []) ∷ []) ∷ []
+unfolding row_of out_of rsl_element_text
+answers_without_speech = refl
+
+answers_without_channel : played active (turn request None ∷ [])
+    ≡ Some (put 0 (0x06 ∷ 0x80 ∷ 0x00 ∷ 0x01 ∷ 0x00 ∷ 0x01 ∷ 0x06 ∷ 0x00 ∷ 0x04 ∷ 0x03 ∷ 0x04 ∷ 0x01 ∷ 0x21 ∷ []) ∷ []) ∷ []
+unfolding row_of out_of rsl_element_text
+answers_without_channel = refl
+
+abbrev preparing : Connection
+preparing = after active (turn request (Some (cell_1 0x0a)) ∷ [])
+
+abbrev changing : Connection
+changing = after active (turn request (Some (cell_1 0x0a)) ∷ turn (inputs.ActivationAck (on_1 0x0a)) None ∷ [])
+
+commands : played active (turn request (Some (cell_1 0x0a))
+    ∷ turn (inputs.ActivationAck (on_1 0x0a)) None ∷ [])
+    ≡ Some (put 1 (0x08 ∷ 0x21 ∷ 0x01 ∷ 0x0a ∷ 0x03 ∷ 0x01 ∷ 0x06 ∷ 0x04 ∷ 0x00 ∷ 0x01 ∷ 0x08 ∷ 0x01 ∷ []) ∷ [])
+    ∷ Some (put 1 (0x03 ∷ 0x01 ∷ 0x01 ∷ 0x41 ∷ 0x02 ∷ 0x00 ∷ 0x0b ∷ 0x00 ∷ 0x06 ∷ 0x06 ∷ 0x2e ∷ 0x0a ∷ 0x20 ∷ 0x14 ∷ 0x00 ∷ []) ∷ []) ∷ []
+unfolding row_of out_of rsl_element_text
+commands = refl
+
+is_refused : played preparing (turn (inputs.ActivationNack (on_1 0x0a)) None ∷ [])
+    ≡ Some (put 0 (0x06 ∷ 0x80 ∷ 0x00 ∷ 0x01 ∷ 0x00 ∷ 0x01 ∷ 0x06 ∷ 0x00 ∷ 0x04 ∷ 0x03 ∷ 0x04 ∷ 0x01 ∷ 0x20 ∷ []) ∷ []) ∷ []
+unfolding row_of out_of rsl_element_text
+is_refused = refl
+
+is_active_when_refused : (after preparing (turn (inputs.ActivationNack (on_1 0x0a)) None ∷ [])).state ≡ Live 0x800001 Active
+unfolding row_of
+is_active_when_refused = refl
+
+waits_behind_an_assignment : played preparing (turn request None
+    ∷ turn request None
+    ∷ turn (inputs.ActivationAck (on_1 0x0a)) None
+    ∷ turn (inputs.Complete (on_1 0x0a) Assignment (record { 0 = 0 })) None
+    ∷ turn (inputs.ReleaseAck (on_1 0x41)) None ∷ [])
+    ≡ Some []
+    ∷ Some (put 0 (0x06 ∷ 0x80 ∷ 0x00 ∷ 0x01 ∷ 0x00 ∷ 0x01 ∷ 0x06 ∷ 0x00 ∷ 0x04 ∷ 0x03 ∷ 0x04 ∷ 0x01 ∷ 0x60 ∷ []) ∷ [])
+    ∷ Some (put 1 (0x03 ∷ 0x01 ∷ 0x01 ∷ 0x41 ∷ 0x02 ∷ 0x00 ∷ 0x0b ∷ 0x00 ∷ 0x06 ∷ 0x06 ∷ 0x2e ∷ 0x0a ∷ 0x20 ∷ 0x14 ∷ 0x00 ∷ []) ∷ [])
+    ∷ Some (put 0 (0x06 ∷ 0x80 ∷ 0x00 ∷ 0x01 ∷ 0x00 ∷ 0x01 ∷ 0x05 ∷ 0x00 ∷ 0x03 ∷ 0x02 ∷ 0x15 ∷ 0x00 ∷ []) ∷ put 1 (0x08 ∷ 0x2e ∷ 0x01 ∷ 0x41 ∷ []) ∷ put 0 (0x06 ∷ 0x80 ∷ 0x00 ∷ 0x01 ∷ 0x00 ∷ 0x01 ∷ 0x06 ∷ 0x00 ∷ 0x04 ∷ 0x03 ∷ 0x04 ∷ 0x01 ∷ 0x21 ∷ []) ∷ [])
+    ∷ Some [] ∷ []
+unfolding row_of out_of rsl_element_text
+waits_behind_an_assignment = refl
+
+is_active_again : (after changing (turn (inputs.Complete (on_1 0x0a) Assignment (record { 0 = 0 })) None ∷ turn (inputs.ReleaseAck (on_1 0x41)) None ∷ [])).state ≡ Live 0x800001 Active
+unfolding row_of
+is_active_again = refl
+
+returns : played changing (turn (inputs.Failure (on_1 0x41) Assignment (record { 0 = 3 })) None ∷ [])
+    ≡ Some (put 0 (0x06 ∷ 0x80 ∷ 0x00 ∷ 0x01 ∷ 0x00 ∷ 0x01 ∷ 0x08 ∷ 0x00 ∷ 0x06 ∷ 0x03 ∷ 0x04 ∷ 0x01 ∷ 0x0a ∷ 0x15 ∷ 0x03 ∷ []) ∷ put 1 (0x08 ∷ 0x2e ∷ 0x01 ∷ 0x0a ∷ []) ∷ []) ∷ []
+unfolding row_of out_of rsl_element_text
+returns = refl
+
+is_active_on_return : (after changing (turn (inputs.Failure (on_1 0x41) Assignment (record { 0 = 3 })) None ∷ [])).state ≡ Live 0x800001 Active
+unfolding row_of
+is_active_on_return = refl
+
+changes_too_long : played changing (turn inputs.Expiry None ∷ [])
+    ≡ Some (put 0 (0x06 ∷ 0x80 ∷ 0x00 ∷ 0x01 ∷ 0x00 ∷ 0x01 ∷ 0x06 ∷ 0x00 ∷ 0x04 ∷ 0x22 ∷ 0x04 ∷ 0x01 ∷ 0x00 ∷ []) ∷ put 1 (0x03 ∷ 0x01 ∷ 0x01 ∷ 0x41 ∷ 0x02 ∷ 0x00 ∷ 0x0b ∷ 0x00 ∷ 0x03 ∷ 0x06 ∷ 0x0d ∷ 0x01 ∷ []) ∷ put 1 (0x08 ∷ 0x2e ∷ 0x01 ∷ 0x41 ∷ []) ∷ put 1 (0x08 ∷ 0x2e ∷ 0x01 ∷ 0x0a ∷ []) ∷ []) ∷ []
+unfolding row_of out_of rsl_element_text
+changes_too_long = refl
+
+prepares_too_long : played preparing (turn inputs.Expiry None ∷ [])
+    ≡ Some (put 0 (0x06 ∷ 0x80 ∷ 0x00 ∷ 0x01 ∷ 0x00 ∷ 0x01 ∷ 0x06 ∷ 0x00 ∷ 0x04 ∷ 0x22 ∷ 0x04 ∷ 0x01 ∷ 0x00 ∷ []) ∷ put 1 (0x03 ∷ 0x01 ∷ 0x01 ∷ 0x41 ∷ 0x02 ∷ 0x00 ∷ 0x0b ∷ 0x00 ∷ 0x03 ∷ 0x06 ∷ 0x0d ∷ 0x01 ∷ []) ∷ put 1 (0x08 ∷ 0x2e ∷ 0x01 ∷ 0x41 ∷ []) ∷ put 1 (0x08 ∷ 0x2e ∷ 0x01 ∷ 0x0a ∷ []) ∷ []) ∷ []
+unfolding row_of out_of rsl_element_text
+prepares_too_long = refl
+
+fails_at_dtap_of_the_target : played changing (turn (inputs.Dtap (on_1 0x0a) Zero (0x03 ∷ 0x45 ∷ [])) None ∷ [])
+    ≡ Some (put 0 (0x06 ∷ 0x80 ∷ 0x00 ∷ 0x01 ∷ 0x00 ∷ 0x01 ∷ 0x06 ∷ 0x00 ∷ 0x04 ∷ 0x22 ∷ 0x04 ∷ 0x01 ∷ 0x20 ∷ []) ∷ put 1 (0x03 ∷ 0x01 ∷ 0x01 ∷ 0x41 ∷ 0x02 ∷ 0x00 ∷ 0x0b ∷ 0x00 ∷ 0x03 ∷ 0x06 ∷ 0x0d ∷ 0x01 ∷ []) ∷ put 1 (0x08 ∷ 0x2e ∷ 0x01 ∷ 0x41 ∷ []) ∷ put 1 (0x08 ∷ 0x2e ∷ 0x01 ∷ 0x0a ∷ []) ∷ []) ∷ []
+unfolding row_of out_of rsl_element_text
+fails_at_dtap_of_the_target = refl
+
+looks_at_place_and_kind : played changing (turn (inputs.Complete (on_1 0x0a) Handover (record { 0 = 0 })) None
+    ∷ turn (inputs.Complete (on_1 0x41) Assignment (record { 0 = 0 })) None
+    ∷ turn (inputs.Complete (on_2 0x0a) Assignment (record { 0 = 0 })) None
+    ∷ turn (inputs.Failure (on_1 0x41) Handover (record { 0 = 3 })) None
+    ∷ turn (inputs.Failure (on_1 0x0a) Assignment (record { 0 = 3 })) None
+    ∷ turn (inputs.Dtap (on_1 0x0a) Three (0x09 ∷ 0x01 ∷ [])) None ∷ [])
+    ≡ None
+    ∷ None
+    ∷ None
+    ∷ None
+    ∷ None
+    ∷ None ∷ []
+unfolding row_of out_of rsl_element_text
+looks_at_place_and_kind = refl
+
+-- 32 messages are held while the channel changes
+abbrev thirty_two_held : Connection
+thirty_two_held = after changing (replicate 32 (turn (inputs.Downlink Zero (0x83 ∷ 0x02 ∷ [])) None))
+
+holds_thirty_two : played changing (replicate 32 (turn (inputs.Downlink Zero (0x83 ∷ 0x02 ∷ [])) None)) ≡ replicate 32 (Some [])
+unfolding row_of
+holds_thirty_two = refl
+
+hands_thirty_two : played thirty_two_held (turn (inputs.Complete (on_1 0x0a) Assignment (record { 0 = 0 })) None ∷ [])
+    ≡ Some (put 0 (0x06 ∷ 0x80 ∷ 0x00 ∷ 0x01 ∷ 0x00 ∷ 0x01 ∷ 0x05 ∷ 0x00 ∷ 0x03 ∷ 0x02 ∷ 0x15 ∷ 0x00 ∷ []) ∷ put 1 (0x08 ∷ 0x2e ∷ 0x01 ∷ 0x41 ∷ []) ∷ replicate 32 (put 1 (0x03 ∷ 0x01 ∷ 0x01 ∷ 0x0a ∷ 0x02 ∷ 0x00 ∷ 0x0b ∷ 0x00 ∷ 0x02 ∷ 0x83 ∷ 0x02 ∷ []))) ∷ []
+unfolding row_of out_of rsl_element_text
+hands_thirty_two = refl
+
+fails_at_the_thirty_third : played thirty_two_held (turn (inputs.Downlink Three (0x09 ∷ 0x01 ∷ [])) None ∷ [])
+    ≡ Some (put 0 (0x06 ∷ 0x80 ∷ 0x00 ∷ 0x01 ∷ 0x00 ∷ 0x01 ∷ 0x06 ∷ 0x00 ∷ 0x04 ∷ 0x22 ∷ 0x04 ∷ 0x01 ∷ 0x20 ∷ []) ∷ put 1 (0x03 ∷ 0x01 ∷ 0x01 ∷ 0x41 ∷ 0x02 ∷ 0x00 ∷ 0x0b ∷ 0x00 ∷ 0x03 ∷ 0x06 ∷ 0x0d ∷ 0x01 ∷ []) ∷ put 1 (0x08 ∷ 0x2e ∷ 0x01 ∷ 0x41 ∷ []) ∷ put 1 (0x08 ∷ 0x2e ∷ 0x01 ∷ 0x0a ∷ []) ∷ []) ∷ []
+unfolding row_of out_of rsl_element_text
+fails_at_the_thirty_third = refl
+
+-- ---- SAPI 3
+
+rejects_short_message : played active (turn (inputs.Downlink Three (0x09 ∷ 0x01 ∷ [])) None
+    ∷ turn (inputs.ReleaseIndication (on_1 0x41) Three) None
+    ∷ turn (inputs.EstablishIndication (on_1 0x41) Three None) None
+    ∷ turn (inputs.Downlink Three (0x09 ∷ 0x02 ∷ [])) None
+    ∷ turn (inputs.Downlink Zero (0x83 ∷ 0x02 ∷ [])) None ∷ [])
+    ≡ Some (put 1 (0x02 ∷ 0x04 ∷ 0x01 ∷ 0x41 ∷ 0x02 ∷ 0x03 ∷ []) ∷ [])
+    ∷ Some (put 0 (0x06 ∷ 0x80 ∷ 0x00 ∷ 0x01 ∷ 0x00 ∷ 0x01 ∷ 0x08 ∷ 0x00 ∷ 0x06 ∷ 0x25 ∷ 0x18 ∷ 0x83 ∷ 0x04 ∷ 0x01 ∷ 0x25 ∷ []) ∷ [])
+    ∷ Some []
+    ∷ Some (put 1 (0x03 ∷ 0x01 ∷ 0x01 ∷ 0x41 ∷ 0x02 ∷ 0x03 ∷ 0x0b ∷ 0x00 ∷ 0x02 ∷ 0x09 ∷ 0x02 ∷ []) ∷ [])
+    ∷ Some (put 1 (0x03 ∷ 0x01 ∷ 0x01 ∷ 0x41 ∷ 0x02 ∷ 0x00 ∷ 0x0b ∷ 0x00 ∷ 0x02 ∷ 0x83 ∷ 0x02 ∷ []) ∷ []) ∷ []
+unfolding row_of out_of rsl_element_text
+rejects_short_message = refl
+
+hands_short_messages : played active (turn (inputs.EstablishConfirm (on_1 0x41) Three) None
+    ∷ turn (inputs.Downlink Three (0x09 ∷ 0x01 ∷ [])) None
+    ∷ turn (inputs.Downlink Three (0x09 ∷ 0x02 ∷ [])) None
+    ∷ turn (inputs.EstablishConfirm (on_1 0x41) Three) None
+    ∷ turn (inputs.ErrorIndication (on_1 0x41) Three) None
+    ∷ turn (inputs.Downlink Three (0x09 ∷ 0x03 ∷ [])) None
+    ∷ turn (inputs.ErrorIndication (on_1 0x41) Three) None ∷ [])
+    ≡ None
+    ∷ Some (put 1 (0x02 ∷ 0x04 ∷ 0x01 ∷ 0x41 ∷ 0x02 ∷ 0x03 ∷ []) ∷ [])
+    ∷ Some []
+    ∷ Some (put 1 (0x03 ∷ 0x01 ∷ 0x01 ∷ 0x41 ∷ 0x02 ∷ 0x03 ∷ 0x0b ∷ 0x00 ∷ 0x02 ∷ 0x09 ∷ 0x01 ∷ []) ∷ put 1 (0x03 ∷ 0x01 ∷ 0x01 ∷ 0x41 ∷ 0x02 ∷ 0x03 ∷ 0x0b ∷ 0x00 ∷ 0x02 ∷ 0x09 ∷ 0x02 ∷ []) ∷ [])
+    ∷ Some []
+    ∷ Some (put 1 (0x02 ∷ 0x04 ∷ 0x01 ∷ 0x41 ∷ 0x02 ∷ 0x03 ∷ []) ∷ [])
+    ∷ Some (put 0 (0x06 ∷ 0x80 ∷ 0x00 ∷ 0x01 ∷ 0x00 ∷ 0x01 ∷ 0x08 ∷ 0x00 ∷ 0x06 ∷ 0x25 ∷ 0x18 ∷ 0x83 ∷ 0x04 ∷ 0x01 ∷ 0x25 ∷ []) ∷ []) ∷ []
+unfolding row_of out_of rsl_element_text
+hands_short_messages = refl
+
+asks_again_after_a_change : played changing (turn (inputs.Downlink Three (0x09 ∷ 0x01 ∷ [])) None
+    ∷ turn (inputs.Complete (on_1 0x0a) Assignment (record { 0 = 0 })) None
+    ∷ turn (inputs.EstablishConfirm (on_1 0x0a) Three) None ∷ [])
+    ≡ Some []
+    ∷ Some (put 0 (0x06 ∷ 0x80 ∷ 0x00 ∷ 0x01 ∷ 0x00 ∷ 0x01 ∷ 0x05 ∷ 0x00 ∷ 0x03 ∷ 0x02 ∷ 0x15 ∷ 0x00 ∷ []) ∷ put 1 (0x08 ∷ 0x2e ∷ 0x01 ∷ 0x41 ∷ []) ∷ put 1 (0x02 ∷ 0x04 ∷ 0x01 ∷ 0x0a ∷ 0x02 ∷ 0x43 ∷ []) ∷ [])
+    ∷ Some (put 1 (0x03 ∷ 0x01 ∷ 0x01 ∷ 0x0a ∷ 0x02 ∷ 0x43 ∷ 0x0b ∷ 0x00 ∷ 0x02 ∷ 0x09 ∷ 0x01 ∷ []) ∷ []) ∷ []
+unfolding row_of out_of rsl_element_text
+asks_again_after_a_change = refl
+
+rejects_after_a_change : played changing (turn (inputs.Downlink Three (0x09 ∷ 0x01 ∷ [])) None
+    ∷ turn (inputs.Complete (on_1 0x0a) Assignment (record { 0 = 0 })) None
+    ∷ turn (inputs.ReleaseIndication (on_1 0x0a) Three) None ∷ [])
+    ≡ Some []
+    ∷ Some (put 0 (0x06 ∷ 0x80 ∷ 0x00 ∷ 0x01 ∷ 0x00 ∷ 0x01 ∷ 0x05 ∷ 0x00 ∷ 0x03 ∷ 0x02 ∷ 0x15 ∷ 0x00 ∷ []) ∷ put 1 (0x08 ∷ 0x2e ∷ 0x01 ∷ 0x41 ∷ []) ∷ put 1 (0x02 ∷ 0x04 ∷ 0x01 ∷ 0x0a ∷ 0x02 ∷ 0x43 ∷ []) ∷ [])
+    ∷ Some (put 0 (0x06 ∷ 0x80 ∷ 0x00 ∷ 0x01 ∷ 0x00 ∷ 0x01 ∷ 0x08 ∷ 0x00 ∷ 0x06 ∷ 0x25 ∷ 0x18 ∷ 0xc3 ∷ 0x04 ∷ 0x01 ∷ 0x25 ∷ []) ∷ []) ∷ []
+unfolding row_of out_of rsl_element_text
+rejects_after_a_change = refl
+
+relays_short_messages : played active (turn (inputs.Dtap (on_1 0x41) Three (0x09 ∷ 0x01 ∷ [])) None ∷ [])
+    ≡ Some (put 0 (0x06 ∷ 0x80 ∷ 0x00 ∷ 0x01 ∷ 0x00 ∷ 0x01 ∷ 0x05 ∷ 0x01 ∷ 0x83 ∷ 0x02 ∷ 0x09 ∷ 0x01 ∷ []) ∷ []) ∷ []
+unfolding row_of out_of rsl_element_text
+relays_short_messages = refl
+
+-- SAPI 3 holds 32 messages too while its link is asked for
+fails_at_the_thirty_third_short_message : played (after active (replicate 32 (turn (inputs.Downlink Three (0x09 ∷ 0x01 ∷ [])) None))) (turn (inputs.Downlink Three (0x09 ∷ 0x01 ∷ [])) None ∷ [])
+    ≡ Some (put 0 (0x06 ∷ 0x80 ∷ 0x00 ∷ 0x01 ∷ 0x00 ∷ 0x01 ∷ 0x06 ∷ 0x00 ∷ 0x04 ∷ 0x22 ∷ 0x04 ∷ 0x01 ∷ 0x20 ∷ []) ∷ put 1 (0x03 ∷ 0x01 ∷ 0x01 ∷ 0x41 ∷ 0x02 ∷ 0x00 ∷ 0x0b ∷ 0x00 ∷ 0x03 ∷ 0x06 ∷ 0x0d ∷ 0x01 ∷ []) ∷ put 1 (0x08 ∷ 0x2e ∷ 0x01 ∷ 0x41 ∷ []) ∷ []) ∷ []
+unfolding row_of out_of rsl_element_text
+fails_at_the_thirty_third_short_message = refl
+
+-- ---- handover
+
+moves : played active (turn inputs.Move (Some (cell_2 0x41))
+    ∷ turn (inputs.ActivationAck (on_2 0x41)) None ∷ [])
+    ≡ Some (put 2 (0x08 ∷ 0x21 ∷ 0x01 ∷ 0x41 ∷ 0x03 ∷ 0x02 ∷ 0x06 ∷ 0x04 ∷ 0x00 ∷ 0x03 ∷ 0x01 ∷ 0x00 ∷ 0x09 ∷ 0x00 ∷ []) ∷ [])
+    ∷ Some (put 1 (0x03 ∷ 0x01 ∷ 0x01 ∷ 0x41 ∷ 0x02 ∷ 0x00 ∷ 0x0b ∷ 0x00 ∷ 0x09 ∷ 0x06 ∷ 0x2b ∷ 0x12 ∷ 0x1e ∷ 0x41 ∷ 0x40 ∷ 0x1e ∷ 0x00 ∷ 0x00 ∷ []) ∷ []) ∷ []
+unfolding row_of out_of rsl_element_text
+moves = refl
+
+stays_without_offer : played active (turn inputs.Move None ∷ [])
+    ≡ Some [] ∷ []
+unfolding row_of out_of rsl_element_text
+stays_without_offer = refl
+
+is_active_without_offer : (after active (turn inputs.Move None ∷ [])).state ≡ Live 0x800001 Active
+unfolding row_of
+is_active_without_offer = refl
+
+abbrev handing_over : Connection
+handing_over = after active (turn inputs.Move (Some (cell_2 0x41)) ∷ turn (inputs.ActivationAck (on_2 0x41)) None ∷ [])
+
+abbrev handed_over : Connection
+handed_over = after handing_over (turn (inputs.Complete (on_2 0x41) Handover (record { 0 = 0 })) None ∷ [])
+
+is_handed_over : played handing_over (turn (inputs.Complete (on_2 0x41) Handover (record { 0 = 0 })) None
+    ∷ turn (inputs.Dtap (on_2 0x41) Zero (0x03 ∷ 0x8f ∷ [])) None
+    ∷ turn (inputs.Dtap (on_1 0x41) Zero (0x03 ∷ 0x45 ∷ [])) None
+    ∷ turn (inputs.ReleaseAck (on_1 0x41)) None ∷ [])
+    ≡ Some (put 0 (0x06 ∷ 0x80 ∷ 0x00 ∷ 0x01 ∷ 0x00 ∷ 0x01 ∷ 0x10 ∷ 0x00 ∷ 0x0e ∷ 0x17 ∷ 0x04 ∷ 0x01 ∷ 0x0c ∷ 0x05 ∷ 0x08 ∷ 0x00 ∷ 0x00 ∷ 0xf1 ∷ 0x10 ∷ 0x00 ∷ 0x01 ∷ 0x00 ∷ 0x02 ∷ []) ∷ put 1 (0x08 ∷ 0x2e ∷ 0x01 ∷ 0x41 ∷ []) ∷ [])
+    ∷ Some []
+    ∷ Some (put 0 (0x06 ∷ 0x80 ∷ 0x00 ∷ 0x01 ∷ 0x00 ∷ 0x01 ∷ 0x05 ∷ 0x01 ∷ 0x00 ∷ 0x02 ∷ 0x03 ∷ 0x45 ∷ []) ∷ [])
+    ∷ Some (put 0 (0x06 ∷ 0x80 ∷ 0x00 ∷ 0x01 ∷ 0x00 ∷ 0x01 ∷ 0x05 ∷ 0x01 ∷ 0x00 ∷ 0x02 ∷ 0x03 ∷ 0x8f ∷ []) ∷ []) ∷ []
+unfolding row_of out_of rsl_element_text
+is_handed_over = refl
+
+returns_from_handover : played handing_over (turn (inputs.Downlink Zero (0x83 ∷ 0x02 ∷ [])) None
+    ∷ turn (inputs.Failure (on_1 0x41) Handover (record { 0 = 3 })) None ∷ [])
+    ≡ Some []
+    ∷ Some (put 2 (0x08 ∷ 0x2e ∷ 0x01 ∷ 0x41 ∷ []) ∷ put 1 (0x03 ∷ 0x01 ∷ 0x01 ∷ 0x41 ∷ 0x02 ∷ 0x00 ∷ 0x0b ∷ 0x00 ∷ 0x02 ∷ 0x83 ∷ 0x02 ∷ []) ∷ []) ∷ []
+unfolding row_of out_of rsl_element_text
+returns_from_handover = refl
+
+is_refused_a_handover : played (after active (turn inputs.Move (Some (cell_2 0x41)) ∷ [])) (turn (inputs.ActivationNack (on_2 0x41)) None ∷ [])
+    ≡ Some [] ∷ []
+unfolding row_of out_of rsl_element_text
+is_refused_a_handover = refl
+
+breaks_while_the_old_channel_drains : played handed_over (turn (inputs.Dtap (on_2 0x41) Zero (0x03 ∷ 0x45 ∷ [])) None
+    ∷ turn (inputs.StationDown 1) None ∷ [])
+    ≡ Some []
+    ∷ Some (put 0 (0x06 ∷ 0x80 ∷ 0x00 ∷ 0x01 ∷ 0x00 ∷ 0x01 ∷ 0x06 ∷ 0x00 ∷ 0x04 ∷ 0x22 ∷ 0x04 ∷ 0x01 ∷ 0x20 ∷ []) ∷ put 2 (0x03 ∷ 0x01 ∷ 0x01 ∷ 0x41 ∷ 0x02 ∷ 0x00 ∷ 0x0b ∷ 0x00 ∷ 0x03 ∷ 0x06 ∷ 0x0d ∷ 0x01 ∷ []) ∷ put 2 (0x08 ∷ 0x2e ∷ 0x01 ∷ 0x41 ∷ []) ∷ []) ∷ []
+unfolding row_of out_of rsl_element_text
+breaks_while_the_old_channel_drains = refl
+
+breaks_at_the_serving_station : played handing_over (turn (inputs.StationDown 1) None ∷ [])
+    ≡ Some (put 0 (0x06 ∷ 0x80 ∷ 0x00 ∷ 0x01 ∷ 0x00 ∷ 0x01 ∷ 0x06 ∷ 0x00 ∷ 0x04 ∷ 0x22 ∷ 0x04 ∷ 0x01 ∷ 0x20 ∷ []) ∷ put 2 (0x08 ∷ 0x2e ∷ 0x01 ∷ 0x41 ∷ []) ∷ []) ∷ []
+unfolding row_of out_of rsl_element_text
+breaks_at_the_serving_station = refl
+
+breaks_at_the_target : played handing_over (turn (inputs.StationDown 2) None ∷ [])
+    ≡ Some (put 0 (0x06 ∷ 0x80 ∷ 0x00 ∷ 0x01 ∷ 0x00 ∷ 0x01 ∷ 0x06 ∷ 0x00 ∷ 0x04 ∷ 0x22 ∷ 0x04 ∷ 0x01 ∷ 0x20 ∷ []) ∷ put 1 (0x03 ∷ 0x01 ∷ 0x01 ∷ 0x41 ∷ 0x02 ∷ 0x00 ∷ 0x0b ∷ 0x00 ∷ 0x03 ∷ 0x06 ∷ 0x0d ∷ 0x01 ∷ []) ∷ put 1 (0x08 ∷ 0x2e ∷ 0x01 ∷ 0x41 ∷ []) ∷ []) ∷ []
+unfolding row_of out_of rsl_element_text
+breaks_at_the_target = refl
+
+drains_too_long : played handed_over (turn inputs.Expiry None
+    ∷ turn inputs.DrainExpiry None ∷ [])
+    ≡ None
+    ∷ Some (put 0 (0x06 ∷ 0x80 ∷ 0x00 ∷ 0x01 ∷ 0x00 ∷ 0x01 ∷ 0x06 ∷ 0x00 ∷ 0x04 ∷ 0x22 ∷ 0x04 ∷ 0x01 ∷ 0x20 ∷ []) ∷ put 2 (0x03 ∷ 0x01 ∷ 0x01 ∷ 0x41 ∷ 0x02 ∷ 0x00 ∷ 0x0b ∷ 0x00 ∷ 0x03 ∷ 0x06 ∷ 0x0d ∷ 0x01 ∷ []) ∷ put 2 (0x08 ∷ 0x2e ∷ 0x01 ∷ 0x41 ∷ []) ∷ []) ∷ []
+unfolding row_of out_of rsl_element_text
+drains_too_long = refl
+
+clears_in_changing : played handing_over (turn inputs.ClearCommand None
+    ∷ turn (inputs.Dtap (on_1 0x41) Zero (0x03 ∷ 0x45 ∷ [])) None
+    ∷ turn (inputs.Dtap (on_2 0x41) Zero (0x03 ∷ 0x45 ∷ [])) None
+    ∷ turn (inputs.Released 0x800001) None ∷ [])
+    ≡ Some (put 1 (0x03 ∷ 0x01 ∷ 0x01 ∷ 0x41 ∷ 0x02 ∷ 0x00 ∷ 0x0b ∷ 0x00 ∷ 0x03 ∷ 0x06 ∷ 0x0d ∷ 0x00 ∷ []) ∷ put 1 (0x08 ∷ 0x2e ∷ 0x01 ∷ 0x41 ∷ []) ∷ put 2 (0x08 ∷ 0x2e ∷ 0x01 ∷ 0x41 ∷ []) ∷ put 0 (0x06 ∷ 0x80 ∷ 0x00 ∷ 0x01 ∷ 0x00 ∷ 0x01 ∷ 0x03 ∷ 0x00 ∷ 0x01 ∷ 0x21 ∷ []) ∷ [])
+    ∷ None
+    ∷ None
+    ∷ Some (put 0 (0x05 ∷ 0x80 ∷ 0x00 ∷ 0x01 ∷ 0x00 ∷ 0x00 ∷ 0x01 ∷ []) ∷ []) ∷ []
+unfolding row_of out_of rsl_element_text
+clears_in_changing = refl
+
+begins_the_waiting_request : played handing_over (turn request None
+    ∷ turn request None
+    ∷ turn (inputs.Complete (on_2 0x41) Handover (record { 0 = 0 })) (Some (cell_2 0x0a))
+    ∷ turn (inputs.ReleaseAck (on_1 0x41)) None ∷ [])
+    ≡ Some []
+    ∷ Some (put 0 (0x06 ∷ 0x80 ∷ 0x00 ∷ 0x01 ∷ 0x00 ∷ 0x01 ∷ 0x06 ∷ 0x00 ∷ 0x04 ∷ 0x03 ∷ 0x04 ∷ 0x01 ∷ 0x60 ∷ []) ∷ [])
+    ∷ Some (put 0 (0x06 ∷ 0x80 ∷ 0x00 ∷ 0x01 ∷ 0x00 ∷ 0x01 ∷ 0x10 ∷ 0x00 ∷ 0x0e ∷ 0x17 ∷ 0x04 ∷ 0x01 ∷ 0x0c ∷ 0x05 ∷ 0x08 ∷ 0x00 ∷ 0x00 ∷ 0xf1 ∷ 0x10 ∷ 0x00 ∷ 0x01 ∷ 0x00 ∷ 0x02 ∷ []) ∷ put 1 (0x08 ∷ 0x2e ∷ 0x01 ∷ 0x41 ∷ []) ∷ put 2 (0x08 ∷ 0x21 ∷ 0x01 ∷ 0x0a ∷ 0x03 ∷ 0x01 ∷ 0x06 ∷ 0x04 ∷ 0x00 ∷ 0x01 ∷ 0x08 ∷ 0x01 ∷ []) ∷ [])
+    ∷ Some [] ∷ []
+unfolding row_of out_of rsl_element_text
+begins_the_waiting_request = refl
+
+is_preparing_while_it_drains : (after handing_over (turn request None ∷ turn (inputs.Complete (on_2 0x41) Handover (record { 0 = 0 })) (Some (cell_2 0x0a)) ∷ [])).state ≡ Live 0x800001 (Preparing (record { change = Assignment; channel = cell_2 0x0a }))
+unfolding row_of
+is_preparing_while_it_drains = refl
+
+answers_the_waiting_request : played handing_over (turn request None
+    ∷ turn (inputs.Complete (on_2 0x41) Handover (record { 0 = 0 })) None
+    ∷ turn (inputs.ReleaseAck (on_1 0x41)) None ∷ [])
+    ≡ Some []
+    ∷ Some (put 0 (0x06 ∷ 0x80 ∷ 0x00 ∷ 0x01 ∷ 0x00 ∷ 0x01 ∷ 0x10 ∷ 0x00 ∷ 0x0e ∷ 0x17 ∷ 0x04 ∷ 0x01 ∷ 0x0c ∷ 0x05 ∷ 0x08 ∷ 0x00 ∷ 0x00 ∷ 0xf1 ∷ 0x10 ∷ 0x00 ∷ 0x01 ∷ 0x00 ∷ 0x02 ∷ []) ∷ put 1 (0x08 ∷ 0x2e ∷ 0x01 ∷ 0x41 ∷ []) ∷ put 0 (0x06 ∷ 0x80 ∷ 0x00 ∷ 0x01 ∷ 0x00 ∷ 0x01 ∷ 0x06 ∷ 0x00 ∷ 0x04 ∷ 0x03 ∷ 0x04 ∷ 0x01 ∷ 0x21 ∷ []) ∷ [])
+    ∷ Some [] ∷ []
+unfolding row_of out_of rsl_element_text
+answers_the_waiting_request = refl
+
+-- ---- chains of old channels
+
+drains_two : played handed_over (turn inputs.Move (Some (again (cell_1 0x49)))
+    ∷ turn (inputs.ActivationAck (on_1 0x49)) None
+    ∷ turn (inputs.Complete (on_1 0x49) Handover (record { 0 = 0 })) None
+    ∷ turn (inputs.Dtap (on_1 0x49) Zero (0x03 ∷ 0x8f ∷ [])) None
+    ∷ turn (inputs.Dtap (on_2 0x41) Zero (0x03 ∷ 0x45 ∷ [])) None
+    ∷ turn (inputs.ReleaseAck (on_2 0x41)) None
+    ∷ turn (inputs.ReleaseAck (on_1 0x41)) None ∷ [])
+    ≡ Some (put 1 (0x08 ∷ 0x21 ∷ 0x01 ∷ 0x49 ∷ 0x03 ∷ 0x02 ∷ 0x06 ∷ 0x04 ∷ 0x00 ∷ 0x03 ∷ 0x01 ∷ 0x00 ∷ 0x09 ∷ 0x01 ∷ []) ∷ [])
+    ∷ Some (put 2 (0x03 ∷ 0x01 ∷ 0x01 ∷ 0x41 ∷ 0x02 ∷ 0x00 ∷ 0x0b ∷ 0x00 ∷ 0x09 ∷ 0x06 ∷ 0x2b ∷ 0x09 ∷ 0x14 ∷ 0x49 ∷ 0x20 ∷ 0x14 ∷ 0x01 ∷ 0x00 ∷ []) ∷ [])
+    ∷ Some (put 0 (0x06 ∷ 0x80 ∷ 0x00 ∷ 0x01 ∷ 0x00 ∷ 0x01 ∷ 0x10 ∷ 0x00 ∷ 0x0e ∷ 0x17 ∷ 0x04 ∷ 0x01 ∷ 0x0c ∷ 0x05 ∷ 0x08 ∷ 0x00 ∷ 0x00 ∷ 0xf1 ∷ 0x10 ∷ 0x00 ∷ 0x01 ∷ 0x00 ∷ 0x01 ∷ []) ∷ put 2 (0x08 ∷ 0x2e ∷ 0x01 ∷ 0x41 ∷ []) ∷ [])
+    ∷ Some []
+    ∷ Some []
+    ∷ Some []
+    ∷ Some (put 0 (0x06 ∷ 0x80 ∷ 0x00 ∷ 0x01 ∷ 0x00 ∷ 0x01 ∷ 0x05 ∷ 0x01 ∷ 0x00 ∷ 0x02 ∷ 0x03 ∷ 0x45 ∷ []) ∷ put 0 (0x06 ∷ 0x80 ∷ 0x00 ∷ 0x01 ∷ 0x00 ∷ 0x01 ∷ 0x05 ∷ 0x01 ∷ 0x00 ∷ 0x02 ∷ 0x03 ∷ 0x8f ∷ []) ∷ []) ∷ []
+unfolding row_of out_of rsl_element_text
+drains_two = refl
+
+abbrev two_drain : Connection
+two_drain = after handed_over (turn inputs.Move (Some (again (cell_1 0x49))) ∷ turn (inputs.ActivationAck (on_1 0x49)) None ∷ turn (inputs.Complete (on_1 0x49) Handover (record { 0 = 0 })) None ∷ [])
+
+is_active_behind_two : (after two_drain (turn (inputs.ReleaseAck (on_2 0x41)) None ∷ turn (inputs.ReleaseAck (on_1 0x41)) None ∷ [])).state ≡ Live 0x800001 Active
+unfolding row_of
+is_active_behind_two = refl
+
+abbrev three_drain : Connection
+three_drain = after two_drain (turn request (Some (cell_1 0x0a)) ∷ turn (inputs.ActivationAck (on_1 0x0a)) None ∷ turn (inputs.Complete (on_1 0x0a) Assignment (record { 0 = 0 })) None ∷ [])
+
+drains_three : played two_drain (turn request (Some (cell_1 0x0a))
+    ∷ turn (inputs.ActivationAck (on_1 0x0a)) None
+    ∷ turn (inputs.Complete (on_1 0x0a) Assignment (record { 0 = 0 })) None
+    ∷ turn inputs.Move (Some (cell_2 0x0a))
+    ∷ turn request None
+    ∷ turn request None
+    ∷ turn (inputs.ReleaseAck (on_1 0x49)) None
+    ∷ turn (inputs.ReleaseAck (on_1 0x41)) None
+    ∷ turn (inputs.ReleaseAck (on_2 0x41)) None ∷ [])
+    ≡ Some (put 1 (0x08 ∷ 0x21 ∷ 0x01 ∷ 0x0a ∷ 0x03 ∷ 0x01 ∷ 0x06 ∷ 0x04 ∷ 0x00 ∷ 0x01 ∷ 0x08 ∷ 0x01 ∷ []) ∷ [])
+    ∷ Some (put 1 (0x03 ∷ 0x01 ∷ 0x01 ∷ 0x49 ∷ 0x02 ∷ 0x00 ∷ 0x0b ∷ 0x00 ∷ 0x06 ∷ 0x06 ∷ 0x2e ∷ 0x0a ∷ 0x20 ∷ 0x14 ∷ 0x00 ∷ []) ∷ [])
+    ∷ Some (put 0 (0x06 ∷ 0x80 ∷ 0x00 ∷ 0x01 ∷ 0x00 ∷ 0x01 ∷ 0x05 ∷ 0x00 ∷ 0x03 ∷ 0x02 ∷ 0x15 ∷ 0x00 ∷ []) ∷ put 1 (0x08 ∷ 0x2e ∷ 0x01 ∷ 0x49 ∷ []) ∷ [])
+    ∷ None
+    ∷ Some []
+    ∷ Some (put 0 (0x06 ∷ 0x80 ∷ 0x00 ∷ 0x01 ∷ 0x00 ∷ 0x01 ∷ 0x06 ∷ 0x00 ∷ 0x04 ∷ 0x03 ∷ 0x04 ∷ 0x01 ∷ 0x60 ∷ []) ∷ [])
+    ∷ Some []
+    ∷ Some (put 0 (0x06 ∷ 0x80 ∷ 0x00 ∷ 0x01 ∷ 0x00 ∷ 0x01 ∷ 0x06 ∷ 0x00 ∷ 0x04 ∷ 0x03 ∷ 0x04 ∷ 0x01 ∷ 0x21 ∷ []) ∷ [])
+    ∷ Some [] ∷ []
+unfolding row_of out_of rsl_element_text
+drains_three = refl
+
+is_active_behind_three : (after three_drain (turn (inputs.ReleaseAck (on_1 0x49)) None ∷ turn (inputs.ReleaseAck (on_1 0x41)) None ∷ turn (inputs.ReleaseAck (on_2 0x41)) None ∷ [])).state ≡ Live 0x800001 Active
+unfolding row_of
+is_active_behind_three = refl
+
+-- the limit of sixteen goes over all tenures
+abbrev eight_in_each : Connection
+eight_in_each = after two_drain (replicate 8 (turn (inputs.Dtap (on_2 0x41) Zero (0x03 ∷ 0x45 ∷ [])) None) ++ replicate 8 (turn (inputs.Dtap (on_1 0x49) Zero (0x03 ∷ 0x45 ∷ [])) None))
+
+holds_eight_in_each : played two_drain (replicate 8 (turn (inputs.Dtap (on_2 0x41) Zero (0x03 ∷ 0x45 ∷ [])) None) ++ replicate 8 (turn (inputs.Dtap (on_1 0x49) Zero (0x03 ∷ 0x45 ∷ [])) None)) ≡ replicate 16 (Some [])
+unfolding row_of out_of
+holds_eight_in_each = refl
+
+fails_at_the_seventeenth_of_either : played eight_in_each (turn (inputs.Dtap (on_1 0x49) Zero (0x03 ∷ 0x45 ∷ [])) None ∷ [])
+    ≡ Some (put 0 (0x06 ∷ 0x80 ∷ 0x00 ∷ 0x01 ∷ 0x00 ∷ 0x01 ∷ 0x06 ∷ 0x00 ∷ 0x04 ∷ 0x22 ∷ 0x04 ∷ 0x01 ∷ 0x20 ∷ []) ∷ put 1 (0x03 ∷ 0x01 ∷ 0x01 ∷ 0x49 ∷ 0x02 ∷ 0x00 ∷ 0x0b ∷ 0x00 ∷ 0x03 ∷ 0x06 ∷ 0x0d ∷ 0x01 ∷ []) ∷ put 1 (0x08 ∷ 0x2e ∷ 0x01 ∷ 0x49 ∷ []) ∷ []) ∷ []
+unfolding row_of out_of rsl_element_text
+fails_at_the_seventeenth_of_either = refl
+
+fails_at_the_seventeenth_of_the_other : played eight_in_each (turn (inputs.Dtap (on_2 0x41) Zero (0x03 ∷ 0x45 ∷ [])) None ∷ [])
+    ≡ Some (put 0 (0x06 ∷ 0x80 ∷ 0x00 ∷ 0x01 ∷ 0x00 ∷ 0x01 ∷ 0x06 ∷ 0x00 ∷ 0x04 ∷ 0x22 ∷ 0x04 ∷ 0x01 ∷ 0x20 ∷ []) ∷ put 1 (0x03 ∷ 0x01 ∷ 0x01 ∷ 0x49 ∷ 0x02 ∷ 0x00 ∷ 0x0b ∷ 0x00 ∷ 0x03 ∷ 0x06 ∷ 0x0d ∷ 0x01 ∷ []) ∷ put 1 (0x08 ∷ 0x2e ∷ 0x01 ∷ 0x49 ∷ []) ∷ []) ∷ []
+unfolding row_of out_of rsl_element_text
+fails_at_the_seventeenth_of_the_other = refl
+
+relays_the_oldest_beside_a_full_hold : played eight_in_each (turn (inputs.Dtap (on_1 0x41) Zero (0x03 ∷ 0x05 ∷ [])) None ∷ [])
+    ≡ Some (put 0 (0x06 ∷ 0x80 ∷ 0x00 ∷ 0x01 ∷ 0x00 ∷ 0x01 ∷ 0x05 ∷ 0x01 ∷ 0x00 ∷ 0x02 ∷ 0x03 ∷ 0x05 ∷ []) ∷ []) ∷ []
+unfolding row_of out_of rsl_element_text
+relays_the_oldest_beside_a_full_hold = refl
+
+drains_the_next_too_long : played two_drain (turn (inputs.ReleaseAck (on_1 0x41)) None
+    ∷ turn inputs.DrainExpiry None ∷ [])
+    ≡ Some []
+    ∷ Some (put 0 (0x06 ∷ 0x80 ∷ 0x00 ∷ 0x01 ∷ 0x00 ∷ 0x01 ∷ 0x06 ∷ 0x00 ∷ 0x04 ∷ 0x22 ∷ 0x04 ∷ 0x01 ∷ 0x20 ∷ []) ∷ put 1 (0x03 ∷ 0x01 ∷ 0x01 ∷ 0x49 ∷ 0x02 ∷ 0x00 ∷ 0x0b ∷ 0x00 ∷ 0x03 ∷ 0x06 ∷ 0x0d ∷ 0x01 ∷ []) ∷ put 1 (0x08 ∷ 0x2e ∷ 0x01 ∷ 0x49 ∷ []) ∷ []) ∷ []
+unfolding row_of out_of rsl_element_text
+drains_the_next_too_long = refl
+
+prepares_too_long_beside : played two_drain (turn request (Some (cell_1 0x0a))
+    ∷ turn inputs.Expiry None ∷ [])
+    ≡ Some (put 1 (0x08 ∷ 0x21 ∷ 0x01 ∷ 0x0a ∷ 0x03 ∷ 0x01 ∷ 0x06 ∷ 0x04 ∷ 0x00 ∷ 0x01 ∷ 0x08 ∷ 0x01 ∷ []) ∷ [])
+    ∷ Some (put 0 (0x06 ∷ 0x80 ∷ 0x00 ∷ 0x01 ∷ 0x00 ∷ 0x01 ∷ 0x06 ∷ 0x00 ∷ 0x04 ∷ 0x22 ∷ 0x04 ∷ 0x01 ∷ 0x00 ∷ []) ∷ put 1 (0x03 ∷ 0x01 ∷ 0x01 ∷ 0x49 ∷ 0x02 ∷ 0x00 ∷ 0x0b ∷ 0x00 ∷ 0x03 ∷ 0x06 ∷ 0x0d ∷ 0x01 ∷ []) ∷ put 1 (0x08 ∷ 0x2e ∷ 0x01 ∷ 0x49 ∷ []) ∷ put 1 (0x08 ∷ 0x2e ∷ 0x01 ∷ 0x0a ∷ []) ∷ []) ∷ []
+unfolding row_of out_of rsl_element_text
+prepares_too_long_beside = refl
+
+drains_too_long_in_preparing : played two_drain (turn request (Some (cell_1 0x0a))
+    ∷ turn inputs.DrainExpiry None ∷ [])
+    ≡ Some (put 1 (0x08 ∷ 0x21 ∷ 0x01 ∷ 0x0a ∷ 0x03 ∷ 0x01 ∷ 0x06 ∷ 0x04 ∷ 0x00 ∷ 0x01 ∷ 0x08 ∷ 0x01 ∷ []) ∷ [])
+    ∷ Some (put 0 (0x06 ∷ 0x80 ∷ 0x00 ∷ 0x01 ∷ 0x00 ∷ 0x01 ∷ 0x06 ∷ 0x00 ∷ 0x04 ∷ 0x22 ∷ 0x04 ∷ 0x01 ∷ 0x20 ∷ []) ∷ put 1 (0x03 ∷ 0x01 ∷ 0x01 ∷ 0x49 ∷ 0x02 ∷ 0x00 ∷ 0x0b ∷ 0x00 ∷ 0x03 ∷ 0x06 ∷ 0x0d ∷ 0x01 ∷ []) ∷ put 1 (0x08 ∷ 0x2e ∷ 0x01 ∷ 0x49 ∷ []) ∷ put 1 (0x08 ∷ 0x2e ∷ 0x01 ∷ 0x0a ∷ []) ∷ []) ∷ []
+unfolding row_of out_of rsl_element_text
+drains_too_long_in_preparing = refl
+
+breaks_at_an_old_station : played two_drain (turn (inputs.StationDown 2) None ∷ [])
+    ≡ Some (put 0 (0x06 ∷ 0x80 ∷ 0x00 ∷ 0x01 ∷ 0x00 ∷ 0x01 ∷ 0x06 ∷ 0x00 ∷ 0x04 ∷ 0x22 ∷ 0x04 ∷ 0x01 ∷ 0x20 ∷ []) ∷ put 1 (0x03 ∷ 0x01 ∷ 0x01 ∷ 0x49 ∷ 0x02 ∷ 0x00 ∷ 0x0b ∷ 0x00 ∷ 0x03 ∷ 0x06 ∷ 0x0d ∷ 0x01 ∷ []) ∷ put 1 (0x08 ∷ 0x2e ∷ 0x01 ∷ 0x49 ∷ []) ∷ []) ∷ []
+unfolding row_of out_of rsl_element_text
+breaks_at_an_old_station = refl
+
+looks_at_no_break_of_a_done_channel : played two_drain (turn (inputs.ReleaseAck (on_2 0x41)) None
+    ∷ turn (inputs.StationDown 2) None
+    ∷ turn (inputs.ReleaseAck (on_2 0x41)) None
+    ∷ turn (inputs.Dtap (on_2 0x41) Zero (0x03 ∷ 0x45 ∷ [])) None ∷ [])
+    ≡ Some []
+    ∷ None
+    ∷ None
+    ∷ None ∷ []
+unfolding row_of out_of rsl_element_text
+looks_at_no_break_of_a_done_channel = refl
+
+relays_each_hold_in_turn : played two_drain (turn (inputs.Dtap (on_1 0x49) Zero (0x03 ∷ 0x46 ∷ [])) None
+    ∷ turn (inputs.Dtap (on_2 0x41) Zero (0x03 ∷ 0x45 ∷ [])) None
+    ∷ turn (inputs.ReleaseAck (on_1 0x41)) None
+    ∷ turn (inputs.Dtap (on_2 0x41) Zero (0x03 ∷ 0x47 ∷ [])) None
+    ∷ turn (inputs.ReleaseAck (on_2 0x41)) None ∷ [])
+    ≡ Some []
+    ∷ Some []
+    ∷ Some (put 0 (0x06 ∷ 0x80 ∷ 0x00 ∷ 0x01 ∷ 0x00 ∷ 0x01 ∷ 0x05 ∷ 0x01 ∷ 0x00 ∷ 0x02 ∷ 0x03 ∷ 0x45 ∷ []) ∷ [])
+    ∷ Some (put 0 (0x06 ∷ 0x80 ∷ 0x00 ∷ 0x01 ∷ 0x00 ∷ 0x01 ∷ 0x05 ∷ 0x01 ∷ 0x00 ∷ 0x02 ∷ 0x03 ∷ 0x47 ∷ []) ∷ [])
+    ∷ Some (put 0 (0x06 ∷ 0x80 ∷ 0x00 ∷ 0x01 ∷ 0x00 ∷ 0x01 ∷ 0x05 ∷ 0x01 ∷ 0x00 ∷ 0x02 ∷ 0x03 ∷ 0x46 ∷ []) ∷ []) ∷ []
+unfolding row_of out_of rsl_element_text
+relays_each_hold_in_turn = refl
+
+rests_in_draining_when_refused : played two_drain (turn request (Some (cell_1 0x0a))
+    ∷ turn (inputs.ActivationNack (on_1 0x0a)) None ∷ [])
+    ≡ Some (put 1 (0x08 ∷ 0x21 ∷ 0x01 ∷ 0x0a ∷ 0x03 ∷ 0x01 ∷ 0x06 ∷ 0x04 ∷ 0x00 ∷ 0x01 ∷ 0x08 ∷ 0x01 ∷ []) ∷ [])
+    ∷ Some (put 0 (0x06 ∷ 0x80 ∷ 0x00 ∷ 0x01 ∷ 0x00 ∷ 0x01 ∷ 0x06 ∷ 0x00 ∷ 0x04 ∷ 0x03 ∷ 0x04 ∷ 0x01 ∷ 0x20 ∷ []) ∷ []) ∷ []
+unfolding row_of out_of rsl_element_text
+rests_in_draining_when_refused = refl
+
+is_draining_when_refused : (after two_drain (turn request (Some (cell_1 0x0a)) ∷ turn (inputs.ActivationNack (on_1 0x0a)) None ∷ [])).state ≡ Live 0x800001 Draining
+unfolding row_of
+is_draining_when_refused = refl
+
+-- ---- which rows fit
+
+abbrev all_inputs : List Input
+all_inputs =
+    inputs.ActivationAck (on_1 0x41)
+    ∷ inputs.ActivationNack (on_1 0x41)
+    ∷ inputs.ActivationAck (on_2 0x41)
+    ∷ inputs.ActivationNack (on_2 0x41)
+    ∷ inputs.EstablishIndication (on_1 0x41) Zero None
+    ∷ inputs.EstablishIndication (on_1 0x41) Three None
+    ∷ inputs.EstablishConfirm (on_1 0x41) Zero
+    ∷ inputs.EstablishConfirm (on_1 0x41) Three
+    ∷ inputs.ReleaseIndication (on_1 0x41) Zero
+    ∷ inputs.ReleaseIndication (on_1 0x41) Three
+    ∷ inputs.ErrorIndication (on_1 0x41) Zero
+    ∷ inputs.ErrorIndication (on_1 0x41) Three
+    ∷ inputs.ConnectionFailure (on_1 0x41)
+    ∷ inputs.Dtap (on_1 0x41) Zero (0x03 ∷ 0x45 ∷ [])
+    ∷ inputs.Dtap (on_1 0x41) Three (0x09 ∷ 0x01 ∷ [])
+    ∷ inputs.Dtap (on_2 0x49) Zero (0x03 ∷ 0x45 ∷ [])
+    ∷ inputs.Complete (on_2 0x41) Handover (record { 0 = 0 })
+    ∷ inputs.Failure (on_1 0x41) Handover (record { 0 = 3 })
+    ∷ inputs.ReleaseAck (on_1 0x41)
+    ∷ inputs.Move
+    ∷ inputs.ConnectionConfirm 0x800001
+    ∷ inputs.ConnectionRefused
+    ∷ inputs.Released 0x800001
+    ∷ inputs.Downlink Zero (0x83 ∷ 0x02 ∷ [])
+    ∷ inputs.Downlink Three (0x09 ∷ 0x01 ∷ [])
+    ∷ request
+    ∷ inputs.AssignmentRequest false
+    ∷ inputs.CipherModeCommand
+    ∷ inputs.ClearCommand
+    ∷ inputs.Expiry
+    ∷ inputs.DrainExpiry
+    ∷ inputs.StationDown 1
+    ∷ inputs.StationDown 3
+    ∷ inputs.SwitchDown ∷ []
+
+abbrev is_fit : Option Row → Bool
+is_fit None = false
+is_fit (Some r) = true
+
+abbrev fits : Connection → List Bool
+fits s = map (λ input. is_fit (row_of s input None)) all_inputs
+
+fits_before_activation : fits fresh
+    ≡ true ∷ true ∷ false ∷ false ∷ false ∷ false ∷ false ∷ false ∷ false ∷ false ∷ false ∷ false ∷ false ∷ false ∷ false ∷ false ∷ false ∷ false ∷ false ∷ false ∷ false ∷ false ∷ false ∷ false ∷ false ∷ false ∷ false ∷ false ∷ false ∷ true ∷ false ∷ true ∷ false ∷ true ∷ []
+unfolding row_of
+fits_before_activation = refl
+
+fits_before_the_mobile : fits waiting_for_mobile
+    ≡ false ∷ false ∷ false ∷ false ∷ true ∷ false ∷ false ∷ false ∷ true ∷ false ∷ false ∷ false ∷ true ∷ true ∷ false ∷ false ∷ false ∷ false ∷ false ∷ false ∷ false ∷ false ∷ false ∷ false ∷ false ∷ false ∷ false ∷ false ∷ false ∷ true ∷ false ∷ true ∷ false ∷ true ∷ []
+unfolding row_of
+fits_before_the_mobile = refl
+
+fits_before_the_switch : fits unconfirmed
+    ≡ false ∷ false ∷ false ∷ false ∷ false ∷ false ∷ false ∷ false ∷ true ∷ false ∷ false ∷ false ∷ true ∷ true ∷ true ∷ false ∷ false ∷ false ∷ false ∷ false ∷ true ∷ true ∷ true ∷ false ∷ false ∷ false ∷ false ∷ false ∷ false ∷ false ∷ false ∷ true ∷ false ∷ true ∷ []
+unfolding row_of
+fits_before_the_switch = refl
+
+fits_in_active : fits active
+    ≡ false ∷ false ∷ false ∷ false ∷ false ∷ true ∷ false ∷ false ∷ true ∷ true ∷ false ∷ true ∷ true ∷ true ∷ true ∷ false ∷ false ∷ false ∷ false ∷ true ∷ false ∷ false ∷ true ∷ true ∷ true ∷ true ∷ true ∷ true ∷ true ∷ false ∷ false ∷ true ∷ false ∷ true ∷ []
+unfolding row_of
+fits_in_active = refl
+
+fits_in_preparing : fits (after active (turn inputs.Move (Some (cell_2 0x41)) ∷ []))
+    ≡ false ∷ false ∷ true ∷ true ∷ false ∷ true ∷ false ∷ false ∷ true ∷ true ∷ false ∷ true ∷ true ∷ true ∷ true ∷ false ∷ false ∷ false ∷ false ∷ false ∷ false ∷ false ∷ true ∷ true ∷ true ∷ true ∷ true ∷ true ∷ true ∷ true ∷ false ∷ true ∷ false ∷ true ∷ []
+unfolding row_of
+fits_in_preparing = refl
+
+fits_in_changing : fits handing_over
+    ≡ false ∷ false ∷ false ∷ false ∷ false ∷ false ∷ false ∷ false ∷ false ∷ false ∷ false ∷ false ∷ false ∷ true ∷ true ∷ false ∷ true ∷ true ∷ false ∷ false ∷ false ∷ false ∷ true ∷ true ∷ true ∷ true ∷ true ∷ true ∷ true ∷ true ∷ false ∷ true ∷ false ∷ true ∷ []
+unfolding row_of
+fits_in_changing = refl
+
+fits_in_draining : fits handed_over
+    ≡ false ∷ false ∷ false ∷ false ∷ false ∷ false ∷ false ∷ false ∷ false ∷ false ∷ false ∷ false ∷ false ∷ true ∷ true ∷ false ∷ false ∷ false ∷ true ∷ true ∷ false ∷ false ∷ true ∷ true ∷ true ∷ true ∷ true ∷ true ∷ true ∷ false ∷ true ∷ true ∷ false ∷ true ∷ []
+unfolding row_of
+fits_in_draining = refl
+
+fits_where_a_request_is_due : fits (after sixteen_held (turn (inputs.Dtap (on_1 0x41) Zero (0x03 ∷ 0x45 ∷ [])) None ∷ []))
+    ≡ false ∷ false ∷ false ∷ false ∷ false ∷ false ∷ false ∷ false ∷ false ∷ false ∷ false ∷ false ∷ false ∷ false ∷ false ∷ false ∷ false ∷ false ∷ false ∷ false ∷ true ∷ true ∷ true ∷ false ∷ false ∷ false ∷ false ∷ false ∷ false ∷ false ∷ false ∷ false ∷ false ∷ true ∷ []
+unfolding row_of
+fits_where_a_request_is_due = refl
+
+fits_where_it_was_asked : fits (after active (turn (inputs.ConnectionFailure (on_1 0x41)) None ∷ []))
+    ≡ false ∷ false ∷ false ∷ false ∷ false ∷ false ∷ false ∷ false ∷ false ∷ false ∷ false ∷ false ∷ false ∷ false ∷ false ∷ false ∷ false ∷ false ∷ false ∷ false ∷ false ∷ false ∷ true ∷ false ∷ false ∷ false ∷ false ∷ false ∷ true ∷ false ∷ false ∷ false ∷ false ∷ true ∷ []
+unfolding row_of
+fits_where_it_was_asked = refl
+
+fits_after_clear_complete : fits (after active (turn inputs.ClearCommand None ∷ []))
+    ≡ false ∷ false ∷ false ∷ false ∷ false ∷ false ∷ false ∷ false ∷ false ∷ false ∷ false ∷ false ∷ false ∷ false ∷ false ∷ false ∷ false ∷ false ∷ false ∷ false ∷ false ∷ false ∷ true ∷ false ∷ false ∷ false ∷ false ∷ false ∷ false ∷ false ∷ false ∷ false ∷ false ∷ true ∷ []
+unfolding row_of
+fits_after_clear_complete = refl
+
+fits_when_removed : fits (after active (turn inputs.SwitchDown None ∷ []))
+    ≡ false ∷ false ∷ false ∷ false ∷ false ∷ false ∷ false ∷ false ∷ false ∷ false ∷ false ∷ false ∷ false ∷ false ∷ false ∷ false ∷ false ∷ false ∷ false ∷ false ∷ false ∷ false ∷ false ∷ false ∷ false ∷ false ∷ false ∷ false ∷ false ∷ false ∷ false ∷ false ∷ false ∷ false ∷ []
+unfolding row_of
+fits_when_removed = refl
+
