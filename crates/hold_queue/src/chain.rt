@@ -1,6 +1,5 @@
 ghost use Rattle.std.specs.Prelude.{◌≡◌, ◌<◌, ◌≤◌, ◌↔◌, ◌∷◌, [], ◌++◌, length, IsTrue, IfOk, OnOk, OnErr, IfErr, Some, option_map, slice_get, drop as dropped};
-ghost use Rattle.std.specs.VecDeque.{deque_capacity};
-ghost use Rattle.hold_queue.specs.ChainState.{ChainState, new_chain, empty_tenure, chain_count, tenures_count, messages_in, put_in, first_taken, first_cleared};
+ghost use Rattle.hold_queue.specs.ChainState.{new_chain, empty_tenure, chain_count, messages_in, put_in, first_taken, first_cleared};
 ghost use Rattle.hold_queue.specs.Refusal.{ChainHandsBack};
 
 use crate::HoldFault;
@@ -32,6 +31,8 @@ impl Model for Chain {
 
     ghost view = { λ chain. record { limit = chain.limit; tenures = chain.tenures.items } };
 
+    // The room for all tenures is there, so that another one takes no memory. The last part says that the limit is a
+    // `usize`: then so is the sum of the lengths.
     ghost invariant = { λ chain. (0 < length chain.tenures.items)
         × (length chain.tenures.items ≤ TENURE_LIMIT)
         × (TENURE_LIMIT ≤ deque_capacity chain.tenures)

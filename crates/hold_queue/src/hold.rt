@@ -52,7 +52,6 @@ impl Hold {
 
     /// Puts a message behind those of its SAPI. It refuses with `Full` where as many as the limit are held over both
     /// SAPIs, then with `Memory`; either hands the message back and leaves the hold as it was.
-    #[tactic(auto, using(crate::proofs::Holds::messages_of_tenure, crate::proofs::Holds::with_messages_of_tenure))]
     pub fn put(&mut self, sapi: Sapi, message: Vec<u8>) -> Result<(), HoldFault>
         ensures put { OnOk result (self.new ≡ with_messages self.old sapi (messages self.old sapi ++ message.items ∷ [])) }
         ensures room { OnOk result (count self.old < self.old.limit) }
@@ -66,7 +65,6 @@ impl Hold {
     }
 
     /// Takes the first message of a SAPI out of the hold, which takes no memory; none where the SAPI has none.
-    #[tactic(auto, using(crate::proofs::Holds::messages_of_tenure, crate::proofs::Holds::with_messages_of_tenure))]
     pub fn next(&mut self, sapi: Sapi) -> Option<Vec<u8>>
         ensures first { option_map (λ message. message.items) result ≡ slice_get (messages self.old sapi) 0 }
         ensures rest { self.new ≡ with_messages self.old sapi (dropped 1 (messages self.old sapi)) }
@@ -75,7 +73,6 @@ impl Hold {
     }
 
     /// Lends the message of a SAPI at this place, from 0; none where there are no more than so many.
-    #[tactic(auto, using(crate::proofs::Holds::messages_of_tenure, crate::proofs::Holds::with_messages_of_tenure))]
     pub fn get(&self, sapi: Sapi, place: usize) -> Option<&[u8]>
         ensures { option_map (λ message. message.now) result ≡ slice_get (messages self.now sapi) place }
     {
@@ -83,7 +80,6 @@ impl Hold {
     }
 
     /// Drops the messages of a SAPI, which takes no memory, and says how many went.
-    #[tactic(auto, using(crate::proofs::Holds::messages_of_tenure, crate::proofs::Holds::with_messages_of_tenure))]
     pub fn clear_sapi(&mut self, sapi: Sapi) -> usize
         ensures cleared { self.new ≡ with_messages self.old sapi [] }
         ensures count { result ≡ length (messages self.old sapi) }
