@@ -1,5 +1,5 @@
 -- The tenures of a chain: what its calls make of their number and of the number of their messages.
-use Rattle.std.proofs.Common.{◌≡◌, ℕ, zero, suc, ◌+◌, ◌<◌, ◌≤◌, List, [], ◌∷◌, ◌++◌, length, slice_index_or, slice_set, refl, arith, sum_by}
+use Rattle.std.proofs.Common.{◌≡◌, ℕ, zero, suc, ◌+◌, ◌<◌, ◌≤◌, List, [], ◌∷◌, ◌++◌, length, slice_index_or, slice_set, refl, ap, arith, sum_by}
 use Rattle.std.proofs.lemmas.List.Recursion.{is_sum_by}
 use Rattle.dtap_codec.specs.declared.sapi.Sapi.{Sapi}
 use Rattle.hold_queue.specs.ChainState.{Tenure, empty_tenure, tenure_messages, with_tenure_messages, tenure_count, tenures_count, messages_in, put_in}
@@ -18,7 +18,7 @@ put_in_at place sapi message [] there within = refl
 put_in_at zero sapi message (first ∷ rest) there within = refl
 put_in_at (suc place) sapi message (first ∷ rest) there within = let step : place < length rest = omega arith in rw (put_in_at place sapi message rest there step) refl
 
-pub count_set : (place : ℕ) (tenures : List Tenure) (there next : Tenure) → place < length tenures →
+count_set : (place : ℕ) (tenures : List Tenure) (there next : Tenure) → place < length tenures →
     tenures_count (slice_set tenures place next) + tenure_count (slice_index_or tenures place there) ≡ tenures_count tenures + tenure_count next
 count_set place [] there next within = absurd (omega (arith, within))
 count_set zero (first ∷ rest) there next within = omega arith
@@ -33,3 +33,8 @@ pub messages_in_none : (place : ℕ) (sapi : Sapi) (tenures : List Tenure) → l
 messages_in_none place sapi [] beyond = refl
 messages_in_none zero sapi (first ∷ rest) beyond = absurd (omega (arith, beyond))
 messages_in_none (suc place) sapi (first ∷ rest) beyond = messages_in_none place sapi rest (omega arith)
+
+pub count_put : (tenures : List Tenure) (place : ℕ) (there next : Tenure) → place < length tenures → there ≡ slice_index_or tenures place there → tenure_count next ≤ tenure_count there + 1 → tenures_count (slice_set tenures place next) ≤ tenures_count tenures + 1
+count_put tenures place there next within is grows =
+    let same : tenure_count there ≡ tenure_count (slice_index_or tenures place there) = ap tenure_count is in
+    omega (arith, count_set place tenures there next within)

@@ -88,7 +88,7 @@ impl Chain {
     /// Puts a message behind those of its SAPI in the tenure at this place, from 0, the oldest. It refuses with `Full`
     /// where as many as the limit are held over all tenures, then with `Memory`; either hands the message back and leaves
     /// the chain as it was.
-    #[tactic(auto, using(crate::proofs::Chains::put_in_at, crate::proofs::Chains::count_set))]
+    #[tactic(auto, using(crate::proofs::Chains::put_in_at))]
     pub fn put(&mut self, tenure: usize, sapi: Sapi, message: Vec<u8>) -> Result<(), HoldFault>
         requires { tenure < length self.old.tenures }
         ensures put { OnOk result (self.new ≡ record self.old { tenures = put_in tenure sapi message.items self.old.tenures }) }
