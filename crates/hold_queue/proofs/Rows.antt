@@ -1,10 +1,13 @@
--- Definitions against literal messages: three are held, two of SAPI 0 and one of SAPI 3.
-use Rattle.std.proofs.Common.{◌≡◌, ℕ, Vec, [], ◌∷◌, ◌++◌, drop, slice_get, Some, None, refl, arith}
+-- Definitions against literal messages.
+use Rattle.std.proofs.Common.{◌≡◌, ℕ, Vec, List, [], ◌∷◌, ◌++◌, drop, replicate, slice_get, Some, None, refl, arith}
 use Rattle.std.specs.declared.alloc.Global.{Global}
 use Rattle.dtap_codec.specs.declared.sapi.Sapi.TheVariants.{Zero, Three}
 use Rattle.hold_queue.specs.declared.fault.HoldFault.TheVariants.{Full, Memory}
+use Rattle.hold_queue.specs.ChainState.{Tenure, ChainState, empty_tenure, new_chain, chain_count, messages_in, put_in, first_taken, first_cleared}
 use Rattle.hold_queue.specs.HoldState.{HoldState, new_hold, count, messages, with_messages}
-use Rattle.hold_queue.specs.Refusal.{HandsBack}
+use Rattle.hold_queue.specs.Refusal.{HandsBack, ChainHandsBack}
+
+-- ---- a hold of three messages, two of SAPI 0 and one of SAPI 3
 
 abbrev hold : HoldState
 hold = record { limit = 32; zero = (0x83 ∷ 0x02 ∷ []) ∷ (0x03 ∷ 0x05 ∷ []) ∷ []; three = (0x09 ∷ 0x01 ∷ []) ∷ [] }
@@ -45,8 +48,8 @@ first_of_sapi_zero = refl
 none_behind : slice_get (messages hold Three) 1 ≡ None
 none_behind = refl
 
-first_taken : with_messages hold Zero (drop 1 (messages hold Zero)) ≡ record { limit = 32; zero = (0x03 ∷ 0x05 ∷ []) ∷ []; three = (0x09 ∷ 0x01 ∷ []) ∷ [] }
-first_taken = refl
+first_of_sapi_zero_taken : with_messages hold Zero (drop 1 (messages hold Zero)) ≡ record { limit = 32; zero = (0x03 ∷ 0x05 ∷ []) ∷ []; three = (0x09 ∷ 0x01 ∷ []) ∷ [] }
+first_of_sapi_zero_taken = refl
 
 sapi_three_cleared : with_messages hold Three [] ≡ record { limit = 32; zero = (0x83 ∷ 0x02 ∷ []) ∷ (0x03 ∷ 0x05 ∷ []) ∷ []; three = [] }
 sapi_three_cleared = refl
@@ -67,3 +70,109 @@ memory_below_limit back same = (same, omega arith)
 
 no_memory_at_limit : (back : Vec ℕ Global) → HandsBack (limit_of 3) (0x05 ∷ 0x24 ∷ []) (Memory back) → ⊥
 no_memory_at_limit back memory = omega (arith, memory.1)
+
+-- ---- a chain of three tenures with six messages
+
+abbrev oldest : Tenure
+oldest = record { zero = (0x83 ∷ 0x02 ∷ []) ∷ (0x03 ∷ 0x05 ∷ []) ∷ []; three = (0x09 ∷ 0x01 ∷ []) ∷ [] }
+
+abbrev middle : Tenure
+middle = record { zero = (0x05 ∷ 0x24 ∷ []) ∷ []; three = (0x09 ∷ 0x04 ∷ []) ∷ (0x09 ∷ 0x10 ∷ []) ∷ [] }
+
+abbrev tenures : List Tenure
+tenures = oldest ∷ middle ∷ record { zero = []; three = [] } ∷ []
+
+chain_begins_with_one_tenure : new_chain 16 ≡ record { limit = 16; tenures = record { zero = []; three = [] } ∷ [] }
+chain_begins_with_one_tenure = refl
+
+none_in_a_new_chain : chain_count (new_chain 16) ≡ 0
+none_in_a_new_chain = refl
+
+over_all_tenures : chain_count (record { limit = 16; tenures = tenures }) ≡ 6
+over_all_tenures = refl
+
+-- ---- what is at a place
+
+of_oldest_sapi_zero : messages_in 0 Zero tenures ≡ (0x83 ∷ 0x02 ∷ []) ∷ (0x03 ∷ 0x05 ∷ []) ∷ []
+of_oldest_sapi_zero = refl
+
+of_oldest_sapi_three : messages_in 0 Three tenures ≡ (0x09 ∷ 0x01 ∷ []) ∷ []
+of_oldest_sapi_three = refl
+
+second_of_middle_sapi_three : slice_get (messages_in 1 Three tenures) 1 ≡ Some (0x09 ∷ 0x10 ∷ [])
+second_of_middle_sapi_three = refl
+
+no_second_of_middle_sapi_zero : slice_get (messages_in 1 Zero tenures) 1 ≡ None
+no_second_of_middle_sapi_zero = refl
+
+none_in_an_empty_tenure : slice_get (messages_in 2 Zero tenures) 0 ≡ None
+none_in_an_empty_tenure = refl
+
+none_where_no_tenure_is : slice_get (messages_in 3 Zero tenures) 0 ≡ None
+none_where_no_tenure_is = refl
+
+-- ---- what the calls make of the tenures
+
+put_in_oldest : put_in 0 Three (0x09 ∷ 0x11 ∷ []) tenures ≡ record oldest { three = (0x09 ∷ 0x01 ∷ []) ∷ (0x09 ∷ 0x11 ∷ []) ∷ [] } ∷ middle ∷ empty_tenure ∷ []
+put_in_oldest = refl
+
+put_in_middle : put_in 1 Zero (0x05 ∷ 0x18 ∷ []) tenures ≡ oldest ∷ record middle { zero = (0x05 ∷ 0x24 ∷ []) ∷ (0x05 ∷ 0x18 ∷ []) ∷ [] } ∷ empty_tenure ∷ []
+put_in_middle = refl
+
+put_in_youngest : put_in 2 Three (0x09 ∷ 0x11 ∷ []) tenures ≡ oldest ∷ middle ∷ record { zero = []; three = (0x09 ∷ 0x11 ∷ []) ∷ [] } ∷ []
+put_in_youngest = refl
+
+taken_from_oldest_sapi_zero : first_taken Zero tenures ≡ record oldest { zero = (0x03 ∷ 0x05 ∷ []) ∷ [] } ∷ middle ∷ empty_tenure ∷ []
+taken_from_oldest_sapi_zero = refl
+
+taken_from_oldest_sapi_three : first_taken Three tenures ≡ record oldest { three = [] } ∷ middle ∷ empty_tenure ∷ []
+taken_from_oldest_sapi_three = refl
+
+none_taken_from_the_next : first_taken Zero (empty_tenure ∷ middle ∷ []) ≡ empty_tenure ∷ middle ∷ []
+none_taken_from_the_next = refl
+
+oldest_cleared : first_cleared tenures ≡ record { zero = []; three = [] } ∷ middle ∷ empty_tenure ∷ []
+oldest_cleared = refl
+
+-- ---- a limit of 16: a message more is refused at 16 in two tenures, and not at 15
+
+abbrev sixteen : ChainState
+sixteen = record { limit = 16; tenures = record { zero = replicate 5 (0x05 ∷ 0x24 ∷ []); three = replicate 4 (0x09 ∷ 0x01 ∷ []) } ∷ record { zero = replicate 6 (0x03 ∷ 0x05 ∷ []); three = replicate 1 (0x09 ∷ 0x04 ∷ []) } ∷ [] }
+
+abbrev fifteen : ChainState
+fifteen = record sixteen { tenures = first_taken Three sixteen.tenures }
+
+chain_full_at_sixteen : (back : Vec ℕ Global) → back.items ≡ 0x05 ∷ 0x18 ∷ [] → ChainHandsBack sixteen (0x05 ∷ 0x18 ∷ []) (Full back)
+chain_full_at_sixteen back same = (same, refl)
+
+chain_no_memory_at_sixteen : (back : Vec ℕ Global) → ChainHandsBack sixteen (0x05 ∷ 0x18 ∷ []) (Memory back) → ⊥
+chain_no_memory_at_sixteen back memory = omega (arith, memory.1)
+
+chain_not_full_at_fifteen : (back : Vec ℕ Global) → ChainHandsBack fifteen (0x05 ∷ 0x18 ∷ []) (Full back) → ⊥
+chain_not_full_at_fifteen back full = omega (arith, full.1)
+
+chain_memory_at_fifteen : (back : Vec ℕ Global) → back.items ≡ 0x05 ∷ 0x18 ∷ [] → ChainHandsBack fifteen (0x05 ∷ 0x18 ∷ []) (Memory back)
+chain_memory_at_fifteen back same = (same, omega arith)
+
+-- ---- a limit of 1: a second tenure comes, a message into it, none more into the first, which goes
+
+abbrev with_second : List Tenure
+with_second = put_in 1 Zero (0x05 ∷ 0x24 ∷ []) ((new_chain 1).tenures ++ empty_tenure ∷ [])
+
+second_has_it : with_second ≡ record { zero = []; three = [] } ∷ record { zero = (0x05 ∷ 0x24 ∷ []) ∷ []; three = [] } ∷ []
+second_has_it = refl
+
+first_is_refused : (back : Vec ℕ Global) → back.items ≡ 0x05 ∷ 0x18 ∷ [] → ChainHandsBack (record { limit = 1; tenures = with_second }) (0x05 ∷ 0x18 ∷ []) (Full back)
+first_is_refused back same = (same, refl)
+
+none_of_the_first : slice_get (messages_in 0 Zero with_second) 0 ≡ None
+none_of_the_first = refl
+
+first_may_go : slice_get with_second 0 ≡ Some empty_tenure
+first_may_go = refl
+
+next_of_the_second : slice_get (messages_in 0 Zero (drop 1 with_second)) 0 ≡ Some (0x05 ∷ 0x24 ∷ [])
+next_of_the_second = refl
+
+nothing_left : first_taken Zero (drop 1 with_second) ≡ (new_chain 1).tenures
+nothing_left = refl

@@ -1,5 +1,6 @@
 -- How a put refuses.
 use Rattle.std.specs.Prelude.{◌≡◌, ◌<◌, ℕ, List}
+use Rattle.hold_queue.specs.ChainState.{ChainState, chain_count}
 use Rattle.hold_queue.specs.HoldState.{HoldState, count}
 use Rattle.hold_queue.specs.declared.fault.HoldFault.{HoldFault}
 use Rattle.hold_queue.specs.declared.fault.HoldFault.TheVariants.{Full, Memory}
@@ -9,7 +10,15 @@ abbrev pub IsMemory : List ℕ → HoldFault → Type 0
 IsMemory message (Full back) = ⊥
 IsMemory message (Memory back) = back.items ≡ message
 
--- A refusal hands the message back: as full at the limit over both SAPIs, for want of memory only below it.
+-- A refusal hands the message back: as full where as many are held as the limit, for want of memory only below it.
+abbrev pub RefusesAt : ℕ → ℕ → List ℕ → HoldFault → Type 0
+RefusesAt held limit message (Full back) = (back.items ≡ message) × (held ≡ limit)
+RefusesAt held limit message (Memory back) = (back.items ≡ message) × (held < limit)
+
+-- the refusal of a hold, whose limit stands over both SAPIs
 abbrev pub HandsBack : HoldState → List ℕ → HoldFault → Type 0
-HandsBack hold message (Full back) = (back.items ≡ message) × (count hold ≡ hold.limit)
-HandsBack hold message (Memory back) = (back.items ≡ message) × (count hold < hold.limit)
+HandsBack hold = RefusesAt (count hold) hold.limit
+
+-- the refusal of a chain, whose limit stands over all tenures and both SAPIs
+abbrev pub ChainHandsBack : ChainState → List ℕ → HoldFault → Type 0
+ChainHandsBack chain = RefusesAt (chain_count chain) chain.limit

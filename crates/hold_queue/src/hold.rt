@@ -1,28 +1,27 @@
-ghost use Rattle.std.specs.Prelude.{◌≡◌, ◌+◌, ◌<◌, ◌≤◌, ◌↔◌, [], ◌∷◌, ◌++◌, length, IsTrue, OnOk, OnErr, IfErr, option_map, slice_get, drop as dropped};
+ghost use Rattle.std.specs.Prelude.{◌≡◌, ◌<◌, ◌≤◌, ◌↔◌, [], ◌∷◌, ◌++◌, length, IsTrue, OnOk, OnErr, IfErr, option_map, slice_get, drop as dropped};
+ghost use Rattle.hold_queue.specs.ChainState.{tenure_count};
 ghost use Rattle.hold_queue.specs.HoldState.{HoldState, new_hold, messages, with_messages, count};
-ghost use Rattle.hold_queue.specs.Refusal.{HandsBack, IsMemory};
+ghost use Rattle.hold_queue.specs.Refusal.{HandsBack};
 
 use crate::HoldFault;
+use crate::queues::Queues;
 use dtap_codec::Sapi;
-use octets::Octets;
 use std::alloc::Global;
-use std::collections::VecDeque;
 use std::marker::Model;
 
 /// The messages that a connection holds while its channel changes: one queue for each SAPI, with one limit over both.
 #[derive(Drop)]
 pub struct Hold {
     limit: usize,
-    zero: VecDeque<Octets>,
-    three: VecDeque<Octets>,
+    queues: Queues,
 }
 
 impl Model for Hold {
     ghost Value = { HoldState };
 
-    ghost view = { λ hold. record { limit = hold.limit; zero = hold.zero.items; three = hold.three.items } };
+    ghost view = { λ hold. record { limit = hold.limit; zero = hold.queues.zero; three = hold.queues.three } };
 
-    ghost invariant = { λ hold. length hold.zero.items + length hold.three.items ≤ hold.limit };
+    ghost invariant = { λ hold. tenure_count hold.queues ≤ hold.limit };
 }
 
 impl Hold {
@@ -32,8 +31,7 @@ impl Hold {
     {
         Hold {
             limit,
-            zero: VecDeque::new(alloc),
-            three: VecDeque::new(alloc),
+            queues: Queues::new(alloc),
         }
     }
 
@@ -42,14 +40,14 @@ impl Hold {
         ensures count { result ≡ count self.now }
         ensures within { result ≤ self.now.limit }
     {
-        self.zero.len() + self.three.len()
+        self.queues.len()
     }
 
     /// Whether none is held.
     pub fn is_empty(&self) -> bool
         ensures { IsTrue result ↔ (count self.now ≡ 0) }
     {
-        self.zero.is_empty() && self.three.is_empty()
+        self.queues.len() == 0
     }
 
     /// Puts a message behind those of its SAPI. It refuses with `Full` where as many as the limit are held over both
@@ -63,10 +61,7 @@ impl Hold {
         if self.len() == self.limit {
             return Err(HoldFault::Full(message));
         }
-        match sapi {
-            Sapi::Zero => append(&mut self.zero, message),
-            Sapi::Three => append(&mut self.three, message),
-        }
+        self.queues.put(sapi, message)
     }
 
     /// Takes the first message of a SAPI out of the hold, which takes no memory; none where the SAPI has none.
@@ -74,21 +69,14 @@ impl Hold {
         ensures first { option_map (λ message. message.items) result ≡ slice_get (messages self.old sapi) 0 }
         ensures rest { self.new ≡ with_messages self.old sapi (dropped 1 (messages self.old sapi)) }
     {
-        match sapi {
-            Sapi::Zero => take_first(&mut self.zero),
-            Sapi::Three => take_first(&mut self.three),
-        }
+        self.queues.next(sapi)
     }
 
     /// Lends the message of a SAPI at this place, from 0; none where there are no more than so many.
     pub fn get(&self, sapi: Sapi, place: usize) -> Option<&[u8]>
         ensures { option_map (λ message. message.now) result ≡ slice_get (messages self.now sapi) place }
     {
-        let queue = match sapi {
-            Sapi::Zero => &self.zero,
-            Sapi::Three => &self.three,
-        };
-        Some(queue.get(place)?.as_slice())
+        self.queues.get(sapi, place)
     }
 
     /// Drops the messages of a SAPI, which takes no memory, and says how many went.
@@ -96,40 +84,6 @@ impl Hold {
         ensures cleared { self.new ≡ with_messages self.old sapi [] }
         ensures count { result ≡ length (messages self.old sapi) }
     {
-        match sapi {
-            Sapi::Zero => clear(&mut self.zero),
-            Sapi::Three => clear(&mut self.three),
-        }
+        self.queues.clear_sapi(sapi)
     }
-}
-
-// Puts a message behind the others of its queue, or hands it back for want of memory.
-fn append(queue: &mut VecDeque<Octets>, message: Vec<u8>) -> Result<(), HoldFault>
-    ensures ok { OnOk result (queue.new.items ≡ queue.old.items ++ message.items ∷ []) }
-    ensures err { OnErr result (queue.new.items ≡ queue.old.items) }
-    ensures memory { IfErr result (IsMemory message.items) }
-{
-    match queue.push_back(Octets::new(message)) {
-        Ok(()) => Ok(()),
-        Err(refused) => Err(HoldFault::Memory(refused.value.into_vec())),
-    }
-}
-
-// Takes the first message of a queue.
-fn take_first(queue: &mut VecDeque<Octets>) -> Option<Vec<u8>>
-    ensures first { option_map (λ message. message.items) result ≡ slice_get queue.old.items 0 }
-    ensures rest { queue.new.items ≡ dropped 1 queue.old.items }
-{
-    let message = queue.pop_front()?;
-    Some(message.into_vec())
-}
-
-// Empties a queue, and says how many messages it had.
-fn clear(queue: &mut VecDeque<Octets>) -> usize
-    ensures cleared { queue.new.items ≡ [] }
-    ensures count { result ≡ length queue.old.items }
-{
-    let count = queue.len();
-    queue.clear();
-    count
 }

@@ -1,0 +1,127 @@
+ghost use Rattle.std.specs.Prelude.{◌≡◌, ◌≤◌, ◌+◌, [], ◌∷◌, ◌++◌, length, OnOk, OnErr, IfErr, option_map, slice_get, drop as dropped};
+ghost use Rattle.hold_queue.specs.ChainState.{Tenure, empty_tenure, tenure_messages, with_tenure_messages, tenure_count};
+ghost use Rattle.hold_queue.specs.Refusal.{IsMemory};
+
+use crate::HoldFault;
+use dtap_codec::Sapi;
+use octets::Octets;
+use std::alloc::Global;
+use std::collections::VecDeque;
+use std::marker::Model;
+
+/// The messages that are held for one channel: one queue for each SAPI.
+#[derive(Drop)]
+pub(crate) struct Queues {
+    zero: VecDeque<Octets>,
+    three: VecDeque<Octets>,
+}
+
+impl Model for Queues {
+    ghost Value = { Tenure };
+
+    ghost view = { λ queues. record { zero = queues.zero.items; three = queues.three.items } };
+}
+
+impl Queues {
+    /// Queues without messages, which takes no memory.
+    pub(crate) fn new(alloc: Global) -> Queues
+        ensures { result ≡ empty_tenure }
+    {
+        Queues {
+            zero: VecDeque::new(alloc),
+            three: VecDeque::new(alloc),
+        }
+    }
+
+    /// How many messages there are, over both SAPIs.
+    pub(crate) fn len(&self) -> usize
+        ensures { result ≡ tenure_count self.now }
+    {
+        self.zero.len() + self.three.len()
+    }
+
+    /// Puts a message behind those of its SAPI, or hands it back for want of memory.
+    pub(crate) fn put(&mut self, sapi: Sapi, message: Vec<u8>) -> Result<(), HoldFault>
+        ensures put { OnOk result (self.new ≡ with_tenure_messages self.old sapi (tenure_messages self.old sapi ++ message.items ∷ [])) }
+        ensures memory { IfErr result (IsMemory message.items) }
+        ensures err { OnErr result (self.new ≡ self.old) }
+        ensures count { tenure_count self.new ≤ tenure_count self.old + 1 }
+    {
+        match sapi {
+            Sapi::Zero => append(&mut self.zero, message),
+            Sapi::Three => append(&mut self.three, message),
+        }
+    }
+
+    /// Takes the first message of a SAPI out, which takes no memory.
+    pub(crate) fn next(&mut self, sapi: Sapi) -> Option<Vec<u8>>
+        ensures first { option_map (λ message. message.items) result ≡ slice_get (tenure_messages self.old sapi) 0 }
+        ensures rest { self.new ≡ with_tenure_messages self.old sapi (dropped 1 (tenure_messages self.old sapi)) }
+    {
+        match sapi {
+            Sapi::Zero => take_first(&mut self.zero),
+            Sapi::Three => take_first(&mut self.three),
+        }
+    }
+
+    /// Lends the message of a SAPI at this place, from 0.
+    pub(crate) fn get(&self, sapi: Sapi, place: usize) -> Option<&[u8]>
+        ensures { option_map (λ message. message.now) result ≡ slice_get (tenure_messages self.now sapi) place }
+    {
+        let queue = match sapi {
+            Sapi::Zero => &self.zero,
+            Sapi::Three => &self.three,
+        };
+        Some(queue.get(place)?.as_slice())
+    }
+
+    /// Drops the messages of a SAPI, which takes no memory, and says how many went.
+    pub(crate) fn clear_sapi(&mut self, sapi: Sapi) -> usize
+        ensures cleared { self.new ≡ with_tenure_messages self.old sapi [] }
+        ensures count { result ≡ length (tenure_messages self.old sapi) }
+    {
+        match sapi {
+            Sapi::Zero => clear(&mut self.zero),
+            Sapi::Three => clear(&mut self.three),
+        }
+    }
+
+    /// Drops all messages, which takes no memory.
+    pub(crate) fn clear(&mut self)
+        ensures { self.new ≡ empty_tenure }
+    {
+        self.zero.clear();
+        self.three.clear();
+    }
+}
+
+// Puts a message behind the others of its queue, or hands it back for want of memory.
+fn append(queue: &mut VecDeque<Octets>, message: Vec<u8>) -> Result<(), HoldFault>
+    ensures ok { OnOk result (queue.new.items ≡ queue.old.items ++ message.items ∷ []) }
+    ensures err { OnErr result (queue.new.items ≡ queue.old.items) }
+    ensures memory { IfErr result (IsMemory message.items) }
+{
+    match queue.push_back(Octets::new(message)) {
+        Ok(()) => Ok(()),
+        Err(refused) => Err(HoldFault::Memory(refused.value.into_vec())),
+    }
+}
+
+// Takes the first message of a queue.
+fn take_first(queue: &mut VecDeque<Octets>) -> Option<Vec<u8>>
+    ensures first { option_map (λ message. message.items) result ≡ slice_get queue.old.items 0 }
+    ensures rest { queue.new.items ≡ dropped 1 queue.old.items }
+{
+    let message = queue.pop_front()?;
+    Some(message.into_vec())
+}
+
+// Empties a queue, and says how many messages it had.
+fn clear(queue: &mut VecDeque<Octets>) -> usize
+    ensures cleared { queue.new.items ≡ [] }
+    ensures count { result ≡ length queue.old.items }
+{
+    let count = queue.len();
+    queue.clear();
+    count
+}
