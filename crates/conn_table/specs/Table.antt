@@ -1,7 +1,5 @@
 -- The table of a connection: for each input, by the state, the one row that fits; None where none does.
 use Rattle.std.specs.Prelude.{ℕ, zero, suc, ◌==◌, ◌||◌, ◌&&◌, nat_le, Bool, true, false, not, if◌then◌else◌, List, [], ◌∷◌, ◌++◌, length, Option, Some, None}
-use Rattle.std.specs.List.{list_any}
-use Rattle.bssmap_codec.specs.declared.values.RrCause.{RrCause as MobileCause}
 use Rattle.conn_messages.specs.declared.causes.TheConstants.{ABNORMAL_RELEASE, BSS_NOT_EQUIPPED, EQUIPMENT_FAILURE, NORMAL_EVENT, PROTOCOL_ERROR, RADIO_INTERFACE_FAILURE, RADIO_INTERFACE_MESSAGE_FAILURE, REVERSION_TO_OLD_CHANNEL}
 use Rattle.conn_messages.specs.declared.channel.Change.{Change}
 use Rattle.conn_messages.specs.declared.channel.Change.TheVariants.{Assignment, Handover}
@@ -19,10 +17,10 @@ use Rattle.conn_table.specs.declared.state.ShortMessageLink.TheVariants.{Down, A
 use Rattle.conn_table.specs.declared.state.Stage.{Stage}
 use Rattle.conn_table.specs.declared.state.Stage.TheVariants.{Active, Preparing, Changing, Draining}
 use Rattle.conn_table.specs.declared.state.State.{State}
+use Rattle.conn_table.specs.declared.state.Target.{Target}
 use Rattle.conn_table.specs.declared.state.State.TheVariants.{WaitActivation, WaitEstablish, WaitConfirm, Live, Closed, Removed}
 use Rattle.conn_table.specs.Connection.{Connection, enter, emptied, is_at, drain_at, tenure_at, first_channel}
 use Rattle.conn_table.specs.Steps.{Row, row, ◌then◌, ending, failing, dropping, without_station, may_begin, begin, begin_waiting, resting_stage, resting, moved, hold_down, hand_held, short_message, ask_for_held, link_up, link_down, hold_up, relay_held, done_at, leave, settled_stage, settled}
-use Rattle.dtap_codec.specs.declared.rr.RrCause.{RrCause}
 use Rattle.dtap_codec.specs.declared.sapi.Sapi.{Sapi}
 use Rattle.dtap_codec.specs.declared.sapi.Sapi.TheVariants.{Zero, Three}
 use Rattle.octets.specs.declared.limits.TheConstants.{INITIAL_LIMIT}
@@ -33,11 +31,18 @@ row_if test r = if test then Some r else None
 
 -- ---- channels are activated
 
+-- the mobile is told its channel
+abbrev pub assign_immediately : Connection → Row
+assign_immediately s = row (immediate_assign_command s.serving s.request s.delay ∷ []) (enter WaitEstablish s)
+
+-- the mobile is commanded to the target
+abbrev pub command_to : ℕ → Target → Connection → Row
+command_to reference target s =
+    row (change_command s.serving target.change target.channel ∷ []) (enter (Live reference (Changing target)) (record s { link = Down }))
+
 abbrev pub on_activation_ack : State → Connection → Place → Option Row
-on_activation_ack WaitActivation s at =
-    row_if (is_at at s.serving) (row (immediate_assign_command s.serving s.request s.delay ∷ []) (enter WaitEstablish s))
-on_activation_ack (Live reference (Preparing target)) s at =
-    row_if (is_at at target.channel) (row (change_command s.serving target.change target.channel ∷ []) (enter (Live reference (Changing target)) (record s { link = Down })))
+on_activation_ack WaitActivation s at = row_if (is_at at s.serving) (assign_immediately s)
+on_activation_ack (Live reference (Preparing target)) s at = row_if (is_at at target.channel) (command_to reference target s)
 on_activation_ack _ s at = None
 
 -- the switch learns of an assignment that can't be had
@@ -45,10 +50,15 @@ abbrev pub nack_outs : Change → ℕ → List Message
 nack_outs Assignment reference = assignment_failure reference EQUIPMENT_FAILURE None ∷ []
 nack_outs Handover reference = []
 
+-- the target can't be had
+abbrev pub refuse : ℕ → Change → Option Channel → Connection → Row
+refuse reference change offer s =
+    row (nack_outs change reference) (resting reference s) then begin_waiting (resting_stage s.draining) reference offer
+
 abbrev pub on_activation_nack : State → Connection → Place → Option Channel → Option Row
 on_activation_nack WaitActivation s at offer = row_if (is_at at s.serving) (row [] (emptied Removed s))
 on_activation_nack (Live reference (Preparing target)) s at offer =
-    row_if (is_at at target.channel) (row (nack_outs target.change reference) (resting reference s) then begin_waiting (resting_stage s.draining) reference offer)
+    row_if (is_at at target.channel) (refuse reference target.change offer s)
 on_activation_nack _ s at offer = None
 
 -- ---- the mobile's links
@@ -100,14 +110,22 @@ abbrev pub dtap_on_target : ℕ → Stage → Connection → Place → Sapi → 
 dtap_on_target reference (Changing target) s at Zero = row_if (is_at at target.channel) (failing (Live reference (Changing target)) s EQUIPMENT_FAILURE)
 dtap_on_target reference stage s at sapi = None
 
+abbrev pub relay_dtap : ℕ → Sapi → List ℕ → Connection → Row
+relay_dtap reference sapi message s = row (relaying reference (first_channel s.draining s.serving) sapi message ∷ []) s
+
 -- of the first tenure it is relayed, of another it is held
 abbrev pub dtap_in : Option ℕ → ℕ → Stage → Connection → Place → Sapi → List ℕ → Option Row
-dtap_in (Some zero) reference stage s at sapi message = Some (row (relaying reference (first_channel s.draining s.serving) sapi message ∷ []) s)
+dtap_in (Some zero) reference stage s at sapi message = Some (relay_dtap reference sapi message s)
 dtap_in (Some (suc tenure)) reference stage s at sapi message = Some (hold_up (Live reference stage) (suc tenure) sapi message s)
 dtap_in None reference stage s at sapi message = dtap_on_target reference stage s at sapi
 
+-- before its first message the mobile sends nothing else
+abbrev pub dtap_before_access : Connection → Place → Sapi → Option Row
+dtap_before_access s at Zero = row_if (is_at at s.serving) (dropping s)
+dtap_before_access s at Three = None
+
 abbrev pub on_dtap : State → Connection → Place → Sapi → List ℕ → Option Row
-on_dtap WaitEstablish s at Zero message = row_if (is_at at s.serving) (dropping s)
+on_dtap WaitEstablish s at sapi message = dtap_before_access s at sapi
 on_dtap WaitConfirm s at sapi message = row_if (is_at at s.serving) (hold_up WaitConfirm 0 sapi message s)
 on_dtap (Live reference stage) s at sapi message = dtap_in (tenure_at at s.serving s.draining) reference stage s at sapi message
 on_dtap _ s at sapi message = None

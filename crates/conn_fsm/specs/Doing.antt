@@ -1,0 +1,50 @@
+-- What a call makes of a connection and of the outputs that it was lent.
+use Rattle.std.specs.Prelude.{◌≡◌, ℕ, Bool, true, false, List, [], ◌++◌, Option, Some, None}
+use Rattle.bssmap_codec.specs.Layer3.{IsLayer3}
+use Rattle.conn_messages.specs.declared.out.Out.{Out}
+use Rattle.conn_messages.specs.Out.{outs_of}
+use Rattle.conn_table.specs.declared.input.Input.{Input}
+use Rattle.conn_table.specs.declared.input.Input.TheVariants.{Expiry, DrainExpiry, StationDown, SwitchDown}
+use Rattle.conn_table.specs.declared.state.State.{State}
+use Rattle.conn_table.specs.Connection.{Connection, emptied}
+use Rattle.conn_table.specs.Steps.{Row}
+
+-- the row's messages are appended, and the connection is its next
+abbrev pub Does : Row → Connection → Connection → List Out → List Out → Type 0
+Does r old new outs outs_after = (new ≡ r.next) × (outs_after ≡ outs ++ outs_of old.number r.outs)
+
+-- nothing is appended, and the connection is as it was
+abbrev pub Stays : Connection → Connection → List Out → List Out → Type 0
+Stays old new outs outs_after = (new ≡ old) × (outs_after ≡ outs)
+
+-- the row that fits is done; where none does, nothing changes
+abbrev pub Steps : Option Row → Bool → Connection → Connection → List Out → List Out → Type 0
+Steps (Some r) fits old new outs outs_after = (fits ≡ true) × Does r old new outs outs_after
+Steps None fits old new outs outs_after = (fits ≡ false) × Stays old new outs outs_after
+
+-- ---- steps of several connections at once
+
+-- an expiry, or a link that broke
+abbrev pub IsPlanned : Input → Type 0
+IsPlanned Expiry = Unit {0}
+IsPlanned DrainExpiry = Unit {0}
+IsPlanned (StationDown station) = Unit {0}
+IsPlanned SwitchDown = Unit {0}
+IsPlanned _ = ⊥
+
+-- the connection ends in this state, or no row fits
+abbrev pub EndsIn : Option State → Option Row → Connection → Type 0
+EndsIn (Some last) (Some r) s = r.next ≡ emptied last s
+EndsIn None None s = Unit {0}
+EndsIn _ _ s = ⊥
+
+abbrev pub outs_in : Option Row → ℕ → List Out
+outs_in (Some r) number = outs_of number r.outs
+outs_in None number = []
+
+-- ---- conditions
+
+-- the message that an ESTABLISH INDICATION brings, where it does, is of layer 3
+abbrev pub IsInitial : Option (List ℕ) → Type 0
+IsInitial None = Unit {0}
+IsInitial (Some message) = IsLayer3 message

@@ -1,0 +1,103 @@
+ghost use Rattle.std.specs.Prelude.{◌≡◌, ◌<◌, ◌^◌, ◌++◌, IfOk, OnOk, OnErr};
+ghost use Rattle.conn_messages.specs.Out.{outs_of};
+ghost use Rattle.conn_table.specs.Connection.{new_connection, enter, emptied};
+
+use crate::drains::Drains;
+use conn_messages::{Channel, Messages, Outputs};
+use conn_table::{DOWN_LIMIT, ShortMessageLink, State, UP_LIMIT};
+use dtap_codec::Sapi;
+use hold_queue::{Chain, Hold};
+use octets::Memory;
+use rsl_codec::{AccessDelay, RequestReference};
+use std::alloc::Global;
+use std::marker::Model;
+
+/// The parts of a connection, and the rows of its table. A row is done in this order: its messages are made, their frames
+/// are appended, and then the parts change, which takes no memory; so a refusal changes nothing.
+#[derive(Drop)]
+pub(crate) struct Core {
+    pub(crate) alloc: Global,
+    pub(crate) number: u32,
+    pub(crate) request: RequestReference,
+    pub(crate) delay: AccessDelay,
+    pub(crate) state: State,
+    pub(crate) serving: Channel,
+    pub(crate) link: ShortMessageLink,
+    pub(crate) draining: Drains,
+    pub(crate) down: Hold,
+    pub(crate) up: Chain,
+    pub(crate) waits: bool,
+    pub(crate) waited: u64,
+    pub(crate) drained: u64,
+}
+
+impl Model for Core {
+    ghost use Rattle.std.specs.Prelude.{◌<◌, ◌^◌};
+    ghost use Rattle.conn_table.specs.Connection.{Connection};
+
+    ghost Value = { Connection };
+
+    ghost view = { λ c. record {
+        number = c.number; request = c.request; delay = c.delay.0; state = c.state; serving = c.serving; link = c.link;
+        draining = c.draining; down = c.down; up = c.up; waits = c.waits; waited = c.waited; drained = c.drained } };
+
+    ghost invariant = { λ c. c.number < 2 ^ 24 };
+}
+
+impl Core {
+    pub(crate) fn new(
+        alloc: Global,
+        number: u32,
+        channel: Channel,
+        request: RequestReference,
+        delay: AccessDelay,
+    ) -> Result<Core, Memory>
+        requires { number < 2 ^ 24 }
+        ensures { IfOk result (λ c. c ≡ new_connection number channel request delay.0) }
+    {
+        Ok(Core {
+            alloc,
+            number,
+            request,
+            delay,
+            state: State::WaitActivation,
+            serving: channel,
+            link: ShortMessageLink::Down,
+            draining: Drains::new(alloc)?,
+            down: Hold::new(alloc, DOWN_LIMIT),
+            up: Chain::new(alloc, UP_LIMIT)?,
+            waits: false,
+            waited: 0,
+            drained: 0,
+        })
+    }
+
+    /// Appends the frames of the messages.
+    pub(crate) fn put(&self, messages: &Messages, outputs: &mut Outputs) -> Result<(), Memory>
+        ensures ok { OnOk result (outputs.new.outs ≡ outputs.old.outs ++ outs_of self.now.number messages.now) }
+        ensures err { OnErr result (outputs.new.outs ≡ outputs.old.outs) }
+    {
+        outputs.put_all(self.alloc, self.number, messages)
+    }
+
+    /// Enters a state, whose timer begins.
+    pub(crate) fn enter(&mut self, state: State)
+        ensures { self.new ≡ enter state self.old }
+    {
+        self.state = state;
+        self.waited = 0;
+    }
+
+    /// Enters a last state: holds, timers, waiting request and old channels go.
+    pub(crate) fn empty(&mut self, state: State)
+        ensures { self.new ≡ emptied state self.old }
+    {
+        self.enter(state);
+        self.draining.clear();
+        self.down.clear_sapi(Sapi::Zero);
+        self.down.clear_sapi(Sapi::Three);
+        self.up.clear();
+        self.waits = false;
+        self.drained = 0;
+    }
+}

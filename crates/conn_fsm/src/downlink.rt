@@ -1,0 +1,104 @@
+ghost use Rattle.std.specs.Prelude.{◌≡◌, [], ◌∷◌, ◌++◌, IfOk, OnOk, OnErr};
+ghost use Rattle.bssmap_codec.specs.Layer3.{IsLayer3};
+ghost use Rattle.conn_messages.specs.Out.{outs_of};
+ghost use Rattle.conn_messages.specs.StationMessage as words;
+ghost use Rattle.conn_table.specs.Standing.{Stands};
+ghost use Rattle.conn_table.specs.Steps.{hold_down, hold_short_message, request_where, short_message};
+ghost use Rattle.conn_table.specs.Table.{on_downlink};
+ghost use Rattle.conn_fsm.specs.Doing.{Does, Stays, Steps};
+
+use crate::core::Core;
+use conn_messages::causes::EQUIPMENT_FAILURE;
+use conn_messages::station_message::{establish_request, handing};
+use conn_messages::{Messages, Outputs};
+use conn_table::{DOWN_LIMIT, ShortMessageLink, Stage, State};
+use dtap_codec::Sapi;
+use hold_queue::HoldFault;
+use octets::{Memory, Octets};
+
+impl Core {
+    /// A layer 3 message for the mobile: while the channel changes it is held, and so is one of SAPI 3 while its link isn't
+    /// up; else it is handed.
+    pub(crate) fn downlink(
+        &mut self,
+        sapi: Sapi,
+        message: Octets,
+        outputs: &mut Outputs,
+    ) -> Result<bool, Memory>
+        requires { IsLayer3 message }
+        ensures done { IfOk result (λ fits. Steps (on_downlink self.old.state self.old sapi message) fits self.old self.new outputs.old.outs outputs.new.outs) }
+        ensures err { OnErr result (Stays self.old self.new outputs.old.outs outputs.new.outs) }
+    {
+        let state = self.state;
+        match (state, sapi) {
+            (State::Live(_, Stage::Changing(_)), _) => self.hold_down(sapi, message, outputs)?,
+            (State::Live(_, _), Sapi::Zero) => self.hand(sapi, message, outputs)?,
+            (State::Live(_, _), Sapi::Three) => self.short_message(message, outputs)?,
+            _ => return Ok(false),
+        }
+        Ok(true)
+    }
+
+    // The message is handed at once.
+    fn hand(&self, sapi: Sapi, message: Octets, outputs: &mut Outputs) -> Result<(), Memory>
+        requires { IsLayer3 message }
+        ensures done { OnOk result (outputs.new.outs ≡ outputs.old.outs ++ outs_of self.now.number (words.handing self.now.serving sapi message ∷ [])) }
+        ensures err { OnErr result (outputs.new.outs ≡ outputs.old.outs) }
+    {
+        let mut put = Messages::new(self.alloc);
+        put.push(handing(&self.serving, sapi, message))?;
+        self.put(&put, outputs)
+    }
+
+    // The message is held; one too many fails.
+    fn hold_down(
+        &mut self,
+        sapi: Sapi,
+        message: Octets,
+        outputs: &mut Outputs,
+    ) -> Result<(), Memory>
+        ensures done { OnOk result (Does (hold_down self.old.state sapi message self.old) self.old self.new outputs.old.outs outputs.new.outs) }
+        ensures err { OnErr result (Stays self.old self.new outputs.old.outs outputs.new.outs) }
+    {
+        match self.down.put(sapi, message.into_vec()) {
+            Ok(()) => Ok(()),
+            Err(HoldFault::Full(_)) => self.fail(EQUIPMENT_FAILURE, outputs),
+            Err(HoldFault::Memory(_)) => Err(Memory),
+        }
+    }
+
+    // A message of SAPI 3.
+    fn short_message(&mut self, message: Octets, outputs: &mut Outputs) -> Result<(), Memory>
+        requires { IsLayer3 message }
+        ensures done { OnOk result (Does (short_message self.old.state self.old.link message self.old) self.old self.new outputs.old.outs outputs.new.outs) }
+        ensures err { OnErr result (Stays self.old self.new outputs.old.outs outputs.new.outs) }
+    {
+        match self.link {
+            ShortMessageLink::Up => self.hand(Sapi::Three, message, outputs),
+            ShortMessageLink::Down | ShortMessageLink::Asked => {
+                self.hold_short_message(message, outputs)
+            }
+        }
+    }
+
+    // It waits for its link, which is asked for where it is down. Room for the request is there before the message is held.
+    fn hold_short_message(&mut self, message: Octets, outputs: &mut Outputs) -> Result<(), Memory>
+        ensures done { OnOk result (Does (hold_short_message self.old.state message self.old) self.old self.new outputs.old.outs outputs.new.outs) }
+        ensures err { OnErr result (Stays self.old self.new outputs.old.outs outputs.new.outs) }
+    {
+        let mut put = Messages::new(self.alloc);
+        if let ShortMessageLink::Down = self.link {
+            put.push(establish_request(&self.serving))?;
+        }
+        let made = Outputs::made(self.alloc, self.number, &put)?;
+        outputs.reserve(made.len())?;
+        match self.down.put(Sapi::Three, message.into_vec()) {
+            Ok(()) => {}
+            Err(HoldFault::Full(_)) => return self.fail(EQUIPMENT_FAILURE, outputs),
+            Err(HoldFault::Memory(_)) => return Err(Memory),
+        }
+        outputs.append(made);
+        self.link = ShortMessageLink::Asked;
+        Ok(())
+    }
+}

@@ -1,0 +1,111 @@
+ghost use Rattle.std.specs.Prelude.{◌≡◌, ◌<◌, ◌≤◌, ◌↔◌, [], ◌∷◌, ◌++◌, length, IsTrue, IfOk, IfSome, option_map, slice_get, drop as dropped};
+ghost use Rattle.conn_table.specs.Connection.{drain_at, first_channel};
+ghost use Rattle.conn_table.specs.Steps.{done_at};
+ghost use Rattle.conn_table.specs.Table.{drains_at};
+
+use conn_messages::{Channel, Place};
+use conn_table::{DRAIN_LIMIT, Drain};
+use octets::Memory;
+use std::alloc::Global;
+use std::collections::VecDeque;
+use std::marker::Model;
+
+use crate::places::is_at;
+
+/// The old channels of a connection, the oldest first.
+#[derive(Drop)]
+pub(crate) struct Drains {
+    list: VecDeque<Drain>,
+}
+
+impl Model for Drains {
+    ghost use Rattle.std.specs.Prelude.{◌≤◌, List, length};
+    ghost use Rattle.std.specs.VecDeque.{deque_capacity};
+    ghost use Rattle.conn_table.specs.declared.limits.TheConstants.{DRAIN_LIMIT};
+    ghost use Rattle.conn_table.specs.declared.state.Drain.{Drain};
+
+    ghost Value = { List Drain };
+
+    ghost view = { λ drains. drains.list.items };
+
+    // the room for all is there, so that one more takes no memory
+    ghost invariant = { λ drains. (length drains.list.items ≤ DRAIN_LIMIT) × (DRAIN_LIMIT ≤ deque_capacity drains.list) };
+}
+
+impl Drains {
+    pub(crate) fn new(alloc: Global) -> Result<Drains, Memory>
+        ensures { IfOk result (λ drains. drains ≡ []) }
+    {
+        let list = VecDeque::with_capacity(alloc, DRAIN_LIMIT)?;
+        Ok(Drains { list })
+    }
+
+    pub(crate) fn len(&self) -> usize
+        ensures { result ≡ length self.now }
+    {
+        self.list.len()
+    }
+
+    pub(crate) fn is_empty(&self) -> bool
+        ensures { IsTrue result ↔ (self.now ≡ []) }
+    {
+        self.list.is_empty()
+    }
+
+    /// The old channel at this place.
+    pub(crate) fn get(&self, place: usize) -> Option<Drain>
+        ensures { result ≡ slice_get self.now place }
+    {
+        self.list.get(place).copied()
+    }
+
+    /// The place of the channel that is there and isn't done.
+    pub(crate) fn place_of(&self, at: Place) -> Option<usize>
+        ensures found { result ≡ drain_at at self.now }
+    {
+        self.list
+            .iter()
+            .position(|drain| is_at(at, &drain.channel) && !drain.is_done)
+    }
+
+    /// Whether a channel of this station is there that isn't done.
+    pub(crate) fn drains_at(&self, station: u16) -> bool
+        ensures { result ≡ drains_at station self.now }
+    {
+        self.list
+            .iter()
+            .any(|drain| drain.channel.station == station && !drain.is_done)
+    }
+
+    /// One more, the youngest, which takes no memory.
+    pub(crate) fn push(&mut self, channel: Channel)
+        requires { length self.old < DRAIN_LIMIT }
+        ensures { self.new ≡ self.old ++ record { channel = channel; is_done = false } ∷ [] }
+    {
+        self.list.push_back_reserved(Drain {
+            channel,
+            is_done: false,
+        });
+    }
+
+    /// The channel at this place is done.
+    pub(crate) fn mark_done(&mut self, place: usize)
+        requires { place < length self.old }
+        ensures { self.new ≡ done_at place self.old }
+    {
+        self.list[place].is_done = true;
+    }
+
+    /// The oldest goes.
+    pub(crate) fn shift(&mut self)
+        ensures { self.new ≡ dropped 1 self.old }
+    {
+        self.list.pop_front();
+    }
+
+    pub(crate) fn clear(&mut self)
+        ensures { self.new ≡ [] }
+    {
+        self.list.clear();
+    }
+}

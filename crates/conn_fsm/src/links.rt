@@ -1,0 +1,197 @@
+ghost use Rattle.std.specs.Prelude.{◌≡◌, [], ◌∷◌, ◌++◌, Some, IfOk, OnOk, OnErr, option_map};
+ghost use Rattle.bssmap_codec.specs.Layer3.{IsLayer3};
+ghost use Rattle.conn_table.specs.declared.state.ShortMessageLink.TheVariants.{Asked};
+ghost use Rattle.conn_table.specs.Standing.{Stands};
+ghost use Rattle.conn_table.specs.Steps.{link_down, link_up};
+ghost use Rattle.conn_table.specs.Table.{access, on_connection_failure, on_error_indication, on_establish_confirm, on_establish_indication, on_release_indication};
+ghost use Rattle.conn_fsm.specs.Doing.{Does, IsInitial, Stays, Steps};
+
+use crate::core::Core;
+use crate::places::is_at;
+use bssmap_codec::Reference;
+use conn_messages::causes::RADIO_INTERFACE_FAILURE;
+use conn_messages::switch_message::{complete_layer3, sapi_3_reject};
+use conn_messages::{Messages, Outputs, Place};
+use conn_table::{ShortMessageLink, Stage, State};
+use dtap_codec::Sapi;
+use octets::{INITIAL_LIMIT, Memory, Octets};
+
+impl Core {
+    // ---- access
+
+    /// ESTABLISH INDICATION.
+    pub(crate) fn establish_indication(
+        &mut self,
+        at: Place,
+        sapi: Sapi,
+        message: Option<Octets>,
+        outputs: &mut Outputs,
+    ) -> Result<bool, Memory>
+        requires stands { Stands self.old }
+        requires layer3 { IsInitial message }
+        ensures done { IfOk result (λ fits. Steps (on_establish_indication self.old.state self.old at sapi message) fits self.old self.new outputs.old.outs outputs.new.outs) }
+        ensures err { OnErr result (Stays self.old self.new outputs.old.outs outputs.new.outs) }
+    {
+        if !is_at(at, &self.serving) {
+            return Ok(false);
+        }
+        let state = self.state;
+        match (state, sapi) {
+            (State::WaitEstablish, Sapi::Zero) => {
+                self.access(message, outputs)?;
+                Ok(true)
+            }
+            (State::Live(_, Stage::Changing(_)), _) => Ok(false),
+            (State::Live(_, _), Sapi::Three) => {
+                self.link_up(outputs)?;
+                Ok(true)
+            }
+            _ => Ok(false),
+        }
+    }
+
+    // The initial message opens a connection of the switch.
+    fn access(&mut self, message: Option<Octets>, outputs: &mut Outputs) -> Result<(), Memory>
+        requires { IsInitial message }
+        ensures done { OnOk result (Does (access message self.old) self.old self.new outputs.old.outs outputs.new.outs) }
+        ensures err { OnErr result (Stays self.old self.new outputs.old.outs outputs.new.outs) }
+    {
+        match message {
+            Some(initial) if initial.len() <= INITIAL_LIMIT => {
+                let mut put = Messages::new(self.alloc);
+                put.push(complete_layer3(
+                    self.alloc,
+                    &self.serving,
+                    initial.as_slice(),
+                )?)?;
+                self.put(&put, outputs)?;
+                self.enter(State::WaitConfirm);
+                Ok(())
+            }
+            _ => self.drop_channel(outputs),
+        }
+    }
+
+    // ---- the link of SAPI 3
+
+    /// SAPI 3 comes up: what is held for it is handed.
+    fn link_up(&mut self, outputs: &mut Outputs) -> Result<(), Memory>
+        requires { Stands self.old }
+        ensures done { OnOk result (Does (link_up self.old) self.old self.new outputs.old.outs outputs.new.outs) }
+        ensures err { OnErr result (Stays self.old self.new outputs.old.outs outputs.new.outs) }
+    {
+        let mut put = Messages::new(self.alloc);
+        self.put_held(&self.serving, Sapi::Three, &mut put)?;
+        self.put(&put, outputs)?;
+        self.link = ShortMessageLink::Up;
+        self.down.clear_sapi(Sapi::Three);
+        Ok(())
+    }
+
+    /// SAPI 3 goes down: where it was asked for, what waits for it is rejected.
+    fn link_down(&mut self, reference: Reference, outputs: &mut Outputs) -> Result<(), Memory>
+        ensures done { OnOk result (Does (link_down self.old.link reference self.old) self.old self.new outputs.old.outs outputs.new.outs) }
+        ensures err { OnErr result (Stays self.old self.new outputs.old.outs outputs.new.outs) }
+    {
+        if let ShortMessageLink::Asked = self.link {
+            let mut put = Messages::new(self.alloc);
+            put.push(sapi_3_reject(self.alloc, reference, &self.serving)?)?;
+            self.put(&put, outputs)?;
+            self.down.clear_sapi(Sapi::Three);
+        }
+        self.link = ShortMessageLink::Down;
+        Ok(())
+    }
+
+    /// ESTABLISH CONFIRM.
+    pub(crate) fn establish_confirm(
+        &mut self,
+        at: Place,
+        sapi: Sapi,
+        outputs: &mut Outputs,
+    ) -> Result<bool, Memory>
+        requires { Stands self.old }
+        ensures done { IfOk result (λ fits. Steps (on_establish_confirm self.old.state self.old at sapi) fits self.old self.new outputs.old.outs outputs.new.outs) }
+        ensures err { OnErr result (Stays self.old self.new outputs.old.outs outputs.new.outs) }
+    {
+        let ShortMessageLink::Asked = self.link else {
+            return Ok(false);
+        };
+        if !is_at(at, &self.serving) {
+            return Ok(false);
+        }
+        let state = self.state;
+        match (state, sapi) {
+            (State::Live(_, Stage::Changing(_)), _) => Ok(false),
+            (State::Live(_, _), Sapi::Three) => {
+                self.link_up(outputs)?;
+                Ok(true)
+            }
+            _ => Ok(false),
+        }
+    }
+
+    /// ERROR INDICATION.
+    pub(crate) fn error_indication(
+        &mut self,
+        at: Place,
+        sapi: Sapi,
+        outputs: &mut Outputs,
+    ) -> Result<bool, Memory>
+        ensures done { IfOk result (λ fits. Steps (on_error_indication self.old.state self.old at sapi) fits self.old self.new outputs.old.outs outputs.new.outs) }
+        ensures err { OnErr result (Stays self.old self.new outputs.old.outs outputs.new.outs) }
+    {
+        if !is_at(at, &self.serving) {
+            return Ok(false);
+        }
+        let state = self.state;
+        match (state, sapi) {
+            (State::Live(_, Stage::Changing(_)), _) => Ok(false),
+            (State::Live(reference, _), Sapi::Three) => {
+                self.link_down(reference, outputs)?;
+                Ok(true)
+            }
+            _ => Ok(false),
+        }
+    }
+
+    // ---- what ends the connection
+
+    /// RELEASE INDICATION.
+    pub(crate) fn release_indication(
+        &mut self,
+        at: Place,
+        sapi: Sapi,
+        outputs: &mut Outputs,
+    ) -> Result<bool, Memory>
+        ensures done { IfOk result (λ fits. Steps (on_release_indication self.old.state self.old at sapi) fits self.old self.new outputs.old.outs outputs.new.outs) }
+        ensures err { OnErr result (Stays self.old self.new outputs.old.outs outputs.new.outs) }
+    {
+        match sapi {
+            Sapi::Zero => self.main_link_lost(at, outputs),
+            Sapi::Three => self.error_indication(at, sapi, outputs),
+        }
+    }
+
+    /// CONNECTION FAILURE, or RELEASE INDICATION of SAPI 0.
+    pub(crate) fn main_link_lost(
+        &mut self,
+        at: Place,
+        outputs: &mut Outputs,
+    ) -> Result<bool, Memory>
+        ensures done { IfOk result (λ fits. Steps (on_connection_failure self.old.state self.old at) fits self.old self.new outputs.old.outs outputs.new.outs) }
+        ensures err { OnErr result (Stays self.old self.new outputs.old.outs outputs.new.outs) }
+    {
+        if !is_at(at, &self.serving) {
+            return Ok(false);
+        }
+        let state = self.state;
+        match state {
+            State::WaitEstablish => self.drop_channel(outputs)?,
+            State::Live(_, Stage::Changing(_)) => return Ok(false),
+            State::WaitConfirm | State::Live(_, _) => self.fail(RADIO_INTERFACE_FAILURE, outputs)?,
+            State::WaitActivation | State::Closed(_) | State::Removed => return Ok(false),
+        }
+        Ok(true)
+    }
+}

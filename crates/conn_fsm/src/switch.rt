@@ -1,0 +1,121 @@
+ghost use Rattle.std.specs.Prelude.{◌≡◌, [], ◌∷◌, ◌++◌, IfOk, OnOk, OnErr};
+ghost use Rattle.conn_messages.specs.Out.{outs_of};
+ghost use Rattle.conn_table.specs.Standing.{Stands};
+ghost use Rattle.conn_table.specs.Table.{on_cipher_mode_command, on_clear_command, on_confirm, on_refused, on_released};
+ghost use Rattle.conn_fsm.specs.Doing.{Does, Stays, Steps};
+
+use crate::core::Core;
+use bssmap_codec::Reference;
+use conn_messages::causes::{ABNORMAL_RELEASE, NORMAL_EVENT};
+use conn_messages::switch_message::{
+    cipher_mode_reject, clear_complete, clear_request, release_complete,
+};
+use conn_messages::{Messages, Outputs};
+use conn_table::{Clearing, Stage, State};
+use octets::Memory;
+
+impl Core {
+    /// CC: what the mobile sent meanwhile is relayed; of a connection that ended meanwhile the clearing is asked for.
+    pub(crate) fn confirm(
+        &mut self,
+        source: Reference,
+        outputs: &mut Outputs,
+    ) -> Result<bool, Memory>
+        requires { Stands self.old }
+        ensures done { IfOk result (λ fits. Steps (on_confirm self.old.state self.old source) fits self.old self.new outputs.old.outs outputs.new.outs) }
+        ensures err { OnErr result (Stays self.old self.new outputs.old.outs outputs.new.outs) }
+    {
+        let state = self.state;
+        let mut put = Messages::new(self.alloc);
+        match state {
+            State::WaitConfirm => {
+                self.put_tenure(source, 0, &mut put)?;
+                self.put(&put, outputs)?;
+                self.enter(State::Live(source, Stage::Active));
+                self.up.clear_first();
+            }
+            State::Closed(Clearing::Due(cause)) => {
+                put.push(clear_request(self.alloc, source, cause)?)?;
+                self.put(&put, outputs)?;
+                self.enter(State::Closed(Clearing::Asked(source)));
+            }
+            _ => return Ok(false),
+        }
+        Ok(true)
+    }
+
+    /// CREF.
+    pub(crate) fn refused(&mut self, outputs: &mut Outputs) -> Result<bool, Memory>
+        ensures done { IfOk result (λ fits. Steps (on_refused self.old.state self.old) fits self.old self.new outputs.old.outs outputs.new.outs) }
+        ensures err { OnErr result (Stays self.old self.new outputs.old.outs outputs.new.outs) }
+    {
+        let state = self.state;
+        match state {
+            State::WaitConfirm => self.end(ABNORMAL_RELEASE, State::Removed, outputs)?,
+            State::Closed(Clearing::Due(_)) => self.empty(State::Removed),
+            _ => return Ok(false),
+        }
+        Ok(true)
+    }
+
+    /// RLSD: the mobile is dismissed where it wasn't, and RLC goes to the reference that the switch names.
+    pub(crate) fn released(
+        &mut self,
+        source: Reference,
+        outputs: &mut Outputs,
+    ) -> Result<bool, Memory>
+        ensures done { IfOk result (λ fits. Steps (on_released self.old.state self.old source) fits self.old self.new outputs.old.outs outputs.new.outs) }
+        ensures err { OnErr result (Stays self.old self.new outputs.old.outs outputs.new.outs) }
+    {
+        let state = self.state;
+        let mut put = Messages::new(self.alloc);
+        match state {
+            State::WaitConfirm | State::Live(_, _) => self.put_end(ABNORMAL_RELEASE, &mut put)?,
+            State::Closed(_) => {}
+            State::WaitActivation | State::WaitEstablish | State::Removed => return Ok(false),
+        }
+        put.push(release_complete(source))?;
+        self.put(&put, outputs)?;
+        self.empty(State::Removed);
+        Ok(true)
+    }
+
+    /// CIPHER MODE COMMAND, which is rejected.
+    pub(crate) fn cipher_mode_command(&mut self, outputs: &mut Outputs) -> Result<bool, Memory>
+        ensures done { IfOk result (λ fits. Steps (on_cipher_mode_command self.old.state self.old) fits self.old self.new outputs.old.outs outputs.new.outs) }
+        ensures err { OnErr result (Stays self.old self.new outputs.old.outs outputs.new.outs) }
+    {
+        let state = self.state;
+        let State::Live(reference, _) = state else {
+            return Ok(false);
+        };
+        let mut put = Messages::new(self.alloc);
+        put.push(cipher_mode_reject(self.alloc, reference)?)?;
+        self.put(&put, outputs)?;
+        Ok(true)
+    }
+
+    /// CLEAR COMMAND: the mobile is dismissed where it wasn't, and CLEAR COMPLETE is put, once.
+    pub(crate) fn clear_command(&mut self, outputs: &mut Outputs) -> Result<bool, Memory>
+        ensures done { IfOk result (λ fits. Steps (on_clear_command self.old.state self.old) fits self.old self.new outputs.old.outs outputs.new.outs) }
+        ensures err { OnErr result (Stays self.old self.new outputs.old.outs outputs.new.outs) }
+    {
+        let state = self.state;
+        let mut put = Messages::new(self.alloc);
+        match state {
+            State::Live(reference, _) => {
+                self.put_end(NORMAL_EVENT, &mut put)?;
+                put.push(clear_complete(reference))?;
+                self.put(&put, outputs)?;
+                self.empty(State::Closed(Clearing::Complete));
+            }
+            State::Closed(Clearing::Asked(reference)) => {
+                put.push(clear_complete(reference))?;
+                self.put(&put, outputs)?;
+                self.enter(State::Closed(Clearing::Complete));
+            }
+            _ => return Ok(false),
+        }
+        Ok(true)
+    }
+}

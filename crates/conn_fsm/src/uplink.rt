@@ -1,0 +1,196 @@
+ghost use Rattle.std.specs.Prelude.{◌≡◌, ◌<◌, ◌≤◌, [], ◌∷◌, ◌++◌, length, map, IfOk, OnOk, OnErr, drop as dropped};
+ghost use Rattle.std.specs.List.{AllByRecursion};
+ghost use Rattle.bssmap_codec.specs.Layer3.{IsLayer3};
+ghost use Rattle.conn_messages.specs.Out.{outs_of};
+ghost use Rattle.conn_messages.specs.SwitchMessage.{relaying as relaying_word};
+ghost use Rattle.conn_table.specs.declared.state.State.TheVariants.{Live};
+ghost use Rattle.conn_table.specs.Connection.{first_channel, tenure_at};
+ghost use Rattle.conn_table.specs.Standing.{Stands};
+ghost use Rattle.conn_table.specs.Steps.{hold_up, tenure_outs};
+ghost use Rattle.conn_table.specs.Table.{dtap_before_access, dtap_on_target, on_dtap, relay_dtap};
+ghost use Rattle.hold_queue.specs.ChainState.{messages_in};
+ghost use Rattle.conn_fsm.specs.Doing.{Does, Stays, Steps};
+
+use crate::core::Core;
+use crate::places::is_at;
+use bssmap_codec::Reference;
+use conn_messages::causes::EQUIPMENT_FAILURE;
+use conn_messages::switch_message::relaying;
+use conn_messages::{Channel, Messages, Outputs, Place};
+use conn_table::{Stage, State, UP_LIMIT};
+use dtap_codec::Sapi;
+use hold_queue::HoldFault;
+use octets::{Memory, Octets};
+
+impl Core {
+    /// A layer 3 message of the mobile: of the first tenure it is relayed, of another held.
+    pub(crate) fn dtap(
+        &mut self,
+        at: Place,
+        sapi: Sapi,
+        message: Octets,
+        outputs: &mut Outputs,
+    ) -> Result<bool, Memory>
+        requires stands { Stands self.old }
+        requires layer3 { IsLayer3 message }
+        ensures done { IfOk result (λ fits. Steps (on_dtap self.old.state self.old at sapi message) fits self.old self.new outputs.old.outs outputs.new.outs) }
+        ensures err { OnErr result (Stays self.old self.new outputs.old.outs outputs.new.outs) }
+    {
+        let state = self.state;
+        match state {
+            State::WaitEstablish => self.dtap_before_access(at, sapi, outputs),
+            State::WaitConfirm if is_at(at, &self.serving) => {
+                self.hold_up(0, sapi, message, outputs)?;
+                Ok(true)
+            }
+            State::Live(reference, stage) => match self.tenure_at(at) {
+                Some(0) => {
+                    self.relay(reference, sapi, message, outputs)?;
+                    Ok(true)
+                }
+                Some(tenure) => {
+                    self.hold_up(tenure, sapi, message, outputs)?;
+                    Ok(true)
+                }
+                None => self.dtap_on_target(reference, stage, at, sapi, outputs),
+            },
+            _ => Ok(false),
+        }
+    }
+
+    // The channel isn't left to a mobile that sends before its first message.
+    fn dtap_before_access(
+        &mut self,
+        at: Place,
+        sapi: Sapi,
+        outputs: &mut Outputs,
+    ) -> Result<bool, Memory>
+        ensures done { IfOk result (λ fits. Steps (dtap_before_access self.old at sapi) fits self.old self.new outputs.old.outs outputs.new.outs) }
+        ensures err { OnErr result (Stays self.old self.new outputs.old.outs outputs.new.outs) }
+    {
+        match sapi {
+            Sapi::Zero if is_at(at, &self.serving) => {
+                self.drop_channel(outputs)?;
+                Ok(true)
+            }
+            _ => Ok(false),
+        }
+    }
+
+    // On the target only COMPLETE is wanted.
+    fn dtap_on_target(
+        &mut self,
+        reference: Reference,
+        stage: Stage,
+        at: Place,
+        sapi: Sapi,
+        outputs: &mut Outputs,
+    ) -> Result<bool, Memory>
+        requires { self.old.state ≡ Live reference stage }
+        ensures done { IfOk result (λ fits. Steps (dtap_on_target reference stage self.old at sapi) fits self.old self.new outputs.old.outs outputs.new.outs) }
+        ensures err { OnErr result (Stays self.old self.new outputs.old.outs outputs.new.outs) }
+    {
+        match (stage, sapi) {
+            (Stage::Changing(target), Sapi::Zero) if is_at(at, &target.channel) => {
+                self.fail(EQUIPMENT_FAILURE, outputs)?;
+                Ok(true)
+            }
+            _ => Ok(false),
+        }
+    }
+
+    // The message of the first tenure is relayed.
+    fn relay(
+        &self,
+        reference: Reference,
+        sapi: Sapi,
+        message: Octets,
+        outputs: &mut Outputs,
+    ) -> Result<(), Memory>
+        requires { IsLayer3 message }
+        ensures done { OnOk result (outputs.new.outs ≡ outputs.old.outs ++ outs_of self.now.number (relay_dtap reference sapi message self.now).outs) }
+        ensures err { OnErr result (outputs.new.outs ≡ outputs.old.outs) }
+    {
+        let channel = self.channel_of(0);
+        let mut put = Messages::new(self.alloc);
+        put.push(relaying(reference, &channel, sapi, message))?;
+        self.put(&put, outputs)
+    }
+
+    // The message is held in its tenure; one too many fails.
+    fn hold_up(
+        &mut self,
+        tenure: usize,
+        sapi: Sapi,
+        message: Octets,
+        outputs: &mut Outputs,
+    ) -> Result<(), Memory>
+        requires { tenure < length self.old.up.tenures }
+        ensures done { OnOk result (Does (hold_up self.old.state tenure sapi message self.old) self.old self.new outputs.old.outs outputs.new.outs) }
+        ensures err { OnErr result (Stays self.old self.new outputs.old.outs outputs.new.outs) }
+    {
+        match self.up.put(tenure, sapi, message.into_vec()) {
+            Ok(()) => Ok(()),
+            Err(HoldFault::Full(_)) => self.fail(EQUIPMENT_FAILURE, outputs),
+            Err(HoldFault::Memory(_)) => Err(Memory),
+        }
+    }
+
+    // The tenure of the channel that is there.
+    fn tenure_at(&self, at: Place) -> Option<usize>
+        ensures { result ≡ tenure_at at self.now.serving self.now.draining }
+    {
+        if is_at(at, &self.serving) {
+            Some(self.draining.len())
+        } else {
+            self.draining.place_of(at)
+        }
+    }
+
+    /// The channel of the tenure at this place.
+    pub(crate) fn channel_of(&self, tenure: usize) -> Channel
+        ensures { result ≡ first_channel (dropped tenure self.now.draining) self.now.serving }
+    {
+        match self.draining.get(tenure) {
+            Some(drain) => drain.channel,
+            None => self.serving,
+        }
+    }
+
+    /// What is held in the tenure at this place is relayed, SAPI 0 first.
+    pub(crate) fn put_tenure(
+        &self,
+        reference: Reference,
+        tenure: usize,
+        put: &mut Messages,
+    ) -> Result<(), Memory>
+        requires { Stands self.now }
+        ensures { OnOk result (put.new ≡ put.old ++ tenure_outs reference (first_channel (dropped tenure self.now.draining) self.now.serving) (dropped tenure self.now.up.tenures)) }
+    {
+        self.put_tenure_of(reference, tenure, Sapi::Zero, put)?;
+        self.put_tenure_of(reference, tenure, Sapi::Three, put)
+    }
+
+    #[tactic(auto, using(crate::proofs::Pushing::pushed, crate::proofs::Pushing::all_pushed, crate::proofs::Pushing::none_pushed, crate::proofs::Pushing::is_layer3))]
+    fn put_tenure_of(
+        &self,
+        reference: Reference,
+        tenure: usize,
+        sapi: Sapi,
+        put: &mut Messages,
+    ) -> Result<(), Memory>
+        requires layer3 { AllByRecursion IsLayer3 (messages_in tenure sapi self.now.up.tenures) }
+        requires few { length (messages_in tenure sapi self.now.up.tenures) ≤ UP_LIMIT }
+        ensures { OnOk result (put.new ≡ put.old ++ map (relaying_word reference (first_channel (dropped tenure self.now.draining) self.now.serving) sapi) (messages_in tenure sapi self.now.up.tenures)) }
+    {
+        let channel = self.channel_of(tenure);
+        for place in 0..UP_LIMIT {
+            let Some(message) = self.up.get(tenure, sapi, place) else {
+                break;
+            };
+            let message = Octets::copy(self.alloc, message)?;
+            put.push(relaying(reference, &channel, sapi, message))?;
+        }
+        Ok(())
+    }
+}
