@@ -1,3 +1,4 @@
 pub mod Out
+pub mod OutputsState
 pub mod StationMessage
 pub mod SwitchMessage

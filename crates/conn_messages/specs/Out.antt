@@ -1,10 +1,13 @@
 -- The frames that carry the messages of a connection.
-use Rattle.std.specs.Prelude.{◌≡◌, ℕ, ◌≤◌, List, length, map, Some, None}
+use Rattle.std.specs.Prelude.{◌≡◌, ℕ, ◌≤◌, List, length, map, Some, None, Ok}
 use Rattle.octets.specs.declared.limits.TheConstants.{LENGTH_LIMIT}
 use Rattle.bssmap_codec.specs.declared.bssap.Bssap.{Bssap}
 use Rattle.bssmap_codec.specs.declared.sccp.Sccp.{Sccp}
 use Rattle.bssmap_codec.specs.declared.sccp.Sccp.TheVariants as sccp
-use Rattle.bssmap_codec.specs.BssapText.{bssap_text, bssap_write_fault}
+use Rattle.bssmap_codec.specs.BssapReading.{bssap_reading}
+use Rattle.bssmap_codec.specs.BssapText.{HasDlci, bssap_text, bssap_write_fault}
+use Rattle.bssmap_codec.specs.Reference.{IsReference}
+use Rattle.bssmap_codec.specs.SccpReading.{sccp_reading}
 use Rattle.bssmap_codec.specs.SccpText.{sccp_text}
 use Rattle.conn_messages.specs.declared.message.Message.{Message}
 use Rattle.conn_messages.specs.declared.message.Message.TheVariants.{Station, Request, Data, ReleaseComplete}
@@ -12,6 +15,8 @@ use Rattle.conn_messages.specs.declared.out.Out.{Out}
 use Rattle.conn_messages.specs.declared.parameters.TheConstants.{SWITCH_LINK}
 use Rattle.ipa_framing.specs.declared.streams.TheConstants.{RSL_STREAM, SCCP_STREAM}
 use Rattle.rsl_codec.specs.declared.rsl.Rsl.{Rsl}
+use Rattle.rsl_codec.specs.Rsl.{IsLawful}
+use Rattle.rsl_codec.specs.RslReading.{rsl_reading}
 use Rattle.rsl_codec.specs.RslText.{rsl_text, rsl_write_fault}
 
 -- RSL on the link of a station
@@ -44,3 +49,21 @@ IsWritable (Station station message) = rsl_write_fault message ≡ None
 IsWritable (Request message) = IsCarried message
 IsWritable (Data destination message) = IsCarried message
 IsWritable (ReleaseComplete destination) = Unit {0}
+
+-- ---- what is read as it was put
+
+-- RSL on a channel; BSSAP of SAPI 0 or 3; references of three octets
+abbrev pub IsLawfulMessage : Message → Type 0
+IsLawfulMessage (Station station message) = IsLawful message
+IsLawfulMessage (Request message) = HasDlci message
+IsLawfulMessage (Data destination message) = IsReference destination × HasDlci message
+IsLawfulMessage (ReleaseComplete destination) = IsReference destination
+
+-- Whoever gets the octets reads the message of them: RSL, or BSSAP in CR or DT1, or RLC.
+abbrev pub IsReadOf : ℕ → Message → List ℕ → Type 0
+IsReadOf number (Station station message) octets = rsl_reading octets ≡ Ok message
+IsReadOf number (Request message) octets =
+    (user : List ℕ) × (sccp_reading octets ≡ Ok (sccp.ConnectionRequest number (Some user))) × (bssap_reading user ≡ Ok message)
+IsReadOf number (Data destination message) octets =
+    (user : List ℕ) × (sccp_reading octets ≡ Ok (sccp.DataForm1 destination user)) × (bssap_reading user ≡ Ok message)
+IsReadOf number (ReleaseComplete destination) octets = sccp_reading octets ≡ Ok (sccp.ReleaseComplete destination number)

@@ -67,7 +67,11 @@ mode_of number = if nat_le FIRST_SDCCH number then SDCCH_MODE else (if nat_le FI
 
 abbrev pub activation : Channel → ActivationType → Option HandoverReference → Message
 activation c kind reference = Station c.station (ChannelActivation (record {
-    channel = c.number; activation = kind; mode = record { 0 = mode_of c.number }; reference = reference }))
+  channel = c.number;
+  activation = kind;
+  mode = record { 0 = mode_of c.number };
+  reference = reference;
+}))
 
 -- of a channel for access
 abbrev pub access_activation : Channel → Message

@@ -1,12 +1,22 @@
-//! The messages that a connection of the base station controller puts: their values, and the frames that carry them.
+//! The messages that a connection of the base station controller puts: their values, their builders, and the frames that
+//! carry them.
 #![tactic(auto)]
 
 pub use channel::{CELL_IDENTIFIER_LENGTH, Change, Channel, Place};
+pub use laws::{message_fits_its_frame, message_is_read};
 pub use message::Message;
+pub use messages::Messages;
 pub use out::Out;
+pub use outputs::Outputs;
 
-mod causes;
+pub mod causes;
 mod channel;
+mod framing;
+mod laws;
 mod message;
+mod messages;
 mod out;
+mod outputs;
 mod parameters;
+pub mod station_message;
+pub mod switch_message;

@@ -55,6 +55,15 @@ impl ChanNo {
         }
     }
 
+    /// The PCH and the AGCH, which have one number.
+    pub fn access_grant() -> ChanNo
+        ensures { result ≡ PCH_AND_AGCH }
+    {
+        ChanNo {
+            octet: PCH_AND_AGCH,
+        }
+    }
+
     /// The octet of the channel number.
     pub fn octet(self) -> u8
         ensures { result ≡ self }

@@ -1,0 +1,93 @@
+ghost use Rattle.std.specs.Prelude.{◌≡◌, ◌<◌, ◌^◌, None, IfOk};
+ghost use Rattle.bssmap_codec.specs.BssapText.{bssap_text};
+ghost use Rattle.bssmap_codec.specs.SccpText.{sccp_write_fault};
+ghost use Rattle.conn_messages.specs.Out.{IsCarried, IsWritable, out_of, station_out as station_frame, switch_out as switch_frame};
+ghost use Rattle.rsl_codec.specs.RslText.{rsl_write_fault};
+
+use crate::parameters::SWITCH_LINK;
+use crate::{Message, Out};
+use bssmap_codec::{Bssap, Reference, Sccp, write_bssap, write_sccp};
+use ipa_framing::{Frame, RSL_STREAM, SCCP_STREAM};
+use octets::{Memory, Octets};
+use rsl_codec::Rsl;
+use std::alloc::Global;
+
+/// The frame that carries a message of the connection with this number.
+#[tactic(auto, unfolding(crate::specs::Out::out_of))]
+pub(crate) fn frame_of(alloc: Global, number: u32, message: &Message) -> Result<Out, Memory>
+    requires number { number < 2 ^ 24 }
+    requires writable { IsWritable message.now }
+    ensures { IfOk result (λ out. out ≡ out_of number message.now) }
+{
+    let source = Reference::new(number);
+    match message {
+        Message::Station { station, message } => station_out(alloc, number, *station, message),
+        Message::Request { message } => {
+            let data = Some(user_data(alloc, message)?);
+            switch_out(alloc, number, &Sccp::ConnectionRequest { source, data })
+        }
+        Message::Data {
+            destination,
+            message,
+        } => {
+            let data = user_data(alloc, message)?;
+            let destination = *destination;
+            switch_out(alloc, number, &Sccp::DataForm1 { destination, data })
+        }
+        Message::ReleaseComplete { destination } => {
+            let destination = *destination;
+            switch_out(
+                alloc,
+                number,
+                &Sccp::ReleaseComplete {
+                    destination,
+                    source,
+                },
+            )
+        }
+    }
+}
+
+// RSL on the link of a station.
+fn station_out(alloc: Global, number: u32, station: u16, message: &Rsl) -> Result<Out, Memory>
+    requires { rsl_write_fault message.now ≡ None }
+    ensures { IfOk result (λ out. out ≡ station_frame number station message.now) }
+{
+    let mut body = Vec::new(alloc);
+    message.write(alloc, &mut body).map_err(|_| Memory)?;
+    Ok(Out {
+        to: station,
+        conn: number,
+        frame: Frame {
+            stream: RSL_STREAM,
+            body: Octets::new(body),
+        },
+    })
+}
+
+// SCCP on the link of the switch.
+fn switch_out(alloc: Global, number: u32, message: &Sccp) -> Result<Out, Memory>
+    requires { sccp_write_fault message.now ≡ None }
+    ensures { IfOk result (λ out. out ≡ switch_frame number message.now) }
+{
+    let mut body = Vec::new(alloc);
+    write_sccp(alloc, message, &mut body).map_err(|_| Memory)?;
+    Ok(Out {
+        to: SWITCH_LINK,
+        conn: number,
+        frame: Frame {
+            stream: SCCP_STREAM,
+            body: Octets::new(body),
+        },
+    })
+}
+
+// The user data that carry a message of BSSAP.
+fn user_data(alloc: Global, message: &Bssap) -> Result<Octets, Memory>
+    requires { IsCarried message.now }
+    ensures { IfOk result (λ user. user ≡ bssap_text message.now) }
+{
+    let mut text = Vec::new(alloc);
+    write_bssap(alloc, message, &mut text).map_err(|_| Memory)?;
+    Ok(Octets::new(text))
+}

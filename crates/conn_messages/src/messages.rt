@@ -1,0 +1,70 @@
+ghost use Rattle.std.specs.Prelude.{◌≡◌, ◌↔◌, [], ◌∷◌, ◌++◌, length, IsTrue, OnOk, OnErr};
+ghost use Rattle.std.specs.List.{AllByRecursion};
+ghost use Rattle.conn_messages.specs.Out.{IsWritable};
+
+use crate::Message;
+use octets::Memory;
+use std::alloc::Global;
+use std::marker::Model;
+
+/// Messages that a connection puts, in order, each of which can be written. Contracts see their list.
+#[derive(Drop)]
+pub struct Messages {
+    messages: Vec<Message>,
+}
+
+impl Model for Messages {
+    ghost use Rattle.std.specs.Prelude.{List};
+    ghost use Rattle.std.specs.List.{AllByRecursion};
+    ghost use Rattle.conn_messages.specs.declared.message.Message.{Message as MessageValue};
+    ghost use Rattle.conn_messages.specs.Out.{IsWritable};
+
+    ghost Value = { List MessageValue };
+
+    ghost view = { λ m. m.messages.items };
+
+    ghost invariant = { λ m. AllByRecursion IsWritable m.messages.items };
+}
+
+impl Messages {
+    /// No messages. It takes no memory; it keeps the allocator.
+    pub fn new(alloc: Global) -> Messages
+        ensures { result ≡ [] }
+    {
+        Messages {
+            messages: Vec::new(alloc),
+        }
+    }
+
+    /// Puts a message behind the others. An `Err` changes nothing.
+    pub fn push(&mut self, message: Message) -> Result<(), Memory>
+        requires { IsWritable message }
+        ensures ok { OnOk result (self.new ≡ self.old ++ message ∷ []) }
+        ensures err { OnErr result (self.new ≡ self.old) }
+    {
+        self.messages.push(message)?;
+        Ok(())
+    }
+
+    /// How many messages there are.
+    pub fn len(&self) -> usize
+        ensures { result ≡ length self.now }
+    {
+        self.messages.len()
+    }
+
+    /// Whether there are none.
+    pub fn is_empty(&self) -> bool
+        ensures { IsTrue result ↔ (self.now ≡ []) }
+    {
+        self.messages.is_empty()
+    }
+
+    /// The messages, in order.
+    pub fn as_slice(&self) -> &[Message]
+        ensures messages { result.now ≡ self.now }
+        ensures writable { AllByRecursion IsWritable result.now }
+    {
+        self.messages.as_slice()
+    }
+}

@@ -1,0 +1,139 @@
+ghost use Rattle.std.specs.Prelude.{◌≡◌, ◌+◌, ◌≤◌, ◌<◌, ◌^◌, ◌↔◌, [], ◌∷◌, ◌++◌, length, IsTrue, IfOk, OnOk, OnErr, option_map, slice_get};
+ghost use Rattle.std.specs.List.{AllByRecursion};
+ghost use Rattle.conn_messages.specs.Out.{outs_of};
+ghost use Rattle.conn_messages.specs.OutputsState.{IsSendable};
+
+use crate::framing::frame_of;
+use crate::{Messages, Out};
+use octets::Memory;
+use std::alloc::Global;
+use std::marker::Model;
+
+/// Frames that go out, in order. A link carries each: its body has 2048 octets at most. Contracts see their list, and for
+/// how many more there is room.
+#[derive(Drop)]
+pub struct Outputs {
+    outs: Vec<Out>,
+}
+
+impl Model for Outputs {
+    ghost use Rattle.std.specs.Prelude.{◌-◌, vec_capacity, vec_len};
+    ghost use Rattle.std.specs.List.{AllByRecursion};
+    ghost use Rattle.conn_messages.specs.OutputsState.{IsSendable, OutputsState};
+
+    ghost Value = { OutputsState };
+
+    ghost view = { λ o. record { outs = o.outs.items; spare = vec_capacity o.outs - vec_len o.outs } };
+
+    ghost invariant = { λ o. AllByRecursion IsSendable o.outs.items };
+}
+
+impl Outputs {
+    /// No frames, and room for none. It takes no memory; it keeps the allocator.
+    pub fn new(alloc: Global) -> Outputs
+        ensures { result ≡ record { outs = []; spare = 0 } }
+    {
+        Outputs {
+            outs: Vec::new(alloc),
+        }
+    }
+
+    /// The frames that carry the messages of the connection with this number, in order.
+    pub fn made(alloc: Global, number: u32, messages: &Messages) -> Result<Outputs, Memory>
+        requires { number < 2 ^ 24 }
+        ensures { IfOk result (λ made. made.outs ≡ outs_of number messages.now) }
+    {
+        let mut made = Outputs::new(alloc);
+        for message in messages.as_slice() {
+            let out = frame_of(alloc, number, message)?;
+            made.push(out)?;
+        }
+        Ok(made)
+    }
+
+    /// Puts a frame behind the others. An `Err` changes nothing.
+    pub fn push(&mut self, out: Out) -> Result<(), Memory>
+        requires { IsSendable out }
+        ensures ok { OnOk result (self.new.outs ≡ self.old.outs ++ out ∷ []) }
+        ensures err { OnErr result (self.new ≡ self.old) }
+    {
+        self.outs.reserve(1)?;
+        self.outs.push_reserved(out);
+        Ok(())
+    }
+
+    /// Puts the frames of all messages of the connection with this number behind the others, in order. An `Err` changes
+    /// nothing.
+    pub fn put_all(&mut self, alloc: Global, number: u32, messages: &Messages) -> Result<(), Memory>
+        requires { number < 2 ^ 24 }
+        ensures ok { OnOk result (self.new.outs ≡ self.old.outs ++ outs_of number messages.now) }
+        ensures err { OnErr result (self.new ≡ self.old) }
+    {
+        let made = Outputs::made(alloc, number, messages)?;
+        self.reserve(made.len())?;
+        self.append(made);
+        Ok(())
+    }
+
+    /// Makes room for so many more frames. An `Err` changes nothing.
+    pub fn reserve(&mut self, additional: usize) -> Result<(), Memory>
+        ensures outs { self.new.outs ≡ self.old.outs }
+        ensures ok { OnOk result (additional ≤ self.new.spare) }
+        ensures grows { self.old.spare ≤ self.new.spare }
+        ensures err { OnErr result (self.new ≡ self.old) }
+    {
+        self.outs.reserve(additional)?;
+        Ok(())
+    }
+
+    /// Puts frames for which there is room behind the others. It takes no memory.
+    pub fn append(&mut self, other: Outputs)
+        requires { length other.outs ≤ self.old.spare }
+        ensures outs { self.new.outs ≡ self.old.outs ++ other.outs }
+        ensures spare { self.old.spare ≤ self.new.spare + length other.outs }
+    {
+        let Outputs { mut outs } = other;
+        match self.outs.append(&mut outs) {
+            Ok(()) => {}
+            Err(_) => unreachable!(),
+        }
+    }
+
+    /// How many frames there are.
+    pub fn len(&self) -> usize
+        ensures { result ≡ length self.now.outs }
+    {
+        self.outs.len()
+    }
+
+    /// Whether there are none.
+    pub fn is_empty(&self) -> bool
+        ensures { IsTrue result ↔ (self.now.outs ≡ []) }
+    {
+        self.outs.is_empty()
+    }
+
+    /// The frame at this place, from 0.
+    pub fn get(&self, place: usize) -> Option<&Out>
+        ensures { option_map (λ out. out.now) result ≡ slice_get self.now.outs place }
+    {
+        self.outs.get(place)
+    }
+
+    /// The frames, in order.
+    pub fn as_slice(&self) -> &[Out]
+        ensures outs { result.now ≡ self.now.outs }
+        ensures sendable { AllByRecursion IsSendable result.now }
+    {
+        self.outs.as_slice()
+    }
+
+    /// Gives the frames back, which takes no memory.
+    pub fn into_vec(self) -> Vec<Out>
+        ensures outs { result.items ≡ self.outs }
+        ensures sendable { AllByRecursion IsSendable result.items }
+    {
+        let Outputs { outs } = self;
+        outs
+    }
+}
