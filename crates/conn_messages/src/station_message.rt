@@ -21,14 +21,24 @@ use std::alloc::Global;
 
 /// DATA REQUEST: a layer 3 message for the mobile, 1 to 251 octets, on the link of its SAPI.
 #[tactic(auto, unfolding(rsl_codec::specs::RslText::rsl_write_fault))]
-pub fn handing(alloc: Global, channel: &Channel, sapi: Sapi, l3: &[u8]) -> Result<Message, Memory>
-    requires { IsLayer3 l3.now }
-    ensures word { IfOk result (λ m. m ≡ words.handing channel.now sapi l3.now) }
-    ensures writable { IfOk result (λ m. IsWritable m) }
-    ensures lawful { IfOk result (λ m. IsLawfulMessage m) }
+pub fn handing(channel: &Channel, sapi: Sapi, l3: Octets) -> Message
+    requires { IsLayer3 l3 }
+    ensures word { result ≡ words.handing channel.now sapi l3 }
+    ensures writable { IsWritable result }
+    ensures lawful { IsLawfulMessage result }
 {
-    let l3 = Octets::copy(alloc, l3)?;
-    Ok(data_request(channel, sapi, l3))
+    let link = match sapi {
+        Sapi::Zero => LinkId::signalling(),
+        Sapi::Three => LinkId::short_messages(channel.number),
+    };
+    to_station(
+        channel,
+        Rsl::DataRequest(Data {
+            channel: channel.number,
+            link,
+            l3,
+        }),
+    )
 }
 
 /// CHANNEL RELEASE for the mobile, with a cause of radio resource management.
@@ -157,24 +167,6 @@ fn to_station(channel: &Channel, message: Rsl) -> Message
     }
 }
 
-// DATA REQUEST on the link of a SAPI.
-fn data_request(channel: &Channel, sapi: Sapi, l3: Octets) -> Message
-    ensures { result ≡ words.handing channel.now sapi l3 }
-{
-    let link = match sapi {
-        Sapi::Zero => LinkId::signalling(),
-        Sapi::Three => LinkId::short_messages(channel.number),
-    };
-    to_station(
-        channel,
-        Rsl::DataRequest(Data {
-            channel: channel.number,
-            link,
-            l3,
-        }),
-    )
-}
-
 // DATA REQUEST of a message of radio resource management.
 #[tactic(auto, unfolding(rsl_codec::specs::RslText::rsl_write_fault))]
 fn rr_to_mobile(alloc: Global, channel: &Channel, message: &RrMessage) -> Result<Message, Memory>
@@ -185,7 +177,7 @@ fn rr_to_mobile(alloc: Global, channel: &Channel, message: &RrMessage) -> Result
 {
     let mut l3 = Vec::new(alloc);
     message.write(alloc, &mut l3)?;
-    Ok(data_request(channel, Sapi::Zero, Octets::new(l3)))
+    Ok(handing(channel, Sapi::Zero, Octets::new(l3)))
 }
 
 // The channel with the training sequence code of its cell.

@@ -19,24 +19,21 @@ use std::alloc::Global;
 
 /// DTAP: a layer 3 message of the mobile, 1 to 251 octets, that came on this channel.
 pub fn relaying(
-    alloc: Global,
     reference: Reference,
     channel: &Channel,
     sapi: Sapi,
-    message: &[u8],
-) -> Result<Message, Memory>
-    requires { IsLayer3 message.now }
-    ensures word { IfOk result (λ m. m ≡ words.relaying reference channel.now sapi message.now) }
-    ensures writable { IfOk result (λ m. IsWritable m) }
-    ensures lawful { IfOk result (λ m. IsLawfulMessage m) }
+    message: Octets,
+) -> Message
+    requires { IsLayer3 message }
+    ensures word { result ≡ words.relaying reference channel.now sapi message }
+    ensures writable { IsWritable result }
+    ensures lawful { IsLawfulMessage result }
 {
-    Ok(Message::Data {
+    let dlci = Dlci::new(dlci_on(channel.number, sapi));
+    Message::Data {
         destination: reference,
-        message: Bssap::Transfer {
-            dlci: Dlci::new(dlci_on(channel.number, sapi)),
-            message: Octets::copy(alloc, message)?,
-        },
-    })
+        message: Bssap::Transfer { dlci, message },
+    }
 }
 
 /// COMPLETE LAYER 3 INFORMATION in a connection request: the mobile's initial message, 1 to 113 octets, opens the
