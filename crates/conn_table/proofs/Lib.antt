@@ -1,0 +1,6 @@
+pub mod UplinkMessages
+pub mod UplinkPlaces
+pub mod UplinkRows
+pub mod UplinkSteps
+pub mod UplinkTable
+pub mod UplinkTenures
