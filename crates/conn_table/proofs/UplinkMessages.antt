@@ -1,6 +1,6 @@
 -- The rows of the mobile's messages: each is relayed or held at its channel's place, or the connection closes or goes.
-use Rattle.std.proofs.Common.{◌≡◌, ℕ, zero, suc, ◌+◌, ◌==◌, Bool, true, false, if◌then◌else◌, List, [], ◌∷◌, ◌++◌, length, nat_le, Option, Some, None, refl, sym, ap, ◌∙◌, subst, append_assoc, append-nil}
-use Rattle.std.proofs.lemmas.Bool.{cond_both, cond-true, cond-false}
+use Rattle.std.proofs.Common.{◌≡◌, ℕ, zero, suc, ◌==◌, true, if◌then◌else◌, List, [], ◌∷◌, ◌++◌, length, nat_le, Option, Some, None, refl, sym, ap, ◌∙◌, subst, append_assoc, append-nil}
+use Rattle.std.proofs.lemmas.Bool.{cond_both, cond-true}
 use Rattle.conn_messages.specs.declared.causes.TheConstants.{EQUIPMENT_FAILURE}
 use Rattle.conn_messages.specs.declared.channel.Channel.{Channel}
 use Rattle.conn_messages.specs.declared.channel.Place.{Place}
@@ -8,13 +8,13 @@ use Rattle.conn_messages.specs.SwitchMessage.{complete_layer3, relaying}
 use Rattle.conn_table.specs.declared.input.Input.TheVariants as inputs
 use Rattle.conn_table.specs.declared.state.Drain.{Drain}
 use Rattle.conn_table.specs.declared.state.Stage.{Stage}
-use Rattle.conn_table.specs.declared.state.Stage.TheVariants.{Active, Preparing, Changing, Draining}
+use Rattle.conn_table.specs.declared.state.Stage.TheVariants.{Changing}
 use Rattle.conn_table.specs.declared.state.State.{State}
-use Rattle.conn_table.specs.declared.state.State.TheVariants.{WaitActivation, WaitEstablish, WaitConfirm, Live, Closed, Removed}
+use Rattle.conn_table.specs.declared.state.State.TheVariants.{WaitEstablish, WaitConfirm, Live}
 use Rattle.conn_table.specs.Connection.{Connection, is_at, tenure_at, first_channel}
 use Rattle.conn_table.specs.Standing.{StandsBy, FirstIsEmpty}
-use Rattle.conn_table.specs.Steps.{Row, row, failing, hold_up}
-use Rattle.conn_table.specs.Streams.{Future, IsOpen, OfRow, AreApart, relayed, on_channel, still_of, still_to_relay, of_target, from_input, undone, target_in}
+use Rattle.conn_table.specs.Steps.{Row, row, failing}
+use Rattle.conn_table.specs.Streams.{Future, IsOpen, OfRow, AreApart, relayed, still_of, still_to_relay, of_target, from_input, undone, target_in}
 use Rattle.conn_table.specs.Table.{on_establish_indication, dtap_in, on_dtap}
 use Rattle.conn_table.proofs.UplinkPlaces.{first_here}
 use Rattle.conn_table.proofs.UplinkRows.{Passes, in_state, of-if, Gives-link_up}
@@ -47,8 +47,8 @@ establish_indication sapi future WaitEstablish s at Zero (Some initial) stands =
     let after = from_input sapi (inputs.EstablishIndication at Zero (Some initial)) future in
     of-if _ (is_at at s.serving) _ (λ here. cond_both (nat_le (length initial) INITIAL_LIMIT) _ _ (Passes sapi future (still_to_relay sapi after (in_state WaitEstablish s)))
     (λ fits kept.
-      rw (bare.none_drains, bare.one_tenure, relayed-initial sapi s.serving initial)
-      (sym (append_assoc (of_sapi sapi Zero (initial ∷ [])) (still_of sapi future s.serving [] (empty_tenure ∷ [])) []) ∙ ap (λ (xs : List (List ℕ)). xs ++ []) (initial-still sapi future at initial s.serving here)))
+    rw (bare.none_drains, bare.one_tenure, relayed-initial sapi s.serving initial)
+    (sym (append_assoc (of_sapi sapi Zero (initial ∷ [])) (still_of sapi future s.serving [] (empty_tenure ∷ [])) []) ∙ ap (λ (xs : List (List ℕ)). xs ++ []) (initial-still sapi future at initial s.serving here)))
     (λ long kept. absurd kept))
 establish_indication sapi future (Live reference (Changing target)) s at of message stands = tt
 establish_indication sapi future (Live reference stage) s at Three message stands =
@@ -115,8 +115,8 @@ dtap sapi future WaitEstablish s at Zero message stands apart = of-if _ (is_at a
 dtap sapi future WaitConfirm s at of message stands apart =
     let old = in_state WaitConfirm s in
     of-if _ (is_at at s.serving) _ (λ here.
-      Passes-hold_up sapi of at message future 0 old (failing WaitConfirm old EQUIPMENT_FAILURE) (λ kept. kept) apart
-      (cond-true _ _ _ here ∙ ap (λ (ds : List Drain). Some (length ds)) stands.none_drains))
+    Passes-hold_up sapi of at message future 0 old (failing WaitConfirm old EQUIPMENT_FAILURE) (λ kept. kept) apart
+    (cond-true _ _ _ here ∙ ap (λ (ds : List Drain). Some (length ds)) stands.none_drains))
 dtap sapi future (Live reference stage) s at of message stands apart =
     dtap_by sapi future reference stage (in_state (Live reference stage) s) at of message (tenure_at at s.serving s.draining) refl apart refl stands.first
 dtap sapi future _ s at of message stands apart = tt

@@ -1,19 +1,14 @@
 -- What may still come on the channels of a connection, where a message comes first on one of them.
-use Rattle.std.proofs.Common.{◌≡◌, ℕ, zero, suc, ◌==◌, ◌&&◌, Bool, true, false, not, if◌then◌else◌, List, [], ◌∷◌, ◌++◌, length, Option, Some, None, option_map, refl, sym, ap, ◌∙◌, subst, append_assoc, inl, inr}
-use Rattle.std.proofs.lemmas.Bool.{cases_Bool, cond-true, cond-false, eqb-true, eq-eqb, and_parts, and_from, and_right, false_from_ne_true, true≢false}
+use Rattle.std.proofs.Common.{◌≡◌, ℕ, zero, suc, ◌==◌, ◌&&◌, Bool, true, false, not, if◌then◌else◌, List, [], ◌∷◌, ◌++◌, Option, Some, None, option_map, refl, sym, ap, ◌∙◌, subst, inl, inr}
+use Rattle.std.proofs.lemmas.Bool.{cases_Bool, cond-true, cond-false, eqb-true, eq-eqb, and_parts, false_from_ne_true, true≢false}
 use Rattle.std.specs.List.{AllByRecursion}
 use Rattle.conn_messages.specs.declared.channel.Channel.{Channel}
 use Rattle.conn_messages.specs.declared.channel.Place.{Place}
 use Rattle.conn_table.specs.declared.state.Drain.{Drain}
-use Rattle.conn_table.specs.declared.state.Stage.TheVariants.{Changing}
-use Rattle.conn_table.specs.declared.state.State.{State}
-use Rattle.conn_table.specs.declared.state.State.TheVariants.{Live}
-use Rattle.conn_table.specs.Connection.{is_at, drain_at, tenure_at}
-use Rattle.conn_table.specs.Steps.{done_at}
-use Rattle.conn_table.specs.Streams.{Future, on_channel, still_of, of_target, first_at, undone, target_in, IsApart, AreApart}
+use Rattle.conn_table.specs.Connection.{is_at, drain_at}
+use Rattle.conn_table.specs.Streams.{Future, on_channel, still_of, first_at, undone, IsApart, AreApart}
 use Rattle.dtap_codec.specs.declared.sapi.Sapi.{Sapi}
-use Rattle.dtap_codec.specs.declared.sapi.Sapi.TheVariants.{Zero, Three}
-use Rattle.hold_queue.specs.ChainState.{Tenure, tenure_messages, with_tenure_messages, put_in}
+use Rattle.hold_queue.specs.ChainState.{Tenure, tenure_messages}
 
 -- ---- a place and a channel
 
@@ -67,6 +62,7 @@ pub apart_behind : (xs ys : List Channel) → AreApart (xs ++ ys) → AreApart y
 apart_behind [] ys apart = apart
 apart_behind (x ∷ xs) ys apart = apart_behind xs ys apart.1
 
+-- of the old channels that aren't done, the others, and the first
 pub apart_rest : (done : Bool) (c : Channel) (cs rest : List Channel) → AreApart ((if done then cs else c ∷ cs) ++ rest) → AreApart (cs ++ rest)
 apart_rest true c cs rest apart = apart
 apart_rest false c cs rest apart = apart.1
@@ -75,13 +71,14 @@ pub apart_first : (done : Bool) (c : Channel) (cs rest : List Channel) → done 
 apart_first true c cs rest undone apart = absurd (true≢false undone)
 apart_first false c cs rest undone apart = apart.0
 
-away_rest : (at : Place) (done : Bool) (c : Channel) (cs rest : List Channel) → AreAway at ((if done then cs else c ∷ cs) ++ rest) → AreAway at (cs ++ rest)
-away_rest at true c cs rest away = away
-away_rest at false c cs rest away = away.1
+-- the same of what holds of each
+all_rest : (P : Channel → Type 0) (done : Bool) (c : Channel) (cs rest : List Channel) → AllByRecursion P ((if done then cs else c ∷ cs) ++ rest) → AllByRecursion P (cs ++ rest)
+all_rest P true c cs rest all = all
+all_rest P false c cs rest all = all.1
 
-away_first : (at : Place) (done : Bool) (c : Channel) (cs rest : List Channel) → AreAway at ((if done then cs else c ∷ cs) ++ rest) → done ≡ false → is_at at c ≡ false
-away_first at true c cs rest away undone = absurd (true≢false undone)
-away_first at false c cs rest away undone = away.0
+all_first : (P : Channel → Type 0) (done : Bool) (c : Channel) (cs rest : List Channel) → AllByRecursion P ((if done then cs else c ∷ cs) ++ rest) → done ≡ false → P c
+all_first P true c cs rest all undone = absurd (true≢false undone)
+all_first P false c cs rest all undone = all.0
 
 -- ---- the place of an old channel
 
@@ -112,19 +109,12 @@ drain_at-drains at (d ∷ ds) place is =
           subst (λ (n : ℕ). DrainsAt at n (d ∷ ds)) (sym later.2) (drain_at-drains at ds later.0 later.1)
     ]
 
--- what is apart from an old channel's place, and from those behind it
+-- what is apart from an old channel isn't at its place, and neither are the channels behind that one
 pub drain-away : (at : Place) (c : Channel) (place : ℕ) (ds : List Drain) (rest : List Channel) → DrainsAt at place ds → AllByRecursion (IsApart c) (undone ds ++ rest) → is_at at c ≡ false
 drain-away at c place [] rest drains apart = absurd drains
-drain-away at c zero (d ∷ ds) rest drains apart = away-of_other at c d.channel (first_of d.is_done d.channel (undone ds) rest drains.1 apart) drains.0
-  where
-    first_of : (done : Bool) (e : Channel) (cs others : List Channel) → done ≡ false → AllByRecursion (IsApart c) ((if done then cs else e ∷ cs) ++ others) → IsApart c e
-    first_of true e cs others undone all = absurd (true≢false undone)
-    first_of false e cs others undone all = all.0
-drain-away at c (suc place) (d ∷ ds) rest drains apart = drain-away at c place ds rest drains (rest_of d.is_done d.channel (undone ds) rest apart)
-  where
-    rest_of : (done : Bool) (e : Channel) (cs others : List Channel) → AllByRecursion (IsApart c) ((if done then cs else e ∷ cs) ++ others) → AllByRecursion (IsApart c) (cs ++ others)
-    rest_of true e cs others all = all
-    rest_of false e cs others all = all.1
+drain-away at c zero (d ∷ ds) rest drains apart =
+    away-of_other at c d.channel (all_first (IsApart c) d.is_done d.channel (undone ds) rest apart drains.1) drains.0
+drain-away at c (suc place) (d ∷ ds) rest drains apart = drain-away at c place ds rest drains (all_rest (IsApart c) d.is_done d.channel (undone ds) rest apart)
 
 pub drain-behind_away : (at : Place) (place : ℕ) (ds : List Drain) (rest : List Channel) → DrainsAt at place ds → AreApart (undone ds ++ rest) → AreAway at rest
 drain-behind_away at place [] rest drains apart = absurd drains
@@ -143,6 +133,7 @@ pub still_of-away : (sapi : Sapi) (at : Place) (message : List ℕ) (future : Fu
 still_of-away sapi at message future serving ds [] rest away = refl
 still_of-away sapi at message future serving [] (t ∷ ts) rest away = ap (λ (xs : List (List ℕ)). tenure_messages t sapi ++ xs) (first_away at serving message future away.0)
 still_of-away sapi at message future serving (d ∷ ds) (t ∷ ts) rest away =
-    let first = of_drain-away at message future d.is_done d.channel (away_first at d.is_done d.channel (undone ds) (serving ∷ rest) away) in
-    let others = still_of-away sapi at message future serving ds ts rest (away_rest at d.is_done d.channel (undone ds) (serving ∷ rest) away) in
+    let is_away = λ (c : Channel). is_at at c ≡ false in
+    let first = of_drain-away at message future d.is_done d.channel (all_first is_away d.is_done d.channel (undone ds) (serving ∷ rest) away) in
+    let others = still_of-away sapi at message future serving ds ts rest (all_rest is_away d.is_done d.channel (undone ds) (serving ∷ rest) away) in
     rw (first, others) refl

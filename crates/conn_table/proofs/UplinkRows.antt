@@ -1,16 +1,13 @@
 -- Each row relays what it takes away of what is still to be relayed, or the connection closes or goes.
-use Rattle.std.proofs.Common.{◌≡◌, ℕ, zero, suc, ◌+◌, ◌==◌, ◌&&◌, ◌||◌, Bool, true, false, not, if◌then◌else◌, List, [], ◌∷◌, ◌++◌, length, nat_le, Option, Some, None, refl, sym, ap, ◌∙◌, subst, arith, append_assoc, append-nil, inl, inr}
-use Rattle.std.proofs.lemmas.Bool.{cases_Bool, cond_both, cond-true, cond-false}
-use Rattle.bssmap_codec.specs.declared.values.RrCause.{RrCause}
+use Rattle.std.proofs.Common.{◌≡◌, ℕ, zero, suc, ◌+◌, ◌==◌, ◌&&◌, ◌||◌, Bool, true, false, if◌then◌else◌, List, [], ◌∷◌, ◌++◌, length, Option, Some, None, refl, sym, ap, ◌∙◌, append-nil}
+use Rattle.std.proofs.lemmas.Bool.{cond_both}
 use Rattle.conn_messages.specs.declared.channel.Channel.{Channel}
 use Rattle.conn_messages.specs.declared.channel.Change.{Change}
 use Rattle.conn_messages.specs.declared.channel.Change.TheVariants.{Assignment, Handover}
 use Rattle.conn_messages.specs.declared.channel.Place.{Place}
 use Rattle.conn_messages.specs.StationMessage.{rf_channel_release}
-use Rattle.conn_messages.specs.SwitchMessage.{change_complete, relaying}
-use Rattle.conn_table.specs.declared.input.Input.{Input}
-use Rattle.conn_table.specs.declared.input.Input.TheVariants as inputs
-use Rattle.conn_table.specs.declared.state.Clearing.TheVariants.{Due, Asked as WasAsked, Complete}
+use Rattle.conn_messages.specs.SwitchMessage.{change_complete}
+use Rattle.conn_table.specs.declared.state.Clearing.TheVariants.{Due, Asked as WasAsked}
 use Rattle.conn_table.specs.declared.state.Drain.{Drain}
 use Rattle.conn_table.specs.declared.state.ShortMessageLink.{ShortMessageLink}
 use Rattle.conn_table.specs.declared.state.ShortMessageLink.TheVariants.{Down, Asked, Up}
@@ -18,19 +15,17 @@ use Rattle.conn_table.specs.declared.state.Stage.{Stage}
 use Rattle.conn_table.specs.declared.state.Stage.TheVariants.{Active, Preparing, Changing, Draining}
 use Rattle.conn_table.specs.declared.state.State.{State}
 use Rattle.conn_table.specs.declared.state.State.TheVariants.{WaitActivation, WaitEstablish, WaitConfirm, Live, Closed, Removed}
-use Rattle.conn_table.specs.Connection.{Connection, enter, is_at, drain_at, tenure_at}
-use Rattle.conn_table.specs.Standing.{Stands, StandsBy, FirstIsEmpty}
-use Rattle.conn_table.specs.Steps.{Row, row, ◌then◌, failing, may_begin, begin, begin_waiting, resting, resting_stage, moved, hold_down, hand_held, request_where, short_message, ask_for_held, link_up, link_down, hold_up, relay_held, done_at, leave, settled, settled_stage}
-use Rattle.conn_table.specs.Streams.{Future, OfRow, IsOpen, Ends, AreApart, relayed, on_channel, still_of, still_to_relay, of_target, of_prepared, first_at, from_input, undone, target_in, used_channels, KeepsUplink}
-use Rattle.conn_table.specs.Table.{row_of, row_if, on_activation_ack, nack_outs, on_activation_nack, access, on_establish_indication, was_asked, on_establish_confirm, on_release_indication, on_error_indication, on_connection_failure, dtap_in, on_dtap, same_change, complete, on_complete, failure_outs, failure, on_failure, release, release_in, on_release_ack, on_move, on_confirm, on_refused, on_released, on_downlink, speech_request, on_assignment_request, on_cipher_mode_command, on_clear_command, on_expiry, is_some_draining, on_drain_expiry, drains_at, targets, on_station_down, on_switch_down}
-use Rattle.conn_table.proofs.UplinkPlaces.{first_here, drain_at-drains}
-use Rattle.conn_table.proofs.UplinkSteps.{Gives, Gives-then, Gives-relay_held, Gives-hand_held, Gives-ask_for_held, Gives-begin, begins-untargeted, Gives-begin_waiting, resting-untargeted, Gives-leave, leave-state, Gives-settled, settled-stands, of_sapi, relayed_by-relaying}
-use Rattle.conn_table.proofs.UplinkTenures.{tenure-put, done-still, moved-still, empty-messages}
+use Rattle.conn_table.specs.Connection.{Connection, enter, is_at, drain_at}
+use Rattle.conn_table.specs.Standing.{StandsBy, FirstIsEmpty}
+use Rattle.conn_table.specs.Steps.{Row, row, ◌then◌, may_begin, begin_waiting, resting, resting_stage, moved, hold_down, hand_held, request_where, short_message, ask_for_held, link_up, link_down, done_at, leave, settled, settled_stage}
+use Rattle.conn_table.specs.Streams.{Future, OfRow, IsOpen, relayed, still_of, still_to_relay, of_target, of_prepared}
+use Rattle.conn_table.specs.Table.{row_if, on_activation_ack, nack_outs, on_activation_nack, was_asked, on_establish_confirm, on_release_indication, on_error_indication, on_connection_failure, same_change, on_complete, failure_outs, on_failure, release, release_in, on_release_ack, on_move, on_confirm, on_refused, on_released, on_downlink, speech_request, on_assignment_request, on_cipher_mode_command, on_clear_command, on_expiry, is_some_draining, on_drain_expiry, drains_at, targets, on_station_down, on_switch_down}
+use Rattle.conn_table.proofs.UplinkPlaces.{drain_at-drains}
+use Rattle.conn_table.proofs.UplinkSteps.{Gives, Gives-then, Gives-relay_held, Gives-hand_held, Gives-ask_for_held, Gives-begin, begins-untargeted, Gives-begin_waiting, resting-untargeted, Gives-leave, leave-state, Gives-settled, settled-stands}
+use Rattle.conn_table.proofs.UplinkTenures.{done-still, moved-still}
 use Rattle.dtap_codec.specs.declared.sapi.Sapi.{Sapi}
 use Rattle.dtap_codec.specs.declared.sapi.Sapi.TheVariants.{Zero, Three}
-use Rattle.hold_queue.specs.ChainState.{Tenure, empty_tenure, tenure_messages, put_in}
 use Rattle.hold_queue.specs.HoldState.{count}
-use Rattle.octets.specs.declared.limits.TheConstants.{INITIAL_LIMIT}
 
 -- while the connection stays open
 abbrev pub Passes : Sapi → Future → List (List ℕ) → Row → Type 0

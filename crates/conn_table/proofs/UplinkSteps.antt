@@ -1,23 +1,22 @@
 -- Each step relays what it takes away of what is still to be relayed.
-use Rattle.std.proofs.Common.{◌≡◌, ℕ, zero, suc, ◌+◌, ◌==◌, ◌&&◌, Bool, true, false, not, if◌then◌else◌, List, [], ◌∷◌, ◌++◌, length, map, nat_le, Option, Some, None, refl, sym, ap, ◌∙◌, subst, arith, append_assoc, append-nil, inl, inr}
+use Rattle.std.proofs.Common.{◌≡◌, ℕ, ◌+◌, ◌&&◌, Bool, true, false, if◌then◌else◌, List, [], ◌∷◌, ◌++◌, length, map, nat_le, Option, Some, None, refl, sym, ap, ◌∙◌, subst, arith, append_assoc, append-nil, inl, inr}
 use Rattle.std.proofs.lemmas.Grind.{flat_map-append}
 use Rattle.std.proofs.lemmas.Bool.{cases_Bool, cond-true, cond-false, true≢false}
 use Rattle.conn_messages.specs.declared.channel.Channel.{Channel}
 use Rattle.conn_messages.specs.declared.channel.Change.{Change}
 use Rattle.conn_messages.specs.declared.channel.Change.TheVariants.{Assignment, Handover}
-use Rattle.conn_messages.specs.declared.message.Message.{Message}
 use Rattle.conn_messages.specs.declared.parameters.TheConstants.{SDCCH_SAPI_3_DLCI, SACCH_SAPI_3_DLCI}
 use Rattle.conn_messages.specs.StationMessage.{handing}
-use Rattle.conn_messages.specs.SwitchMessage.{dlci_on, relaying, change_complete}
+use Rattle.conn_messages.specs.SwitchMessage.{relaying}
 use Rattle.conn_table.specs.declared.state.Drain.{Drain}
 use Rattle.conn_table.specs.declared.state.Stage.{Stage}
-use Rattle.conn_table.specs.declared.state.Stage.TheVariants.{Active, Preparing, Changing, Draining}
+use Rattle.conn_table.specs.declared.state.Stage.TheVariants.{Changing, Draining}
 use Rattle.conn_table.specs.declared.state.State.{State}
 use Rattle.conn_table.specs.declared.state.State.TheVariants.{Live}
 use Rattle.conn_table.specs.Connection.{Connection, first_channel}
 use Rattle.conn_table.specs.Standing.{FirstIsEmpty}
-use Rattle.conn_table.specs.Steps.{Row, row, ◌then◌, may_begin, begin, begin_waiting, waiting_outs, after_waiting, hand_held, ask_for_held, request_for, relay_held, tenure_outs, leave, resting, resting_stage, settled, settled_stage, shifted}
-use Rattle.conn_table.specs.Streams.{Future, is_of, relayed, relayed_by, on_channel, still_of, still_to_relay, of_target}
+use Rattle.conn_table.specs.Steps.{Row, row, ◌then◌, may_begin, begin, begin_waiting, waiting_outs, after_waiting, hand_held, ask_for_held, request_for, relay_held, tenure_outs, leave, resting_stage, settled, settled_stage, shifted}
+use Rattle.conn_table.specs.Streams.{Future, is_of, relayed, relayed_by, still_of, still_to_relay, of_target}
 use Rattle.conn_table.proofs.UplinkTenures.{empty-messages}
 use Rattle.dtap_codec.specs.declared.sapi.Sapi.{Sapi}
 use Rattle.dtap_codec.specs.declared.sapi.Sapi.TheVariants.{Zero, Three}

@@ -1,17 +1,16 @@
 -- What is still to be relayed, where a message is held, an old channel is done, or the target serves.
-use Rattle.std.proofs.Common.{◌≡◌, ℕ, zero, suc, ◌+◌, ◌==◌, Bool, true, false, not, if◌then◌else◌, List, [], ◌∷◌, ◌++◌, length, Option, Some, None, refl, sym, ap, ◌∙◌, subst, arith, append_assoc, append-nil, inl, inr}
-use Rattle.std.proofs.lemmas.Bool.{cases_Bool, cond-true, cond-false, true≢false}
-use Rattle.std.specs.List.{AllByRecursion}
+use Rattle.std.proofs.Common.{◌≡◌, ℕ, zero, suc, ◌+◌, true, false, List, [], ◌∷◌, ◌++◌, length, Some, refl, sym, ap, ◌∙◌, arith, append_assoc, inl, inr}
+use Rattle.std.proofs.lemmas.Bool.{cases_Bool, cond-true, cond-false}
 use Rattle.conn_messages.specs.declared.channel.Channel.{Channel}
 use Rattle.conn_messages.specs.declared.channel.Place.{Place}
 use Rattle.conn_table.specs.declared.state.Drain.{Drain}
-use Rattle.conn_table.specs.declared.state.Stage.TheVariants.{Active, Preparing, Changing, Draining}
+use Rattle.conn_table.specs.declared.state.Stage.TheVariants.{Changing}
 use Rattle.conn_table.specs.declared.state.State.{State}
 use Rattle.conn_table.specs.declared.state.State.TheVariants.{Live}
-use Rattle.conn_table.specs.Connection.{is_at, drain_at, tenure_at}
+use Rattle.conn_table.specs.Connection.{is_at, tenure_at}
 use Rattle.conn_table.specs.Steps.{done_at}
 use Rattle.conn_table.specs.Streams.{Future, on_channel, still_of, of_target, first_at, undone, target_in, IsApart, AreApart}
-use Rattle.conn_table.proofs.UplinkPlaces.{DrainsAt, AreAway, same_place, away-of, away-of_other, first_here, first_away, all_away, all_behind, apart_behind, apart_rest, apart_first, drain_at-drains, drain-away, drain-behind_away, of_drain-away, still_of-away}
+use Rattle.conn_table.proofs.UplinkPlaces.{DrainsAt, AreAway, same_place, away-of_other, first_here, first_away, all_away, all_behind, apart_behind, apart_rest, apart_first, drain_at-drains, drain-away, drain-behind_away, of_drain-away, still_of-away}
 use Rattle.dtap_codec.specs.declared.sapi.Sapi.{Sapi}
 use Rattle.dtap_codec.specs.declared.sapi.Sapi.TheVariants.{Zero, Three}
 use Rattle.hold_queue.specs.ChainState.{Tenure, empty_tenure, tenure_messages, with_tenure_messages, put_in}
