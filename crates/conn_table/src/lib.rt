@@ -4,7 +4,9 @@
 pub use input::Input;
 pub use limits::{DOWN_LIMIT, DRAIN_LIMIT, UP_LIMIT};
 pub use state::{Clearing, Drain, ShortMessageLink, Stage, State, Target};
+pub use uplink_law::uplink_is_kept;
 
 mod input;
 mod limits;
 mod state;
+mod uplink_law;
