@@ -15,7 +15,7 @@ ghost use Rattle.conn_fsm.specs.Doing.{Does, Stays, Steps};
 
 use crate::core::Core;
 use crate::places::{is_at, same_change};
-use bssmap_codec::Reference;
+use bssmap_codec::{Reference, RrCause as ReportedCause};
 use conn_messages::causes::{
     BSS_NOT_EQUIPPED, EQUIPMENT_FAILURE, NO_RADIO_RESOURCE, PROTOCOL_ERROR,
     REVERSION_TO_OLD_CHANNEL,
@@ -47,14 +47,16 @@ impl Core {
     pub(crate) fn put_begin(
         &self,
         reference: Reference,
-        change: Change,
+        change: &Change,
         offer: Option<Channel>,
         put: &mut Messages,
     ) -> Result<(), Memory>
-        ensures { OnOk result (put.new ≡ put.old ++ begin_outs reference change offer) }
+        ensures { OnOk result (put.new ≡ put.old ++ begin_outs reference change.now offer) }
     {
-        match (offer, change) {
-            (Some(channel), _) => put.push(change_activation(self.alloc, change, &channel)?),
+        match (offer, *change) {
+            (Some(channel), change) => {
+                put.push(change_activation(self.alloc, change, &channel)?)
+            }
             (None, Change::Assignment) => put.push(assignment_failure(
                 self.alloc,
                 reference,
@@ -90,7 +92,7 @@ impl Core {
         ensures err { OnErr result (Stays self.old self.new outputs.old.outs outputs.new.outs) }
     {
         let mut put = Messages::new(self.alloc);
-        self.put_begin(reference, change, offer, &mut put)?;
+        self.put_begin(reference, &change, offer, &mut put)?;
         self.put(&put, outputs)?;
         self.begin_with(reference, change, offer);
         Ok(())
@@ -108,7 +110,7 @@ impl Core {
         ensures { OnOk result (put.new ≡ put.old ++ waiting_outs begins reference offer) }
     {
         if begins {
-            self.put_begin(reference, Change::Assignment, offer, put)?;
+            self.put_begin(reference, &Change::Assignment, offer, put)?;
         }
         Ok(())
     }
@@ -218,16 +220,33 @@ impl Core {
     {
         let state = self.state;
         match state {
-            State::WaitActivation if is_at(at, &self.serving) => {
+            State::WaitActivation if is_at(&at, &self.serving) => {
                 self.assign_immediately(outputs)?;
                 Ok(true)
             }
-            State::Live(reference, Stage::Preparing(target)) if is_at(at, &target.channel) => {
-                self.command(reference, target, outputs)?;
-                Ok(true)
-            }
+            State::Live(reference, stage) => self.target_activated(reference, stage, &at, outputs),
             _ => Ok(false),
         }
+    }
+
+    fn target_activated(
+        &mut self,
+        reference: Reference,
+        stage: Stage,
+        at: &Place,
+        outputs: &mut Outputs,
+    ) -> Result<bool, Memory>
+        ensures done { IfOk result (λ fits. Steps (on_activation_ack (Live reference stage) self.old at.now) fits self.old self.new outputs.old.outs outputs.new.outs) }
+        ensures err { OnErr result (Stays self.old self.new outputs.old.outs outputs.new.outs) }
+    {
+        let Stage::Preparing(target) = stage else {
+            return Ok(false);
+        };
+        if !is_at(at, &target.channel) {
+            return Ok(false);
+        }
+        self.command(reference, target, outputs)?;
+        Ok(true)
     }
 
     // The mobile is told its channel.
@@ -282,16 +301,36 @@ impl Core {
     {
         let state = self.state;
         match state {
-            State::WaitActivation if is_at(at, &self.serving) => {
+            State::WaitActivation if is_at(&at, &self.serving) => {
                 self.empty(State::Removed);
                 Ok(true)
             }
-            State::Live(reference, Stage::Preparing(target)) if is_at(at, &target.channel) => {
-                self.refuse(reference, target.change, offer, outputs)?;
-                Ok(true)
+            State::Live(reference, stage) => {
+                self.target_refused(reference, stage, &at, offer, outputs)
             }
             _ => Ok(false),
         }
+    }
+
+    fn target_refused(
+        &mut self,
+        reference: Reference,
+        stage: Stage,
+        at: &Place,
+        offer: Option<Channel>,
+        outputs: &mut Outputs,
+    ) -> Result<bool, Memory>
+        ensures done { IfOk result (λ fits. Steps (on_activation_nack (Live reference stage) self.old at.now offer) fits self.old self.new outputs.old.outs outputs.new.outs) }
+        ensures err { OnErr result (Stays self.old self.new outputs.old.outs outputs.new.outs) }
+    {
+        let Stage::Preparing(target) = stage else {
+            return Ok(false);
+        };
+        if !is_at(at, &target.channel) {
+            return Ok(false);
+        }
+        self.refuse(reference, target.change, offer, outputs)?;
+        Ok(true)
     }
 
     // The target can't be had.
@@ -338,15 +377,17 @@ impl Core {
         ensures err { OnErr result (Stays self.old self.new outputs.old.outs outputs.new.outs) }
     {
         let state = self.state;
-        match state {
-            State::Live(reference, Stage::Changing(target))
-                if is_at(at, &target.channel) && same_change(change, target.change) =>
-            {
-                self.complete(reference, change, target.channel, cause, offer, outputs)?;
-                Ok(true)
-            }
-            _ => Ok(false),
+        let State::Live(reference, stage) = state else {
+            return Ok(false);
+        };
+        let Stage::Changing(target) = stage else {
+            return Ok(false);
+        };
+        if !is_at(&at, &target.channel) || !same_change(&change, &target.change) {
+            return Ok(false);
         }
+        self.complete(reference, change, target.channel, cause, offer, outputs)?;
+        Ok(true)
     }
 
     fn complete(
@@ -366,7 +407,11 @@ impl Core {
     {
         let mut put = Messages::new(self.alloc);
         put.push(change_complete(
-            self.alloc, reference, change, &channel, cause,
+            self.alloc,
+            reference,
+            change,
+            &channel,
+            ReportedCause(cause.0),
         )?)?;
         put.push(rf_channel_release(&self.serving))?;
         self.put_held(&channel, Sapi::Zero, &mut put)?;
@@ -395,39 +440,42 @@ impl Core {
         ensures err { OnErr result (Stays self.old self.new outputs.old.outs outputs.new.outs) }
     {
         let state = self.state;
-        match state {
-            State::Live(reference, Stage::Changing(target))
-                if is_at(at, &self.serving) && same_change(change, target.change) =>
-            {
-                self.come_back(reference, target, cause, offer, outputs)?;
-                Ok(true)
-            }
-            _ => Ok(false),
+        let State::Live(reference, stage) = state else {
+            return Ok(false);
+        };
+        let Stage::Changing(target) = stage else {
+            return Ok(false);
+        };
+        if !is_at(&at, &self.serving) || !same_change(&change, &target.change) {
+            return Ok(false);
         }
+        self.come_back(reference, change, target.channel, cause, offer, outputs)?;
+        Ok(true)
     }
 
     fn come_back(
         &mut self,
         reference: Reference,
-        target: Target,
+        change: Change,
+        channel: Channel,
         cause: RrCause,
         offer: Option<Channel>,
         outputs: &mut Outputs,
     ) -> Result<(), Memory>
         requires { Stands self.old }
-        ensures done { OnOk result (Does (failure reference target.change target.channel cause.0 offer self.old) self.old self.new outputs.old.outs outputs.new.outs) }
+        ensures done { OnOk result (Does (failure reference change channel cause.0 offer self.old) self.old self.new outputs.old.outs outputs.new.outs) }
         ensures err { OnErr result (Stays self.old self.new outputs.old.outs outputs.new.outs) }
     {
         let mut put = Messages::new(self.alloc);
-        if let Change::Assignment = target.change {
+        if let Change::Assignment = change {
             put.push(assignment_failure(
                 self.alloc,
                 reference,
                 REVERSION_TO_OLD_CHANNEL,
-                Some(cause),
+                Some(ReportedCause(cause.0)),
             )?)?;
         }
-        put.push(rf_channel_release(&target.channel))?;
+        put.push(rf_channel_release(&channel))?;
         self.put_held(&self.serving, Sapi::Zero, &mut put)?;
         self.put_request_for(&self.serving, &mut put)?;
         let begins = self.waits && self.may_begin(self.resting_stage());

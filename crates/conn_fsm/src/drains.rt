@@ -1,5 +1,5 @@
-ghost use Rattle.std.specs.Prelude.{◌≡◌, ◌<◌, ◌≤◌, ◌↔◌, [], ◌∷◌, ◌++◌, length, IsTrue, IfOk, IfSome, option_map, slice_get, drop as dropped};
-ghost use Rattle.conn_table.specs.Connection.{drain_at, first_channel};
+ghost use Rattle.std.specs.Prelude.{◌≡◌, ◌<◌, ◌≤◌, ◌↔◌, [], ◌∷◌, ◌++◌, length, false, IsTrue, IfOk, slice_get, drop as dropped};
+ghost use Rattle.conn_table.specs.Connection.{drain_at};
 ghost use Rattle.conn_table.specs.Steps.{done_at};
 ghost use Rattle.conn_table.specs.Table.{drains_at};
 
@@ -60,8 +60,8 @@ impl Drains {
     }
 
     /// The place of the channel that is there and isn't done.
-    pub(crate) fn place_of(&self, at: Place) -> Option<usize>
-        ensures found { result ≡ drain_at at self.now }
+    pub(crate) fn place_of(&self, at: &Place) -> Option<usize>
+        ensures { result ≡ drain_at at.now self.now }
     {
         self.list
             .iter()

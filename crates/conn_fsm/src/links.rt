@@ -32,7 +32,7 @@ impl Core {
         ensures done { IfOk result (λ fits. Steps (on_establish_indication self.old.state self.old at sapi message) fits self.old self.new outputs.old.outs outputs.new.outs) }
         ensures err { OnErr result (Stays self.old self.new outputs.old.outs outputs.new.outs) }
     {
-        if !is_at(at, &self.serving) {
+        if !is_at(&at, &self.serving) {
             return Ok(false);
         }
         let state = self.state;
@@ -117,7 +117,7 @@ impl Core {
         let ShortMessageLink::Asked = self.link else {
             return Ok(false);
         };
-        if !is_at(at, &self.serving) {
+        if !is_at(&at, &self.serving) {
             return Ok(false);
         }
         let state = self.state;
@@ -141,17 +141,19 @@ impl Core {
         ensures done { IfOk result (λ fits. Steps (on_error_indication self.old.state self.old at sapi) fits self.old self.new outputs.old.outs outputs.new.outs) }
         ensures err { OnErr result (Stays self.old self.new outputs.old.outs outputs.new.outs) }
     {
-        if !is_at(at, &self.serving) {
+        if !is_at(&at, &self.serving) {
             return Ok(false);
         }
         let state = self.state;
-        match (state, sapi) {
-            (State::Live(_, Stage::Changing(_)), _) => Ok(false),
-            (State::Live(reference, _), Sapi::Three) => {
+        let State::Live(reference, stage) = state else {
+            return Ok(false);
+        };
+        match (stage, sapi) {
+            (Stage::Changing(_), _) | (_, Sapi::Zero) => Ok(false),
+            (_, Sapi::Three) => {
                 self.link_down(reference, outputs)?;
                 Ok(true)
             }
-            _ => Ok(false),
         }
     }
 
@@ -182,7 +184,7 @@ impl Core {
         ensures done { IfOk result (λ fits. Steps (on_connection_failure self.old.state self.old at) fits self.old self.new outputs.old.outs outputs.new.outs) }
         ensures err { OnErr result (Stays self.old self.new outputs.old.outs outputs.new.outs) }
     {
-        if !is_at(at, &self.serving) {
+        if !is_at(&at, &self.serving) {
             return Ok(false);
         }
         let state = self.state;

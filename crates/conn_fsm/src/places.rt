@@ -6,15 +6,15 @@ use conn_messages::{Change, Channel, Place};
 use conn_table::Stage;
 
 /// Whether the place is that of the channel.
-pub(crate) fn is_at(at: Place, channel: &Channel) -> bool
-    ensures { result ≡ is_at at channel.now }
+pub(crate) fn is_at(at: &Place, channel: &Channel) -> bool
+    ensures { result ≡ is_at at.now channel.now }
 {
     at.station == channel.station && at.number == channel.number
 }
 
 /// Whether both are of one kind.
-pub(crate) fn same_change(change: Change, other: Change) -> bool
-    ensures { result ≡ same_change change other }
+pub(crate) fn same_change(change: &Change, other: &Change) -> bool
+    ensures { result ≡ same_change change.now other.now }
 {
     matches!(
         (change, other),

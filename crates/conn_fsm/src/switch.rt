@@ -1,5 +1,6 @@
 ghost use Rattle.std.specs.Prelude.{◌≡◌, [], ◌∷◌, ◌++◌, IfOk, OnOk, OnErr};
 ghost use Rattle.conn_messages.specs.Out.{outs_of};
+ghost use Rattle.conn_table.specs.declared.state.State.TheVariants.{Closed};
 ghost use Rattle.conn_table.specs.Standing.{Stands};
 ghost use Rattle.conn_table.specs.Table.{on_cipher_mode_command, on_clear_command, on_confirm, on_refused, on_released};
 ghost use Rattle.conn_fsm.specs.Doing.{Does, Stays, Steps};
@@ -101,21 +102,36 @@ impl Core {
         ensures err { OnErr result (Stays self.old self.new outputs.old.outs outputs.new.outs) }
     {
         let state = self.state;
-        let mut put = Messages::new(self.alloc);
         match state {
             State::Live(reference, _) => {
+                let mut put = Messages::new(self.alloc);
                 self.put_end(NORMAL_EVENT, &mut put)?;
                 put.push(clear_complete(reference))?;
                 self.put(&put, outputs)?;
                 self.empty(State::Closed(Clearing::Complete));
+                Ok(true)
             }
-            State::Closed(Clearing::Asked(reference)) => {
-                put.push(clear_complete(reference))?;
-                self.put(&put, outputs)?;
-                self.enter(State::Closed(Clearing::Complete));
-            }
-            _ => return Ok(false),
+            State::Closed(clearing) => self.clear_closed(clearing, outputs),
+            _ => Ok(false),
         }
+    }
+
+    // The mobile was dismissed, and CLEAR COMPLETE is still to be put.
+    fn clear_closed(
+        &mut self,
+        clearing: Clearing,
+        outputs: &mut Outputs,
+    ) -> Result<bool, Memory>
+        ensures done { IfOk result (λ fits. Steps (on_clear_command (Closed clearing) self.old) fits self.old self.new outputs.old.outs outputs.new.outs) }
+        ensures err { OnErr result (Stays self.old self.new outputs.old.outs outputs.new.outs) }
+    {
+        let Clearing::Asked(reference) = clearing else {
+            return Ok(false);
+        };
+        let mut put = Messages::new(self.alloc);
+        put.push(clear_complete(reference))?;
+        self.put(&put, outputs)?;
+        self.enter(State::Closed(Clearing::Complete));
         Ok(true)
     }
 }

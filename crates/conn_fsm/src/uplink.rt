@@ -38,12 +38,12 @@ impl Core {
     {
         let state = self.state;
         match state {
-            State::WaitEstablish => self.dtap_before_access(at, sapi, outputs),
-            State::WaitConfirm if is_at(at, &self.serving) => {
+            State::WaitEstablish => self.dtap_before_access(&at, sapi, outputs),
+            State::WaitConfirm if is_at(&at, &self.serving) => {
                 self.hold_up(0, sapi, message, outputs)?;
                 Ok(true)
             }
-            State::Live(reference, stage) => match self.tenure_at(at) {
+            State::Live(reference, stage) => match self.tenure_at(&at) {
                 Some(0) => {
                     self.relay(reference, sapi, message, outputs)?;
                     Ok(true)
@@ -52,7 +52,7 @@ impl Core {
                     self.hold_up(tenure, sapi, message, outputs)?;
                     Ok(true)
                 }
-                None => self.dtap_on_target(reference, stage, at, sapi, outputs),
+                None => self.dtap_on_target(reference, stage, &at, sapi, outputs),
             },
             _ => Ok(false),
         }
@@ -61,11 +61,11 @@ impl Core {
     // The channel isn't left to a mobile that sends before its first message.
     fn dtap_before_access(
         &mut self,
-        at: Place,
+        at: &Place,
         sapi: Sapi,
         outputs: &mut Outputs,
     ) -> Result<bool, Memory>
-        ensures done { IfOk result (λ fits. Steps (dtap_before_access self.old at sapi) fits self.old self.new outputs.old.outs outputs.new.outs) }
+        ensures done { IfOk result (λ fits. Steps (dtap_before_access self.old at.now sapi) fits self.old self.new outputs.old.outs outputs.new.outs) }
         ensures err { OnErr result (Stays self.old self.new outputs.old.outs outputs.new.outs) }
     {
         match sapi {
@@ -82,12 +82,12 @@ impl Core {
         &mut self,
         reference: Reference,
         stage: Stage,
-        at: Place,
+        at: &Place,
         sapi: Sapi,
         outputs: &mut Outputs,
     ) -> Result<bool, Memory>
         requires { self.old.state ≡ Live reference stage }
-        ensures done { IfOk result (λ fits. Steps (dtap_on_target reference stage self.old at sapi) fits self.old self.new outputs.old.outs outputs.new.outs) }
+        ensures done { IfOk result (λ fits. Steps (dtap_on_target reference stage self.old at.now sapi) fits self.old self.new outputs.old.outs outputs.new.outs) }
         ensures err { OnErr result (Stays self.old self.new outputs.old.outs outputs.new.outs) }
     {
         match (stage, sapi) {
@@ -137,8 +137,8 @@ impl Core {
     }
 
     // The tenure of the channel that is there.
-    fn tenure_at(&self, at: Place) -> Option<usize>
-        ensures { result ≡ tenure_at at self.now.serving self.now.draining }
+    fn tenure_at(&self, at: &Place) -> Option<usize>
+        ensures { result ≡ tenure_at at.now self.now.serving self.now.draining }
     {
         if is_at(at, &self.serving) {
             Some(self.draining.len())
