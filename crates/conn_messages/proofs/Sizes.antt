@@ -1,21 +1,18 @@
 -- What can be written fits a frame.
-use Rattle.std.proofs.Common.{◌≡◌, ℕ, ◌+◌, ◌*◌, ◌≤◌, ◌++◌, ◌||◌, Bool, true, false, cond, List, [], ◌∷◌, length, length-append, Option, Some, None, option_map, refl, arith}
+use Rattle.std.proofs.Common.{◌≡◌, ℕ, ◌+◌, ◌*◌, ◌≤◌, ◌<◌, get_or, ◌||◌, Bool, true, false, cond, List, [], ◌∷◌, length, length-append, Option, Some, None, option_map, refl, arith}
 use Rattle.std.proofs.lemmas.Bool.{ltb-false}
 use Rattle.std.proofs.lemmas.Grind.{common_steps}
+use Rattle.std.proofs.lemmas.List.Elements.{All-from_recursion}
 use Rattle.std.specs.List.{AllByRecursion}
 use Rattle.octets.specs.declared.element.Format.{Format}
 use Rattle.octets.specs.declared.element.Format.TheVariants.{Tv, Tlv, TlvE}
 use Rattle.octets.specs.declared.limits.TheConstants.{LENGTH_LIMIT, MESSAGE_LIMIT}
 use Rattle.octets.specs.Element.{Element, element, format_in}
 use Rattle.octets.specs.Field.{Field, element_text_by}
-use Rattle.bssmap_codec.specs.declared.bssap.Bssap.{Bssap}
-use Rattle.bssmap_codec.specs.BssapText.{bssap_text}
-use Rattle.bssmap_codec.specs.SccpText.{sccp_text}
 use Rattle.conn_messages.specs.declared.message.Message.{Message}
 use Rattle.conn_messages.specs.declared.message.Message.TheVariants as puts
-use Rattle.conn_messages.specs.Out.{IsWritable, out_of}
+use Rattle.conn_messages.specs.Out.{IsSound, IsWritable, out_of}
 use Rattle.conn_messages.specs.OutputsState.{IsSendable}
-use Rattle.rsl_codec.specs.declared.fault.RslFault.{RslFault}
 use Rattle.rsl_codec.specs.declared.fault.RslFault.TheVariants as faults
 use Rattle.rsl_codec.specs.declared.identifiers.TheConstants.{ELEMENTS}
 use Rattle.rsl_codec.specs.declared.rsl.Rsl.{Rsl}
@@ -122,3 +119,8 @@ out_fits number (puts.Station station message) writable = rsl_length message wri
 out_fits number (puts.Request message) writable = grind (arith, common_steps, writable.short)
 out_fits number (puts.Data destination message) writable = grind (arith, common_steps, writable.short)
 out_fits number (puts.ReleaseComplete destination) writable = omega arith
+
+-- the frame of the message at a place
+pub out_fits_at : (number : ℕ) (list : List Message) (place : ℕ) (default : Message) → place < length list → AllByRecursion IsSound list → IsSendable (out_of number (get_or list place default))
+out_fits_at number list place default within all =
+    out_fits number (get_or list place default) (All-from_recursion IsSound list all place default within).0
