@@ -13,6 +13,7 @@ use Rattle.conn_messages.specs.declared.message.Message.{Message}
 use Rattle.conn_messages.specs.declared.message.Message.TheVariants as puts
 use Rattle.conn_messages.specs.Out.{IsSound, IsWritable, out_of}
 use Rattle.conn_messages.specs.OutputsState.{IsSendable}
+use Rattle.ipa_framing.specs.declared.frame.TheConstants.{MAX_BODY}
 use Rattle.rsl_codec.specs.declared.fault.RslFault.TheVariants as faults
 use Rattle.rsl_codec.specs.declared.identifiers.TheConstants.{ELEMENTS}
 use Rattle.rsl_codec.specs.declared.rsl.Rsl.{Rsl}
@@ -107,7 +108,7 @@ fields_length [] short = omega arith
 fields_length (f ∷ fs) short =
     omega (arith, length-append (rsl_field_text f.id f.value) (rsl_fields_text fs), field_length f.id f.value short.0, fields_length fs short.1)
 
-rsl_length : (v : Rsl) → rsl_write_fault v ≡ None → length (rsl_text v) ≤ 2048
+rsl_length : (v : Rsl) → rsl_write_fault v ≡ None → length (rsl_text v) ≤ MAX_BODY
 rsl_length v e = let short = writable_short v e in omega (arith, fields_length (fields v) short.1, short.0)
 
 -- ---- every message
