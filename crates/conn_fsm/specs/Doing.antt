@@ -48,3 +48,7 @@ outs_in None number = []
 abbrev pub IsInitial : Option (List ℕ) → Type 0
 IsInitial None = Unit {0}
 IsInitial (Some message) = IsLayer3 message
+
+-- the frames of the row that fits, and the state that it ends in
+abbrev pub Plans : List Out → Option State → Option Row → Connection → Type 0
+Plans outs last r s = (outs ≡ outs_in r s.number) × EndsIn last r s

@@ -9,5 +9,6 @@ mod drains;
 mod ends;
 mod links;
 mod places;
+mod planned;
 mod switch;
 mod uplink;
