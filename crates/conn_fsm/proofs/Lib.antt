@@ -1,1 +1,2 @@
+pub mod OldChannels
 pub mod Pushing

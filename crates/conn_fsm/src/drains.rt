@@ -3,14 +3,13 @@ ghost use Rattle.conn_table.specs.Connection.{drain_at};
 ghost use Rattle.conn_table.specs.Steps.{done_at};
 ghost use Rattle.conn_table.specs.Table.{drains_at};
 
+use crate::places::is_at;
 use conn_messages::{Channel, Place};
 use conn_table::{DRAIN_LIMIT, Drain};
 use octets::Memory;
 use std::alloc::Global;
 use std::collections::VecDeque;
 use std::marker::Model;
-
-use crate::places::is_at;
 
 /// The old channels of a connection, the oldest first.
 #[derive(Drop)]
@@ -89,6 +88,7 @@ impl Drains {
     }
 
     /// The channel at this place is done.
+    #[tactic(auto, using(crate::proofs::OldChannels::marked))]
     pub(crate) fn mark_done(&mut self, place: usize)
         requires { place < length self.old }
         ensures { self.new ≡ done_at place self.old }
