@@ -1,0 +1,4 @@
+pub mod Standing
+pub mod StandingSteps
+pub mod StandingChanges
+pub mod StandingTable

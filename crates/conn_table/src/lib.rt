@@ -2,9 +2,11 @@
 #![tactic(auto)]
 
 pub use input::Input;
+pub use laws::invariant_is_kept;
 pub use limits::{DOWN_LIMIT, DRAIN_LIMIT, UP_LIMIT};
 pub use state::{Clearing, Drain, ShortMessageLink, Stage, State, Target};
 
 mod input;
+mod laws;
 mod limits;
 mod state;
