@@ -1,4 +1,9 @@
+pub mod Closing
+pub mod Downlink
+pub mod DownlinkMessages
+pub mod DownlinkSteps
+pub mod DownlinkTable
 pub mod Standing
-pub mod StandingSteps
 pub mod StandingChanges
+pub mod StandingSteps
 pub mod StandingTable

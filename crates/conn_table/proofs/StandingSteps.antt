@@ -203,11 +203,17 @@ StandsIn-link (Preparing target) draining down link new three waits still asked 
 StandsIn-link (Changing target) draining down link new three waits still asked stands = absurd still
 StandsIn-link Draining draining down link new three waits still asked stands = (stands.0, stands.1, stands.2, asked, stands.4)
 
-asked_for : (stage : Stage) (draining : List Drain) (down : HoldState) (link : ShortMessageLink) (waits : Bool) → IsStill stage → StandsIn stage draining down link waits → IsAskedFor link down.three
+pub asked_for : (stage : Stage) (draining : List Drain) (down : HoldState) (link : ShortMessageLink) (waits : Bool) → IsStill stage → StandsIn stage draining down link waits → IsAskedFor link down.three
 asked_for Active draining down link waits still stands = stands.2
 asked_for (Preparing target) draining down link waits still stands = stands.2
 asked_for (Changing target) draining down link waits still stands = absurd still
 asked_for Draining draining down link waits still stands = stands.3
+
+pub none_held : (stage : Stage) (draining : List Drain) (down : HoldState) (link : ShortMessageLink) (waits : Bool) → IsStill stage → StandsIn stage draining down link waits → down.zero ≡ []
+none_held Active draining down link waits still stands = stands.1
+none_held (Preparing target) draining down link waits still stands = stands.1
+none_held (Changing target) draining down link waits still stands = absurd still
+none_held Draining draining down link waits still stands = stands.2
 
 pub Stands-link_up : (reference : ℕ) (stage : Stage) (s : Connection) → IsStill stage → s.state ≡ Live reference stage → Stands s → Stands (link_up s).next
 Stands-link_up reference stage s still is stands =
