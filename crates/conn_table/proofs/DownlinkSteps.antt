@@ -68,7 +68,7 @@ AreParting-failing : (state : State) (s : Connection) (cause : ℕ) → AreParti
 AreParting-failing (Live reference stage) s cause = (tt, AreParting-end (Live reference stage) s.serving ABNORMAL_RELEASE)
 AreParting-failing state s cause = AreParting-end state s.serving ABNORMAL_RELEASE
 
-failing-shut : (state : State) (s : Connection) (cause : ℕ) → IsOpen (failing state s cause).next.state → ⊥
+pub failing-shut : (state : State) (s : Connection) (cause : ℕ) → IsOpen (failing state s cause).next.state → ⊥
 failing-shut (Live reference stage) s cause = absurd
 failing-shut _ s cause = absurd
 

@@ -3,6 +3,10 @@ pub mod Downlink
 pub mod DownlinkMessages
 pub mod DownlinkSteps
 pub mod DownlinkTable
+pub mod Roles
+pub mod RolesAccount
+pub mod RolesSteps
+pub mod RolesTable
 pub mod Standing
 pub mod StandingChanges
 pub mod StandingSteps

@@ -4,6 +4,7 @@ ghost use Rattle.rsl_codec.specs.declared.values.RequestReference.{RequestRefere
 ghost use Rattle.dtap_codec.specs.declared.sapi.Sapi.{Sapi};
 ghost use Rattle.conn_table.specs.declared.input.Input.{Input};
 ghost use Rattle.conn_table.specs.Connection.{Connection, new_connection};
+ghost use Rattle.conn_table.specs.Roles.{ChangesRolesBy, KeepsAccount};
 ghost use Rattle.conn_table.specs.Standing.{IsCarried, Stands};
 ghost use Rattle.conn_table.specs.Streams.{IsFinal, IsSilent, KeepsDownlink, OfRow};
 ghost use Rattle.conn_table.specs.Table.{row_of};
@@ -30,4 +31,15 @@ pub fn changing_is_silent()
 /// RLC is put. It does nothing.
 pub fn closing_is_final()
     ensures { (s : Connection) (input : Input) (offer : Option Channel) → OfRow (IsFinal s) (row_of s input offer) }
+{}
+
+/// What a row does to the roles of channels: the step that its input brings (the mobile is commanded, the change completes or
+/// goes back, old channels leave), and then perhaps a change begins; or the connection ends. It is said what is ordered of
+/// stations, and that the mobile gets nothing else but what the switch sent. Where no row fits, the input brings no step. From
+/// it follows the account: a channel in use that isn't any more was put its RF CHANNEL RELEASE, or its station broke, or its
+/// activation was refused; a new one is the offer, with its CHANNEL ACTIVATION put; an old channel was the serving one, with
+/// its RF CHANNEL RELEASE put, and remains until that is acknowledged. It does nothing.
+pub fn roles_change()
+    ensures steps { (s : Connection) (input : Input) (offer : Option Channel) → Stands s → ChangesRolesBy s input offer (row_of s input offer) }
+    ensures account { (s : Connection) (input : Input) (offer : Option Channel) → Stands s → OfRow (KeepsAccount s input offer) (row_of s input offer) }
 {}
