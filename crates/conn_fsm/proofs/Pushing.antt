@@ -1,5 +1,5 @@
 -- Messages that are put one after the other, by their places.
-use Rattle.std.proofs.Common.{◌≡◌, ◌≤◌, ◌<◌, ◌+◌, ℕ, zero, suc, List, [], ◌∷◌, ◌++◌, map, take, drop, length, slice_get, get_or, unwrap_or, Option, Some, None, option_map, Bool, true, false, not, ◌&&◌, if◌then◌else◌, refl, ap, sym, subst, arith}
+use Rattle.std.proofs.Common.{◌≡◌, ◌≤◌, ◌<◌, ◌+◌, ℕ, zero, suc, List, [], ◌∷◌, ◌++◌, map, take, drop, length, slice_get, get_or, unwrap_or, Option, Some, None, option_map, Bool, true, false, not, ◌&&◌, if◌then◌else◌, refl, ap, sym, subst, ◌∙◌, arith}
 use Rattle.std.specs.List.{AllByRecursion}
 use Rattle.conn_messages.specs.declared.channel.Channel.{Channel}
 use Rattle.conn_table.specs.declared.state.Drain.{Drain}
@@ -12,8 +12,9 @@ use Rattle.conn_table.specs.Standing.{IsHeldTenure}
 use Rattle.conn_table.specs.Steps.{tenure_outs}
 use Rattle.dtap_codec.specs.declared.sapi.Sapi.{Sapi}
 use Rattle.dtap_codec.specs.declared.sapi.Sapi.TheVariants.{Zero, Three}
-use Rattle.hold_queue.specs.ChainState.{Tenure, messages_in, tenures_count}
-use Rattle.std.proofs.lemmas.List.{append_assoc, drop_all, map-append, take_all}
+use Rattle.hold_queue.specs.ChainState.{Tenure, messages_in, tenure_messages, tenures_count}
+use Rattle.conn_fsm.specs.Views.{joined}
+use Rattle.std.proofs.lemmas.List.{append-nil, append_assoc, drop_all, map-append, take_all}
 use Rattle.std.proofs.lemmas.Option.{get_or_from_slice_get, slice_get-get_or, slice_get_within}
 use Rattle.std.proofs.Math.Seq.{take-suc}
 use Rattle.std.proofs.Math.Numerals.{add-one}
@@ -28,6 +29,12 @@ pub put_next : {A B : Type 0} (f : A → B) (xs : List A) (n : ℕ) (x : A) (old
     new ≡ put ++ message ∷ [] → put ≡ old ++ map f (take n xs) → message ≡ f x → slice_get xs n ≡ Some x → new ≡ old ++ map f (take (n + 1) xs)
 put_next f xs n x old put new message one before is got =
     rw (one, before, is, sym (pushed f xs n x got)) (simp append_assoc)
+
+-- one more is copied
+pub copied_next : {A : Type 0} (xs : List A) (n : ℕ) (x : A) (old list new : List A) →
+    new ≡ list ++ x ∷ [] → list ≡ old ++ take n xs → slice_get xs n ≡ Some x → new ≡ old ++ take (n + 1) xs
+copied_next xs n x old list new one before got =
+    rw (one, before, add-one n, take-suc xs n x (slice_get_within xs n x got), get_or_from_slice_get xs n x x got) (simp append_assoc)
 
 -- what holds of all holds of each
 pub all_at : {X : Type 0} (P : X → Type 0) (xs : List X) (n : ℕ) (x : X) → AllByRecursion P xs → slice_get xs n ≡ Some x → P x
@@ -100,3 +107,14 @@ tenure_first false found count place within got = omega (arith, within place got
 
 pub tenure_within : (at : Place) (serving : Channel) (ds : List Drain) (place : ℕ) → tenure_at at serving ds ≡ Some place → place < length ds + 1
 tenure_within at serving ds place got = tenure_first (is_at at serving) (drain_at at ds) (length ds) place (λ n found. drain_within at ds n found) got
+
+-- one tenure more is joined to those before it
+joined_next : (sapi : Sapi) (ts : List Tenure) (n : ℕ) → joined sapi (take (suc n) ts) ≡ joined sapi (take n ts) ++ messages_in n sapi ts
+joined_next sapi [] n = rw (take_all {A = Tenure} n [] (omega arith)) refl
+joined_next sapi (t ∷ ts) zero = append-nil (tenure_messages t sapi)
+joined_next sapi (t ∷ ts) (suc n) =
+    ap (λ rest. tenure_messages t sapi ++ rest) (joined_next sapi ts n) ∙ sym (append_assoc (tenure_messages t sapi) (joined sapi (take n ts)) (messages_in n sapi ts))
+
+pub joined_more : (sapi : Sapi) (ts : List Tenure) (n : ℕ) (list new : List (List ℕ)) →
+    new ≡ list ++ messages_in n sapi ts → list ≡ joined sapi (take n ts) → new ≡ joined sapi (take (n + 1) ts)
+joined_more sapi ts n list new one before = rw (one, before, add-one n) (sym (joined_next sapi ts n))

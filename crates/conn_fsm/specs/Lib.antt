@@ -1,1 +1,3 @@
 pub mod Doing
+pub mod PlanState
+pub mod Views
