@@ -6,7 +6,7 @@ use Rattle.settings.specs.declared.fault.SettingsFault.TheVariants.{Unknown, Mis
 use Rattle.settings.specs.declared.key.Key.TheVariants as keys
 use Rattle.settings.specs.Tables.{first_fault}
 
--- ---- tables by their values; a value that is to be absent has the key `-`, which comes nowhere
+-- ---- tables by their values
 
 abbrev number : ℕ → Data
 number n = integer (pos n)

@@ -5,6 +5,7 @@ use Rattle.std.specs.Str.{bytes_eq}
 use Rattle.ho_decision.specs.declared.settings.Cell.{Cell as AirCell}
 use Rattle.ho_decision.specs.declared.settings.HoParameters.{HoParameters}
 use Rattle.ho_decision.specs.Settings.{Settings as HandoverSettings, settings_of}
+use Rattle.rsl_codec.specs.declared.channel_number.TheConstants.{FIRST_TCH, LAST_SDCCH}
 use Rattle.settings.specs.declared.bsic.Bsic.{Bsic}
 use Rattle.settings.specs.declared.network.Network.{Network}
 use Rattle.settings.specs.declared.timers.Timers.{Timers}
@@ -81,7 +82,7 @@ pub record IsHandover (h : HoParameters) : Type 0 where
 
 -- the number of a TCH or an SDCCH
 abbrev pub IsChannel : ℕ → Type 0
-IsChannel octet = (8 ≤ octet) × (octet ≤ 127)
+IsChannel octet = (FIRST_TCH ≤ octet) × (octet ≤ LAST_SDCCH)
 
 -- channels, this many at least and at most
 pub record AreChannels (least most : ℕ) (channels : List ℕ) : Type 0 where

@@ -60,8 +60,8 @@ pub enum Key {
 }
 
 impl Key {
-    /// The word of a table, or of a key in its table.
-    pub fn name(self) -> &'static str
+    // The word of a table, or of a key in its table.
+    pub(crate) fn name(self) -> &'static str
         ensures { result.now ≡ name_of self }
     {
         match self {
@@ -92,8 +92,8 @@ impl Key {
         }
     }
 
-    /// The table that has this key; none for a table.
-    pub fn table(self) -> Option<Key>
+    // The table that has this key; none for a table.
+    pub(crate) fn table(self) -> Option<Key>
         ensures { result ≡ table_of self }
     {
         match self {
@@ -126,7 +126,7 @@ impl fmt::Display for Key {
     }
 }
 
-/// The whole text of a name in a table, or at the top.
+// The whole text of a name in a table, or at the top.
 pub(crate) fn path(alloc: Global, table: Option<Key>, name: &str) -> Result<Text, Memory>
     ensures { IfOk result (λ text. text ≡ path_in table name.now) }
 {

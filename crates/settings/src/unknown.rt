@@ -27,6 +27,7 @@ pub(crate) fn refuse_unknown(
     }
 }
 
+// The least name that isn't one of these keys: the first, since the names of a table rise.
 fn least_other<'a>(table: &'a Table, known: &[Key]) -> Option<&'a String>
     ensures { option_map (λ name. string_bytes name) (option_copied result) ≡ least_unknown known.now (table_view table.now) }
 {
