@@ -2,7 +2,7 @@
 //! and written to octets.
 #![tactic(auto)]
 
-pub use channel_number::{ChanNo, FIRST_SDCCH, FIRST_TCH_H};
+pub use channel_number::{ChanNo, FIRST_SDCCH, FIRST_TCH, FIRST_TCH_H, LAST_SDCCH};
 pub use common_channel::{ChannelRequired, ImmediateAssignment};
 pub use dedicated_channel::{Activation, ActivationAck, Detection, Failure, MeasurementResult};
 pub use fault::RslFault;

@@ -1,0 +1,7 @@
+mod FaultRows
+mod Least
+pub mod Lists
+mod ParameterRows
+mod Rows
+mod SettingsRows
+mod Turns

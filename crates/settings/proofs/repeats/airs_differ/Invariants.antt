@@ -1,0 +1,7 @@
+-- What is left gives the same answer as the whole.
+use Rattle.std.proofs.Common.{◌≡◌, drop}
+use Rattle.settings.specs.Parameters.{all_differ, same_air}
+use Rattle.settings.proofs.repeats.airs_differ.Given as goal
+
+abbrev pub invariant-loop-i : goal.invariant-loop-i
+invariant-loop-i l = all_differ same_air (drop l.i l.cells) ≡ all_differ same_air l.cells

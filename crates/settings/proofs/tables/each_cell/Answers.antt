@@ -1,0 +1,14 @@
+-- One more cell is in its ranges.
+use Rattle.std.proofs.Common.{arith}
+use Rattle.std.proofs.lemmas.Grind.{common_steps}
+use Rattle.std.proofs.lemmas.List.Elements.{All-push}
+use Rattle.settings.specs.Parameters.{IsCell}
+use Rattle.settings.proofs.tables.each_cell.Goals as goal
+
+pub loop-value-preserved : goal.loop-value-preserved
+loop-value-preserved c = record {
+  count = grind (arith, common_steps);
+  read = grind (arith, common_steps);
+  fault = grind (arith, common_steps);
+  each = rw c.in_ok-push.ensures.items (All-push IsCell _ _ c.loop-value.invariant.each c.in_ok-cell_at.ensures.within);
+}

@@ -1,0 +1,84 @@
+ghost use Rattle.std.specs.Prelude.{◌≡◌, ◌≤◌};
+ghost use Rattle.settings.specs.Parameters.{AreChannels, IsCell, air_of};
+
+use crate::{Bsic, Text};
+use dtap_codec::Arfcn;
+use rsl_codec::ChanNo;
+use std::marker::Model;
+
+/// A cell of the settings.
+#[derive(Drop)]
+pub struct Cell {
+    pub(crate) listen: Text,
+    pub(crate) location_area_code: u16,
+    pub(crate) cell_identity: u16,
+    pub(crate) arfcn: Arfcn,
+    pub(crate) bsic: Bsic,
+    pub(crate) channels: Vec<ChanNo>,
+}
+
+impl Model for Cell {
+    ghost use Rattle.settings.specs.Parameters.{CellParameters, IsCell, a_cell};
+
+    ghost Value = { CellParameters };
+
+    ghost view = { λ c. a_cell c.listen c.location_area_code c.cell_identity c.arfcn c.bsic c.channels.items };
+
+    ghost invariant = { λ c. IsCell (a_cell c.listen c.location_area_code c.cell_identity c.arfcn c.bsic c.channels.items) };
+}
+
+impl Cell {
+    /// Where the program waits for the cell's station, a text that isn't empty.
+    pub fn listen(&self) -> &str
+        ensures { result.now ≡ self.now.listen }
+    {
+        self.listen.as_str()
+    }
+
+    /// The location area code, LAC.
+    pub fn location_area_code(&self) -> u16
+        ensures { result ≡ self.now.location_area_code }
+    {
+        self.location_area_code
+    }
+
+    /// The cell identity, CI.
+    pub fn cell_identity(&self) -> u16
+        ensures { result ≡ self.now.cell_identity }
+    {
+        self.cell_identity
+    }
+
+    /// The ARFCN of the BCCH carrier, 1 to 1023.
+    pub fn arfcn(&self) -> Arfcn
+        ensures value { result ≡ self.now.arfcn }
+        ensures within { (1 ≤ result) × (result ≤ 1023) }
+    {
+        self.arfcn
+    }
+
+    /// The base station identity code.
+    pub fn bsic(&self) -> Bsic
+        ensures { result ≡ self.now.bsic }
+    {
+        self.bsic
+    }
+
+    /// The channels of the cell, 1 to 64 numbers of TCHs and SDCCHs, in their order.
+    pub fn channels(&self) -> &[ChanNo]
+        ensures value { result.now ≡ self.now.channels }
+        ensures within { AreChannels 1 64 result.now }
+    {
+        self.channels.as_slice()
+    }
+
+    /// The cell as the handover decision sees it.
+    pub(crate) fn air(&self) -> ho_decision::Cell
+        ensures { result ≡ air_of self.now }
+    {
+        ho_decision::Cell {
+            arfcn: self.arfcn.number(),
+            bsic: self.bsic.number(),
+        }
+    }
+}

@@ -1,0 +1,23 @@
+//! The settings of the controller, read from a text in TOML: the network, the switch, timers, handover and cells.
+#![tactic(auto)]
+
+pub use bsic::Bsic;
+pub use cell::Cell;
+pub use fault::SettingsFault;
+pub use key::Key;
+pub use parameters::Settings;
+pub use text::Text;
+
+mod bsic;
+mod cell;
+mod channels;
+mod fault;
+mod key;
+mod lookup;
+mod network;
+mod parameters;
+mod repeats;
+mod tables;
+mod text;
+mod timers;
+mod unknown;

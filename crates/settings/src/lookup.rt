@@ -1,0 +1,151 @@
+// What a table holds at a key, by the kind of the key: its value, or its first fault.
+ghost use Rattle.std.specs.Prelude.{◌≡◌, ◌≤◌, Some, IfOk, option_map};
+ghost use Rattle.std.specs.List.{list_all};
+ghost use Rattle.std.specs.Char.{is_ascii_digit};
+ghost use Rattle.toml.specs.View.{view, table_view};
+ghost use Rattle.settings.specs.Answer.{Reads};
+ghost use Rattle.settings.specs.Faults.{is_within, value_fault, key_fault};
+ghost use Rattle.settings.specs.Parameters.{AreDigits};
+ghost use Rattle.settings.specs.Rules.{text, digits, number, required, optional_number, optional_flag};
+ghost use Rattle.settings.specs.Tables.{at_key, by_rule, text_in, number_in, flag_in};
+
+use crate::{Key, SettingsFault, Text};
+use std::alloc::Global;
+use toml::{Table, Value};
+
+// The value at a key.
+pub(crate) fn held<'a>(table: &'a Table, key: Key) -> Option<&'a Value>
+    ensures { option_map (λ v. view v.now) result ≡ at_key key (table_view table.now) }
+{
+    table.get(key.name())
+}
+
+// A text that has to be there and isn't empty.
+pub(crate) fn text_at(alloc: Global, table: &Table, key: Key) -> Result<Text, SettingsFault>
+    ensures { let rule = required key text in Reads result (text_in (by_rule rule (table_view table.now))) (key_fault rule (table_view table.now)) }
+{
+    match held(table, key) {
+        None => Err(SettingsFault::Missing(key)),
+        Some(value) => text_of(alloc, value, key),
+    }
+}
+
+fn text_of(alloc: Global, value: &Value, key: Key) -> Result<Text, SettingsFault>
+    ensures { Reads result (text_in (Some (view value.now))) (value_fault key text (view value.now)) }
+{
+    let Value::String(text) = value else {
+        return Err(SettingsFault::BadType(key));
+    };
+    if text.is_empty() {
+        return Err(SettingsFault::BadValue(key));
+    }
+    Ok(Text::copy(alloc, text.as_str())?)
+}
+
+// Decimal digits that have to be there, at least and at most so many.
+pub(crate) fn digits_at(
+    alloc: Global,
+    table: &Table,
+    key: Key,
+    least: usize,
+    most: usize,
+) -> Result<Text, SettingsFault>
+    ensures within { IfOk result (AreDigits least most) }
+    ensures reads { let rule = required key (digits least most) in Reads result (text_in (by_rule rule (table_view table.now))) (key_fault rule (table_view table.now)) }
+{
+    match held(table, key) {
+        None => Err(SettingsFault::Missing(key)),
+        Some(value) => digits_of(alloc, value, key, least, most),
+    }
+}
+
+fn digits_of(
+    alloc: Global,
+    value: &Value,
+    key: Key,
+    least: usize,
+    most: usize,
+) -> Result<Text, SettingsFault>
+    ensures within { IfOk result (AreDigits least most) }
+    ensures reads { Reads result (text_in (Some (view value.now))) (value_fault key (digits least most) (view value.now)) }
+{
+    let Value::String(text) = value else {
+        return Err(SettingsFault::BadType(key));
+    };
+    if !is_count(text.len(), least, most) || !are_digits(text.as_str()) {
+        return Err(SettingsFault::BadValue(key));
+    }
+    Ok(Text::copy(alloc, text.as_str())?)
+}
+
+fn are_digits(text: &str) -> bool
+    ensures { result ≡ list_all is_ascii_digit text.now }
+{
+    text.bytes().all(|octet| octet.is_ascii_digit())
+}
+
+// A number that has to be there, between the least and the greatest.
+pub(crate) fn number_at(
+    table: &Table,
+    key: Key,
+    least: u32,
+    greatest: u32,
+) -> Result<u32, SettingsFault>
+    ensures reads { let rule = required key (number least greatest) in Reads result (number_in (by_rule rule (table_view table.now))) (key_fault rule (table_view table.now)) }
+    ensures within { IfOk result (λ n. (least ≤ n) × (n ≤ greatest)) }
+{
+    match held(table, key) {
+        None => Err(SettingsFault::Missing(key)),
+        Some(value) => number_of(value, key, least, greatest),
+    }
+}
+
+// A number between the least and the greatest, with a default.
+pub(crate) fn optional_number_at(
+    table: &Table,
+    key: Key,
+    least: u32,
+    greatest: u32,
+    default: u32,
+) -> Result<u32, SettingsFault>
+    requires { (least ≤ default) × (default ≤ greatest) }
+    ensures reads { let rule = optional_number key least greatest default in Reads result (number_in (by_rule rule (table_view table.now))) (key_fault rule (table_view table.now)) }
+    ensures within { IfOk result (λ n. (least ≤ n) × (n ≤ greatest)) }
+{
+    match held(table, key) {
+        None => Ok(default),
+        Some(value) => number_of(value, key, least, greatest),
+    }
+}
+
+fn number_of(value: &Value, key: Key, least: u32, greatest: u32) -> Result<u32, SettingsFault>
+    ensures reads { Reads result (number_in (Some (view value.now))) (value_fault key (number least greatest) (view value.now)) }
+    ensures within { IfOk result (λ n. (least ≤ n) × (n ≤ greatest)) }
+{
+    let Value::Integer(number) = value else {
+        return Err(SettingsFault::BadType(key));
+    };
+    let number = *number;
+    if number < i64::from(least) || i64::from(greatest) < number {
+        return Err(SettingsFault::BadValue(key));
+    }
+    Ok(number as u32)
+}
+
+// True or false, false by default.
+pub(crate) fn flag_at(table: &Table, key: Key) -> Result<bool, SettingsFault>
+    ensures { let rule = optional_flag key in Reads result (flag_in (by_rule rule (table_view table.now))) (key_fault rule (table_view table.now)) }
+{
+    match held(table, key) {
+        None => Ok(false),
+        Some(Value::Boolean(flag)) => Ok(*flag),
+        Some(_) => Err(SettingsFault::BadType(key)),
+    }
+}
+
+// Whether there are at least and at most so many.
+pub(crate) fn is_count(count: usize, least: usize, most: usize) -> bool
+    ensures { result ≡ is_within least most count }
+{
+    least <= count && count <= most
+}

@@ -1,0 +1,230 @@
+ghost use Rattle.std.specs.Prelude.{◌≡◌, ◌≢◌, ◌≤◌, ◌-◌, true, Some, map, length, IfOk, slice_get};
+ghost use Rattle.toml.specs.Parse.{parse_document};
+ghost use Rattle.toml.specs.View.{table_view};
+ghost use Rattle.settings.specs.Answer.{Reads};
+ghost use Rattle.settings.specs.Parameters.{AreAllowed, AreDigits, IsTimer, IsWindow, IsInterval, IsCell, channels_differ, air_of, handover_settings_of};
+ghost use Rattle.settings.specs.Tables.{parameters_of, first_fault, settings_in};
+
+use crate::network::Network;
+use crate::repeats::refuse_repeats;
+use crate::tables::{cells_at, handover_at, network_at, switch_at, timers_at};
+use crate::timers::Timers;
+use crate::unknown::refuse_unknown;
+use crate::{Cell, Key, SettingsFault, Text};
+use ho_decision::{HoParameters, HoSettings};
+use octets::Memory;
+use std::alloc::Global;
+use std::marker::Model;
+use toml::Table;
+
+/// The settings of the controller. Contracts see them as `Parameters`; `AreAllowed` holds of them.
+#[derive(Drop)]
+pub struct Settings {
+    network: Network,
+    switch_address: Text,
+    timers: Timers,
+    handover: HoParameters,
+    cells: Vec<Cell>,
+}
+
+impl Model for Settings {
+    ghost use Rattle.settings.specs.Parameters.{Parameters, parameters, AreAllowed};
+
+    ghost Value = { Parameters };
+
+    ghost view = { λ s. parameters s.network s.switch_address s.timers s.handover s.cells.items };
+
+    ghost invariant = { λ s. AreAllowed (parameters s.network s.switch_address s.timers s.handover s.cells.items) };
+}
+
+impl Settings {
+    /// The settings in a text in TOML, or its first fault. It may answer `Memory` for any text.
+    pub fn read(alloc: Global, text: &str) -> Result<Settings, SettingsFault>
+        ensures { result ≢ Err SettingsFault.Memory → result ≡ settings_in (parse_document text.now) }
+    {
+        match toml::table_from_str(alloc, text) {
+            Ok(table) => in_table(alloc, &table),
+            Err(error) => {
+                if error.is_memory() {
+                    Err(SettingsFault::Memory)
+                } else {
+                    Err(SettingsFault::NotToml)
+                }
+            }
+        }
+    }
+
+    /// The mobile country code, three decimal digits.
+    pub fn mcc(&self) -> &str
+        ensures value { result.now ≡ self.now.network.mcc }
+        ensures within { AreDigits 3 3 result.now }
+    {
+        self.network.mcc.as_str()
+    }
+
+    /// The mobile network code, two or three decimal digits.
+    pub fn mnc(&self) -> &str
+        ensures value { result.now ≡ self.now.network.mnc }
+        ensures within { AreDigits 2 3 result.now }
+    {
+        self.network.mnc.as_str()
+    }
+
+    /// Whether mobiles and switch number their messages by release 98, modulo 2.
+    pub fn release98(&self) -> bool
+        ensures { result ≡ self.now.network.release98 }
+    {
+        self.network.release98
+    }
+
+    /// The address of the switch, a text that isn't empty.
+    pub fn switch_address(&self) -> &str
+        ensures { result.now ≡ self.now.switch_address }
+    {
+        self.switch_address.as_str()
+    }
+
+    /// T3101, from CHANNEL ACTIVATION to ESTABLISH INDICATION, in milliseconds; 100 to 60,000.
+    pub fn t3101_ms(&self) -> u32
+        ensures value { result ≡ self.now.timers.t3101_ms }
+        ensures within { IsTimer result }
+    {
+        self.timers.t3101_ms
+    }
+
+    /// T3103, of a handover, in milliseconds; 100 to 60,000.
+    pub fn t3103_ms(&self) -> u32
+        ensures value { result ≡ self.now.timers.t3103_ms }
+        ensures within { IsTimer result }
+    {
+        self.timers.t3103_ms
+    }
+
+    /// T3107, of an assignment, in milliseconds; 100 to 60,000.
+    pub fn t3107_ms(&self) -> u32
+        ensures value { result ≡ self.now.timers.t3107_ms }
+        ensures within { IsTimer result }
+    {
+        self.timers.t3107_ms
+    }
+
+    /// How long an old channel drains at most, in milliseconds; 100 to 60,000.
+    pub fn drain_ms(&self) -> u32
+        ensures value { result ≡ self.now.timers.drain_ms }
+        ensures within { IsTimer result }
+    {
+        self.timers.drain_ms
+    }
+
+    /// Over how many reports the serving cell's level is averaged, 1 to 10.
+    pub fn rxlev_window(&self) -> u8
+        ensures value { result ≡ self.now.handover.rxlev_window }
+        ensures within { IsWindow result }
+    {
+        self.handover.rxlev_window
+    }
+
+    /// Over how many reports the serving cell's quality is averaged, 1 to 10.
+    pub fn rxqual_window(&self) -> u8
+        ensures value { result ≡ self.now.handover.rxqual_window }
+        ensures within { IsWindow result }
+    {
+        self.handover.rxqual_window
+    }
+
+    /// Over how many reports a neighbour's level is averaged, 1 to 10.
+    pub fn neighbour_window(&self) -> u8
+        ensures value { result ≡ self.now.handover.neighbour_window }
+        ensures within { IsWindow result }
+    {
+        self.handover.neighbour_window
+    }
+
+    /// Every how many reports the levels are compared, 1 to 99.
+    pub fn power_budget_interval(&self) -> u8
+        ensures value { result ≡ self.now.handover.interval }
+        ensures within { IsInterval result }
+    {
+        self.handover.interval
+    }
+
+    /// By how many dB a neighbour has to be better than the serving cell, 0 to 63.
+    pub fn power_budget_hysteresis(&self) -> u8
+        ensures value { result ≡ self.now.handover.hysteresis }
+        ensures within { result ≤ 63 }
+    {
+        self.handover.hysteresis
+    }
+
+    /// The cells in their order, 1 to 32; their numbers count from 1.
+    pub fn cells(&self) -> &[Cell]
+        ensures value { result.now ≡ self.now.cells }
+        ensures allowed { AreAllowed self.now }
+    {
+        self.cells.as_slice()
+    }
+
+    /// How many cells there are, 1 to 32.
+    pub fn cell_count(&self) -> u8
+        ensures value { result ≡ length self.now.cells }
+        ensures within { (1 ≤ result) × (result ≤ 32) }
+    {
+        self.cells.len() as u8
+    }
+
+    /// The cell with this number, from 1.
+    pub fn cell(&self, number: u8) -> &Cell
+        requires { (1 ≤ number) × (number ≤ length self.now.cells) }
+        ensures value { slice_get self.now.cells (number - 1) ≡ Some result.now }
+        ensures within { IsCell result.now }
+        ensures differ { channels_differ result.now ≡ true }
+    {
+        &self.cells[usize::from(number) - 1]
+    }
+
+    /// The settings of the handover decision where the cell with this number serves.
+    pub fn handover_settings(&self, alloc: Global, serving: u8) -> Result<HoSettings, Memory>
+        requires { (1 ≤ serving) × (serving ≤ length self.now.cells) }
+        ensures { IfOk result (λ settings. settings ≡ handover_settings_of self.now serving) }
+    {
+        HoSettings::new(alloc, self.handover, airs(alloc, &self.cells)?, serving)
+    }
+}
+
+// The cells as the handover decision sees them.
+fn airs(alloc: Global, cells: &[Cell]) -> Result<Vec<ho_decision::Cell>, Memory>
+    ensures { IfOk result (λ airs. airs.items ≡ map air_of cells.now) }
+{
+    let mut airs = Vec::with_capacity(alloc, cells.len())?;
+    for cell in cells {
+        airs.push(cell.air())?;
+    }
+    Ok(airs)
+}
+
+// The settings in a table, or its first fault.
+fn in_table(alloc: Global, table: &Table) -> Result<Settings, SettingsFault>
+    ensures { Reads result (parameters_of (table_view table.now)) (first_fault (table_view table.now)) }
+{
+    let tables = [
+        Key::Network,
+        Key::Switch,
+        Key::Timers,
+        Key::Handover,
+        Key::Cell,
+    ];
+    refuse_unknown(alloc, table, None, &tables)?;
+    let network = network_at(alloc, table)?;
+    let switch_address = switch_at(alloc, table)?;
+    let timers = timers_at(alloc, table)?;
+    let handover = handover_at(alloc, table)?;
+    let cells = cells_at(alloc, table)?;
+    refuse_repeats(&cells)?;
+    Ok(Settings {
+        network,
+        switch_address,
+        timers,
+        handover,
+        cells,
+    })
+}

@@ -1,0 +1,48 @@
+// Keys that aren't known.
+ghost use Rattle.std.specs.Prelude.{◌≡◌, not, find, option_map, string_bytes};
+ghost use Rattle.std.specs.Option.{option_copied};
+ghost use Rattle.std.specs.BTreeMap.{IsOrdered, keys};
+ghost use Rattle.std.specs.String.{string_cmp};
+ghost use Rattle.toml.specs.View.{table_view};
+ghost use Rattle.settings.specs.Answer.{Reads};
+ghost use Rattle.settings.specs.Faults.{is_known, least_unknown, unknown_fault};
+
+use crate::key::path;
+use crate::{Key, SettingsFault};
+use std::alloc::Global;
+use toml::Table;
+
+// Refuses a table that has another key than these, and names the least such key. The table is this one, or the top.
+pub(crate) fn refuse_unknown(
+    alloc: Global,
+    table: &Table,
+    place: Option<Key>,
+    known: &[Key],
+) -> Result<(), SettingsFault>
+    ensures { Reads result tt (unknown_fault place known.now (table_view table.now)) }
+{
+    match least_other(table, known) {
+        None => Ok(()),
+        Some(name) => Err(SettingsFault::Unknown(path(alloc, place, name.as_str())?)),
+    }
+}
+
+// The least name that isn't one of these keys: the first, since the names of a table rise.
+fn least_other<'a>(table: &'a Table, known: &[Key]) -> Option<&'a String>
+    ensures { option_map (λ name. string_bytes name) (option_copied result) ≡ least_unknown known.now (table_view table.now) }
+{
+    first_other(table, known)
+}
+
+fn first_other<'a>(table: &'a Table, known: &[Key]) -> Option<&'a String>
+    ensures first { option_copied result ≡ find (λ name. not (is_known known.now (string_bytes name))) (keys table.now) }
+    ensures ordered { IsOrdered string_cmp table.now }
+{
+    table.keys().find(|name| !has_name(known, name.as_str()))
+}
+
+fn has_name(known: &[Key], name: &str) -> bool
+    ensures { result ≡ is_known known.now name.now }
+{
+    known.iter().any(|key| key.name() == name)
+}
