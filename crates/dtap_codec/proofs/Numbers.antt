@@ -5,7 +5,7 @@ use Rattle.std.proofs.lemmas.Bool.{cond-true, cond-false}
 use Rattle.dtap_codec.specs.Message.{is_flow_message, is_flow_protocol}
 use Rattle.dtap_codec.specs.Number.{count_of, number_in, with_number, without_number}
 use Rattle.dtap_codec.specs.declared.number.Modulus.{Modulus}
-use Rattle.dtap_codec.specs.declared.number.Modulus.TheVariants.{Four}
+use Rattle.dtap_codec.specs.declared.number.Modulus.TheVariants.{Four, Two}
 use Rattle.dtap_codec.specs.Places.{with_numbers_from, IsClear, AreClear}
 
 -- the number has no part in what a message is
@@ -51,3 +51,4 @@ AreClear-push (x ∷ xs) y clear one = (clear.0, AreClear-push xs y clear.1 one)
 -- there are at least two numbers
 pub count_of-two : (modulus : Modulus) → 2 ≤ count_of modulus
 count_of-two Four = omega arith
+count_of-two Two = omega arith

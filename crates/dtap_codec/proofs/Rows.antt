@@ -13,7 +13,7 @@ use Rattle.dtap_codec.specs.declared.rr_fault.RrFault.{RrFault}
 use Rattle.dtap_codec.specs.declared.rr_fault.RrFault.TheVariants.{Short, UnknownRr}
 use Rattle.dtap_codec.specs.declared.rr_type.RrType.TheVariants as types
 use Rattle.dtap_codec.specs.declared.rr_type.TheConstants.{PSEUDO_LENGTH}
-use Rattle.dtap_codec.specs.declared.number.Modulus.TheVariants.{Four}
+use Rattle.dtap_codec.specs.declared.number.Modulus.TheVariants.{Four, Two}
 use Rattle.dtap_codec.specs.Message.{discriminator, is_flow_message}
 use Rattle.dtap_codec.specs.Number.{count_of, number_in, with_number, without_number}
 use Rattle.dtap_codec.specs.Places.{with_numbers_from, Carries, Rise}
@@ -47,6 +47,9 @@ not_of_the_flow = refl
 four : count_of Four ≡ 4
 four = refl
 
+two : count_of Two ≡ 2
+two = refl
+
 numbers : map (number_in 4) ((0x05 ∷ 0x24 ∷ 0x71 ∷ []) ∷ (0x03 ∷ 0x45 ∷ []) ∷ (0x03 ∷ 0x8f ∷ []) ∷ (0x03 ∷ 0xc1 ∷ []) ∷ (0x0b ∷ 0xfa ∷ 0xff ∷ []) ∷ (0x83 ∷ 0x45 ∷ []) ∷ []) ≡
     Some 0 ∷ Some 1 ∷ Some 2 ∷ Some 3 ∷ Some 3 ∷ Some 1 ∷ []
 numbers = refl
@@ -78,6 +81,27 @@ cleared_1 = refl
 
 places_wrap : with_numbers_from 4 3 ((0x05 ∷ 0x24 ∷ 0x71 ∷ []) ∷ (0x03 ∷ 0x05 ∷ []) ∷ (0x03 ∷ 0x01 ∷ []) ∷ []) ≡ (0x05 ∷ 0xe4 ∷ 0x71 ∷ []) ∷ (0x03 ∷ 0x05 ∷ []) ∷ (0x03 ∷ 0x41 ∷ []) ∷ []
 places_wrap = refl
+
+-- modulo 2: bit 8 isn't looked at, and is written 0
+numbers_of_two : map (number_in (count_of Two)) ((0x03 ∷ 0x05 ∷ []) ∷ (0x03 ∷ 0x45 ∷ []) ∷ (0x03 ∷ 0x85 ∷ []) ∷ (0x0b ∷ 0xfa ∷ 0xff ∷ []) ∷ (0x85 ∷ 0x64 ∷ []) ∷ []) ≡
+    Some 0 ∷ Some 1 ∷ Some 0 ∷ Some 1 ∷ Some 1 ∷ []
+numbers_of_two = refl
+
+no_numbers_of_two : map (number_in (count_of Two)) ([] ∷ (0x03 ∷ []) ∷ (0x06 ∷ 0x45 ∷ []) ∷ (0x09 ∷ 0x45 ∷ []) ∷ []) ≡ None ∷ None ∷ None ∷ None ∷ []
+no_numbers_of_two = refl
+
+numbered_0_of_two : with_number 0 (0x03 ∷ 0xc5 ∷ []) ≡ 0x03 ∷ 0x05 ∷ []
+numbered_0_of_two = refl
+
+numbered_1_of_two : with_number 1 (0x0b ∷ 0xba ∷ 0xff ∷ []) ≡ 0x0b ∷ 0x7a ∷ 0xff ∷ []
+numbered_1_of_two = refl
+
+cleared_bit_8 : without_number (0x03 ∷ 0x85 ∷ []) ≡ 0x03 ∷ 0x05 ∷ []
+cleared_bit_8 = refl
+
+places_of_two : with_numbers_from (count_of Two) 0 ((0x05 ∷ 0x24 ∷ 0x71 ∷ []) ∷ (0x03 ∷ 0x05 ∷ []) ∷ (0x03 ∷ 0x0f ∷ []) ∷ (0x03 ∷ 0x01 ∷ []) ∷ []) ≡
+    (0x05 ∷ 0x24 ∷ 0x71 ∷ []) ∷ (0x03 ∷ 0x45 ∷ []) ∷ (0x03 ∷ 0x0f ∷ []) ∷ (0x03 ∷ 0x41 ∷ []) ∷ []
+places_of_two = refl
 
 abbrev sent : List (List ℕ)
 sent = (0x05 ∷ 0x24 ∷ 0x71 ∷ []) ∷ (0x03 ∷ 0x05 ∷ []) ∷ []

@@ -8,11 +8,11 @@ use Rattle.ho_decision.specs.declared.settings.Cell.{Cell}
 use Rattle.ho_decision.specs.Settings.{Settings, with_cell, others, other_arfcns}
 
 -- every number is above a
-abbrev Above : ℕ → List ℕ → Type 0
+abbrev pub Above : ℕ → List ℕ → Type 0
 Above a [] = Unit {0}
 Above a (x ∷ xs) = (a < x) × Above a xs
 
-abbrev Rising : List ℕ → Type 0
+abbrev pub Rising : List ℕ → Type 0
 Rising [] = Unit {0}
 Rising (x ∷ xs) = Above x xs × Rising xs
 
@@ -88,8 +88,11 @@ IsStrictlyIncreasing-from_rising (x ∷ xs) h (suc k) within =
     let next : suc (k + 1) ≡ suc k + 1 = omega arith in
     subst P next (IsStrictlyIncreasing-from_rising xs h.1 k (omega arith))
 
+pub other_arfcns-Rising : (s : Settings) → Rising (other_arfcns s)
+other_arfcns-Rising s = Rising-fold [] (others s) tt
+
 pub other_arfcns-rising : (s : Settings) → IsStrictlyIncreasing (other_arfcns s)
-other_arfcns-rising s = IsStrictlyIncreasing-from_rising (other_arfcns s) (Rising-fold [] (others s) tt)
+other_arfcns-rising s = IsStrictlyIncreasing-from_rising (other_arfcns s) (other_arfcns-Rising s)
 
 or_comm : (a b : Bool) → (a || b) ≡ (b || a)
 or_comm true true = refl

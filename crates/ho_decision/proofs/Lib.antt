@@ -1,6 +1,8 @@
 pub mod Arfcns
 pub mod Choice
+pub mod Kept
+pub mod Levels
 mod Rows
-pub mod Sums
 pub mod Ten
 pub mod Unique
+pub mod Window

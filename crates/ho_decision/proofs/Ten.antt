@@ -12,7 +12,7 @@ use Rattle.ho_decision.specs.Average.{last, average, quality, serving_average, n
 use Rattle.ho_decision.specs.Decision.{is_bad, is_due, average_at, Chooses, Decides}
 
 -- the last n of the last m, where n is no more
-last-last : {X : Type 0} (n m : ℕ) (xs : List X) → n ≤ m → last n (last m xs) ≡ last n xs
+pub last-last : {X : Type 0} (n m : ℕ) (xs : List X) → n ≤ m → last n (last m xs) ≡ last n xs
 last-last n m xs within =
     drop-drop (length (last m xs) - n) (length xs - m) xs
     ∙ ap (λ k. drop k xs) (omega (arith, length-drop (length xs - m) xs))

@@ -4,3 +4,4 @@ pub mod Decision
 pub mod Measure
 pub mod Settings
 pub mod State
+pub mod Sums

@@ -1,14 +1,30 @@
 -- What the code measures in a report.
-use Rattle.std.specs.Prelude.{ℕ, cond}
+use Rattle.std.specs.Prelude.{ℕ, ◌==◌, Bool, false, ◌&&◌, Option, Some, None, option_map, unwrap_or, cond, position, find}
+use Rattle.dtap_codec.specs.declared.report.Neighbour.{Neighbour}
 use Rattle.dtap_codec.specs.declared.report.Report.{Report}
+use Rattle.dtap_codec.specs.Report.{neighbours_of}
+use Rattle.ho_decision.specs.declared.settings.Cell.{Cell}
 use Rattle.ho_decision.specs.declared.measure.Measure.{Measure}
 use Rattle.ho_decision.specs.declared.measure.Measure.TheVariants.{ServingLevel, ServingQuality, BadQuality, NeighbourLevel}
-use Rattle.ho_decision.specs.Average.{level_in}
+use Rattle.ho_decision.specs.Settings.{Settings, other_arfcns}
 use Rattle.ho_decision.specs.Decision.{is_bad}
+
+-- an entry names the cell of this BSIC whose ARFCN has this place
+abbrev pub names_at : Option ℕ → ℕ → Neighbour → Bool
+names_at None bsic n = false
+names_at (Some place) bsic n = (n.bcch_freq == place) && (n.bsic == bsic)
+
+-- the level of that cell in a report: that of the first entry that names it, and 0 without one
+abbrev pub level_at : Option ℕ → ℕ → Report → ℕ
+level_at place bsic r = unwrap_or (option_map (λ n. n.rxlev) (find (names_at place bsic) (neighbours_of r))) 0
 
 -- the value of a measure in a report
 abbrev pub value_of : Measure → Report → ℕ
 value_of ServingLevel r = r.rxlev_full
 value_of ServingQuality r = r.rxqual_full
 value_of BadQuality r = cond (is_bad r) 1 0
-value_of (NeighbourLevel arfcns cell) r = level_in arfcns.now cell r
+value_of (NeighbourLevel place bsic) r = level_at place bsic r
+
+-- what measures the level of a cell
+abbrev pub level_of : Settings → Cell → Measure
+level_of s cell = NeighbourLevel (position (λ a. a == cell.arfcn) (other_arfcns s)) cell.bsic

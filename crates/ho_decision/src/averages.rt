@@ -1,12 +1,13 @@
-ghost use Rattle.std.specs.Prelude.{◌≡◌, IfOk, List};
+ghost use Rattle.std.specs.Prelude.{◌≡◌, ◌==◌, ◌<◌, length, count_by, IfOk, List};
 ghost use Rattle.dtap_codec.specs.declared.report.Report.{Report as ReportValue};
-ghost use Rattle.ho_decision.specs.Average.{quality, last};
-ghost use Rattle.ho_decision.specs.Decision.{Decides};
+ghost use Rattle.ho_decision.specs.Average.{quality, last, serving_average};
+ghost use Rattle.ho_decision.specs.Decision.{Decides, average_at, is_bad};
 ghost use Rattle.ho_decision.specs.Settings.{IsAllowed};
+ghost use Rattle.ho_decision.specs.declared.decision.TheConstants.{QUALITY_WINDOW};
 ghost use Rattle.ho_decision.specs.declared.settings.TheConstants.{MAX_WINDOW};
 
 use crate::decision::decide;
-use crate::measure::{Measure, average};
+use crate::sums::Sums;
 use crate::{Decision, HoSettings, MAX_WINDOW};
 use circular_buffer::HeapCircularBuffer;
 use dtap_codec::Report;
@@ -20,38 +21,50 @@ use std::snapshot::Snapshot;
 #[derive(Drop)]
 pub struct Averages {
     settings: Snapshot<HoSettings>,
-    rxqual_window: u8,
     reports: HeapCircularBuffer<Report>,
     number: u8,
+    sums: Sums,
 }
 
 impl Model for Averages {
     ghost use Rattle.std.specs.Prelude.{◌≡◌};
     ghost use Rattle.ho_decision.specs.Settings.{IsAllowed};
     ghost use Rattle.ho_decision.specs.State.{State};
+    ghost use Rattle.ho_decision.specs.Sums.{AreOf, AreSums};
     ghost use Rattle.ho_decision.specs.declared.settings.TheConstants.{MAX_WINDOW};
 
     ghost Value = { State };
 
     ghost view = { λ a. record { settings = a.settings.value; reports = a.reports.items; number = a.number } };
 
-    ghost invariant = { λ a. (a.reports.capacity ≡ MAX_WINDOW) × (a.rxqual_window ≡ a.settings.value.parameters.rxqual_window) × IsAllowed a.settings.value };
+    ghost invariant = { λ a. (a.reports.capacity ≡ MAX_WINDOW) × IsAllowed a.settings.value × AreOf a.settings.value a.sums × AreSums a.reports.items a.sums };
 }
 
 impl Averages {
     ghost use Rattle.ho_decision.specs.State.{new_state, after_report};
 
-    /// No reports yet, for a connection in the serving cell of these settings. It makes the room for all reports.
+    /// No reports yet, for a connection in the serving cell of these settings. It makes all the room.
     pub fn new(alloc: Global, settings: &HoSettings) -> Result<Averages, Memory>
         ensures { IfOk result (λ averages. averages ≡ new_state settings.now) }
     {
-        let rxqual_window = settings.parameters.rxqual_window;
         Ok(Averages {
             settings: Snapshot::of(settings),
-            rxqual_window,
             reports: HeapCircularBuffer::with_capacity(alloc, usize::from(MAX_WINDOW))?,
             number: 0,
+            sums: Sums::new(alloc, settings)?,
         })
+    }
+
+    /// Begins anew, as `new` does, for settings with as many cells, such as those of another serving cell. It takes no
+    /// memory.
+    pub fn restart(&mut self, settings: &HoSettings)
+        requires { length settings.now.cells ≡ length self.old.settings.cells }
+        ensures { self.new ≡ new_state settings.now }
+    {
+        self.settings = Snapshot::of(settings);
+        self.reports.clear();
+        self.number = 0;
+        self.sums.restart(settings);
     }
 
     /// Adds a report with its number, which takes no memory. An invalid report changes nothing.
@@ -59,6 +72,7 @@ impl Averages {
         ensures { self.new ≡ after_report self.old report.now number }
     {
         if report.valid {
+            self.sums.add(&self.reports, report);
             self.reports.push_back(*report);
             self.number = number;
         }
@@ -68,10 +82,10 @@ impl Averages {
     pub fn rxqual(&self) -> Option<u8>
         ensures { result ≡ quality self.now.settings self.now.reports }
     {
-        if self.reports.is_empty() {
+        if self.is_empty() {
             return None;
         }
-        Some(average(&self.reports, self.rxqual_window, Measure::ServingQuality))
+        Some(self.sums.serving_quality.average(&self.reports))
     }
 
     /// The handover decision, which takes no memory. The settings are those that the averages were made for.
@@ -96,6 +110,37 @@ impl Averages {
         ensures decides { Decides self.now.settings self.now.reports self.now.number result }
         ensures allowed { IsAllowed self.now.settings }
     {
-        decide(settings, &self.reports, self.number)
+        decide(settings, self, self.number)
+    }
+
+    /// Whether there is no report.
+    pub(crate) fn is_empty(&self) -> bool
+        ensures { result ≡ (length self.now.reports == 0) }
+    {
+        self.reports.is_empty()
+    }
+
+    /// How many of the last `QUALITY_WINDOW` reports have bad quality.
+    pub(crate) fn bad_reports(&self) -> u16
+        ensures { result ≡ count_by is_bad (last QUALITY_WINDOW self.now.reports) }
+    {
+        self.sums.bad_quality.total
+    }
+
+    /// The average level of the serving cell.
+    pub(crate) fn serving_level(&self) -> u8
+        requires { 0 < length self.now.reports }
+        ensures { result ≡ serving_average self.now.settings self.now.reports }
+    {
+        self.sums.serving_level.average(&self.reports)
+    }
+
+    /// The average level of the cell at a place, from 0, of the settings.
+    pub(crate) fn level_at(&self, place: usize) -> u8
+        requires some { 0 < length self.now.reports }
+        requires place { place < length self.now.settings.cells }
+        ensures { result ≡ average_at self.now.settings self.now.reports place }
+    {
+        self.sums.levels[place].average(&self.reports)
     }
 }

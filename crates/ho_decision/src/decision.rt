@@ -1,17 +1,13 @@
-ghost use Rattle.std.specs.Prelude.{◌≡◌, ◌<◌, length};
-ghost use Rattle.ho_decision.specs.Average.{serving_average, neighbour_average};
+ghost use Rattle.std.specs.Prelude.{◌≡◌, ◌<◌, ◌≤◌, length};
 ghost use Rattle.ho_decision.specs.Decision.{Decides, Chooses, bound, is_due};
 
-use crate::measure::{Measure, average, sum_of_last};
-use crate::{Cell, HoSettings};
-use circular_buffer::HeapCircularBuffer;
-use dtap_codec::Report;
+use crate::{Averages, HoSettings};
 
 /// Over how many reports bad ones are counted.
-const QUALITY_WINDOW: usize = 4;
+pub(crate) const QUALITY_WINDOW: u8 = 4;
 
 /// How many bad reports among these have the levels compared.
-const BAD_REPORTS: u32 = 3;
+const BAD_REPORTS: u16 = 3;
 
 /// Whether a connection is handed over.
 #[derive(Clone, Copy, PartialEq, Eq)]
@@ -22,28 +18,26 @@ pub enum Decision {
     Move(u8),
 }
 
-/// The decision over reports, the last of which has this number.
-pub(crate) fn decide(
-    settings: &HoSettings,
-    reports: &HeapCircularBuffer<Report>,
-    number: u8,
-) -> Decision
-    ensures { Decides settings.now reports.now.items number result }
+/// The decision over averages whose last report has this number, by their settings.
+pub(crate) fn decide(settings: &HoSettings, averages: &Averages, number: u8) -> Decision
+    requires { settings.now ≡ averages.now.settings }
+    ensures { Decides averages.now.settings averages.now.reports number result }
 {
-    if reports.is_empty() || !is_due(settings, reports, number) {
+    if averages.is_empty() || !is_due(settings, averages, number) {
         return Decision::Stay;
     }
-    best(settings, reports)
+    best(settings, averages)
 }
 
 // Whether the levels are compared.
-fn is_due(settings: &HoSettings, reports: &HeapCircularBuffer<Report>, number: u8) -> bool
-    requires { 0 < length reports.now.items }
-    ensures { result ≡ is_due settings.now reports.now.items number }
+fn is_due(settings: &HoSettings, averages: &Averages, number: u8) -> bool
+    requires some { 0 < length averages.now.reports }
+    requires same { settings.now ≡ averages.now.settings }
+    ensures { result ≡ is_due averages.now.settings averages.now.reports number }
 {
     let interval = settings.parameters.interval;
-    let bad = sum_of_last(reports, QUALITY_WINDOW, Measure::BadQuality);
-    let level = serving_level(settings, reports);
+    let bad = averages.bad_reports();
+    let level = averages.serving_level();
     bad >= BAD_REPORTS || level == 0 || number % interval == interval - 1
 }
 
@@ -70,51 +64,29 @@ impl Choice {
 }
 
 // The choice among all cells.
-fn best(settings: &HoSettings, reports: &HeapCircularBuffer<Report>) -> Decision
-    requires { 0 < length reports.now.items }
-    ensures { Chooses settings.now reports.now.items (length settings.now.cells) result }
+fn best(settings: &HoSettings, averages: &Averages) -> Decision
+    requires some { 0 < length averages.now.reports }
+    requires same { settings.now ≡ averages.now.settings }
+    ensures { Chooses averages.now.settings averages.now.reports (length averages.now.settings.cells) result }
 {
     let mut choice = Choice {
         decision: Decision::Stay,
-        wanted: bound(settings, reports),
+        wanted: bound(settings, averages),
     };
-    for (place, cell) in settings.cells.iter().enumerate() {
+    for place in 0..settings.cells.len() {
         let number = place as u8 + 1;
         if number != settings.serving {
-            choice.offer(number, neighbour_level(settings, reports, *cell));
+            choice.offer(number, averages.level_at(place));
         }
     }
     choice.decision
 }
 
 // What the average level of a neighbour has to reach.
-fn bound(settings: &HoSettings, reports: &HeapCircularBuffer<Report>) -> u16
-    requires { 0 < length reports.now.items }
-    ensures { result ≡ bound settings.now reports.now.items }
+fn bound(settings: &HoSettings, averages: &Averages) -> u16
+    requires some { 0 < length averages.now.reports }
+    requires same { settings.now ≡ averages.now.settings }
+    ensures { result ≡ bound averages.now.settings averages.now.reports }
 {
-    u16::from(serving_level(settings, reports)) + u16::from(settings.parameters.hysteresis)
-}
-
-// The average level of the serving cell.
-fn serving_level(settings: &HoSettings, reports: &HeapCircularBuffer<Report>) -> u8
-    requires { 0 < length reports.now.items }
-    ensures { result ≡ serving_average settings.now reports.now.items }
-{
-    average(
-        reports,
-        settings.parameters.rxlev_window,
-        Measure::ServingLevel,
-    )
-}
-
-// The average level of another cell.
-fn neighbour_level(settings: &HoSettings, reports: &HeapCircularBuffer<Report>, cell: Cell) -> u8
-    requires { 0 < length reports.now.items }
-    ensures { result ≡ neighbour_average settings.now reports.now.items cell }
-{
-    let measure = Measure::NeighbourLevel {
-        arfcns: settings.frequencies.as_slice(),
-        cell,
-    };
-    average(reports, settings.parameters.neighbour_window, measure)
+    u16::from(averages.serving_level()) + u16::from(settings.parameters.hysteresis)
 }

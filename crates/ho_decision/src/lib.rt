@@ -12,4 +12,6 @@ mod averages;
 mod decision;
 mod law;
 mod measure;
+mod running;
 mod settings;
+mod sums;

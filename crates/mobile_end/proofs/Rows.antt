@@ -1,5 +1,7 @@
 -- Definitions against literal messages: which may be sent, what each call does, and a short life of a mobile.
 use Rattle.std.proofs.Common.{◌≡◌, ℕ, true, false, List, [], ◌∷◌, replicate, Some, None, Ok, Err, refl, arith}
+use Rattle.dtap_codec.specs.Number.{count_of}
+use Rattle.dtap_codec.specs.declared.number.Modulus.TheVariants.{Two}
 use Rattle.dtap_codec.specs.declared.sapi.Sapi.TheVariants.{Zero, Three}
 use Rattle.link_model.specs.declared.air_link.Air.TheVariants.{Empty, Given, Reached}
 use Rattle.mobile_end.specs.declared.fault.MobileFault.TheVariants.{NotConnected, BadMessage}
@@ -313,6 +315,10 @@ taken_behind_paging_response = refl
 numbers_go_round : (after_calls (new_mobile 4) (connects None ∷ replicate 6 (sends Zero (0x03 ∷ 0x01 ∷ [])))).zero.waiting ≡
     (0x03 ∷ 0x01 ∷ []) ∷ (0x03 ∷ 0x41 ∷ []) ∷ (0x03 ∷ 0x81 ∷ []) ∷ (0x03 ∷ 0xc1 ∷ []) ∷ (0x03 ∷ 0x01 ∷ []) ∷ (0x03 ∷ 0x41 ∷ []) ∷ []
 numbers_go_round = refl
+
+numbers_of_two_go_round : (after_calls (new_mobile (count_of Two)) (connects None ∷ replicate 4 (sends Zero (0x03 ∷ 0x01 ∷ [])))).zero.waiting ≡
+    (0x03 ∷ 0x01 ∷ []) ∷ (0x03 ∷ 0x41 ∷ []) ∷ (0x03 ∷ 0x01 ∷ []) ∷ (0x03 ∷ 0x41 ∷ []) ∷ []
+numbers_of_two_go_round = refl
 
 refused_calls : after_calls (new_mobile 4) (sends Zero (0x03 ∷ 0x05 ∷ []) ∷ connects (Some (0x03 ∷ 0x05 ∷ [])) ∷ arrives (0x06 ∷ 0x29 ∷ 0x00 ∷ []) ∷ frames Zero ∷ []) ≡ new_mobile 4
 refused_calls = refl

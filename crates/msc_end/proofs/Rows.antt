@@ -1,8 +1,10 @@
 -- What the switch end does with literal messages.
-use Rattle.std.proofs.Common.{◌≡◌, ℕ, List, [], ◌∷◌, ◌++◌, length, Some, None, refl}
+use Rattle.std.proofs.Common.{◌≡◌, ℕ, List, [], ◌∷◌, ◌++◌, length, map, Some, None, refl}
 use Rattle.std.specs.List.{flat_map}
 use Rattle.octets.specs.Front.{octet_at}
 use Rattle.octets.specs.Walk.{walk}
+use Rattle.dtap_codec.specs.Number.{count_of}
+use Rattle.dtap_codec.specs.declared.number.Modulus.TheVariants.{Two}
 use Rattle.dtap_codec.specs.declared.sapi.Sapi.TheVariants.{Zero, Three}
 use Rattle.nsd_filter.specs.AcceptedList.{accepted_list, not_of_the_flow}
 use Rattle.bssmap_codec.specs.declared.bssap.Bssap.TheVariants.{Transfer}
@@ -269,6 +271,14 @@ nothing_accepted_behind_a_gap = refl
 numbers_begin_again_after_the_last : accepted_list 4 (taken_of (switch_after (switch_at Open []) ((0x03 ∷ 0x01 ∷ []) ∷ (0x03 ∷ 0x41 ∷ []) ∷ (0x03 ∷ 0x81 ∷ []) ∷ (0x03 ∷ 0xc1 ∷ []) ∷ (0x03 ∷ 0x01 ∷ []) ∷ (0x03 ∷ 0x41 ∷ []) ∷ []))) ≡ ((0x03 ∷ 0x01 ∷ []) ∷ (0x03 ∷ 0x01 ∷ []) ∷ (0x03 ∷ 0x01 ∷ []) ∷ (0x03 ∷ 0x01 ∷ []) ∷ (0x03 ∷ 0x01 ∷ []) ∷ (0x03 ∷ 0x01 ∷ []) ∷ [])
 unfolding bssap_reading octet_at management_at transfer_at bssmap_type message_at breaks_off elements_of walk needed_value layer3_at cause_at complete_layer3_at
 numbers_begin_again_after_the_last = refl
+
+-- modulo 2
+abbrev switch_of_two : SwitchState
+switch_of_two = record { modulus = count_of Two; connections = record { peer = 0x010203; number = 0x800001; stage = Open; reception = record { modulus = count_of Two; taken = initial ∷ [] } } ∷ [] }
+
+repeated_message_of_two : map (λ c. accepted_list c.reception.modulus c.reception.taken) (switch_after switch_of_two ((0x03 ∷ 0x45 ∷ []) ∷ (0x03 ∷ 0x45 ∷ []) ∷ (0x03 ∷ 0x0f ∷ []) ∷ [])).connections ≡ ((0x05 ∷ 0x24 ∷ 0x71 ∷ []) ∷ (0x03 ∷ 0x05 ∷ []) ∷ (0x03 ∷ 0x0f ∷ []) ∷ []) ∷ []
+unfolding bssap_reading octet_at management_at transfer_at bssmap_type message_at breaks_off elements_of walk needed_value layer3_at cause_at complete_layer3_at
+repeated_message_of_two = refl
 
 initial_message_without_number : accepted_list 4 (taken_of (switch_after (switch_at Open ((0x06 ∷ 0x27 ∷ 0x71 ∷ []) ∷ [])) ((0x03 ∷ 0x05 ∷ []) ∷ []))) ≡ ((0x03 ∷ 0x05 ∷ []) ∷ [])
 unfolding bssap_reading octet_at management_at transfer_at bssmap_type message_at breaks_off elements_of walk needed_value layer3_at cause_at complete_layer3_at

@@ -1,5 +1,8 @@
 -- Definitions against literal numbers and octets.
-use Rattle.std.proofs.Common.{◌≡◌, ℕ, List, [], ◌∷◌, map, Option, Some, None, refl}
+use Rattle.std.proofs.Common.{◌≡◌, ◌≢◌, ℕ, ◌+◌, ◌%◌, ◌<◌, ◌==◌, Bool, true, false, cond, List, [], ◌∷◌, map, Option, Some, None, refl, arith}
+use Rattle.std.proofs.lemmas.Bool.{eqb-false}
+use Rattle.dtap_codec.specs.Number.{count_of}
+use Rattle.dtap_codec.specs.declared.number.Modulus.TheVariants.{Two}
 use Rattle.nsd_filter.specs.declared.verdict.Verdict.{Verdict}
 use Rattle.nsd_filter.specs.declared.verdict.Verdict.TheVariants.{Accept, Duplicate, Gap}
 use Rattle.nsd_filter.specs.AcceptedList.{accepted_list, progress, delivery_by, not_of_the_flow}
@@ -46,6 +49,40 @@ next_number = refl
 no_number : StandsFor (record { modulus = 4; expected = None }) None
 no_number = refl
 
+-- ---- modulo 2: no number shows a gap
+
+abbrev verdicts_of_two : Option ℕ → List Verdict
+verdicts_of_two progress = map (judgement (count_of Two) progress) (0 ∷ 1 ∷ [])
+
+two_at_first : verdicts_of_two (Some 0) ≡ Accept ∷ Duplicate ∷ []
+two_at_first = refl
+
+two_after_one : verdicts_of_two (Some 1) ≡ Duplicate ∷ Accept ∷ []
+two_after_one = refl
+
+two_after_eight : verdicts_of_two (Some 8) ≡ Accept ∷ Duplicate ∷ []
+two_after_eight = refl
+
+-- the verdicts on numbers that come one after the other
+abbrev in_turn : ℕ → Option ℕ → List ℕ → List Verdict
+in_turn m progress [] = []
+in_turn m progress (number ∷ numbers) = judgement m progress number ∷ in_turn m (progress_after m progress number) numbers
+
+two_in_turn : in_turn (count_of Two) (Some 0) (1 ∷ 0 ∷ 0 ∷ 1 ∷ []) ≡ Duplicate ∷ Accept ∷ Duplicate ∷ Accept ∷ []
+two_in_turn = refl
+
+by_tests : (a d : Bool) (accepted number : ℕ) → number < 2 → (number == accepted % 2) ≡ a → (number == (accepted + 1) % 2) ≡ d → cond a Accept (cond d Duplicate Gap) ≢ Gap
+by_tests true d accepted number within next before = λ e. absurd cc
+by_tests false true accepted number within next before = λ e. absurd cc
+by_tests false false accepted number within next before =
+    let not_next : number ≢ accepted % 2 = eqb-false number (accepted % 2) next in
+    let not_before : number ≢ (accepted + 1) % 2 = eqb-false number ((accepted + 1) % 2) before in
+    absurd (omega arith)
+
+two_has_no_gap : (accepted number : ℕ) → number < count_of Two → judgement (count_of Two) (Some accepted) number ≢ Gap
+two_has_no_gap accepted number within =
+    by_tests (number == accepted % 2) (number == (accepted + 1) % 2) accepted number within refl refl
+
 -- ---- the accepted list, with a message that isn't of the flow and one that came twice
 
 abbrev taken : List (List ℕ)
@@ -76,6 +113,10 @@ round = (0x05 ∷ 0x01 ∷ []) ∷ (0x03 ∷ 0x42 ∷ []) ∷ (0x0b ∷ 0x83 ∷
 
 accepted_of_round : accepted_list 4 round ≡ (0x05 ∷ 0x01 ∷ []) ∷ (0x03 ∷ 0x02 ∷ []) ∷ (0x0b ∷ 0x03 ∷ []) ∷ (0x05 ∷ 0x04 ∷ []) ∷ (0x03 ∷ 0x05 ∷ []) ∷ []
 accepted_of_round = refl
+
+-- modulo 2 in a message that came twice; bit 8 isn't looked at
+accepted_of_two : accepted_list (count_of Two) ((0x05 ∷ 0x24 ∷ 0x71 ∷ []) ∷ (0x03 ∷ 0x45 ∷ []) ∷ (0x03 ∷ 0xc5 ∷ []) ∷ (0x03 ∷ 0x8f ∷ []) ∷ []) ≡ (0x05 ∷ 0x24 ∷ 0x71 ∷ []) ∷ (0x03 ∷ 0x05 ∷ []) ∷ (0x03 ∷ 0x0f ∷ []) ∷ []
+accepted_of_two = refl
 
 deliveries : map (λ verdict. delivery_by verdict (0x03 ∷ 0x05 ∷ [])) (Accept ∷ Duplicate ∷ Gap ∷ []) ≡ ((0x03 ∷ 0x05 ∷ []) ∷ []) ∷ [] ∷ [] ∷ []
 deliveries = refl

@@ -17,7 +17,7 @@ use Rattle.mobile_end.specs.DataLinkState.{DataLinkState}
 use Rattle.mobile_end.specs.DataLink.{waits}
 use Rattle.mobile_end.specs.Lawful.{is_sendable}
 use Rattle.mobile_end.specs.MobileState.{MobileState}
-use Rattle.mobile_end.specs.Mobile.{connected_mobile, new_mobile, after_queue, after_number, with_link, link_of, refusal_before_connect, frame_answer, after_frame, after_frame_at, after_acked, after_acked_at, is_acknowledged}
+use Rattle.mobile_end.specs.Mobile.{after_queue, after_number, with_link, link_of, refusal_before_connect, frame_answer, after_frame, after_frame_at, after_acked, after_acked_at, is_acknowledged}
 use Rattle.mobile_end.proofs.Lives.{is_sendable-clear}
 use Rattle.mobile_end.proofs.Numbering.{IsNumbered, IsNumbered-new, IsNumbered-after_queue, IsNumbered-frame, IsNumbered-acked}
 use Rattle.world.specs.FixedState.{FixedState}

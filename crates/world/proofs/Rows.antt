@@ -1,8 +1,10 @@
 -- Definitions against literal lines and events, of the script language and of the fixed world.
-use Rattle.std.proofs.Common.{◌≡◌, ℕ, List, [], ◌∷◌, ◌++◌, map, true, false, Option, Some, None, refl}
+use Rattle.std.proofs.Common.{◌≡◌, ℕ, List, [], ◌∷◌, ◌++◌, map, replicate, true, false, Option, Some, None, refl}
 use Rattle.std.specs.Prelude.{codes}
 use Rattle.std.specs.List.{slice_split}
 use Rattle.hex.proofs.OnLiterals.{hex_on_literals}
+use Rattle.dtap_codec.specs.Number.{count_of}
+use Rattle.dtap_codec.specs.declared.number.Modulus.TheVariants.{Two}
 use Rattle.dtap_codec.specs.declared.sapi.Sapi.TheVariants.{Zero, Three}
 use Rattle.world.specs.declared.event.Event.{Event}
 use Rattle.world.specs.declared.event.Event.TheVariants.{Upper, Connect, AirUp, AirAck, AirDown, AirDownLost, Move, Touch, Arrive, Return, BaseTakes, BasePush, Handle, SwitchTakes, SwitchDoes, Tick, BaseDown, Report}
@@ -163,6 +165,26 @@ others_sent = refl
 
 others_accepted : accepted_list others.scene 1 ≡ Some ((0x03 ∷ 0x01 ∷ []) ∷ (0x03 ∷ 0x02 ∷ []) ∷ (0x03 ∷ 0x03 ∷ []) ∷ (0x03 ∷ 0x04 ∷ []) ∷ (0x03 ∷ 0x05 ∷ []) ∷ [])
 others_accepted = refl
+
+-- modulo 2: six times the same message
+abbrev one_relayed : List Event
+one_relayed = Upper 1 Zero (0x03 ∷ 0x01 ∷ []) ∷ relayed
+
+abbrev six_of_two : WorldState
+six_of_two =
+    after_all (fixed_world (count_of Two)) (one_relayed ++ one_relayed ++ one_relayed ++ one_relayed ++ one_relayed ++ one_relayed)
+
+six_of_two_taken : taken_list six_of_two.scene 1 ≡ Some ((0x03 ∷ 0x01 ∷ []) ∷ (0x03 ∷ 0x41 ∷ []) ∷ (0x03 ∷ 0x01 ∷ []) ∷ (0x03 ∷ 0x41 ∷ []) ∷ (0x03 ∷ 0x01 ∷ []) ∷ (0x03 ∷ 0x41 ∷ []) ∷ [])
+six_of_two_taken = refl
+
+six_of_two_accepted : accepted_list six_of_two.scene 1 ≡ Some (replicate 6 (0x03 ∷ 0x01 ∷ []))
+six_of_two_accepted = refl
+
+six_of_two_sent : sent_list six_of_two.scene 1 ≡ Some (replicate 6 (0x03 ∷ 0x01 ∷ []))
+six_of_two_sent = refl
+
+six_of_two_acts : six_of_two.not_taken ≡ 0
+six_of_two_acts = refl
 
 -- what no actor can take is counted: an acknowledgement of nothing, an empty outbox, a number in a message, SAPI 3 in the
 -- air, another mobile, and each other kind

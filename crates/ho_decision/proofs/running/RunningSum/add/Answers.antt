@@ -1,0 +1,34 @@
+-- The sum loses the value that leaves the window, and gains that of the report.
+use Rattle.std.proofs.Common.{◌≡◌, ◌+◌, ◌-◌, ◌*◌, ◌≤◌, List, [], ◌∷◌, ◌++◌, length, sum_by, refl, arith, ap, ◌∙◌}
+use Rattle.std.proofs.lemmas.List.Elements.{All-push}
+use Rattle.std.proofs.lemmas.List.Sums.{sum_by_push}
+use Rattle.dtap_codec.specs.declared.report.Report.{Report}
+use Rattle.ho_decision.specs.Average.{last}
+use Rattle.ho_decision.specs.Measure.{value_of}
+use Rattle.ho_decision.proofs.Window.{length-last, last-more, sum_by-last-le}
+use Rattle.ho_decision.proofs.running.RunningSum.add.Goals as goal
+
+pub overflow_add-self : goal.overflow_add-self
+overflow_add-self c =
+    let f = value_of c.args.self.now.of.measure in
+    let w = c.args.self.now.of.window in
+    let xs : List Report = c.args.reports.now.items in
+    let few : length (last (w - 1) xs) ≤ 9 = omega (arith, length-last (w - 1) xs, c.requires.window.1) in
+    let left : sum_by f (last (w - 1) xs) ≤ length (last (w - 1) xs) * 255 = sum_by-last-le f (w - 1) xs c.requires.octets in
+    omega (arith, few, left, c.requires.total, c.leaving-leaving.ensures)
+
+pub returns : goal.returns
+returns c =
+    let f = value_of c.args.self.now.of.measure in
+    let w = c.args.self.now.of.window in
+    let xs : List Report = c.args.reports.now.items in
+    let r : Report = c.args.report.now in
+    let after : sum_by f (last w (xs ++ r ∷ [])) ≡ sum_by f (last (w - 1) xs) + f r = ap (λ ys. sum_by f ys) (last-more w xs r c.requires.window.0) ∙ sum_by_push f (last (w - 1) xs) r in
+    record {
+      of = refl;
+      sum = record {
+        window = c.requires.window;
+        total = omega (arith, after, c.requires.total, c.leaving-leaving.ensures, c.value.ensures);
+        octets = All-push (λ x. f x ≤ 255) xs r c.requires.octets (omega (arith, c.value.ensures));
+      };
+    }
