@@ -5,6 +5,8 @@
 #[cfg(test)]
 mod base_end;
 #[cfg(test)]
+mod connection;
+#[cfg(test)]
 mod decision;
 #[cfg(test)]
 mod fixed_world;
