@@ -5,6 +5,7 @@ pub mod DownlinkSteps
 pub mod DownlinkTable
 pub mod Roles
 pub mod RolesAccount
+pub mod RolesApart
 pub mod RolesSteps
 pub mod RolesTable
 pub mod Standing

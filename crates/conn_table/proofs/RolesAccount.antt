@@ -239,7 +239,7 @@ step-takes (leaves place) roles target c there = there
 
 -- ---- old channels
 
-undone-still_draining : (ds : List Drain) → undone (still_draining ds) ≡ undone ds
+pub undone-still_draining : (ds : List Drain) → undone (still_draining ds) ≡ undone ds
 undone-still_draining [] = refl
 undone-still_draining (d ∷ ds) =
     by_test (λ (left : List Drain). undone left ≡ undone (d ∷ ds)) d.is_done (still_draining ds) (d ∷ ds)

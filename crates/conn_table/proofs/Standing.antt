@@ -19,7 +19,7 @@ pub by_test : {A : Type 0} (P : A → Type 0) (test : Bool) (one other : A) → 
 by_test P true one other then_so else_so = then_so refl
 by_test P false one other then_so else_so = else_so refl
 
-AllByRecursion-push : {A : Type 0} (P : A → Type 0) (xs : List A) (x : A) → AllByRecursion P xs → P x → AllByRecursion P (xs ++ x ∷ [])
+pub AllByRecursion-push : {A : Type 0} (P : A → Type 0) (xs : List A) (x : A) → AllByRecursion P xs → P x → AllByRecursion P (xs ++ x ∷ [])
 AllByRecursion-push P [] x all this = (this, tt)
 AllByRecursion-push P (y ∷ ys) x all this = (all.0, AllByRecursion-push P ys x all.1 this)
 

@@ -17,7 +17,7 @@ use Rattle.conn_table.specs.declared.state.State.TheVariants.{Live, Closed, Remo
 use Rattle.conn_table.specs.declared.state.Target.{Target}
 use Rattle.conn_table.specs.Connection.{Connection, is_at, drain_at}
 use Rattle.conn_table.specs.Steps.{Row, done_at, goes_to}
-use Rattle.conn_table.specs.Streams.{IsOpen, undone}
+use Rattle.conn_table.specs.Streams.{IsOpen, undone, IsApart, AreApart, used_channels}
 use Rattle.conn_table.specs.Table.{same_change}
 use Rattle.hold_queue.specs.HoldState.{HoldState}
 use Rattle.rsl_codec.specs.declared.rsl.Rsl.TheVariants.{ChannelActivation, DataRequest, RfChannelRelease}
@@ -266,3 +266,13 @@ pub record KeepsAccount (s : Connection) (input : Input) (offer : Option Channel
   pub takes : (c : Channel) → Contains (channels_in_use r.next) c → Contains (channels_in_use s) c ⊎ IsTaken c input offer r.outs
   pub begins_to_drain : IsOpen r.next.state → (c : Channel) → Contains (undone r.next.draining) c → Contains (undone s.draining) c ⊎ ((c ≡ s.serving) × Contains r.outs (rf_channel_release c))
   pub drains : IsOpen r.next.state → (c : Channel) → Contains (undone s.draining) c → Contains (undone r.next.draining) c ⊎ IsAcknowledged c input
+
+-- ---- no two channels of a connection are the same
+
+-- the offer is none of these
+abbrev pub IsNew : Option Channel → List Channel → Type 0
+IsNew (Some c) channels = AllByRecursion (λ other. IsApart other c) channels
+IsNew None channels = Unit {0}
+
+abbrev pub StaysApart : Row → Type 0
+StaysApart r = IsOpen r.next.state → AreApart (used_channels r.next)
