@@ -6,6 +6,7 @@ pub mod DownlinkTable
 pub mod Roles
 pub mod RolesAccount
 pub mod RolesApart
+mod RolesRows
 pub mod RolesSteps
 pub mod RolesTable
 pub mod Standing

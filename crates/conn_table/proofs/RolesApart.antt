@@ -1,5 +1,5 @@
 -- No two channels of a connection are the same, where the offer is none of them.
-use Rattle.std.proofs.Common.{◌≡◌, ℕ, zero, suc, Bool, true, false, List, [], ◌∷◌, ◌++◌, refl, sym, ◌∙◌, ap, subst, Option, Some, None, append_assoc, append-nil, if◌then◌else◌}
+use Rattle.std.proofs.Common.{◌≡◌, ℕ, zero, suc, Bool, true, false, List, [], ◌∷◌, ◌++◌, refl, sym, ◌∙◌, ap, subst, Option, Some, None, append_assoc, if◌then◌else◌}
 use Rattle.std.specs.List.{AllByRecursion}
 use Rattle.conn_messages.specs.declared.channel.Channel.{Channel}
 use Rattle.conn_table.specs.declared.input.Input.{Input}
@@ -9,11 +9,11 @@ use Rattle.conn_table.specs.declared.state.State.{State}
 use Rattle.conn_table.specs.declared.state.State.TheVariants.{Live}
 use Rattle.conn_table.specs.declared.state.Target.{Target}
 use Rattle.conn_table.specs.Connection.{Connection}
-use Rattle.conn_table.specs.Roles.{TargetRole, Roles, target_role, roles_of, RoleStep, still_draining, after_step, after_begin, step_by, MayBegin, GoesOn, ChangesRoles, ChangesRolesBy, target_channels, IsNew, StaysApart}
+use Rattle.conn_table.specs.Roles.{TargetRole, Roles, target_role, roles_of, RoleStep, after_step, after_begin, step_by, MayBegin, ChangesRoles, ChangesRolesBy, target_channels, IsNew, StaysApart}
 use Rattle.conn_table.specs.Roles.RoleStep.{stays, commands, completes, goes_back, leaves}
 use Rattle.conn_table.specs.Roles.ChangesRoles.{goes_on, ends, had_ended}
 use Rattle.conn_table.specs.Steps.{Row, done_at}
-use Rattle.conn_table.specs.Streams.{OfRow, IsOpen, undone, target_in, used_channels, IsApart, AreApart}
+use Rattle.conn_table.specs.Streams.{OfRow, undone, target_in, used_channels, IsApart, AreApart}
 use Rattle.conn_table.proofs.Standing.{AllByRecursion-push}
 use Rattle.conn_table.proofs.RolesAccount.{undone-still_draining}
 
@@ -92,21 +92,21 @@ IsPart-step commands roles (Some t) = IsPart-same _ (undone roles.draining ++ ro
 IsPart-step completes roles None = IsPart-same _ (undone roles.draining ++ roles.serving ∷ []) refl
 IsPart-step completes roles (Some t) =
     IsPart-same (undone roles.draining ++ roles.serving ∷ t.target.channel ∷ []) (undone (roles.draining ++ record { channel = roles.serving; is_done = false } ∷ []) ++ t.target.channel ∷ [])
-        (sym (ap (λ (cs : List Channel). cs ++ t.target.channel ∷ []) (undone-begins roles.draining roles.serving) ∙ append_assoc (undone roles.draining) (roles.serving ∷ []) (t.target.channel ∷ [])))
+    (sym (ap (λ (cs : List Channel). cs ++ t.target.channel ∷ []) (undone-begins roles.draining roles.serving) ∙ append_assoc (undone roles.draining) (roles.serving ∷ []) (t.target.channel ∷ [])))
 IsPart-step goes_back roles target =
     subst (λ (old : List Channel). IsPart old (undone roles.draining ++ roles.serving ∷ [])) (append_assoc (undone roles.draining) (roles.serving ∷ []) (target_channels target))
-        (IsPart-front (undone roles.draining ++ roles.serving ∷ []) (target_channels target))
+    (IsPart-front (undone roles.draining ++ roles.serving ∷ []) (target_channels target))
 IsPart-step (leaves place) roles target =
     subst (λ (cs : List Channel). IsPart (undone roles.draining ++ roles.serving ∷ target_channels target) (cs ++ roles.serving ∷ target_channels target)) (sym (undone-still_draining (done_at place roles.draining)))
-        (IsPart-done_at place roles.draining (roles.serving ∷ target_channels target))
+    (IsPart-done_at place roles.draining (roles.serving ∷ target_channels target))
 
 AreApart-begin : (begun : Option Target) (input : Input) (offer : Option Channel) (roles : Roles) → MayBegin begun input offer roles → AreApart (channels_of roles) → IsNew offer (channels_of roles) → AreApart (channels_of (after_begin begun roles))
 AreApart-begin None input offer roles may apart new = apart
 AreApart-begin (Some target) input offer roles may apart new =
     let alone : channels_of roles ≡ undone roles.draining ++ roles.serving ∷ [] = ap (λ (role : Option TargetRole). undone roles.draining ++ roles.serving ∷ target_channels role) may.2 in
     subst AreApart (append_assoc (undone roles.draining) (roles.serving ∷ []) (target.channel ∷ []))
-        (AreApart-push (undone roles.draining ++ roles.serving ∷ []) target.channel (subst AreApart alone apart)
-            (subst (AllByRecursion (λ x. IsApart x target.channel)) alone (subst (λ (offer : Option Channel). IsNew offer (channels_of roles)) may.1 new)))
+    (AreApart-push (undone roles.draining ++ roles.serving ∷ []) target.channel (subst AreApart alone apart)
+    (subst (AllByRecursion (λ x. IsApart x target.channel)) alone (subst (λ (offer : Option Channel). IsNew offer (channels_of roles)) may.1 new)))
 
 IsNew-part : (offer : Option Channel) (old new : List Channel) → IsPart old new → IsNew offer old → IsNew offer new
 IsNew-part None old new part is_new = tt
@@ -117,8 +117,8 @@ StaysApart-by s input offer r apart is_new (ends was_open shut over) = λ is_ope
 StaysApart-by s input offer r apart is_new (had_ended was_shut shut nothing) = λ is_open. absurd (shut is_open)
 StaysApart-by s input offer r apart is_new (goes_on was_open is_open on) = λ _.
     subst AreApart (ap channels_of (sym on.roles) ∙ channels_of-roles r.next)
-        (AreApart-begin on.begun input offer after on.may (part.apart (subst AreApart (sym (channels_of-roles s)) apart))
-            (IsNew-part offer (channels_of (roles_of s)) (channels_of after) part (subst (IsNew offer) (sym (channels_of-roles s)) is_new)))
+    (AreApart-begin on.begun input offer after on.may (part.apart (subst AreApart (sym (channels_of-roles s)) apart))
+    (IsNew-part offer (channels_of (roles_of s)) (channels_of after) part (subst (IsNew offer) (sym (channels_of-roles s)) is_new)))
   where
     after : Roles
     after = after_step (step_by input (roles_of s)) (roles_of s)
