@@ -10,7 +10,7 @@ use Rattle.conn_messages.specs.declared.message.Message.{Message}
 use Rattle.conn_messages.specs.declared.message.Message.TheVariants.{Station, Request, Data}
 use Rattle.conn_messages.specs.StationMessage.{handing, link_on}
 use Rattle.conn_table.specs.Streams.{is_of, is_dtap, relayed_by, relayed, handed_by, handed, GoesTo, is_reject, rejects, without_rejected}
-use Rattle.conn_table.proofs.Standing.{by_test}
+use Rattle.std.proofs.lemmas.Bool.{cond_both}
 use Rattle.dtap_codec.specs.declared.sapi.Sapi.{Sapi}
 use Rattle.dtap_codec.specs.declared.sapi.Sapi.TheVariants.{Zero, Three}
 use Rattle.rsl_codec.specs.declared.channel_number.TheConstants.{FIRST_SDCCH}
@@ -25,7 +25,7 @@ pub AllByRecursion-filter : {A : Type 0} (P : A → Type 0) (test : A → Bool) 
 AllByRecursion-filter P test [] all = tt
 AllByRecursion-filter P test (x ∷ xs) all =
     let rest = AllByRecursion-filter P test xs all.1 in
-    by_test (AllByRecursion P) (test x) (x ∷ filter test xs) (filter test xs) (λ _. (all.0, rest)) (λ _. rest)
+    cond_both (test x) (x ∷ filter test xs) (filter test xs) (AllByRecursion P) (λ _. (all.0, rest)) (λ _. rest)
 
 pub AllByRecursion-so : {A : Type 0} (P Q : A → Type 0) → ((x : A) → P x → Q x) → (xs : List A) → AllByRecursion P xs → AllByRecursion Q xs
 AllByRecursion-so P Q so [] all = tt

@@ -20,7 +20,7 @@ use Rattle.conn_table.specs.Connection.{Connection}
 use Rattle.conn_table.specs.Standing.{IsAskedFor, Stands}
 use Rattle.conn_table.specs.Steps.{Row, row, ◌then◌, end_outs, failing, dropping, without_station, goes_to, may_begin, begin_outs, after_begin, begin, waiting_outs, after_waiting, begin_waiting, hold_down, hand_held, request_where, hold_short_message, short_message, request_for, ask_for_held, link_up, link_down, hold_up}
 use Rattle.conn_table.specs.Streams.{IsOpen, is_dtap, handed, GoesTo, received_by, rejects, KeepsDownlink, IsChanging, IsSilent, OnlyReleases}
-use Rattle.conn_table.proofs.Standing.{by_test}
+use Rattle.std.proofs.lemmas.Bool.{cond_both}
 use Rattle.conn_table.proofs.StandingSteps.{IsStill}
 use Rattle.conn_table.proofs.DownlinkMessages.{AllByRecursion-append, AllByRecursion-filter, AllByRecursion-so, IsQuiet, AreQuiet, IsParting, AreParting, handed-quiet, GoesTo-quiet, rejects-quiet, rejects-append, without_rejected-none, of_sapi, handed-handing, handed-append, GoesTo-handing, rejects-handing}
 use Rattle.dtap_codec.specs.declared.sapi.Sapi.{Sapi}
@@ -202,7 +202,7 @@ Does-handing reference stage s sapi message still is none =
 -- a message is held while a channel changes
 pub Does-hold_down : (reference : ℕ) (target : Target) (s : Connection) (sapi : Sapi) (message : List ℕ) → s.state ≡ Live reference (Changing target) → Does (Live reference (Changing target)) s (inputs.Downlink sapi message) (hold_down (Live reference (Changing target)) sapi message s)
 Does-hold_down reference target s sapi message is =
-    by_test (Does (Live reference (Changing target)) s (inputs.Downlink sapi message)) (eqb (count s.down) s.down.limit) _ _
+    cond_both (eqb (count s.down) s.down.limit) _ _ (Does (Live reference (Changing target)) s (inputs.Downlink sapi message))
     (λ full. Does-failing (Live reference (Changing target)) s (inputs.Downlink sapi message) EQUIPMENT_FAILURE tt)
     (λ room. moves tt (opened reference (Changing target) s is) (λ stands of. KeepsDownlink-held of sapi message s _ tt refl) (λ _. (refl, refl)))
 
@@ -214,7 +214,7 @@ AreQuiet-request Up serving = tt
 
 Does-hold_short : (reference : ℕ) (stage : Stage) (s : Connection) (message : List ℕ) → s.state ≡ Live reference stage → Does (Live reference stage) s (inputs.Downlink Three message) (hold_short_message (Live reference stage) message s)
 Does-hold_short reference stage s message is =
-    by_test (Does (Live reference stage) s (inputs.Downlink Three message)) (eqb (count s.down) s.down.limit) _ _
+    cond_both (eqb (count s.down) s.down.limit) _ _ (Does (Live reference stage) s (inputs.Downlink Three message))
     (λ full. Does-failing (Live reference stage) s (inputs.Downlink Three message) EQUIPMENT_FAILURE tt)
     (λ room. moves tt (opened reference stage s is) (λ stands of. KeepsDownlink-held of Three message s _ (AreQuiet-request s.link s.serving) refl)
     (λ _. handed_none (request_where s.link s.serving) (AreQuiet-request s.link s.serving)))
@@ -246,7 +246,7 @@ Does-link_down reference stage _ s input still is nothing = passes tt (opened re
 -- a message of the mobile is held
 pub Does-hold_up : (state : State) (s : Connection) (input : Input) (tenure : ℕ) (sapi : Sapi) (message : List ℕ) → IsOpen state → s.state ≡ state → BringsNothing input → Does state s input (hold_up state tenure sapi message s)
 Does-hold_up state s input tenure sapi message is_open is nothing =
-    by_test (Does state s input) (eqb (chain_count s.up) s.up.limit) _ _
+    cond_both (eqb (chain_count s.up) s.up.limit) _ _ (Does state s input)
     (λ full. Does-failing state s input EQUIPMENT_FAILURE is_open)
     (λ room. passes is_open (subst IsOpen (sym is) is_open) tt refl nothing)
 

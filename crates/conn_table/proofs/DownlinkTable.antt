@@ -17,7 +17,7 @@ use Rattle.conn_table.specs.Connection.{Connection, emptied, first_channel, is_a
 use Rattle.conn_table.specs.Steps.{Row, dropping, may_begin, tenure_outs, relay_held, done_at, leave, shifted, settled, settled_stage, resting_stage, resting, moved}
 use Rattle.conn_table.specs.Streams.{OfRow, IsOpen, IsChanging}
 use Rattle.conn_table.specs.Table.{access, on_activation_ack, nack_outs, on_activation_nack, on_establish_indication, was_asked, on_establish_confirm, on_release_indication, on_error_indication, on_connection_failure, dtap_on_target, dtap_in, on_dtap, same_change, on_complete, failure_outs, on_failure, release, release_in, on_release_ack, on_move, on_confirm, on_refused, on_released, on_downlink, on_assignment_request, on_cipher_mode_command, on_clear_command, on_expiry, is_some_draining, on_drain_expiry, drains_at, targets, on_station_down, on_switch_down, row_of}
-use Rattle.conn_table.proofs.Standing.{by_test}
+use Rattle.std.proofs.lemmas.Bool.{cond_both}
 use Rattle.conn_table.proofs.StandingSteps.{OfRow-row_if, in_stage, asked_for, none_held}
 use Rattle.conn_table.proofs.DownlinkMessages.{AllByRecursion-append, IsQuiet, AreQuiet}
 use Rattle.dtap_codec.specs.declared.sapi.Sapi.{Sapi}
@@ -54,7 +54,7 @@ IsApartFrom-leave reference [] s = record { quiet = tt; down = refl; state = ref
 IsApartFrom-leave reference (d ∷ ds) s =
     let next : Connection = (relay_held reference (shifted ds s)).next in
     let rest = IsApartFrom-leave reference ds next in
-    by_test (IsApartFrom s) d.is_done _ _
+    cond_both d.is_done _ _ (IsApartFrom s)
     (λ _. record {
       quiet = AllByRecursion-append IsQuiet (relay_held reference (shifted ds s)).outs (leave reference ds next).outs
           (AreQuiet-tenure reference (first_channel ds s.serving) (shifted ds s).up.tenures) rest.quiet;
@@ -114,7 +114,7 @@ activation_nack-does _ s at offer is = tt
 
 access-does : (initial : Option (List ℕ)) (s : Connection) (at : Place) (sapi : Sapi) → Does WaitEstablish s (inputs.EstablishIndication at sapi initial) (access initial s)
 access-does (Some initial) s at sapi =
-    by_test (Does WaitEstablish s (inputs.EstablishIndication at sapi (Some initial))) (leb (length initial) INITIAL_LIMIT) _ _
+    cond_both (leb (length initial) INITIAL_LIMIT) _ _ (Does WaitEstablish s (inputs.EstablishIndication at sapi (Some initial)))
     (λ _. passes tt tt (tt, tt) refl tt) (λ _. Does-dropping WaitEstablish s (inputs.EstablishIndication at sapi (Some initial)) tt)
 access-does None s at sapi = Does-dropping WaitEstablish s (inputs.EstablishIndication at sapi None) tt
 
@@ -242,9 +242,9 @@ assignment_request-does : (state : State) (s : Connection) (is_speech : Bool) (o
 assignment_request-does (Live reference stage) s is_speech offer is =
     let opened : IsOpen s.state = subst IsOpen (sym is) tt in
     let Holds : Row → Type 0 = Does (Live reference stage) s (inputs.AssignmentRequest is_speech) in
-    by_test Holds is_speech _ _
-    (λ _. by_test Holds (may_begin stage s.draining) _ _ (λ _. Does-begin (Live reference stage) s (inputs.AssignmentRequest is_speech) reference Assignment offer tt opened tt)
-    (λ _. by_test Holds s.waits _ _ (λ _. passes tt opened (tt, tt) refl tt) (λ _. passes tt opened tt refl tt)))
+    cond_both is_speech _ _ Holds
+    (λ _. cond_both (may_begin stage s.draining) _ _ Holds (λ _. Does-begin (Live reference stage) s (inputs.AssignmentRequest is_speech) reference Assignment offer tt opened tt)
+    (λ _. cond_both s.waits _ _ Holds (λ _. passes tt opened (tt, tt) refl tt) (λ _. passes tt opened tt refl tt)))
     (λ _. passes tt opened (tt, tt) refl tt)
 assignment_request-does _ s is_speech offer is = tt
 

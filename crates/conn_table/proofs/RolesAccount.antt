@@ -20,7 +20,7 @@ use Rattle.conn_table.specs.Roles.ChangesRoles.{goes_on, ends, had_ended}
 use Rattle.conn_table.specs.Roles.IsGivenUp.{released, broke, not_activated}
 use Rattle.conn_table.specs.Steps.{Row, done_at, goes_to}
 use Rattle.conn_table.specs.Streams.{OfRow, IsOpen, undone}
-use Rattle.conn_table.proofs.Standing.{by_test}
+use Rattle.std.proofs.lemmas.Bool.{cond_both}
 
 -- ---- members of lists
 
@@ -242,11 +242,11 @@ step-takes (leaves place) roles target c there = there
 pub undone-still_draining : (ds : List Drain) → undone (still_draining ds) ≡ undone ds
 undone-still_draining [] = refl
 undone-still_draining (d ∷ ds) =
-    by_test (λ (left : List Drain). undone left ≡ undone (d ∷ ds)) d.is_done (still_draining ds) (d ∷ ds)
+    cond_both d.is_done (still_draining ds) (d ∷ ds) (λ (left : List Drain). undone left ≡ undone (d ∷ ds))
     (λ done. rw done (undone-still_draining ds)) (λ drains. refl)
 
 Contains-undone : (d : Drain) (ds : List Drain) (c : Channel) → Contains (undone ds) c → Contains (undone (d ∷ ds)) c
-Contains-undone d ds c there = by_test (λ (cs : List Channel). Contains cs c) d.is_done (undone ds) (d.channel ∷ undone ds) (λ _. there) (λ _. Contains-behind d.channel c (undone ds) there)
+Contains-undone d ds c there = cond_both d.is_done (undone ds) (d.channel ∷ undone ds) (λ (cs : List Channel). Contains cs c) (λ _. there) (λ _. Contains-behind d.channel c (undone ds) there)
 
 undone-cases : (d : Drain) (ds : List Drain) (c : Channel) → Contains (undone (d ∷ ds)) c → ((d.is_done ≡ false) × (d.channel ≡ c)) ⊎ Contains (undone ds) c
 undone-cases d ds c there = by d.is_done refl there

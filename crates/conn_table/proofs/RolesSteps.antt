@@ -20,7 +20,7 @@ use Rattle.conn_table.specs.Roles.{target_role, roles_of, RoleStep, after_step, 
 use Rattle.conn_table.specs.Roles.RoleStep.{goes_back, leaves}
 use Rattle.conn_table.specs.Steps.{Row, row, begin_waiting, request_for}
 use Rattle.conn_table.specs.Streams.{IsOpen}
-use Rattle.conn_table.proofs.Standing.{by_test}
+use Rattle.std.proofs.lemmas.Bool.{cond_both}
 use Rattle.conn_table.proofs.DownlinkMessages.{AllByRecursion-append}
 use Rattle.dtap_codec.specs.declared.sapi.Sapi.TheVariants.{Zero}
 use Rattle.hold_queue.specs.HoldState.{HoldState}
@@ -95,7 +95,7 @@ LeavesBy-leave reference [] s = record { state = refl; serving = refl; draining 
 LeavesBy-leave reference (d ∷ ds) s =
     let next : Connection = (relay_held reference (shifted ds s)).next in
     let rest = LeavesBy-leave reference ds next in
-    by_test (LeavesBy s (d ∷ ds)) d.is_done _ _
+    cond_both d.is_done _ _ (LeavesBy s (d ∷ ds))
     (λ done. record {
       state = rest.state;
       serving = rest.serving;

@@ -21,8 +21,8 @@ use Rattle.conn_table.specs.declared.state.State.TheVariants.{WaitActivation, Wa
 use Rattle.conn_table.specs.Connection.{Connection, emptied, first_channel, is_at, drain_at, tenure_at}
 use Rattle.conn_table.specs.Standing.{Stands}
 use Rattle.conn_table.specs.Steps.{Row, row, ◌then◌, end_outs, failing, dropping, without_station, may_begin, begin_outs, after_begin, begin, short_message, link_up, link_down, resting_stage, resting, moved}
-use Rattle.conn_table.specs.Table.{access, on_activation_ack, nack_outs, on_activation_nack, on_establish_indication, was_asked, on_establish_confirm, on_release_indication, on_error_indication, on_connection_failure, dtap_on_target, dtap_in, on_dtap, same_change, on_complete, failure_outs, on_failure, release_in, on_release_ack, on_move, on_confirm, on_refused, on_released, on_downlink, on_assignment_request, on_cipher_mode_command, on_clear_command, on_expiry, is_some_draining, on_drain_expiry, drains_at, targets, on_station_down, on_switch_down, row_of}
-use Rattle.conn_table.proofs.Standing.{by_test}
+use Rattle.conn_table.specs.Table.{access, on_activation_ack, on_activation_nack, on_establish_indication, was_asked, on_establish_confirm, on_release_indication, on_error_indication, on_connection_failure, dtap_on_target, dtap_in, on_dtap, same_change, on_complete, failure_outs, on_failure, release_in, on_release_ack, on_move, on_confirm, on_refused, on_released, on_downlink, on_assignment_request, on_cipher_mode_command, on_clear_command, on_expiry, is_some_draining, on_drain_expiry, drains_at, targets, on_station_down, on_switch_down, row_of}
+use Rattle.std.proofs.lemmas.Bool.{cond_both}
 use Rattle.conn_table.proofs.StandingSteps.{by_state}
 use Rattle.dtap_codec.specs.declared.sapi.Sapi.{Sapi}
 use Rattle.dtap_codec.specs.declared.sapi.Sapi.TheVariants.{Zero, Three}
@@ -84,10 +84,6 @@ activation_ack-roles (Live reference (Preparing target)) s at offer is =
     quiet Handover = refl
 activation_ack-roles state s at offer is = none_in state s (inputs.ActivationAck at) offer is refl
 
-ArePlain-nack : (change : Change) (reference : ℕ) → ArePlain (nack_outs change reference)
-ArePlain-nack Assignment reference = (tt, tt)
-ArePlain-nack Handover reference = tt
-
 activation_nack-roles : (state : State) (s : Connection) (at : Place) (offer : Option Channel) → s.state ≡ state → ChangesRolesBy s (inputs.ActivationNack at) offer (on_activation_nack state s at offer)
 activation_nack-roles WaitActivation s at offer is =
     ChangesRolesBy-row_if s (inputs.ActivationNack at) offer (is_at at s.serving) _
@@ -103,7 +99,7 @@ activation_nack-roles state s at offer is = none_in state s (inputs.ActivationNa
 
 access-roles : (initial : Option (List ℕ)) (s : Connection) (at : Place) (sapi : Sapi) (offer : Option Channel) → s.state ≡ WaitEstablish → ChangesRoles s (inputs.EstablishIndication at sapi initial) offer (access initial s)
 access-roles (Some initial) s at sapi offer is =
-    by_test (ChangesRoles s (inputs.EstablishIndication at sapi (Some initial)) offer) (leb (length initial) INITIAL_LIMIT) _ _
+    cond_both (leb (length initial) INITIAL_LIMIT) _ _ (ChangesRoles s (inputs.EstablishIndication at sapi (Some initial)) offer)
     (λ _. goes_on_in WaitEstablish s (inputs.EstablishIndication at sapi (Some initial)) offer _ is tt tt
     (GoesOn-plain (roles_in WaitEstablish s) s.down (inputs.EstablishIndication at sapi (Some initial)) offer _ refl (tt, tt)))
     (λ _. drops_it WaitEstablish s (inputs.EstablishIndication at sapi (Some initial)) offer is tt refl (λ _. refl))
@@ -179,7 +175,7 @@ dtap_on_target-roles reference _ s at sapi message offer is = refl
 dtap_in-roles : (tenure : Option ℕ) (reference : ℕ) (stage : Stage) (s : Connection) (at : Place) (sapi : Sapi) (message : List ℕ) (offer : Option Channel) → s.state ≡ Live reference stage → ChangesRolesBy s (inputs.Dtap at sapi message) offer (dtap_in tenure reference stage s at sapi message)
 dtap_in-roles (Some zero) reference stage s at sapi message offer is = same_roles reference stage s (inputs.Dtap at sapi message) offer _ refl is refl refl (tt, tt)
 dtap_in-roles (Some (suc tenure)) reference stage s at sapi message offer is =
-    by_test (ChangesRoles s (inputs.Dtap at sapi message) offer) (eqb (chain_count s.up) s.up.limit) _ _
+    cond_both (eqb (chain_count s.up) s.up.limit) _ _ (ChangesRoles s (inputs.Dtap at sapi message) offer)
     (λ _. fails (Live reference stage) s (inputs.Dtap at sapi message) offer EQUIPMENT_FAILURE is tt (λ _. refl))
     (λ _. same_roles reference stage s (inputs.Dtap at sapi message) offer _ refl is refl refl tt)
 dtap_in-roles None reference stage s at sapi message offer is = dtap_on_target-roles reference stage s at sapi message offer is
@@ -189,7 +185,7 @@ dtap-roles WaitEstablish s at Zero message offer is =
     ChangesRolesBy-row_if s (inputs.Dtap at Zero message) offer (is_at at s.serving) _ (λ _. drops_it WaitEstablish s (inputs.Dtap at Zero message) offer is tt refl (λ _. refl)) (λ _. refl)
 dtap-roles WaitConfirm s at sapi message offer is =
     ChangesRolesBy-row_if s (inputs.Dtap at sapi message) offer (is_at at s.serving) _
-    (λ _. by_test (ChangesRoles s (inputs.Dtap at sapi message) offer) (eqb (chain_count s.up) s.up.limit) _ _
+    (λ _. cond_both (eqb (chain_count s.up) s.up.limit) _ _ (ChangesRoles s (inputs.Dtap at sapi message) offer)
     (λ _. fails WaitConfirm s (inputs.Dtap at sapi message) offer EQUIPMENT_FAILURE is tt (λ _. refl))
     (λ _. goes_on_in WaitConfirm s (inputs.Dtap at sapi message) offer _ is tt (subst IsOpen (sym is) tt)
     (GoesOn-plain (roles_in WaitConfirm s) s.down (inputs.Dtap at sapi message) offer _ (roles-known WaitConfirm s is) tt)))
@@ -261,10 +257,10 @@ move-roles _ s offer is = refl
 
 assignment_request-roles : (state : State) (s : Connection) (is_speech : Bool) (offer : Option Channel) → s.state ≡ state → ChangesRolesBy s (inputs.AssignmentRequest is_speech) offer (on_assignment_request state s is_speech offer)
 assignment_request-roles (Live reference stage) s is_speech offer is =
-    by_test (ChangesRoles s (inputs.AssignmentRequest is_speech) offer) is_speech _ _
-    (λ _. by_test (ChangesRoles s (inputs.AssignmentRequest is_speech) offer) (may_begin stage s.draining) _ _
+    cond_both is_speech _ _ (ChangesRoles s (inputs.AssignmentRequest is_speech) offer)
+    (λ _. cond_both (may_begin stage s.draining) _ _ (ChangesRoles s (inputs.AssignmentRequest is_speech) offer)
     (λ may. begin-roles reference stage Assignment s (inputs.AssignmentRequest is_speech) offer refl refl is may)
-    (λ _. by_test (ChangesRoles s (inputs.AssignmentRequest is_speech) offer) s.waits _ _
+    (λ _. cond_both s.waits _ _ (ChangesRoles s (inputs.AssignmentRequest is_speech) offer)
     (λ _. same_roles reference stage s (inputs.AssignmentRequest is_speech) offer _ refl is refl refl (tt, tt))
     (λ _. same_roles reference stage s (inputs.AssignmentRequest is_speech) offer _ refl is refl refl tt)))
     (λ _. same_roles reference stage s (inputs.AssignmentRequest is_speech) offer _ refl is refl refl (tt, tt))
@@ -305,13 +301,13 @@ handed-roles reference stage s sapi message offer is =
 short_message-roles : (reference : ℕ) (stage : Stage) (link : ShortMessageLink) (s : Connection) (message : List ℕ) (offer : Option Channel) → s.state ≡ Live reference stage → ChangesRoles s (inputs.Downlink Three message) offer (short_message (Live reference stage) link message s)
 short_message-roles reference stage Up s message offer is = handed-roles reference stage s Three message offer is
 short_message-roles reference stage _ s message offer is =
-    by_test (ChangesRoles s (inputs.Downlink Three message) offer) (eqb (count s.down) s.down.limit) _ _
+    cond_both (eqb (count s.down) s.down.limit) _ _ (ChangesRoles s (inputs.Downlink Three message) offer)
     (λ _. fails (Live reference stage) s (inputs.Downlink Three message) offer EQUIPMENT_FAILURE is tt (λ _. refl))
     (λ _. same_roles reference stage s (inputs.Downlink Three message) offer _ refl is refl refl (ArePlain-request_where s.link s.serving))
 
 downlink-roles : (state : State) (s : Connection) (sapi : Sapi) (message : List ℕ) (offer : Option Channel) → s.state ≡ state → ChangesRolesBy s (inputs.Downlink sapi message) offer (on_downlink state s sapi message)
 downlink-roles (Live reference (Changing target)) s sapi message offer is =
-    by_test (ChangesRoles s (inputs.Downlink sapi message) offer) (eqb (count s.down) s.down.limit) _ _
+    cond_both (eqb (count s.down) s.down.limit) _ _ (ChangesRoles s (inputs.Downlink sapi message) offer)
     (λ _. fails (Live reference (Changing target)) s (inputs.Downlink sapi message) offer EQUIPMENT_FAILURE is tt (λ _. refl))
     (λ _. same_roles reference (Changing target) s (inputs.Downlink sapi message) offer _ refl is refl refl tt)
 downlink-roles (Live reference stage) s Zero message offer is = handed-roles reference stage s Zero message offer is
