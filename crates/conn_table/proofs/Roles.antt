@@ -21,7 +21,7 @@ use Rattle.conn_table.specs.declared.state.State.{State}
 use Rattle.conn_table.specs.declared.state.State.TheVariants.{Live}
 use Rattle.conn_table.specs.declared.state.Target.{Target}
 use Rattle.conn_table.specs.Connection.{Connection}
-use Rattle.conn_table.specs.Roles.{Roles, target_role, roles_of, RoleStep, after_step, after_begin as with_target, step_by, change_by, MayBegin, is_order, orders, step_orders, begin_orders, IsOfSwitch, brought, Tells, GoesOn, end_messages, is_to_station, to_stations, those_that_go, Ends, ChangesRoles, ChangesRolesBy}
+use Rattle.conn_table.specs.Roles.{Roles, target_role, roles_of, RoleStep, after_step, with_target, step_by, change_by, MayBegin, is_order, orders, step_orders, begin_orders, IsOfSwitch, brought, Tells, GoesOn, end_messages, is_to_station, to_stations, those_that_go, Ends, ChangesRoles, ChangesRolesBy}
 use Rattle.conn_table.specs.Roles.RoleStep.{stays, commands, completes, goes_back, leaves}
 use Rattle.conn_table.specs.Roles.RoleEnd.{drops, dismisses}
 use Rattle.conn_table.specs.Roles.ChangesRoles.{goes_on, ends, had_ended}

@@ -13,7 +13,7 @@ use Rattle.conn_table.specs.declared.state.State.{State}
 use Rattle.conn_table.specs.declared.state.State.TheVariants.{Closed, Removed}
 use Rattle.conn_table.specs.declared.state.Target.{Target}
 use Rattle.conn_table.specs.Connection.{Connection, is_at, drain_at}
-use Rattle.conn_table.specs.Roles.{TargetRole, Roles, roles_of, RoleStep, still_draining, after_step, after_begin, awaits_at, changes_by, is_target_at, leaves_at, step_by, MayBegin, is_order, orders, step_orders, begin_orders, GoesOn, RoleEnd, end_messages, target_releases, FitsEnd, is_to_station, to_stations, those_that_go, ChangesRoles, ChangesRolesBy, target_channels, channels_in, IsGivenUp, IsTaken, IsAcknowledged, KeepsAccount}
+use Rattle.conn_table.specs.Roles.{TargetRole, Roles, roles_of, RoleStep, still_draining, after_step, with_target, awaits_at, changes_by, is_target_at, leaves_at, step_by, MayBegin, is_order, orders, step_orders, begin_orders, GoesOn, RoleEnd, end_messages, target_releases, FitsEnd, is_to_station, to_stations, those_that_go, ChangesRoles, ChangesRolesBy, target_channels, channels_in, IsGivenUp, IsTaken, IsAcknowledged, KeepsAccount}
 use Rattle.conn_table.specs.Roles.RoleStep.{stays, commands, completes, goes_back, leaves}
 use Rattle.conn_table.specs.Roles.RoleEnd.{refused, drops, dismisses}
 use Rattle.conn_table.specs.Roles.ChangesRoles.{goes_on, ends, had_ended}
@@ -206,14 +206,14 @@ step-gives_up goes_back input roles (Some t) outs behind c by is ordered there =
 step-gives_up (leaves place) input roles target outs behind c by is ordered there = inl there
 
 -- a change begins where none is under way, so all stays in use
-begin-keeps : (begun : Option Target) (input : Input) (offer : Option Channel) (roles : Roles) (c : Channel) → MayBegin begun input offer roles → Contains (used roles) c → Contains (used (after_begin begun roles)) c
+begin-keeps : (begun : Option Target) (input : Input) (offer : Option Channel) (roles : Roles) (c : Channel) → MayBegin begun input offer roles → Contains (used roles) c → Contains (used (with_target begun roles)) c
 begin-keeps None input offer roles c may there = there
 begin-keeps (Some target) input offer roles c may there =
     let alone : Contains (roles.serving ∷ []) c = subst (λ (role : Option TargetRole). Contains (roles.serving ∷ target_channels role) c) may.2 there in
     Contains-append_left (roles.serving ∷ []) (target.channel ∷ []) c alone
 
 -- what is in use behind it was in use, or is taken
-begin-takes : (begun : Option Target) (input : Input) (offer : Option Channel) (roles : Roles) (outs front : List Message) (c : Channel) → MayBegin begun input offer roles → orders outs ≡ front ++ begin_orders begun → Contains (used (after_begin begun roles)) c → Contains (used roles) c ⊎ IsTaken c input offer outs
+begin-takes : (begun : Option Target) (input : Input) (offer : Option Channel) (roles : Roles) (outs front : List Message) (c : Channel) → MayBegin begun input offer roles → orders outs ≡ front ++ begin_orders begun → Contains (used (with_target begun roles)) c → Contains (used roles) c ⊎ IsTaken c input offer outs
 begin-takes None input offer roles outs front c may ordered there = inl there
 begin-takes (Some target) input offer roles outs front c may ordered there = elim (Contains-cases roles.serving c (target.channel ∷ []) there) [
   | inl same ↦ inl (subst (λ (c : Channel). Contains (used roles) c) same (Contains-first roles.serving (target_channels roles.target)))
@@ -338,7 +338,7 @@ step-drains (leaves place) input roles target c by there =
 
 -- ---- the account
 
-draining-begin : (begun : Option Target) (roles : Roles) → (after_begin begun roles).draining ≡ roles.draining
+draining-begin : (begun : Option Target) (roles : Roles) → (with_target begun roles).draining ≡ roles.draining
 draining-begin None roles = refl
 draining-begin (Some target) roles = refl
 

@@ -9,7 +9,7 @@ use Rattle.conn_table.specs.declared.state.State.{State}
 use Rattle.conn_table.specs.declared.state.State.TheVariants.{Live}
 use Rattle.conn_table.specs.declared.state.Target.{Target}
 use Rattle.conn_table.specs.Connection.{Connection}
-use Rattle.conn_table.specs.Roles.{TargetRole, Roles, target_role, roles_of, RoleStep, after_step, after_begin, step_by, MayBegin, ChangesRoles, ChangesRolesBy, target_channels, IsNew, StaysApart}
+use Rattle.conn_table.specs.Roles.{TargetRole, Roles, target_role, roles_of, RoleStep, after_step, with_target, step_by, MayBegin, ChangesRoles, ChangesRolesBy, target_channels, IsNew, StaysApart}
 use Rattle.conn_table.specs.Roles.RoleStep.{stays, commands, completes, goes_back, leaves}
 use Rattle.conn_table.specs.Roles.ChangesRoles.{goes_on, ends, had_ended}
 use Rattle.conn_table.specs.Steps.{Row, done_at}
@@ -100,7 +100,7 @@ IsPart-step (leaves place) roles target =
     subst (λ (cs : List Channel). IsPart (undone roles.draining ++ roles.serving ∷ target_channels target) (cs ++ roles.serving ∷ target_channels target)) (sym (undone-still_draining (done_at place roles.draining)))
     (IsPart-done_at place roles.draining (roles.serving ∷ target_channels target))
 
-AreApart-begin : (begun : Option Target) (input : Input) (offer : Option Channel) (roles : Roles) → MayBegin begun input offer roles → AreApart (channels_of roles) → IsNew offer (channels_of roles) → AreApart (channels_of (after_begin begun roles))
+AreApart-begin : (begun : Option Target) (input : Input) (offer : Option Channel) (roles : Roles) → MayBegin begun input offer roles → AreApart (channels_of roles) → IsNew offer (channels_of roles) → AreApart (channels_of (with_target begun roles))
 AreApart-begin None input offer roles may apart new = apart
 AreApart-begin (Some target) input offer roles may apart new =
     let alone : channels_of roles ≡ undone roles.draining ++ roles.serving ∷ [] = ap (λ (role : Option TargetRole). undone roles.draining ++ roles.serving ∷ target_channels role) may.2 in

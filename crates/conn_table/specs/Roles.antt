@@ -78,9 +78,9 @@ after_step goes_back roles = record roles { target = None }
 after_step (leaves place) roles = record roles { draining = still_draining (done_at place roles.draining) }
 
 -- a change that begins has a target
-abbrev pub after_begin : Option Target → Roles → Roles
-after_begin None roles = roles
-after_begin (Some target) roles = record roles { target = Some (record { target = target; is_commanded = false }) }
+abbrev pub with_target : Option Target → Roles → Roles
+with_target None roles = roles
+with_target (Some target) roles = record roles { target = Some (record { target = target; is_commanded = false }) }
 
 -- ---- which step an input brings
 
@@ -167,7 +167,7 @@ Tells _ before down input outs = AllByRecursion (IsOfSwitch down input) outs
 pub record GoesOn (step : RoleStep) (before : Roles) (down : HoldState) (input : Input) (offer : Option Channel) (r : Row) : Type 0 where
   pub begun : Option Target
   pub may : MayBegin begun input offer (after_step step before)
-  pub roles : roles_of r.next ≡ after_begin begun (after_step step before)
+  pub roles : roles_of r.next ≡ with_target begun (after_step step before)
   pub ordered : orders r.outs ≡ step_orders step before ++ begin_orders begun
   pub tells : Tells step before down input r.outs
 
