@@ -1,5 +1,5 @@
 -- The laws of the downlink, by what every row does.
-use Rattle.std.proofs.Common.{◌≡◌, refl, Option, Some, None}
+use Rattle.std.proofs.Common.{Option, Some, None}
 use Rattle.conn_messages.specs.declared.channel.Channel.{Channel}
 use Rattle.conn_table.specs.declared.input.Input.{Input}
 use Rattle.conn_table.specs.declared.state.State.{State}
@@ -24,7 +24,8 @@ OfRow-so P Q so (Some r) holds = so r holds
 KeepsDownlink-does : (sapi : Sapi) (state : State) (s : Connection) (input : Input) (r : Row) → Stands s → Does state s input r → KeepsDownlink sapi s input r
 KeepsDownlink-does sapi state s input r stands (ends shut parting releases) = record {
   stream = λ is_open. absurd (shut is_open);
-  serving = AllByRecursion-so IsParting (GoesTo r.next.serving) (GoesTo-parting r.next.serving) r.outs parting }
+  serving = AllByRecursion-so IsParting (GoesTo r.next.serving) (GoesTo-parting r.next.serving) r.outs parting;
+}
 KeepsDownlink-does sapi state s input r stands (passes was_open is_open quiet same nothing) = KeepsDownlink-quiet sapi s input r quiet same nothing
 KeepsDownlink-does sapi state s input r stands (moves was_open is_open keeps silent) = keeps stands sapi
 

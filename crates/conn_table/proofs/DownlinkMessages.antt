@@ -1,6 +1,5 @@
 -- What messages hand, relay and reject.
-use Rattle.std.proofs.Common.{◌≡◌, ℕ, ◌%◌, ◌||◌, Bool, true, false, not, ◌&&◌, List, [], ◌∷◌, ◌++◌, map, filter, refl, sym, ◌∙◌, ap, subst, leb, eqb, if◌then◌else◌, Option, Some, None, flat_map, true≢false}
-use Rattle.std.proofs.lemmas.Bool.{cases_Bool}
+use Rattle.std.proofs.Common.{◌≡◌, ℕ, ◌||◌, Bool, true, false, ◌&&◌, List, [], ◌∷◌, ◌++◌, map, filter, refl, sym, ◌∙◌, leb, if◌then◌else◌, true≢false}
 use Rattle.std.proofs.lemmas.Grind.{flat_map-append}
 use Rattle.std.proofs.lemmas.List.Elements.{filter-append}
 use Rattle.std.specs.List.{AllByRecursion}
@@ -8,12 +7,10 @@ use Rattle.bssmap_codec.specs.declared.bssap.Bssap.TheVariants.{Management, Tran
 use Rattle.bssmap_codec.specs.declared.bssmap.Bssmap.TheVariants.{SapiNReject}
 use Rattle.conn_messages.specs.declared.channel.Channel.{Channel}
 use Rattle.conn_messages.specs.declared.message.Message.{Message}
-use Rattle.conn_messages.specs.declared.message.Message.TheVariants.{Station, Request, Data, ReleaseComplete}
+use Rattle.conn_messages.specs.declared.message.Message.TheVariants.{Station, Request, Data}
 use Rattle.conn_messages.specs.StationMessage.{handing, link_on}
-use Rattle.conn_table.specs.declared.input.Input.{Input}
-use Rattle.conn_table.specs.declared.input.Input.TheVariants as inputs
-use Rattle.conn_table.specs.Streams.{is_of, is_dtap, relayed_by, relayed, handed_by, handed, GoesTo, received_by, is_reject, rejects, without_rejected}
-use Rattle.conn_table.proofs.Standing.{by_test}
+use Rattle.conn_table.specs.Streams.{is_of, is_dtap, relayed_by, relayed, handed_by, handed, GoesTo, is_reject, rejects, without_rejected}
+use Rattle.std.proofs.lemmas.Bool.{cond_both}
 use Rattle.dtap_codec.specs.declared.sapi.Sapi.{Sapi}
 use Rattle.dtap_codec.specs.declared.sapi.Sapi.TheVariants.{Zero, Three}
 use Rattle.rsl_codec.specs.declared.channel_number.TheConstants.{FIRST_SDCCH}
@@ -28,7 +25,7 @@ pub AllByRecursion-filter : {A : Type 0} (P : A → Type 0) (test : A → Bool) 
 AllByRecursion-filter P test [] all = tt
 AllByRecursion-filter P test (x ∷ xs) all =
     let rest = AllByRecursion-filter P test xs all.1 in
-    by_test (AllByRecursion P) (test x) (x ∷ filter test xs) (filter test xs) (λ _. (all.0, rest)) (λ _. rest)
+    cond_both (test x) (x ∷ filter test xs) (filter test xs) (AllByRecursion P) (λ _. (all.0, rest)) (λ _. rest)
 
 pub AllByRecursion-so : {A : Type 0} (P Q : A → Type 0) → ((x : A) → P x → Q x) → (xs : List A) → AllByRecursion P xs → AllByRecursion Q xs
 AllByRecursion-so P Q so [] all = tt

@@ -1,35 +1,31 @@
 -- What the steps do to the messages of the switch.
-use Rattle.std.proofs.Common.{◌≡◌, ℕ, zero, suc, Bool, true, false, not, ◌&&◌, List, [], ◌∷◌, ◌++◌, map, filter, refl, sym, ◌∙◌, ap, subst, Option, Some, None, append-nil, eqb}
+use Rattle.std.proofs.Common.{◌≡◌, ℕ, Bool, true, false, not, ◌&&◌, List, [], ◌∷◌, ◌++◌, map, filter, refl, sym, ◌∙◌, ap, subst, Option, Some, None, append-nil, eqb}
 use Rattle.std.specs.List.{AllByRecursion}
-use Rattle.bssmap_codec.specs.Layer3.{IsLayer3}
 use Rattle.conn_messages.specs.declared.causes.TheConstants.{ABNORMAL_RELEASE, EQUIPMENT_FAILURE}
 use Rattle.conn_messages.specs.declared.channel.Change.{Change}
 use Rattle.conn_messages.specs.declared.channel.Change.TheVariants.{Assignment, Handover}
 use Rattle.conn_messages.specs.declared.channel.Channel.{Channel}
 use Rattle.conn_messages.specs.declared.message.Message.{Message}
-use Rattle.conn_messages.specs.StationMessage.{handing, change_activation}
-use Rattle.conn_messages.specs.SwitchMessage.{relaying}
+use Rattle.conn_messages.specs.StationMessage.{handing}
 use Rattle.conn_table.specs.declared.input.Input.{Input}
 use Rattle.conn_table.specs.declared.input.Input.TheVariants as inputs
-use Rattle.conn_table.specs.declared.state.Drain.{Drain}
 use Rattle.conn_table.specs.declared.state.ShortMessageLink.{ShortMessageLink}
 use Rattle.conn_table.specs.declared.state.ShortMessageLink.TheVariants.{Down, Asked, Up}
 use Rattle.conn_table.specs.declared.state.Stage.{Stage}
 use Rattle.conn_table.specs.declared.state.Stage.TheVariants.{Active, Preparing, Changing, Draining}
 use Rattle.conn_table.specs.declared.state.State.{State}
-use Rattle.conn_table.specs.declared.state.State.TheVariants.{WaitActivation, WaitEstablish, WaitConfirm, Live, Closed, Removed}
+use Rattle.conn_table.specs.declared.state.State.TheVariants.{Live, Closed}
 use Rattle.conn_table.specs.declared.state.Target.{Target}
-use Rattle.conn_table.specs.Connection.{Connection, enter, emptied, first_channel}
+use Rattle.conn_table.specs.Connection.{Connection}
 use Rattle.conn_table.specs.Standing.{IsAskedFor, Stands}
-use Rattle.conn_table.specs.Steps.{Row, row, ◌then◌, end_outs, target_release, failing, dropping, without_station, goes_to, may_begin, begin_outs, after_begin, begin, waiting_outs, after_waiting, begin_waiting, hold_down, hand_held, request_where, hold_short_message, short_message, request_for, ask_for_held, link_up, link_down, hold_up, tenure_outs, relay_held, done_at, leave, shifted, settled, settled_stage}
-use Rattle.conn_table.specs.Streams.{OfRow, IsOpen, is_dtap, handed, GoesTo, received_by, rejects, without_rejected, KeepsDownlink, IsChanging, IsSilent, OnlyReleases}
-use Rattle.conn_table.specs.Table.{release}
-use Rattle.conn_table.proofs.Standing.{by_test}
-use Rattle.conn_table.proofs.StandingSteps.{IsStill, in_stage}
-use Rattle.conn_table.proofs.DownlinkMessages.{AllByRecursion-append, AllByRecursion-filter, AllByRecursion-so, IsQuiet, AreQuiet, IsParting, AreParting, handed-quiet, handed-parting, relayed-parting, GoesTo-quiet, rejects-quiet, rejects-append, without_rejected-none, of_sapi, handed-handing, handed-append, GoesTo-handing, rejects-handing}
+use Rattle.conn_table.specs.Steps.{Row, row, ◌then◌, end_outs, failing, dropping, without_station, goes_to, may_begin, begin_outs, after_begin, begin, waiting_outs, after_waiting, begin_waiting, hold_down, hand_held, request_where, hold_short_message, short_message, request_for, ask_for_held, link_up, link_down, hold_up}
+use Rattle.conn_table.specs.Streams.{IsOpen, is_dtap, handed, GoesTo, received_by, rejects, KeepsDownlink, IsChanging, IsSilent, OnlyReleases}
+use Rattle.std.proofs.lemmas.Bool.{cond_both}
+use Rattle.conn_table.proofs.StandingSteps.{IsStill}
+use Rattle.conn_table.proofs.DownlinkMessages.{AllByRecursion-append, AllByRecursion-filter, AllByRecursion-so, IsQuiet, AreQuiet, IsParting, AreParting, handed-quiet, GoesTo-quiet, rejects-quiet, rejects-append, without_rejected-none, of_sapi, handed-handing, handed-append, GoesTo-handing, rejects-handing}
 use Rattle.dtap_codec.specs.declared.sapi.Sapi.{Sapi}
 use Rattle.dtap_codec.specs.declared.sapi.Sapi.TheVariants.{Zero, Three}
-use Rattle.hold_queue.specs.ChainState.{Tenure, chain_count}
+use Rattle.hold_queue.specs.ChainState.{chain_count}
 use Rattle.hold_queue.specs.HoldState.{HoldState, count, messages, with_messages}
 
 -- an input without a message of the switch
@@ -126,7 +122,7 @@ pub Does-waiting : (state : State) (s : Connection) (input : Input) (stage : Sta
 Does-waiting state s input stage reference offer outs t is_open opened quiet same nothing =
     let begins = Begins-waiting (t.waits && may_begin stage t.draining) reference offer t in
     passes is_open (begins.stays_open opened)
-        (AllByRecursion-append IsQuiet outs _ quiet (AreQuiet-waiting (t.waits && may_begin stage t.draining) reference offer)) (begins.down ∙ same) nothing
+    (AllByRecursion-append IsQuiet outs _ quiet (AreQuiet-waiting (t.waits && may_begin stage t.draining) reference offer)) (begins.down ∙ same) nothing
 
 -- ---- what rows keep of the downlink
 
@@ -137,13 +133,14 @@ KeepsDownlink-still sapi s input r none nothing goes same = record {
   stream = λ _. same ∙ sym (
       without_rejected-none sapi r.outs (filter is_dtap (messages s.down sapi ++ received_by sapi input)) none
       ∙ ap (λ (xs : List (List ℕ)). filter is_dtap (messages s.down sapi ++ xs)) (received_by-nothing sapi input nothing)
-      ∙ ap (filter is_dtap) (append-nil (messages s.down sapi))) }
+      ∙ ap (filter is_dtap) (append-nil (messages s.down sapi)));
+}
 
 pub KeepsDownlink-quiet : (sapi : Sapi) (s : Connection) (input : Input) (r : Row) → AreQuiet r.outs → r.next.down ≡ s.down → BringsNothing input → KeepsDownlink sapi s input r
 KeepsDownlink-quiet sapi s input r quiet same nothing =
     KeepsDownlink-still sapi s input r (rejects-quiet r.outs quiet) nothing
-        (AllByRecursion-so IsQuiet (GoesTo r.next.serving) (GoesTo-quiet r.next.serving) r.outs quiet)
-        (rw (handed-quiet sapi r.outs quiet, same) refl)
+    (AllByRecursion-so IsQuiet (GoesTo r.next.serving) (GoesTo-quiet r.next.serving) r.outs quiet)
+    (rw (handed-quiet sapi r.outs quiet, same) refl)
 
 -- a message is held
 messages-held : (of sapi : Sapi) (message : List ℕ) (down : HoldState) → filter is_dtap (messages (with_messages down sapi (messages down sapi ++ message ∷ [])) of) ≡ filter is_dtap (messages down of ++ received_by of (inputs.Downlink sapi message))
@@ -157,7 +154,8 @@ KeepsDownlink-held of sapi message s r quiet held = record {
   serving = AllByRecursion-so IsQuiet (GoesTo r.next.serving) (GoesTo-quiet r.next.serving) r.outs quiet;
   stream = λ _. rw (handed-quiet of r.outs quiet, held)
       (messages-held of sapi message s.down
-      ∙ sym (without_rejected-none of r.outs (filter is_dtap (messages s.down of ++ received_by of (inputs.Downlink sapi message))) (rejects-quiet r.outs quiet))) }
+      ∙ sym (without_rejected-none of r.outs (filter is_dtap (messages s.down of ++ received_by of (inputs.Downlink sapi message))) (rejects-quiet r.outs quiet)));
+}
 
 -- a message is handed, where none is held
 handed-at_once : (of sapi : Sapi) (message : List ℕ) (down : HoldState) → messages down sapi ≡ [] → filter is_dtap (of_sapi of sapi (message ∷ [])) ++ filter is_dtap (messages down of) ≡ filter is_dtap (messages down of ++ received_by of (inputs.Downlink sapi message))
@@ -171,7 +169,8 @@ KeepsDownlink-handed of sapi message s none = record {
   serving = (λ dtap. (refl, refl), tt);
   stream = λ _. ap (λ (xs : List (List ℕ)). xs ++ filter is_dtap (messages s.down of)) (handed-handing s.serving of sapi (message ∷ []))
       ∙ handed-at_once of sapi message s.down none
-      ∙ sym (without_rejected-none of (handing s.serving sapi message ∷ []) (filter is_dtap (messages s.down of ++ received_by of (inputs.Downlink sapi message))) refl) }
+      ∙ sym (without_rejected-none of (handing s.serving sapi message ∷ []) (filter is_dtap (messages s.down of ++ received_by of (inputs.Downlink sapi message))) refl);
+}
 
 -- what is held of a SAPI is handed
 handed-held : (of sapi : Sapi) (serving : Channel) (down : HoldState) → handed of (map (handing serving sapi) (messages down sapi)) ++ filter is_dtap (messages (with_messages down sapi []) of) ≡ filter is_dtap (messages down of)
@@ -203,9 +202,9 @@ Does-handing reference stage s sapi message still is none =
 -- a message is held while a channel changes
 pub Does-hold_down : (reference : ℕ) (target : Target) (s : Connection) (sapi : Sapi) (message : List ℕ) → s.state ≡ Live reference (Changing target) → Does (Live reference (Changing target)) s (inputs.Downlink sapi message) (hold_down (Live reference (Changing target)) sapi message s)
 Does-hold_down reference target s sapi message is =
-    by_test (Does (Live reference (Changing target)) s (inputs.Downlink sapi message)) (eqb (count s.down) s.down.limit) _ _
-        (λ full. Does-failing (Live reference (Changing target)) s (inputs.Downlink sapi message) EQUIPMENT_FAILURE tt)
-        (λ room. moves tt (opened reference (Changing target) s is) (λ stands of. KeepsDownlink-held of sapi message s _ tt refl) (λ _. (refl, refl)))
+    cond_both (eqb (count s.down) s.down.limit) _ _ (Does (Live reference (Changing target)) s (inputs.Downlink sapi message))
+    (λ full. Does-failing (Live reference (Changing target)) s (inputs.Downlink sapi message) EQUIPMENT_FAILURE tt)
+    (λ room. moves tt (opened reference (Changing target) s is) (λ stands of. KeepsDownlink-held of sapi message s _ tt refl) (λ _. (refl, refl)))
 
 -- a message of SAPI 3 is held for its link
 AreQuiet-request : (link : ShortMessageLink) (serving : Channel) → AreQuiet (request_where link serving)
@@ -215,10 +214,10 @@ AreQuiet-request Up serving = tt
 
 Does-hold_short : (reference : ℕ) (stage : Stage) (s : Connection) (message : List ℕ) → s.state ≡ Live reference stage → Does (Live reference stage) s (inputs.Downlink Three message) (hold_short_message (Live reference stage) message s)
 Does-hold_short reference stage s message is =
-    by_test (Does (Live reference stage) s (inputs.Downlink Three message)) (eqb (count s.down) s.down.limit) _ _
-        (λ full. Does-failing (Live reference stage) s (inputs.Downlink Three message) EQUIPMENT_FAILURE tt)
-        (λ room. moves tt (opened reference stage s is) (λ stands of. KeepsDownlink-held of Three message s _ (AreQuiet-request s.link s.serving) refl)
-            (λ _. handed_none (request_where s.link s.serving) (AreQuiet-request s.link s.serving)))
+    cond_both (eqb (count s.down) s.down.limit) _ _ (Does (Live reference stage) s (inputs.Downlink Three message))
+    (λ full. Does-failing (Live reference stage) s (inputs.Downlink Three message) EQUIPMENT_FAILURE tt)
+    (λ room. moves tt (opened reference stage s is) (λ stands of. KeepsDownlink-held of Three message s _ (AreQuiet-request s.link s.serving) refl)
+    (λ _. handed_none (request_where s.link s.serving) (AreQuiet-request s.link s.serving)))
 
 pub Does-short_message : (reference : ℕ) (stage : Stage) (link : ShortMessageLink) (s : Connection) (message : List ℕ) → IsStill stage → s.state ≡ Live reference stage → (Stands s → IsAskedFor link s.down.three) → Does (Live reference stage) s (inputs.Downlink Three message) (short_message (Live reference stage) link message s)
 Does-short_message reference stage Up s message still is none = Does-handing reference stage s Three message still is none
@@ -228,13 +227,15 @@ Does-short_message reference stage _ s message still is none = Does-hold_short r
 pub Does-link_up : (reference : ℕ) (stage : Stage) (s : Connection) (input : Input) → IsStill stage → s.state ≡ Live reference stage → BringsNothing input → Does (Live reference stage) s input (link_up s)
 Does-link_up reference stage s input still is nothing =
     moves tt (opened reference stage s is)
-        (λ stands of. KeepsDownlink-still of s input (link_up s) (rejects-handing s.serving Three s.down.three) nothing (GoesTo-handing s.serving Three s.down.three) (handed-held of Three s.serving s.down))
-        (λ changes. absurd (not_changing stage reference s still is changes))
+    (λ stands of. KeepsDownlink-still of s input (link_up s) (rejects-handing s.serving Three s.down.three) nothing (GoesTo-handing s.serving Three s.down.three) (handed-held of Three s.serving s.down))
+    (λ changes. absurd (not_changing stage reference s still is changes))
 
 -- SAPI 3 goes down: what is held for it is rejected
 KeepsDownlink-rejected : (of : Sapi) (reference : ℕ) (s : Connection) (input : Input) → BringsNothing input → KeepsDownlink of s input (link_down Asked reference s)
 KeepsDownlink-rejected Zero reference s input nothing = record {
-  serving = (tt, tt); stream = λ _. rw (received_by-nothing Zero input nothing) (sym (ap (filter is_dtap) (append-nil s.down.zero))) }
+  serving = (tt, tt);
+  stream = λ _. rw (received_by-nothing Zero input nothing) (sym (ap (filter is_dtap) (append-nil s.down.zero)));
+}
 KeepsDownlink-rejected Three reference s input nothing = record { serving = (tt, tt); stream = λ _. refl }
 
 pub Does-link_down : (reference : ℕ) (stage : Stage) (link : ShortMessageLink) (s : Connection) (input : Input) → IsStill stage → s.state ≡ Live reference stage → BringsNothing input → Does (Live reference stage) s input (link_down link reference s)
@@ -245,9 +246,9 @@ Does-link_down reference stage _ s input still is nothing = passes tt (opened re
 -- a message of the mobile is held
 pub Does-hold_up : (state : State) (s : Connection) (input : Input) (tenure : ℕ) (sapi : Sapi) (message : List ℕ) → IsOpen state → s.state ≡ state → BringsNothing input → Does state s input (hold_up state tenure sapi message s)
 Does-hold_up state s input tenure sapi message is_open is nothing =
-    by_test (Does state s input) (eqb (chain_count s.up) s.up.limit) _ _
-        (λ full. Does-failing state s input EQUIPMENT_FAILURE is_open)
-        (λ room. passes is_open (subst IsOpen (sym is) is_open) tt refl nothing)
+    cond_both (eqb (chain_count s.up) s.up.limit) _ _ (Does state s input)
+    (λ full. Does-failing state s input EQUIPMENT_FAILURE is_open)
+    (λ room. passes is_open (subst IsOpen (sym is) is_open) tt refl nothing)
 
 -- ---- the end of a change: what is held of SAPI 0 is handed, that of SAPI 3 waits for its link
 
@@ -293,8 +294,8 @@ Does-changed state s input outs t stage reference offer is_open quiet same nothi
     none : rejects all ≡ false
     none = rejects-append (outs ++ handing_outs ++ asking) behind
         (rejects-append (outs ++ handing_outs) asking
-            (rejects-append outs handing_outs (rejects-quiet outs quiet) (rejects-handing t.serving Zero t.down.zero))
-            (rejects-quiet asking (AreQuiet-request_for t.down.three t.serving)))
+        (rejects-append outs handing_outs (rejects-quiet outs quiet) (rejects-handing t.serving Zero t.down.zero))
+        (rejects-quiet asking (AreQuiet-request_for t.down.three t.serving)))
         (rejects-quiet behind (AreQuiet-waiting waits reference offer))
 
     goes_quiet : (outs : List Message) → AreQuiet outs → AllByRecursion (GoesTo t.serving) outs
@@ -303,8 +304,8 @@ Does-changed state s input outs t stage reference offer is_open quiet same nothi
     goes : AllByRecursion (GoesTo t.serving) all
     goes = AllByRecursion-append (GoesTo t.serving) (outs ++ handing_outs ++ asking) behind
         (AllByRecursion-append (GoesTo t.serving) (outs ++ handing_outs) asking
-            (AllByRecursion-append (GoesTo t.serving) outs handing_outs (goes_quiet outs quiet) (GoesTo-handing t.serving Zero t.down.zero))
-            (goes_quiet asking (AreQuiet-request_for t.down.three t.serving)))
+        (AllByRecursion-append (GoesTo t.serving) outs handing_outs (goes_quiet outs quiet) (GoesTo-handing t.serving Zero t.down.zero))
+        (goes_quiet asking (AreQuiet-request_for t.down.three t.serving)))
         (goes_quiet behind (AreQuiet-waiting waits reference offer))
 
     keeps : (of : Sapi) → KeepsDownlink of s input (row all (after_waiting waits reference offer after))

@@ -1,38 +1,30 @@
 -- What every row does to the messages of the switch.
-use Rattle.std.proofs.Common.{◌≡◌, ℕ, zero, suc, Bool, true, false, not, ◌&&◌, ◌||◌, leb, length, List, [], ◌∷◌, ◌++◌, map, filter, refl, sym, ◌∙◌, ap, subst, Option, Some, None, append-nil, eqb}
-use Rattle.std.specs.List.{AllByRecursion}
-use Rattle.bssmap_codec.specs.Layer3.{IsLayer3}
+use Rattle.std.proofs.Common.{◌≡◌, ℕ, zero, suc, Bool, ◌&&◌, ◌||◌, leb, length, List, [], ◌∷◌, ◌++◌, map, refl, sym, ◌∙◌, subst, Option, Some, None, eqb}
 use Rattle.conn_messages.specs.declared.causes.TheConstants.{ABNORMAL_RELEASE, EQUIPMENT_FAILURE, NORMAL_EVENT, RADIO_INTERFACE_FAILURE, RADIO_INTERFACE_MESSAGE_FAILURE}
 use Rattle.conn_messages.specs.declared.channel.Change.{Change}
 use Rattle.conn_messages.specs.declared.channel.Change.TheVariants.{Assignment, Handover}
 use Rattle.conn_messages.specs.declared.channel.Channel.{Channel}
-use Rattle.conn_messages.specs.declared.message.Message.{Message}
-use Rattle.conn_messages.specs.StationMessage.{handing, change_command, rf_channel_release}
+use Rattle.conn_messages.specs.StationMessage.{change_command, rf_channel_release}
 use Rattle.conn_messages.specs.SwitchMessage.{relaying, change_complete, release_complete, clear_complete}
 use Rattle.conn_table.specs.declared.input.Input.{Input}
 use Rattle.conn_table.specs.declared.input.Input.TheVariants as inputs
 use Rattle.conn_table.specs.declared.state.Drain.{Drain}
-use Rattle.conn_table.specs.declared.state.ShortMessageLink.{ShortMessageLink}
-use Rattle.conn_table.specs.declared.state.ShortMessageLink.TheVariants.{Down, Asked, Up}
 use Rattle.conn_table.specs.declared.state.Stage.{Stage}
-use Rattle.conn_table.specs.declared.state.Stage.TheVariants.{Active, Preparing, Changing, Draining}
+use Rattle.conn_table.specs.declared.state.Stage.TheVariants.{Preparing, Changing, Draining}
 use Rattle.conn_table.specs.declared.state.State.{State}
 use Rattle.conn_table.specs.declared.state.State.TheVariants.{WaitActivation, WaitEstablish, WaitConfirm, Live, Closed, Removed}
-use Rattle.conn_table.specs.declared.state.Target.{Target}
-use Rattle.conn_table.specs.Connection.{Connection, enter, emptied, first_channel, is_at, drain_at, tenure_at}
-use Rattle.conn_table.specs.Standing.{Stands}
-use Rattle.conn_table.specs.Steps.{Row, row, ◌then◌, end_outs, target_release, failing, dropping, without_station, goes_to, may_begin, begin_outs, after_begin, begin, waiting_outs, after_waiting, begin_waiting, hold_down, hand_held, request_where, hold_short_message, short_message, request_for, ask_for_held, link_up, link_down, hold_up, tenure_outs, relay_held, done_at, leave, shifted, settled, settled_stage, resting_stage, resting, moved}
-use Rattle.conn_table.specs.Streams.{OfRow, IsOpen, is_dtap, handed, GoesTo, received_by, rejects, without_rejected, KeepsDownlink, IsChanging, IsSilent, OnlyReleases}
+use Rattle.conn_table.specs.Connection.{Connection, emptied, first_channel, is_at, drain_at, tenure_at}
+use Rattle.conn_table.specs.Steps.{Row, dropping, may_begin, tenure_outs, relay_held, done_at, leave, shifted, settled, settled_stage, resting_stage, resting, moved}
+use Rattle.conn_table.specs.Streams.{OfRow, IsOpen, IsChanging}
 use Rattle.conn_table.specs.Table.{access, on_activation_ack, nack_outs, on_activation_nack, on_establish_indication, was_asked, on_establish_confirm, on_release_indication, on_error_indication, on_connection_failure, dtap_on_target, dtap_in, on_dtap, same_change, on_complete, failure_outs, on_failure, release, release_in, on_release_ack, on_move, on_confirm, on_refused, on_released, on_downlink, on_assignment_request, on_cipher_mode_command, on_clear_command, on_expiry, is_some_draining, on_drain_expiry, drains_at, targets, on_station_down, on_switch_down, row_of}
-use Rattle.conn_table.proofs.Standing.{by_test}
+use Rattle.std.proofs.lemmas.Bool.{cond_both}
 use Rattle.conn_table.proofs.StandingSteps.{OfRow-row_if, in_stage, asked_for, none_held}
-use Rattle.conn_table.proofs.DownlinkMessages.{AllByRecursion-append, AllByRecursion-filter, AllByRecursion-so, IsQuiet, AreQuiet, IsParting, AreParting, handed-quiet, handed-parting, relayed-parting, GoesTo-quiet, rejects-quiet, rejects-append, without_rejected-none, of_sapi, handed-handing, handed-append, GoesTo-handing, rejects-handing}
+use Rattle.conn_table.proofs.DownlinkMessages.{AllByRecursion-append, IsQuiet, AreQuiet}
 use Rattle.dtap_codec.specs.declared.sapi.Sapi.{Sapi}
 use Rattle.dtap_codec.specs.declared.sapi.Sapi.TheVariants.{Zero, Three}
-use Rattle.hold_queue.specs.ChainState.{Tenure, chain_count}
-use Rattle.hold_queue.specs.HoldState.{HoldState, count, messages, with_messages}
+use Rattle.hold_queue.specs.ChainState.{Tenure}
 use Rattle.conn_table.proofs.DownlinkSteps.{Does, BringsNothing, AreParting-end, Does-ending, Does-failing, Does-dropping, Does-without, Does-broken, Does-begin, Does-waiting, Does-handing, Does-hold_down, Does-short_message, Does-link_up, Does-link_down, Does-hold_up, Does-changed}
-use Rattle.conn_table.proofs.DownlinkSteps.Does.{ends, passes, moves}
+use Rattle.conn_table.proofs.DownlinkSteps.Does.{ends, passes}
 use Rattle.bssmap_codec.specs.declared.reference.Reference.{Reference}
 use Rattle.conn_messages.specs.declared.channel.Place.{Place}
 use Rattle.conn_table.specs.declared.state.Clearing.TheVariants.{Due, Asked as WasAsked, Complete}
@@ -49,7 +41,7 @@ AreQuiet-tenure : (reference : ℕ) (channel : Channel) (tenures : List Tenure) 
 AreQuiet-tenure reference channel [] = tt
 AreQuiet-tenure reference channel (first ∷ rest) =
     AllByRecursion-append IsQuiet (map (relaying reference channel Zero) first.zero) (map (relaying reference channel Three) first.three)
-        (AreQuiet-relaying reference channel Zero first.zero) (AreQuiet-relaying reference channel Three first.three)
+    (AreQuiet-relaying reference channel Zero first.zero) (AreQuiet-relaying reference channel Three first.three)
 
 -- a step that hands nothing, and leaves the state and what is held of the switch's messages
 record IsApartFrom (s : Connection) (r : Row) : Type 0 where
@@ -62,12 +54,14 @@ IsApartFrom-leave reference [] s = record { quiet = tt; down = refl; state = ref
 IsApartFrom-leave reference (d ∷ ds) s =
     let next : Connection = (relay_held reference (shifted ds s)).next in
     let rest = IsApartFrom-leave reference ds next in
-    by_test (IsApartFrom s) d.is_done _ _
-        (λ _. record {
-            quiet = AllByRecursion-append IsQuiet (relay_held reference (shifted ds s)).outs (leave reference ds next).outs
-                (AreQuiet-tenure reference (first_channel ds s.serving) (shifted ds s).up.tenures) rest.quiet;
-            down = rest.down; state = rest.state })
-        (λ _. record { quiet = tt; down = refl; state = refl })
+    cond_both d.is_done _ _ (IsApartFrom s)
+    (λ _. record {
+      quiet = AllByRecursion-append IsQuiet (relay_held reference (shifted ds s)).outs (leave reference ds next).outs
+          (AreQuiet-tenure reference (first_channel ds s.serving) (shifted ds s).up.tenures) rest.quiet;
+      down = rest.down;
+      state = rest.state;
+    })
+    (λ _. record { quiet = tt; down = refl; state = refl })
 
 -- the state behind it
 record Settles (s next : Connection) : Type 0 where
@@ -85,8 +79,8 @@ release-does reference stage s input place offer is nothing =
     let leaves = IsApartFrom-leave reference (done_at place s.draining) s in
     let settles = Settles-settled reference stage left.next.draining left.next in
     Does-waiting (Live reference stage) s input (settled_stage stage rests.draining) reference offer (left.outs ++ []) rests tt
-        (settles.stays_open (subst IsOpen (sym (leaves.state ∙ is)) tt))
-        (AllByRecursion-append IsQuiet left.outs [] leaves.quiet tt) (settles.down ∙ leaves.down) nothing
+    (settles.stays_open (subst IsOpen (sym (leaves.state ∙ is)) tt))
+    (AllByRecursion-append IsQuiet left.outs [] leaves.quiet tt) (settles.down ∙ leaves.down) nothing
 
 -- ---- channels are activated
 
@@ -112,16 +106,16 @@ activation_nack-does : (state : State) (s : Connection) (at : Place) (offer : Op
 activation_nack-does WaitActivation s at offer is = OfRow-row_if (Does WaitActivation s (inputs.ActivationNack at)) (is_at at s.serving) _ (λ _. ends absurd tt tt)
 activation_nack-does (Live reference (Preparing target)) s at offer is =
     OfRow-row_if (Does (Live reference (Preparing target)) s (inputs.ActivationNack at)) (is_at at target.channel) _
-        (λ _. Does-waiting (Live reference (Preparing target)) s (inputs.ActivationNack at) (resting_stage s.draining) reference offer
-            (nack_outs target.change reference) (resting reference s) tt tt (AreQuiet-nack target.change reference) refl tt)
+    (λ _. Does-waiting (Live reference (Preparing target)) s (inputs.ActivationNack at) (resting_stage s.draining) reference offer
+    (nack_outs target.change reference) (resting reference s) tt tt (AreQuiet-nack target.change reference) refl tt)
 activation_nack-does _ s at offer is = tt
 
 -- ---- the mobile's links
 
 access-does : (initial : Option (List ℕ)) (s : Connection) (at : Place) (sapi : Sapi) → Does WaitEstablish s (inputs.EstablishIndication at sapi initial) (access initial s)
 access-does (Some initial) s at sapi =
-    by_test (Does WaitEstablish s (inputs.EstablishIndication at sapi (Some initial))) (leb (length initial) INITIAL_LIMIT) _ _
-        (λ _. passes tt tt (tt, tt) refl tt) (λ _. Does-dropping WaitEstablish s (inputs.EstablishIndication at sapi (Some initial)) tt)
+    cond_both (leb (length initial) INITIAL_LIMIT) _ _ (Does WaitEstablish s (inputs.EstablishIndication at sapi (Some initial)))
+    (λ _. passes tt tt (tt, tt) refl tt) (λ _. Does-dropping WaitEstablish s (inputs.EstablishIndication at sapi (Some initial)) tt)
 access-does None s at sapi = Does-dropping WaitEstablish s (inputs.EstablishIndication at sapi None) tt
 
 establish_indication-does : (state : State) (s : Connection) (at : Place) (sapi : Sapi) (message : Option (List ℕ)) → s.state ≡ state → OfRow (Does state s (inputs.EstablishIndication at sapi message)) (on_establish_indication state s at sapi message)
@@ -186,8 +180,8 @@ dtap-does _ s at sapi message is = tt
 complete-does : (state : State) (s : Connection) (at : Place) (change : Change) (cause : RrCause) (offer : Option Channel) → OfRow (Does state s (inputs.Complete at change cause)) (on_complete state s at change cause.0 offer)
 complete-does (Live reference (Changing target)) s at change cause offer =
     OfRow-row_if (Does (Live reference (Changing target)) s (inputs.Complete at change cause)) (is_at at target.channel && same_change change target.change) _
-        (λ _. Does-changed (Live reference (Changing target)) s (inputs.Complete at change cause) (change_complete reference change target.channel cause.0 ∷ rf_channel_release s.serving ∷ [])
-            (moved reference target.channel s) Draining reference offer tt (quiet change, (tt, tt)) refl tt tt absurd)
+    (λ _. Does-changed (Live reference (Changing target)) s (inputs.Complete at change cause) (change_complete reference change target.channel cause.0 ∷ rf_channel_release s.serving ∷ [])
+    (moved reference target.channel s) Draining reference offer tt (quiet change, (tt, tt)) refl tt tt absurd)
   where
     quiet : (change : Change) → IsQuiet (change_complete reference change target.channel cause.0)
     quiet Assignment = tt
@@ -197,8 +191,8 @@ complete-does _ s at change cause offer = tt
 failure-does : (state : State) (s : Connection) (at : Place) (change : Change) (cause : RrCause) (offer : Option Channel) → OfRow (Does state s (inputs.Failure at change cause)) (on_failure state s at change cause.0 offer)
 failure-does (Live reference (Changing target)) s at change cause offer =
     OfRow-row_if (Does (Live reference (Changing target)) s (inputs.Failure at change cause)) (is_at at s.serving && same_change change target.change) _
-        (λ _. Does-changed (Live reference (Changing target)) s (inputs.Failure at change cause) (failure_outs change reference cause.0 ++ rf_channel_release target.channel ∷ [])
-            (resting reference s) (resting_stage s.draining) reference offer tt (quiet change) refl tt tt (still_resting s.draining reference))
+    (λ _. Does-changed (Live reference (Changing target)) s (inputs.Failure at change cause) (failure_outs change reference cause.0 ++ rf_channel_release target.channel ∷ [])
+    (resting reference s) (resting_stage s.draining) reference offer tt (quiet change) refl tt tt (still_resting s.draining reference))
   where
     quiet : (change : Change) → AreQuiet (failure_outs change reference cause.0 ++ rf_channel_release target.channel ∷ [])
     quiet Assignment = (tt, (tt, tt))
@@ -248,10 +242,10 @@ assignment_request-does : (state : State) (s : Connection) (is_speech : Bool) (o
 assignment_request-does (Live reference stage) s is_speech offer is =
     let opened : IsOpen s.state = subst IsOpen (sym is) tt in
     let Holds : Row → Type 0 = Does (Live reference stage) s (inputs.AssignmentRequest is_speech) in
-    by_test Holds is_speech _ _
-        (λ _. by_test Holds (may_begin stage s.draining) _ _ (λ _. Does-begin (Live reference stage) s (inputs.AssignmentRequest is_speech) reference Assignment offer tt opened tt)
-            (λ _. by_test Holds s.waits _ _ (λ _. passes tt opened (tt, tt) refl tt) (λ _. passes tt opened tt refl tt)))
-        (λ _. passes tt opened (tt, tt) refl tt)
+    cond_both is_speech _ _ Holds
+    (λ _. cond_both (may_begin stage s.draining) _ _ Holds (λ _. Does-begin (Live reference stage) s (inputs.AssignmentRequest is_speech) reference Assignment offer tt opened tt)
+    (λ _. cond_both s.waits _ _ Holds (λ _. passes tt opened (tt, tt) refl tt) (λ _. passes tt opened tt refl tt)))
+    (λ _. passes tt opened (tt, tt) refl tt)
 assignment_request-does _ s is_speech offer is = tt
 
 cipher_mode_command-does : (state : State) (s : Connection) → s.state ≡ state → OfRow (Does state s inputs.CipherModeCommand) (on_cipher_mode_command state s)
@@ -286,7 +280,7 @@ station_down-does WaitConfirm s station =
     OfRow-row_if (Does WaitConfirm s (inputs.StationDown station)) (eqb s.serving.station station) _ (λ _. Does-broken WaitConfirm s (inputs.StationDown station) station EQUIPMENT_FAILURE tt)
 station_down-does (Live reference stage) s station =
     OfRow-row_if (Does (Live reference stage) s (inputs.StationDown station)) (eqb s.serving.station station || targets station stage || drains_at station s.draining) _
-        (λ _. Does-broken (Live reference stage) s (inputs.StationDown station) station EQUIPMENT_FAILURE tt)
+    (λ _. Does-broken (Live reference stage) s (inputs.StationDown station) station EQUIPMENT_FAILURE tt)
 station_down-does _ s station = tt
 
 switch_down-does : (state : State) (s : Connection) → OfRow (Does state s inputs.SwitchDown) (on_switch_down state s)

@@ -12,6 +12,8 @@ pub mod DownlinkSteps
 pub mod DownlinkTable
 pub mod Roles
 pub mod RolesAccount
+pub mod RolesApart
+mod RolesRows
 pub mod RolesSteps
 pub mod RolesTable
 pub mod Standing

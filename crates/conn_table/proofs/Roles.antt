@@ -1,5 +1,5 @@
 -- What the steps do to the roles of channels.
-use Rattle.std.proofs.Common.{◌≡◌, ℕ, zero, suc, Bool, true, false, not, ◌&&◌, List, [], ◌∷◌, ◌++◌, map, filter, refl, sym, ◌∙◌, ap, subst, Option, Some, None, append-nil, true≢false, Contains, if◌then◌else◌}
+use Rattle.std.proofs.Common.{◌≡◌, ℕ, Bool, true, false, not, ◌&&◌, List, [], ◌∷◌, ◌++◌, map, filter, refl, sym, ◌∙◌, ap, subst, Option, Some, None, true≢false, Contains, if◌then◌else◌}
 use Rattle.std.proofs.lemmas.List.Elements.{filter-append, Contains-push, Contains-append_left, Contains-append_right}
 use Rattle.std.specs.List.{AllByRecursion}
 use Rattle.conn_messages.specs.declared.causes.TheConstants.{ABNORMAL_RELEASE}
@@ -18,17 +18,16 @@ use Rattle.conn_table.specs.declared.state.ShortMessageLink.TheVariants.{Down, A
 use Rattle.conn_table.specs.declared.state.Stage.{Stage}
 use Rattle.conn_table.specs.declared.state.Stage.TheVariants.{Active, Preparing, Changing, Draining}
 use Rattle.conn_table.specs.declared.state.State.{State}
-use Rattle.conn_table.specs.declared.state.State.TheVariants.{Live, Closed, Removed}
+use Rattle.conn_table.specs.declared.state.State.TheVariants.{Live}
 use Rattle.conn_table.specs.declared.state.Target.{Target}
 use Rattle.conn_table.specs.Connection.{Connection}
-use Rattle.conn_table.specs.Roles.{TargetRole, Roles, target_role, roles_of, RoleStep, after_step, after_begin as with_target, step_by, change_by, MayBegin, is_order, orders, step_orders, begin_orders, IsOfSwitch, brought, Tells, GoesOn, RoleEnd, end_messages, FitsEnd, is_to_station, to_stations, those_that_go, Ends, ChangesRoles, ChangesRolesBy}
+use Rattle.conn_table.specs.Roles.{Roles, target_role, roles_of, RoleStep, after_step, with_target, step_by, change_by, MayBegin, is_order, orders, step_orders, begin_orders, IsOfSwitch, brought, Tells, GoesOn, end_messages, is_to_station, to_stations, those_that_go, Ends, ChangesRoles, ChangesRolesBy}
 use Rattle.conn_table.specs.Roles.RoleStep.{stays, commands, completes, goes_back, leaves}
-use Rattle.conn_table.specs.Roles.RoleEnd.{refused, drops, dismisses}
+use Rattle.conn_table.specs.Roles.RoleEnd.{drops, dismisses}
 use Rattle.conn_table.specs.Roles.ChangesRoles.{goes_on, ends, had_ended}
-use Rattle.conn_table.specs.Steps.{Row, row, end_outs, failing, dropping, without_station, goes_to, may_begin, begin_outs, after_begin, begin, waiting_outs, after_waiting, begin_waiting, request_where, request_for, tenure_outs}
+use Rattle.conn_table.specs.Steps.{Row, row, end_outs, failing, dropping, without_station, goes_to, may_begin, begin_outs, after_begin, waiting_outs, after_waiting, begin_waiting, request_where, request_for, tenure_outs}
 use Rattle.conn_table.specs.Streams.{IsOpen}
 use Rattle.conn_table.specs.Table.{row_if}
-use Rattle.conn_table.proofs.Standing.{by_test}
 use Rattle.conn_table.proofs.DownlinkMessages.{AllByRecursion-append, AllByRecursion-so}
 use Rattle.dtap_codec.specs.declared.sapi.Sapi.{Sapi}
 use Rattle.dtap_codec.specs.declared.sapi.Sapi.TheVariants.{Zero, Three}
@@ -121,9 +120,10 @@ orders-handing c sapi (m ∷ ms) = orders-handing c sapi ms
 
 pub told-handing : (down : HoldState) (input : Input) (c : Channel) (sapi : Sapi) (ms : List (List ℕ)) → ((m : List ℕ) → Contains ms m → Contains (down.zero ++ (down.three ++ brought input)) m) → AllByRecursion (IsOfSwitch down input) (map (handing c sapi) ms)
 told-handing down input c sapi [] held = tt
-told-handing down input c sapi (m ∷ ms) held =
-    (held m (Contains-append_left (m ∷ []) ms m (Contains-push [] m)),
-        told-handing down input c sapi ms (λ other there. held other (Contains-append_right (m ∷ []) ms other there)))
+told-handing down input c sapi (m ∷ ms) held = (
+  held m (Contains-append_left (m ∷ []) ms m (Contains-push [] m)),
+  told-handing down input c sapi ms (λ other there. held other (Contains-append_right (m ∷ []) ms other there)),
+)
 
 -- messages of the mobile are relayed, links are asked for
 ArePlain-relaying : (reference : ℕ) (channel : Channel) (sapi : Sapi) (messages : List (List ℕ)) → ArePlain (map (relaying reference channel sapi) messages)
@@ -134,7 +134,7 @@ pub ArePlain-tenure : (reference : ℕ) (channel : Channel) (tenures : List Tenu
 ArePlain-tenure reference channel [] = tt
 ArePlain-tenure reference channel (first ∷ rest) =
     AllByRecursion-append IsPlain (map (relaying reference channel Zero) first.zero) (map (relaying reference channel Three) first.three)
-        (ArePlain-relaying reference channel Zero first.zero) (ArePlain-relaying reference channel Three first.three)
+    (ArePlain-relaying reference channel Zero first.zero) (ArePlain-relaying reference channel Three first.three)
 
 pub ArePlain-request_where : (link : ShortMessageLink) (serving : Channel) → ArePlain (request_where link serving)
 ArePlain-request_where Down serving = (tt, tt)
@@ -150,7 +150,12 @@ ArePlain-request_for (first ∷ rest) serving = (tt, tt)
 -- nothing is ordered, nobody is told, no change begins
 pub GoesOn-plain : (before : Roles) (down : HoldState) (input : Input) (offer : Option Channel) (r : Row) → roles_of r.next ≡ before → ArePlain r.outs → GoesOn stays before down input offer r
 GoesOn-plain before down input offer r same plain = record {
-  begun = None; may = tt; roles = same; ordered = orders-plain r.outs plain; tells = told-plain down input r.outs plain }
+  begun = None;
+  may = tt;
+  roles = same;
+  ordered = orders-plain r.outs plain;
+  tells = told-plain down input r.outs plain;
+}
 
 -- ---- a change begins
 
@@ -168,8 +173,13 @@ is_order-activation Handover channel = (refl, tt)
 
 pub BeginsBy-begin : (input : Input) (offer : Option Channel) (reference : ℕ) (change : Change) (t : Connection) → change ≡ change_by input → target_role t.state ≡ None → BeginsBy input offer t (begin_outs reference change offer) (after_begin reference change offer t)
 BeginsBy-begin input (Some channel) reference change t kind free = record {
-  begun = Some (record { change = change; channel = channel }); may = (kind, refl, free); roles = refl;
-  ordered = (is_order-activation change channel).0; untold = ((is_order-activation change channel).1, tt); stays_open = λ _. tt }
+  begun = Some (record { change = change; channel = channel });
+  may = (kind, refl, free);
+  roles = refl;
+  ordered = (is_order-activation change channel).0;
+  untold = ((is_order-activation change channel).1, tt);
+  stays_open = λ _. tt;
+}
 BeginsBy-begin input None reference Assignment t kind free = record { begun = None; may = tt; roles = refl; ordered = refl; untold = (tt, tt); stays_open = λ stays. stays }
 BeginsBy-begin input None reference Handover t kind free = record { begun = None; may = tt; roles = refl; ordered = refl; untold = tt; stays_open = λ stays. stays }
 
@@ -196,7 +206,7 @@ BeginsBy-after false input offer reference t kind free = record { begun = None; 
 pub BeginsBy-waiting : (stage : Stage) (input : Input) (offer : Option Channel) (reference : ℕ) (t : Connection) → Assignment ≡ change_by input → t.state ≡ Live reference stage → BeginsBy input offer t (begin_waiting stage reference offer t).outs (begin_waiting stage reference offer t).next
 BeginsBy-waiting stage input offer reference t kind is =
     BeginsBy-after (t.waits && may_begin stage t.draining) input offer reference t kind
-        (λ both. free_where stage reference t is (second_true t.waits (may_begin stage t.draining) both))
+    (λ both. free_where stage reference t is (second_true t.waits (may_begin stage t.draining) both))
 
 -- a step that isn't the COMMAND, and then perhaps a change begins
 abbrev pub IsUntoldStep : RoleStep → Type 0
@@ -218,7 +228,8 @@ GoesOn-begins step before down input offer outs t behind next untold same ordere
   roles = begins.roles ∙ ap (with_target begins.begun) same;
   ordered = orders-append outs behind ∙ rw (ordered, begins.ordered) refl;
   tells = tells_by step before down input (outs ++ behind) untold
-      (AllByRecursion-append (IsOfSwitch down input) outs behind told (told-untold down input behind begins.untold)) }
+      (AllByRecursion-append (IsOfSwitch down input) outs behind told (told-untold down input behind begins.untold));
+}
 
 -- ---- ends
 
@@ -243,14 +254,18 @@ filter-filter p q (x ∷ xs) = by (p x) (q x) refl refl (filter-filter p q xs)
 
 pub Ends-failing : (state : State) (s : Connection) (input : Input) (cause : ℕ) → ((outs : List Message) → those_that_go input outs ≡ outs) → Ends (roles_in state s) input (failing state s cause)
 Ends-failing state s input cause all_go = record {
-  end = dismisses ABNORMAL_RELEASE; fits = tt;
-  ordered = to_stations-failing state s cause ∙ to_stations-end state s ABNORMAL_RELEASE ∙ sym (all_go (end_messages (dismisses ABNORMAL_RELEASE) (roles_in state s))) }
+  end = dismisses ABNORMAL_RELEASE;
+  fits = tt;
+  ordered = to_stations-failing state s cause ∙ to_stations-end state s ABNORMAL_RELEASE ∙ sym (all_go (end_messages (dismisses ABNORMAL_RELEASE) (roles_in state s)));
+}
 
 pub Ends-broken : (state : State) (s : Connection) (station cause : ℕ) → Ends (roles_in state s) (inputs.StationDown station) (without_station station (failing state s cause))
 Ends-broken state s station cause = record {
-  end = dismisses ABNORMAL_RELEASE; fits = tt;
+  end = dismisses ABNORMAL_RELEASE;
+  fits = tt;
   ordered = filter-filter is_to_station (λ message. not (goes_to station message)) (failing state s cause).outs
-      ∙ ap (filter (λ message. not (goes_to station message))) (to_stations-failing state s cause ∙ to_stations-end state s ABNORMAL_RELEASE) }
+      ∙ ap (filter (λ message. not (goes_to station message))) (to_stations-failing state s cause ∙ to_stations-end state s ABNORMAL_RELEASE);
+}
 
 pub Ends-dropping : (state : State) (s : Connection) (input : Input) → target_role state ≡ None → ((outs : List Message) → those_that_go input outs ≡ outs) → Ends (roles_in state s) input (dropping s)
 Ends-dropping state s input none all_go = record { end = drops; fits = none; ordered = sym (all_go (end_messages drops (roles_in state s))) }

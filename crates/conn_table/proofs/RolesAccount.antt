@@ -1,6 +1,5 @@
 -- The account of a connection's channels follows from what rows do to their roles.
-use Rattle.std.proofs.Common.{◌≡◌, ◌⊎◌, inl, inr, ⊎_elim, ℕ, zero, suc, Bool, true, false, not, ◌&&◌, eqb, List, [], ◌∷◌, ◌++◌, filter, length, refl, sym, ◌∙◌, ap, ap₂, subst, Option, Some, None, append-nil, true≢false, Contains, if◌then◌else◌, arith, eqb-true, option_map}
-use Rattle.std.proofs.lemmas.Bool.{cases_Bool}
+use Rattle.std.proofs.Common.{◌≡◌, ◌⊎◌, inl, inr, ⊎_elim, ℕ, zero, suc, Bool, true, false, not, ◌&&◌, eqb, List, [], ◌∷◌, ◌++◌, filter, refl, sym, ◌∙◌, ap, subst, Option, Some, None, true≢false, Contains, if◌then◌else◌, arith, eqb-true, option_map}
 use Rattle.std.proofs.lemmas.List.Elements.{Contains-push, Contains-append_left, Contains-append_right, Contains-append_cases}
 use Rattle.conn_messages.specs.declared.channel.Change.{Change}
 use Rattle.conn_messages.specs.declared.channel.Channel.{Channel}
@@ -11,17 +10,17 @@ use Rattle.conn_table.specs.declared.input.Input.{Input}
 use Rattle.conn_table.specs.declared.input.Input.TheVariants as inputs
 use Rattle.conn_table.specs.declared.state.Drain.{Drain}
 use Rattle.conn_table.specs.declared.state.State.{State}
-use Rattle.conn_table.specs.declared.state.State.TheVariants.{WaitActivation, Closed, Removed}
+use Rattle.conn_table.specs.declared.state.State.TheVariants.{Closed, Removed}
 use Rattle.conn_table.specs.declared.state.Target.{Target}
 use Rattle.conn_table.specs.Connection.{Connection, is_at, drain_at}
-use Rattle.conn_table.specs.Roles.{TargetRole, Roles, roles_of, RoleStep, commanded, completed, still_draining, after_step, after_begin, awaits_at, changes_by, is_target_at, leaves_at, step_by, change_by, MayBegin, is_order, orders, step_orders, begin_orders, GoesOn, RoleEnd, end_messages, target_releases, FitsEnd, is_to_station, to_stations, those_that_go, Ends, ChangesRoles, ChangesRolesBy, target_channels, channels_in, channels_in_use, IsGivenUp, IsTaken, IsAcknowledged, KeepsAccount}
+use Rattle.conn_table.specs.Roles.{TargetRole, Roles, roles_of, RoleStep, still_draining, after_step, with_target, awaits_at, changes_by, is_target_at, leaves_at, step_by, MayBegin, is_order, orders, step_orders, begin_orders, GoesOn, RoleEnd, end_messages, target_releases, FitsEnd, is_to_station, to_stations, those_that_go, ChangesRoles, ChangesRolesBy, target_channels, channels_in, IsGivenUp, IsTaken, IsAcknowledged, KeepsAccount}
 use Rattle.conn_table.specs.Roles.RoleStep.{stays, commands, completes, goes_back, leaves}
 use Rattle.conn_table.specs.Roles.RoleEnd.{refused, drops, dismisses}
 use Rattle.conn_table.specs.Roles.ChangesRoles.{goes_on, ends, had_ended}
 use Rattle.conn_table.specs.Roles.IsGivenUp.{released, broke, not_activated}
 use Rattle.conn_table.specs.Steps.{Row, done_at, goes_to}
 use Rattle.conn_table.specs.Streams.{OfRow, IsOpen, undone}
-use Rattle.conn_table.proofs.Standing.{by_test}
+use Rattle.std.proofs.lemmas.Bool.{cond_both}
 
 -- ---- members of lists
 
@@ -177,7 +176,7 @@ given_up-end drops input roles outs c fits ordered there =
     given_up-ordered c input outs (rf_channel_release roles.serving ∷ []) ordered (released-both roles.serving None c alone)
 given_up-end (dismisses cause) input roles outs c fits ordered there =
     given_up-ordered c input outs (end_messages (dismisses cause) roles) ordered
-        (Contains-behind (channel_release roles.serving cause) (rf_channel_release c) (rf_channel_release roles.serving ∷ target_releases roles.target) (released-both roles.serving roles.target c there))
+    (Contains-behind (channel_release roles.serving cause) (rf_channel_release c) (rf_channel_release roles.serving ∷ target_releases roles.target) (released-both roles.serving roles.target c there))
 
 -- a step leaves a channel in use, or gives it up
 step-gives_up : (step : RoleStep) (input : Input) (roles : Roles) (target : Option TargetRole) (outs behind : List Message) (c : Channel) → step_by input roles ≡ step → roles.target ≡ target → orders outs ≡ step_orders step (record roles { target = target }) ++ behind → Contains (roles.serving ∷ target_channels target) c →
@@ -200,21 +199,21 @@ step-gives_up goes_back input roles (Some t) outs behind c by is ordered there =
     goes : (is_commanded : Bool) → t.is_commanded ≡ is_commanded → orders outs ≡ (if is_commanded then rf_channel_release t.target.channel ∷ [] else []) ++ behind → t.target.channel ≡ c → IsGivenUp c input outs
     goes true was ordered same =
         released (Contains-ordered outs (rf_channel_release t.target.channel ∷ behind) (rf_channel_release c) ordered
-            (subst (λ (c : Channel). Contains (rf_channel_release t.target.channel ∷ behind) (rf_channel_release c)) same (Contains-first (rf_channel_release t.target.channel) behind)))
+        (subst (λ (c : Channel). Contains (rf_channel_release t.target.channel ∷ behind) (rf_channel_release c)) same (Contains-first (rf_channel_release t.target.channel) behind)))
     goes false was ordered same =
         let nack = was_refused input roles t by is was in
         not_activated nack.0 nack.1 (subst (λ (c : Channel). is_at nack.0 c ≡ true) same nack.2)
 step-gives_up (leaves place) input roles target outs behind c by is ordered there = inl there
 
 -- a change begins where none is under way, so all stays in use
-begin-keeps : (begun : Option Target) (input : Input) (offer : Option Channel) (roles : Roles) (c : Channel) → MayBegin begun input offer roles → Contains (used roles) c → Contains (used (after_begin begun roles)) c
+begin-keeps : (begun : Option Target) (input : Input) (offer : Option Channel) (roles : Roles) (c : Channel) → MayBegin begun input offer roles → Contains (used roles) c → Contains (used (with_target begun roles)) c
 begin-keeps None input offer roles c may there = there
 begin-keeps (Some target) input offer roles c may there =
     let alone : Contains (roles.serving ∷ []) c = subst (λ (role : Option TargetRole). Contains (roles.serving ∷ target_channels role) c) may.2 there in
     Contains-append_left (roles.serving ∷ []) (target.channel ∷ []) c alone
 
 -- what is in use behind it was in use, or is taken
-begin-takes : (begun : Option Target) (input : Input) (offer : Option Channel) (roles : Roles) (outs front : List Message) (c : Channel) → MayBegin begun input offer roles → orders outs ≡ front ++ begin_orders begun → Contains (used (after_begin begun roles)) c → Contains (used roles) c ⊎ IsTaken c input offer outs
+begin-takes : (begun : Option Target) (input : Input) (offer : Option Channel) (roles : Roles) (outs front : List Message) (c : Channel) → MayBegin begun input offer roles → orders outs ≡ front ++ begin_orders begun → Contains (used (with_target begun roles)) c → Contains (used roles) c ⊎ IsTaken c input offer outs
 begin-takes None input offer roles outs front c may ordered there = inl there
 begin-takes (Some target) input offer roles outs front c may ordered there = elim (Contains-cases roles.serving c (target.channel ∷ []) there) [
   | inl same ↦ inl (subst (λ (c : Channel). Contains (used roles) c) same (Contains-first roles.serving (target_channels roles.target)))
@@ -222,9 +221,11 @@ begin-takes (Some target) input offer roles outs front c may ordered there = eli
 ]
   where
     taken : target.channel ≡ c → IsTaken c input offer outs
-    taken same = subst (λ (c : Channel). IsTaken c input offer outs) same
-        (may.1, subst (λ (change : Change). Contains outs (change_activation change target.channel)) may.0
-            (Contains-ordered outs (front ++ change_activation target.change target.channel ∷ []) (change_activation target.change target.channel) ordered (Contains-push front (change_activation target.change target.channel))))
+    taken same = subst (λ (c : Channel). IsTaken c input offer outs) same (
+      may.1,
+      subst (λ (change : Change). Contains outs (change_activation change target.channel)) may.0
+          (Contains-ordered outs (front ++ change_activation target.change target.channel ∷ []) (change_activation target.change target.channel) ordered (Contains-push front (change_activation target.change target.channel))),
+    )
 
 -- a step takes nothing
 step-takes : (step : RoleStep) (roles : Roles) (target : Option TargetRole) (c : Channel) → Contains (used (after_step step (record roles { target = target }))) c → Contains (roles.serving ∷ target_channels target) c
@@ -238,14 +239,14 @@ step-takes (leaves place) roles target c there = there
 
 -- ---- old channels
 
-undone-still_draining : (ds : List Drain) → undone (still_draining ds) ≡ undone ds
+pub undone-still_draining : (ds : List Drain) → undone (still_draining ds) ≡ undone ds
 undone-still_draining [] = refl
 undone-still_draining (d ∷ ds) =
-    by_test (λ (left : List Drain). undone left ≡ undone (d ∷ ds)) d.is_done (still_draining ds) (d ∷ ds)
-        (λ done. rw done (undone-still_draining ds)) (λ drains. refl)
+    cond_both d.is_done (still_draining ds) (d ∷ ds) (λ (left : List Drain). undone left ≡ undone (d ∷ ds))
+    (λ done. rw done (undone-still_draining ds)) (λ drains. refl)
 
 Contains-undone : (d : Drain) (ds : List Drain) (c : Channel) → Contains (undone ds) c → Contains (undone (d ∷ ds)) c
-Contains-undone d ds c there = by_test (λ (cs : List Channel). Contains cs c) d.is_done (undone ds) (d.channel ∷ undone ds) (λ _. there) (λ _. Contains-behind d.channel c (undone ds) there)
+Contains-undone d ds c there = cond_both d.is_done (undone ds) (d.channel ∷ undone ds) (λ (cs : List Channel). Contains cs c) (λ _. there) (λ _. Contains-behind d.channel c (undone ds) there)
 
 undone-cases : (d : Drain) (ds : List Drain) (c : Channel) → Contains (undone (d ∷ ds)) c → ((d.is_done ≡ false) × (d.channel ≡ c)) ⊎ Contains (undone ds) c
 undone-cases d ds c there = by d.is_done refl there
@@ -311,8 +312,11 @@ step-begins_to_drain commands roles target outs behind c ordered there = inl the
 step-begins_to_drain completes roles None outs behind c ordered there = inl there
 step-begins_to_drain completes roles (Some t) outs behind c ordered there = elim (undone-more roles.draining c roles.serving there) [
   | inl was ↦ inl was
-  | inr same ↦ inr (same, Contains-ordered outs (rf_channel_release roles.serving ∷ behind) (rf_channel_release c) ordered
-      (subst (λ (c : Channel). Contains (rf_channel_release roles.serving ∷ behind) (rf_channel_release c)) (sym same) (Contains-first (rf_channel_release roles.serving) behind)))
+  | inr same ↦ inr (
+    same,
+    Contains-ordered outs (rf_channel_release roles.serving ∷ behind) (rf_channel_release c) ordered
+        (subst (λ (c : Channel). Contains (rf_channel_release roles.serving ∷ behind) (rf_channel_release c)) (sym same) (Contains-first (rf_channel_release roles.serving) behind)),
+  )
 ]
 step-begins_to_drain goes_back roles target outs behind c ordered there = inl there
 step-begins_to_drain (leaves place) roles target outs behind c ordered there =
@@ -334,7 +338,7 @@ step-drains (leaves place) input roles target c by there =
 
 -- ---- the account
 
-draining-begin : (begun : Option Target) (roles : Roles) → (after_begin begun roles).draining ≡ roles.draining
+draining-begin : (begun : Option Target) (roles : Roles) → (with_target begun roles).draining ≡ roles.draining
 draining-begin None roles = refl
 draining-begin (Some target) roles = refl
 
@@ -346,14 +350,15 @@ KeepsAccount-goes_on s input offer r was_open is_open on = record {
   ];
   takes = λ c there. elim (begin-takes on.begun input offer after r.outs (step_orders step roles) c on.may on.ordered
       (subst (λ (roles : Roles). Contains (used roles) c) on.roles (used_where r.next.state (roles_of r.next) c there).1)) [
-    | inl kept ↦ inl (in_use_where s.state roles c was_open (step-takes step roles roles.target c kept))
-    | inr taken ↦ inr taken
-  ];
+        | inl kept ↦ inl (in_use_where s.state roles c was_open (step-takes step roles roles.target c kept))
+        | inr taken ↦ inr taken
+      ];
   begins_to_drain = λ _ c there. step-begins_to_drain step roles roles.target r.outs (begin_orders on.begun) c on.ordered (subst (λ (ds : List Drain). Contains (undone ds) c) draining there);
   drains = λ _ c there. elim (step-drains step input roles roles.target c refl there) [
     | inl still ↦ inl (subst (λ (ds : List Drain). Contains (undone ds) c) (sym draining) still)
     | inr done ↦ inr done
-  ] }
+  ];
+}
   where
     roles : Roles
     roles = roles_of s
@@ -373,12 +378,14 @@ KeepsAccount-by s input offer r (ends was_open shut over) = record {
   gives_up = λ c there. inr (given_up-end over.end input (roles_of s) r.outs c over.fits over.ordered (used_where s.state (roles_of s) c there).1);
   takes = λ c there. absurd (shut (used_where r.next.state (roles_of r.next) c there).0);
   begins_to_drain = λ is_open. absurd (shut is_open);
-  drains = λ is_open. absurd (shut is_open) }
+  drains = λ is_open. absurd (shut is_open);
+}
 KeepsAccount-by s input offer r (had_ended was_shut shut nothing) = record {
   gives_up = λ c there. absurd (was_shut (used_where s.state (roles_of s) c there).0);
   takes = λ c there. absurd (shut (used_where r.next.state (roles_of r.next) c there).0);
   begins_to_drain = λ is_open. absurd (shut is_open);
-  drains = λ is_open. absurd (shut is_open) }
+  drains = λ is_open. absurd (shut is_open);
+}
 
 pub KeepsAccount-row : (s : Connection) (input : Input) (offer : Option Channel) (o : Option Row) → ChangesRolesBy s input offer o → OfRow (KeepsAccount s input offer) o
 KeepsAccount-row s input offer (Some r) changes = KeepsAccount-by s input offer r changes

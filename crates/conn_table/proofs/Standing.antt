@@ -1,5 +1,5 @@
 -- What is kept by the parts of a connection: its holds, its tenures, its list of old channels.
-use Rattle.std.proofs.Common.{◌≡◌, ℕ, zero, suc, ◌+◌, ◌≤◌, Bool, true, false, if◌then◌else◌, List, [], ◌∷◌, ◌++◌, length, drop, refl, le_trans, arith, length-append, eqb}
+use Rattle.std.proofs.Common.{◌≡◌, ℕ, zero, suc, ◌+◌, ◌≤◌, false, List, [], ◌∷◌, ◌++◌, length, drop, refl, le_trans, arith, length-append, eqb}
 use Rattle.std.proofs.lemmas.Bool.{eqb-false}
 use Rattle.std.specs.List.{AllByRecursion}
 use Rattle.conn_table.specs.declared.limits.TheConstants.{DOWN_LIMIT, UP_LIMIT}
@@ -12,14 +12,9 @@ use Rattle.dtap_codec.specs.declared.sapi.Sapi.TheVariants.{Zero, Three}
 use Rattle.hold_queue.specs.ChainState.{ChainState, Tenure, empty_tenure, new_chain, chain_count, tenures_count, put_in, first_cleared}
 use Rattle.hold_queue.specs.HoldState.{HoldState, new_hold, count, messages, with_messages}
 
--- ---- tests and lists
+-- ---- lists
 
--- both branches of a test, each where it is taken
-pub by_test : {A : Type 0} (P : A → Type 0) (test : Bool) (one other : A) → (test ≡ true → P one) → (test ≡ false → P other) → P (if test then one else other)
-by_test P true one other then_so else_so = then_so refl
-by_test P false one other then_so else_so = else_so refl
-
-AllByRecursion-push : {A : Type 0} (P : A → Type 0) (xs : List A) (x : A) → AllByRecursion P xs → P x → AllByRecursion P (xs ++ x ∷ [])
+pub AllByRecursion-push : {A : Type 0} (P : A → Type 0) (xs : List A) (x : A) → AllByRecursion P xs → P x → AllByRecursion P (xs ++ x ∷ [])
 AllByRecursion-push P [] x all this = (this, tt)
 AllByRecursion-push P (y ∷ ys) x all this = (all.0, AllByRecursion-push P ys x all.1 this)
 

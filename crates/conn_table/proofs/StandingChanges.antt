@@ -1,4 +1,5 @@
 -- Where a change ends, and where old channels leave: what holds of every connection is kept.
+use Rattle.std.proofs.lemmas.Bool.{cond_both}
 use Rattle.std.proofs.Common.{◌≡◌, ℕ, ◌+◌, ◌≤◌, ◌<◌, false, List, [], ◌∷◌, ◌++◌, length, refl, ◌∙◌, le_trans, arith, length-append, Option}
 use Rattle.conn_messages.specs.declared.channel.Change.{Change}
 use Rattle.conn_messages.specs.declared.channel.Channel.{Channel}
@@ -13,7 +14,7 @@ use Rattle.conn_table.specs.Connection.{Connection, enter}
 use Rattle.conn_table.specs.Standing.{FirstIsEmpty, DrainTime, IsAskedFor, Stands}
 use Rattle.conn_table.specs.Steps.{Row, begin_waiting, resting_stage, resting, moved, hand_held, ask_for_held, link_for, relay_held, done_at, leave, settled, settled_stage, shifted}
 use Rattle.conn_table.specs.Table.{complete, failure, release}
-use Rattle.conn_table.proofs.Standing.{by_test, StandsDown, StandsDown-without, StandsUp, StandsUp-ended, StandsUp-begun, FirstIsEmpty-begun, OldestDrains-more, DrainTime-more, FirstIsEmpty-ended, DrainTime-anew, DrainTime-done_at, length-ended, length-done_at, nothing}
+use Rattle.conn_table.proofs.Standing.{StandsDown, StandsDown-without, StandsUp, StandsUp-ended, StandsUp-begun, FirstIsEmpty-begun, OldestDrains-more, DrainTime-more, FirstIsEmpty-ended, DrainTime-anew, DrainTime-done_at, length-ended, length-done_at, nothing}
 use Rattle.dtap_codec.specs.declared.sapi.Sapi.TheVariants.{Zero}
 use Rattle.hold_queue.specs.ChainState.{empty_tenure}
 use Rattle.hold_queue.specs.HoldState.{HoldState, with_messages}
@@ -85,7 +86,7 @@ IsLeft-leave : (reference : ℕ) (ds : List Drain) (s : Connection) → length s
 IsLeft-leave reference [] s each first time down up =
     record { state = refl; link = refl; hold = refl; fewer = omega arith; lives = record { each = each; first = first; oldest = tt; time = time; down = down; up = up } }
 IsLeft-leave reference (d ∷ ds) s each first time down up =
-    by_test (λ (r : Row). IsLeft (length (d ∷ ds)) s r.next) d.is_done _ _
+    cond_both d.is_done _ _ (λ (r : Row). IsLeft (length (d ∷ ds)) s r.next)
     (λ done. IsLeft-more {t = next} refl refl refl (omega arith)
     (IsLeft-leave reference ds next (length-ended s.up.tenures (length ds) (each ∙ omega arith)) (FirstIsEmpty-ended s.up.tenures (length ds) (each ∙ omega arith)) (DrainTime-anew ds) down (StandsUp-ended s.up up)))
     (λ drains. record { state = refl; link = refl; hold = refl; fewer = omega arith; lives = record { each = each; first = first; oldest = drains; time = tt; down = down; up = up } })

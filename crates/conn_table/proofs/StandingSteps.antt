@@ -1,4 +1,5 @@
 -- The steps that rows are put together of keep what holds of every connection.
+use Rattle.std.proofs.lemmas.Bool.{cond_both}
 use Rattle.std.proofs.Common.{◌≡◌, ℕ, suc, ◌+◌, ◌≤◌, ◌<◌, Bool, true, false, ◌&&◌, List, [], ◌∷◌, ◌++◌, length, refl, sym, ◌∙◌, subst, arith, eqb, ltb-true, ltb-false, Option, Some, None, true≢false, lit<}
 use Rattle.bssmap_codec.specs.Layer3.{IsLayer3}
 use Rattle.conn_messages.specs.declared.causes.TheConstants.{EQUIPMENT_FAILURE}
@@ -20,7 +21,7 @@ use Rattle.conn_table.specs.Standing.{FirstIsEmpty, OldestDrains, DrainTime, IsA
 use Rattle.conn_table.specs.Steps.{Row, failing, may_begin, begin, after_waiting, begin_waiting, hold_down, hold_short_message, short_message, link_for, link_up, link_down, hold_up, relay_held}
 use Rattle.conn_table.specs.Streams.{OfRow}
 use Rattle.conn_table.specs.Table.{row_if}
-use Rattle.conn_table.proofs.Standing.{by_test, StandsDown, StandsDown-new, StandsDown-put, StandsDown-without, StandsUp, StandsUp-new, StandsUp-put, StandsUp-cleared, FirstIsEmpty-cleared, length-put_in, length-first_cleared, nothing}
+use Rattle.conn_table.proofs.Standing.{StandsDown, StandsDown-new, StandsDown-put, StandsDown-without, StandsUp, StandsUp-new, StandsUp-put, StandsUp-cleared, FirstIsEmpty-cleared, length-put_in, length-first_cleared, nothing}
 use Rattle.dtap_codec.specs.declared.sapi.Sapi.{Sapi}
 use Rattle.dtap_codec.specs.declared.sapi.Sapi.TheVariants.{Three}
 use Rattle.hold_queue.specs.ChainState.{ChainState, Tenure, chain_count, put_in}
@@ -243,7 +244,7 @@ Stands-link_down reference stage Up s was still is stands =
 pub Stands-hold_down : (reference : ℕ) (target : Target) (sapi : Sapi) (message : List ℕ) (s : Connection) → s.state ≡ Live reference (Changing target) → IsLayer3 message → Stands s → Stands (hold_down (Live reference (Changing target)) sapi message s).next
 Stands-hold_down reference target sapi message s is carried stands =
     let lives = alive reference (Changing target) s is stands in
-    by_test (λ (r : Row). Stands r.next) (eqb (count s.down) s.down.limit) _ _
+    cond_both (eqb (count s.down) s.down.limit) _ _ (λ (r : Row). Stands r.next)
     (λ full. Stands-failing (Live reference (Changing target)) s EQUIPMENT_FAILURE (Holds-of s stands))
     (λ room. Stands-live reference (Changing target) _ is (with_hold lives (StandsDown-put sapi message s.down lives.down room carried)) (in_stage reference (Changing target) s is stands))
 
@@ -251,7 +252,7 @@ Stands-hold_down reference target sapi message s is carried stands =
 Stands-hold_short : (reference : ℕ) (stage : Stage) (message : List ℕ) (s : Connection) → IsStill stage → s.state ≡ Live reference stage → IsLayer3 message → Stands s → Stands (hold_short_message (Live reference stage) message s).next
 Stands-hold_short reference stage message s still is carried stands =
     let lives = alive reference stage s is stands in
-    by_test (λ (r : Row). Stands r.next) (eqb (count s.down) s.down.limit) _ _
+    cond_both (eqb (count s.down) s.down.limit) _ _ (λ (r : Row). Stands r.next)
     (λ full. Stands-failing (Live reference stage) s EQUIPMENT_FAILURE (Holds-of s stands))
     (λ room. Stands-live reference stage _ is (with_hold lives (StandsDown-put Three message s.down lives.down room carried))
     (StandsIn-link stage s.draining s.down s.link Asked (s.down.three ++ message ∷ []) s.waits still tt (in_stage reference stage s is stands)))
@@ -268,7 +269,7 @@ FirstIsEmpty-put_in place sapi message (t ∷ ts) first = first
 pub Stands-hold_up : (reference : ℕ) (stage : Stage) (place : ℕ) (sapi : Sapi) (message : List ℕ) (s : Connection) → s.state ≡ Live reference stage → IsLayer3 message → Stands s → Stands (hold_up (Live reference stage) (suc place) sapi message s).next
 Stands-hold_up reference stage place sapi message s is carried stands =
     let lives = alive reference stage s is stands in
-    by_test (λ (r : Row). Stands r.next) (eqb (chain_count s.up) s.up.limit) _ _
+    cond_both (eqb (chain_count s.up) s.up.limit) _ _ (λ (r : Row). Stands r.next)
     (λ full. Stands-failing (Live reference stage) s EQUIPMENT_FAILURE (Holds-of s stands))
     (λ room. Stands-live reference stage _ is
     (with_chain lives (length-put_in (suc place) sapi message s.up.tenures) (FirstIsEmpty-put_in place sapi message s.up.tenures lives.first) (StandsUp-put (suc place) sapi message s.up lives.up room carried))
@@ -279,7 +280,7 @@ pub Stands-hold_first : (sapi : Sapi) (message : List ℕ) (s : Connection) → 
 Stands-hold_first sapi message s is carried stands =
     let awaits = by_state WaitConfirm s is stands in
     let holds = Holds-of s stands in
-    by_test (λ (r : Row). Stands r.next) (eqb (chain_count s.up) s.up.limit) _ _
+    cond_both (eqb (chain_count s.up) s.up.limit) _ _ (λ (r : Row). Stands r.next)
     (λ full. Stands-failing WaitConfirm s EQUIPMENT_FAILURE holds)
     (λ room. Stands-of _
     (subst (λ (state : State). StandsBy state s.draining s.down (put_in 0 sapi message s.up.tenures) s.link s.waits) (sym is)

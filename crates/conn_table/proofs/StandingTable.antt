@@ -20,7 +20,7 @@ use Rattle.conn_table.specs.Standing.{Stands, IsCarried}
 use Rattle.conn_table.specs.Steps.{Row, may_begin, begin}
 use Rattle.conn_table.specs.Streams.{OfRow}
 use Rattle.conn_table.specs.Table.{access, on_activation_ack, on_activation_nack, on_establish_indication, was_asked, on_establish_confirm, on_release_indication, on_error_indication, on_connection_failure, dtap_on_target, dtap_in, on_dtap, same_change, on_complete, on_failure, release_in, on_release_ack, on_move, on_confirm, on_refused, on_released, on_downlink, speech_request, on_assignment_request, on_cipher_mode_command, on_clear_command, on_expiry, is_some_draining, on_drain_expiry, drains_at, targets, on_station_down, on_switch_down, row_of}
-use Rattle.conn_table.proofs.Standing.{by_test}
+use Rattle.std.proofs.lemmas.Bool.{cond_both}
 use Rattle.dtap_codec.specs.declared.sapi.Sapi.{Sapi}
 use Rattle.dtap_codec.specs.declared.sapi.Sapi.TheVariants.{Zero, Three}
 use Rattle.conn_table.proofs.StandingSteps.{OfRow-row_if, Holds-of, Stands-removed, Stands-closed, Stands-failing, Stands-enter, by_state, alive, in_stage, Stands-live, StandsBut-of, StandsIn-waiting, Stands-begin, Stands-link_up, Stands-link_down, Stands-hold_down, Stands-short_message, Stands-hold_up, Stands-hold_first, Stands-confirmed}
@@ -52,7 +52,7 @@ activation_nack-stands _ s at offer is stands = tt
 access-stands : (initial : Option (List ℕ)) (s : Connection) → s.state ≡ WaitEstablish → Stands s → Stands (access initial s).next
 access-stands (Some initial) s is stands =
     let bare = by_state WaitEstablish s is stands in
-    by_test Next (leb (length initial) INITIAL_LIMIT) _ _
+    cond_both (leb (length initial) INITIAL_LIMIT) _ _ Next
     (λ fits. Stands-enter WaitConfirm s
     (record { none_drains = bare.0.none_drains; none_handed = bare.0.none_handed; one_tenure = rw bare.0.one_tenure refl; down_link = bare.1; none_waits = bare.0.none_waits }) stands)
     (λ long. Stands-removed s (Holds-of s stands))
@@ -139,13 +139,13 @@ move-stands _ s offer is stands = tt
 
 speech_request-stands : (reference : ℕ) (stage : Stage) (offer : Option Channel) (s : Connection) → s.state ≡ Live reference stage → Stands s → Stands (speech_request reference stage offer s).next
 speech_request-stands reference stage offer s is stands =
-    by_test Next (may_begin stage s.draining) _ _ (λ may. begin-stands reference stage Assignment offer s is may stands)
-    (λ full. by_test Next s.waits _ _ (λ _. stands) (λ _. Stands-live reference stage (record s { waits = true }) is (alive reference stage s is stands)
+    cond_both (may_begin stage s.draining) _ _ Next (λ may. begin-stands reference stage Assignment offer s is may stands)
+    (λ full. cond_both s.waits _ _ Next (λ _. stands) (λ _. Stands-live reference stage (record s { waits = true }) is (alive reference stage s is stands)
     (StandsIn-waiting stage s.draining s.down s.link full (StandsBut-of stage s.draining s.down s.link s.waits (in_stage reference stage s is stands)))))
 
 assignment_request-stands : (state : State) (s : Connection) (is_speech : Bool) (offer : Option Channel) → s.state ≡ state → Stands s → OfRow Next (on_assignment_request state s is_speech offer)
 assignment_request-stands (Live reference stage) s is_speech offer is stands =
-    by_test Next is_speech _ _ (λ _. speech_request-stands reference stage offer s is stands) (λ _. stands)
+    cond_both is_speech _ _ Next (λ _. speech_request-stands reference stage offer s is stands) (λ _. stands)
 assignment_request-stands _ s is_speech offer is stands = tt
 
 -- ---- the switch

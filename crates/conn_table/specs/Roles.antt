@@ -17,7 +17,7 @@ use Rattle.conn_table.specs.declared.state.State.TheVariants.{Live, Closed, Remo
 use Rattle.conn_table.specs.declared.state.Target.{Target}
 use Rattle.conn_table.specs.Connection.{Connection, is_at, drain_at}
 use Rattle.conn_table.specs.Steps.{Row, done_at, goes_to}
-use Rattle.conn_table.specs.Streams.{IsOpen, undone}
+use Rattle.conn_table.specs.Streams.{IsOpen, undone, IsApart, AreApart, used_channels}
 use Rattle.conn_table.specs.Table.{same_change}
 use Rattle.hold_queue.specs.HoldState.{HoldState}
 use Rattle.rsl_codec.specs.declared.rsl.Rsl.TheVariants.{ChannelActivation, DataRequest, RfChannelRelease}
@@ -78,9 +78,9 @@ after_step goes_back roles = record roles { target = None }
 after_step (leaves place) roles = record roles { draining = still_draining (done_at place roles.draining) }
 
 -- a change that begins has a target
-abbrev pub after_begin : Option Target → Roles → Roles
-after_begin None roles = roles
-after_begin (Some target) roles = record roles { target = Some (record { target = target; is_commanded = false }) }
+abbrev pub with_target : Option Target → Roles → Roles
+with_target None roles = roles
+with_target (Some target) roles = record roles { target = Some (record { target = target; is_commanded = false }) }
 
 -- ---- which step an input brings
 
@@ -167,7 +167,7 @@ Tells _ before down input outs = AllByRecursion (IsOfSwitch down input) outs
 pub record GoesOn (step : RoleStep) (before : Roles) (down : HoldState) (input : Input) (offer : Option Channel) (r : Row) : Type 0 where
   pub begun : Option Target
   pub may : MayBegin begun input offer (after_step step before)
-  pub roles : roles_of r.next ≡ after_begin begun (after_step step before)
+  pub roles : roles_of r.next ≡ with_target begun (after_step step before)
   pub ordered : orders r.outs ≡ step_orders step before ++ begin_orders begun
   pub tells : Tells step before down input r.outs
 
@@ -266,3 +266,13 @@ pub record KeepsAccount (s : Connection) (input : Input) (offer : Option Channel
   pub takes : (c : Channel) → Contains (channels_in_use r.next) c → Contains (channels_in_use s) c ⊎ IsTaken c input offer r.outs
   pub begins_to_drain : IsOpen r.next.state → (c : Channel) → Contains (undone r.next.draining) c → Contains (undone s.draining) c ⊎ ((c ≡ s.serving) × Contains r.outs (rf_channel_release c))
   pub drains : IsOpen r.next.state → (c : Channel) → Contains (undone s.draining) c → Contains (undone r.next.draining) c ⊎ IsAcknowledged c input
+
+-- ---- no two channels of a connection are the same
+
+-- the offer is none of these
+abbrev pub IsNew : Option Channel → List Channel → Type 0
+IsNew (Some c) channels = AllByRecursion (λ other. IsApart other c) channels
+IsNew None channels = Unit {0}
+
+abbrev pub StaysApart : Row → Type 0
+StaysApart r = IsOpen r.next.state → AreApart (used_channels r.next)

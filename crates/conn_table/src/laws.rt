@@ -4,9 +4,9 @@ ghost use Rattle.rsl_codec.specs.declared.values.RequestReference.{RequestRefere
 ghost use Rattle.dtap_codec.specs.declared.sapi.Sapi.{Sapi};
 ghost use Rattle.conn_table.specs.declared.input.Input.{Input};
 ghost use Rattle.conn_table.specs.Connection.{Connection, new_connection};
-ghost use Rattle.conn_table.specs.Roles.{ChangesRolesBy, KeepsAccount};
+ghost use Rattle.conn_table.specs.Roles.{ChangesRolesBy, IsNew, KeepsAccount, StaysApart};
 ghost use Rattle.conn_table.specs.Standing.{IsCarried, Stands};
-ghost use Rattle.conn_table.specs.Streams.{IsFinal, IsSilent, KeepsDownlink, OfRow};
+ghost use Rattle.conn_table.specs.Streams.{AreApart, IsFinal, IsSilent, KeepsDownlink, OfRow, used_channels};
 ghost use Rattle.conn_table.specs.Table.{row_of};
 
 /// What holds of every connection (`Stands`) holds of a new one, and of the next where a row fits. It is a law on the table:
@@ -38,8 +38,10 @@ pub fn closing_is_final()
 /// stations, and that the mobile gets nothing else but what the switch sent. Where no row fits, the input brings no step. From
 /// it follows the account: a channel in use that isn't any more was put its RF CHANNEL RELEASE, or its station broke, or its
 /// activation was refused; a new one is the offer, with its CHANNEL ACTIVATION put; an old channel was the serving one, with
-/// its RF CHANNEL RELEASE put, and remains until that is acknowledged. It does nothing.
+/// its RF CHANNEL RELEASE put, and remains until that is acknowledged. And no two channels of a connection are the same, where
+/// the offer is none of them. It does nothing.
 pub fn roles_change()
     ensures steps { (s : Connection) (input : Input) (offer : Option Channel) → Stands s → ChangesRolesBy s input offer (row_of s input offer) }
     ensures account { (s : Connection) (input : Input) (offer : Option Channel) → Stands s → OfRow (KeepsAccount s input offer) (row_of s input offer) }
+    ensures apart { (s : Connection) (input : Input) (offer : Option Channel) → Stands s → AreApart (used_channels s) → IsNew offer (used_channels s) → OfRow StaysApart (row_of s input offer) }
 {}

@@ -1,5 +1,6 @@
 use Rattle.conn_table.specs.Table.{row_of}
 use Rattle.conn_table.proofs.RolesAccount.{KeepsAccount-row}
+use Rattle.conn_table.proofs.RolesApart.{StaysApart-row}
 use Rattle.conn_table.proofs.RolesTable.{ChangesRoles-row}
 use Rattle.conn_table.proofs.laws.roles_change.Goals as goal
 
@@ -8,3 +9,6 @@ returns-clause-steps c s input offer stands = ChangesRoles-row s input offer sta
 
 pub returns-clause-account : goal.returns-clause-account
 returns-clause-account c s input offer stands = KeepsAccount-row s input offer (row_of s input offer) (ChangesRoles-row s input offer stands)
+
+pub returns-clause-apart : goal.returns-clause-apart
+returns-clause-apart c s input offer stands apart is_new = StaysApart-row s input offer (row_of s input offer) apart is_new (ChangesRoles-row s input offer stands)
