@@ -1,10 +1,3 @@
-mod Rows
-pub mod UplinkMessages
-pub mod UplinkPlaces
-pub mod UplinkRows
-pub mod UplinkSteps
-pub mod UplinkTable
-pub mod UplinkTenures
 pub mod Closing
 pub mod Downlink
 pub mod DownlinkMessages
@@ -16,7 +9,14 @@ pub mod RolesApart
 mod RolesRows
 pub mod RolesSteps
 pub mod RolesTable
+mod Rows
 pub mod Standing
 pub mod StandingChanges
 pub mod StandingSteps
 pub mod StandingTable
+pub mod UplinkMessages
+pub mod UplinkPlaces
+pub mod UplinkRows
+pub mod UplinkSteps
+pub mod UplinkTable
+pub mod UplinkTenures

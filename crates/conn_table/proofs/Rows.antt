@@ -7,11 +7,8 @@ use Rattle.conn_messages.specs.declared.out.Out.{Out}
 use Rattle.conn_messages.specs.Out.{out_of, outs_of}
 use Rattle.conn_table.specs.declared.input.Input.{Input}
 use Rattle.conn_table.specs.declared.input.Input.TheVariants as inputs
-use Rattle.conn_table.specs.declared.state.Clearing.TheVariants.{Due, Asked, Complete}
-use Rattle.conn_table.specs.declared.state.ShortMessageLink.TheVariants as links
-use Rattle.conn_table.specs.declared.state.Stage.TheVariants.{Active, Preparing, Changing, Draining}
-use Rattle.conn_table.specs.declared.state.State.{State}
-use Rattle.conn_table.specs.declared.state.State.TheVariants.{WaitActivation, WaitEstablish, WaitConfirm, Live, Closed, Removed}
+use Rattle.conn_table.specs.declared.state.Stage.TheVariants.{Active, Preparing, Draining}
+use Rattle.conn_table.specs.declared.state.State.TheVariants.{WaitConfirm, Live, Removed}
 use Rattle.conn_table.specs.Connection.{Connection, new_connection}
 use Rattle.conn_table.specs.Steps.{Row}
 use Rattle.conn_table.specs.Table.{row_of}
@@ -59,12 +56,22 @@ after s (t ∷ ts) = after (next_of s (row_of s t.input t.offer)) ts
 -- ---- two cells
 
 abbrev cell_1 : ℕ → Channel
-cell_1 number = record { station = 1; number = number; cell = 0x00 ∷ 0x00 ∷ 0xf1 ∷ 0x10 ∷ 0x00 ∷ 0x01 ∷ 0x00 ∷ 0x01 ∷ [];
-    description = record { arfcn = 20; ncc = 1; bcc = 1 }; reference = record { 0 = 0 } }
+cell_1 number = record {
+  station = 1;
+  number = number;
+  cell = 0x00 ∷ 0x00 ∷ 0xf1 ∷ 0x10 ∷ 0x00 ∷ 0x01 ∷ 0x00 ∷ 0x01 ∷ [];
+  description = record { arfcn = 20; ncc = 1; bcc = 1 };
+  reference = record { 0 = 0 };
+}
 
 abbrev cell_2 : ℕ → Channel
-cell_2 number = record { station = 2; number = number; cell = 0x00 ∷ 0x00 ∷ 0xf1 ∷ 0x10 ∷ 0x00 ∷ 0x01 ∷ 0x00 ∷ 0x02 ∷ [];
-    description = record { arfcn = 30; ncc = 2; bcc = 2 }; reference = record { 0 = 0 } }
+cell_2 number = record {
+  station = 2;
+  number = number;
+  cell = 0x00 ∷ 0x00 ∷ 0xf1 ∷ 0x10 ∷ 0x00 ∷ 0x01 ∷ 0x00 ∷ 0x02 ∷ [];
+  description = record { arfcn = 30; ncc = 2; bcc = 2 };
+  reference = record { 0 = 0 };
+}
 
 -- with the reference of the second handover
 abbrev again : Channel → Channel
@@ -764,4 +771,3 @@ fits_when_removed : fits (after active (turn inputs.SwitchDown None ∷ []))
     ≡ false ∷ false ∷ false ∷ false ∷ false ∷ false ∷ false ∷ false ∷ false ∷ false ∷ false ∷ false ∷ false ∷ false ∷ false ∷ false ∷ false ∷ false ∷ false ∷ false ∷ false ∷ false ∷ false ∷ false ∷ false ∷ false ∷ false ∷ false ∷ false ∷ false ∷ false ∷ false ∷ false ∷ false ∷ []
 unfolding row_of
 fits_when_removed = refl
-

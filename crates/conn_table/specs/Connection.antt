@@ -1,5 +1,5 @@
 -- A connection, as a record of its parts.
-use Rattle.std.specs.Prelude.{ℕ, suc, ◌==◌, ◌&&◌, not, Bool, true, false, if◌then◌else◌, List, [], ◌∷◌, length, Option, Some, None, option_map}
+use Rattle.std.specs.Prelude.{ℕ, suc, ◌==◌, ◌&&◌, not, Bool, false, if◌then◌else◌, List, [], ◌∷◌, length, Option, Some, None, option_map}
 use Rattle.conn_messages.specs.declared.channel.Channel.{Channel}
 use Rattle.conn_messages.specs.declared.channel.Place.{Place}
 use Rattle.conn_table.specs.declared.limits.TheConstants.{DOWN_LIMIT, UP_LIMIT}
@@ -37,8 +37,19 @@ pub record Connection : Type 0 where
 
 abbrev pub new_connection : ℕ → Channel → RequestReference → ℕ → Connection
 new_connection number channel request delay = record {
-    number = number; request = request; delay = delay; state = WaitActivation; serving = channel; link = Down; draining = [];
-    down = new_hold DOWN_LIMIT; up = new_chain UP_LIMIT; waits = false; waited = 0; drained = 0 }
+  number = number;
+  request = request;
+  delay = delay;
+  state = WaitActivation;
+  serving = channel;
+  link = Down;
+  draining = [];
+  down = new_hold DOWN_LIMIT;
+  up = new_chain UP_LIMIT;
+  waits = false;
+  waited = 0;
+  drained = 0;
+}
 
 -- in another state, whose timer begins
 abbrev pub enter : State → Connection → Connection
@@ -47,7 +58,14 @@ enter state s = record s { state = state; waited = 0 }
 -- in a last state: holds, timers, waiting request and old channels go
 abbrev pub emptied : State → Connection → Connection
 emptied state s = record s {
-    state = state; draining = []; down = new_hold s.down.limit; up = new_chain s.up.limit; waits = false; waited = 0; drained = 0 }
+  state = state;
+  draining = [];
+  down = new_hold s.down.limit;
+  up = new_chain s.up.limit;
+  waits = false;
+  waited = 0;
+  drained = 0;
+}
 
 -- ---- whose a place is
 

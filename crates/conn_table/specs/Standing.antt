@@ -1,12 +1,12 @@
 -- What holds of every connection, whatever came to it.
-use Rattle.std.specs.Prelude.{◌≡◌, ◌≢◌, ◌⊎◌, ℕ, ◌+◌, ◌≤◌, ◌<◌, Bool, true, false, List, [], ◌∷◌, length, Option, Some, None}
+use Rattle.std.specs.Prelude.{◌≡◌, ℕ, ◌+◌, ◌≤◌, ◌<◌, Bool, true, false, List, [], ◌∷◌, length, Some}
 use Rattle.std.specs.List.{AllByRecursion}
 use Rattle.conn_table.specs.declared.limits.TheConstants.{DOWN_LIMIT, DRAIN_LIMIT, UP_LIMIT}
 use Rattle.conn_table.specs.declared.input.Input.{Input}
 use Rattle.conn_table.specs.declared.input.Input.TheVariants.{EstablishIndication, Dtap, Downlink}
 use Rattle.conn_table.specs.declared.state.Drain.{Drain}
 use Rattle.conn_table.specs.declared.state.ShortMessageLink.{ShortMessageLink}
-use Rattle.conn_table.specs.declared.state.ShortMessageLink.TheVariants.{Down, Asked, Up}
+use Rattle.conn_table.specs.declared.state.ShortMessageLink.TheVariants.{Down, Asked}
 use Rattle.conn_table.specs.declared.state.Stage.{Stage}
 use Rattle.conn_table.specs.declared.state.Stage.TheVariants.{Active, Preparing, Changing, Draining}
 use Rattle.conn_table.specs.declared.state.State.{State}

@@ -31,7 +31,6 @@ abbrev pub row : List Message → Connection → Row
 row outs next = record { outs = outs; next = next }
 
 infixl 20 ◌then◌
-
 -- one step after the other
 abbrev pub ◌then◌ : Row → (Connection → Row) → Row
 r then step = row (r.outs ++ (step r.next).outs) (step r.next).next
@@ -114,8 +113,10 @@ resting reference s = enter (Live reference (resting_stage s.draining)) s
 -- the target serves; the channel that served drains, as the youngest
 abbrev pub moved : ℕ → Channel → Connection → Connection
 moved reference channel s = record (enter (Live reference Draining) s) {
-    serving = channel; draining = s.draining ++ record { channel = s.serving; is_done = false } ∷ [];
-    up = record s.up { tenures = s.up.tenures ++ empty_tenure ∷ [] } }
+  serving = channel;
+  draining = s.draining ++ record { channel = s.serving; is_done = false } ∷ [];
+  up = record s.up { tenures = s.up.tenures ++ empty_tenure ∷ [] };
+}
 
 -- ---- the switch's messages
 

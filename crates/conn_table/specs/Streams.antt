@@ -1,5 +1,5 @@
 -- What rows do to the streams of messages: to those of the mobile that are relayed, and to those of the switch that are handed.
-use Rattle.std.specs.Prelude.{◌≡◌, ℕ, ◌%◌, ◌==◌, ◌&&◌, ◌||◌, not, Bool, true, false, if◌then◌else◌, List, [], ◌∷◌, ◌++◌, map, filter, Option, Some, None}
+use Rattle.std.specs.Prelude.{◌≡◌, ℕ, ◌%◌, ◌==◌, ◌&&◌, ◌||◌, not, Bool, true, false, if◌then◌else◌, List, [], ◌∷◌, ◌++◌, filter, Option, Some, None}
 use Rattle.std.specs.List.{flat_map, AllByRecursion}
 use Rattle.bssmap_codec.specs.declared.bssap.Bssap.TheVariants.{Management, Transfer}
 use Rattle.bssmap_codec.specs.declared.bssmap.Bssmap.TheVariants.{CompleteLayer3Information, SapiNReject}
@@ -14,7 +14,7 @@ use Rattle.conn_table.specs.declared.state.Drain.{Drain}
 use Rattle.conn_table.specs.declared.state.Stage.TheVariants.{Preparing, Changing}
 use Rattle.conn_table.specs.declared.state.State.{State}
 use Rattle.conn_table.specs.declared.state.State.TheVariants.{Live, Closed, Removed}
-use Rattle.conn_table.specs.Connection.{Connection, is_at}
+use Rattle.conn_table.specs.Connection.{Connection}
 use Rattle.conn_table.specs.Steps.{Row}
 use Rattle.dtap_codec.specs.declared.message.TheConstants.{RADIO_RESOURCE}
 use Rattle.dtap_codec.specs.declared.sapi.Sapi.{Sapi}

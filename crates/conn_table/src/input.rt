@@ -7,18 +7,33 @@ use octets::Octets;
 #[derive(Drop)]
 pub enum Input {
     // ---- of a station (TS 48.058 clause 8), with the place where it comes from
-    ActivationAck { at: Place },
-    ActivationNack { at: Place },
+    ActivationAck {
+        at: Place,
+    },
+    ActivationNack {
+        at: Place,
+    },
     /// The mobile established a link, perhaps with its first message.
     EstablishIndication {
         at: Place,
         sapi: Sapi,
         message: Option<Octets>,
     },
-    EstablishConfirm { at: Place, sapi: Sapi },
-    ReleaseIndication { at: Place, sapi: Sapi },
-    ErrorIndication { at: Place, sapi: Sapi },
-    ConnectionFailure { at: Place },
+    EstablishConfirm {
+        at: Place,
+        sapi: Sapi,
+    },
+    ReleaseIndication {
+        at: Place,
+        sapi: Sapi,
+    },
+    ErrorIndication {
+        at: Place,
+        sapi: Sapi,
+    },
+    ConnectionFailure {
+        at: Place,
+    },
     /// A layer 3 message of the mobile whose discriminator isn't that of radio resource management.
     Dtap {
         at: Place,
@@ -38,20 +53,31 @@ pub enum Input {
         cause: RrCause,
     },
     /// RF CHANNEL RELEASE ACK.
-    ReleaseAck { at: Place },
+    ReleaseAck {
+        at: Place,
+    },
     /// A report on the serving channel decided for another cell.
     Move,
 
     // ---- of the switch (Q.713, TS 48.008 clause 3.2.1)
     /// CC, with the switch's reference.
-    ConnectionConfirm { source: Reference },
+    ConnectionConfirm {
+        source: Reference,
+    },
     /// CREF.
     ConnectionRefused,
     /// RLSD, with the switch's reference.
-    Released { source: Reference },
+    Released {
+        source: Reference,
+    },
     /// A layer 3 message for the mobile.
-    Downlink { sapi: Sapi, message: Octets },
-    AssignmentRequest { is_speech: bool },
+    Downlink {
+        sapi: Sapi,
+        message: Octets,
+    },
+    AssignmentRequest {
+        is_speech: bool,
+    },
     CipherModeCommand,
     ClearCommand,
 
@@ -61,7 +87,9 @@ pub enum Input {
     /// The drain time is over.
     DrainExpiry,
     /// The link of a station broke.
-    StationDown { station: u16 },
+    StationDown {
+        station: u16,
+    },
     /// The link of the switch broke.
     SwitchDown,
 }
