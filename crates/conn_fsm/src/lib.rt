@@ -9,5 +9,6 @@ mod drains;
 mod ends;
 mod links;
 mod places;
+mod release;
 mod switch;
 mod uplink;
