@@ -48,3 +48,22 @@ outs_in None number = []
 abbrev pub IsInitial : Option (List ℕ) → Type 0
 IsInitial None = Unit {0}
 IsInitial (Some message) = IsLayer3 message
+
+-- the frames of the row that fits, and the state that it ends in
+abbrev pub Plans : List Out → Option State → Option Row → Connection → Type 0
+Plans outs last r s = (outs ≡ outs_in r s.number) × EndsIn last r s
+
+-- the connection ends in this state, if there is one
+abbrev pub Closes : Option State → Connection → Connection → Type 0
+Closes (Some last) old new = new ≡ emptied last old
+Closes None old new = new ≡ old
+
+-- the frames are appended, and the connection ends in this state, if there is one
+abbrev pub Finishes : Option State → List Out → Bool → Connection → Connection → List Out → List Out → Type 0
+Finishes (Some last) made fits old new outs outs_after = (fits ≡ true) × (new ≡ emptied last old) × (outs_after ≡ outs ++ made)
+Finishes None made fits old new outs outs_after = (fits ≡ false) × (new ≡ old) × (outs_after ≡ outs ++ made)
+
+-- the row that fits is done, and these are its frames; where none does, nothing changes
+abbrev pub Commits : Option Row → Connection → Connection → List Out → Type 0
+Commits (Some r) old new outs = (new ≡ r.next) × (outs ≡ outs_of old.number r.outs)
+Commits None old new outs = (new ≡ old) × (outs ≡ [])

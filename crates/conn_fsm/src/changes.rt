@@ -70,13 +70,16 @@ impl Core {
     pub(crate) fn begin_with(
         &mut self,
         reference: Reference,
-        change: Change,
+        change: &Change,
         offer: Option<Channel>,
     )
-        ensures { self.new ≡ after_begin reference change offer self.old }
+        ensures { self.new ≡ after_begin reference change.now offer self.old }
     {
         if let Some(channel) = offer {
-            let target = Target { change, channel };
+            let target = Target {
+                change: *change,
+                channel,
+            };
             self.enter(State::Live(reference, Stage::Preparing(target)));
         }
     }
@@ -84,17 +87,17 @@ impl Core {
     fn begin(
         &mut self,
         reference: Reference,
-        change: Change,
-        offer: Option<Channel>,
+        change: &Change,
+        offer: &Option<Channel>,
         outputs: &mut Outputs,
     ) -> Result<(), Memory>
-        ensures done { OnOk result (Does (begin reference change offer self.old) self.old self.new outputs.old.outs outputs.new.outs) }
+        ensures done { OnOk result (Does (begin reference change.now offer.now self.old) self.old self.new outputs.old.outs outputs.new.outs) }
         ensures err { OnErr result (Stays self.old self.new outputs.old.outs outputs.new.outs) }
     {
         let mut put = Messages::new(self.alloc);
-        self.put_begin(reference, &change, offer, &mut put)?;
+        self.put_begin(reference, change, *offer, &mut put)?;
         self.put(&put, outputs)?;
-        self.begin_with(reference, change, offer);
+        self.begin_with(reference, change, *offer);
         Ok(())
     }
 
@@ -125,14 +128,14 @@ impl Core {
     {
         if begins {
             self.waits = false;
-            self.begin_with(reference, Change::Assignment, offer);
+            self.begin_with(reference, &Change::Assignment, offer);
         }
     }
 
     // ---- what a change held
 
     /// The held messages of a SAPI are handed on a channel.
-    #[tactic(auto, using(crate::proofs::Pushing::pushed, crate::proofs::Pushing::all_pushed, crate::proofs::Pushing::none_pushed, crate::proofs::Pushing::is_layer3))]
+    #[tactic(auto, using(crate::proofs::Pushing::all_at, crate::proofs::Pushing::all_taken))]
     pub(crate) fn put_held(
         &self,
         channel: &Channel,
@@ -502,7 +505,7 @@ impl Core {
         let state = self.state;
         match state {
             State::Live(reference, stage) if self.may_begin(stage) => {
-                self.begin(reference, Change::Handover, offer, outputs)?;
+                self.begin(reference, &Change::Handover, &offer, outputs)?;
                 Ok(true)
             }
             _ => Ok(false),
@@ -526,7 +529,7 @@ impl Core {
         if !is_speech {
             self.refuse_request(reference, BSS_NOT_EQUIPPED, outputs)?;
         } else if self.may_begin(stage) {
-            self.begin(reference, Change::Assignment, offer, outputs)?;
+            self.begin(reference, &Change::Assignment, &offer, outputs)?;
         } else if self.waits {
             self.refuse_request(reference, PROTOCOL_ERROR, outputs)?;
         } else {

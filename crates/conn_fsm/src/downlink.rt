@@ -86,17 +86,18 @@ impl Core {
         ensures done { OnOk result (Does (hold_short_message self.old.state message self.old) self.old self.new outputs.old.outs outputs.new.outs) }
         ensures err { OnErr result (Stays self.old self.new outputs.old.outs outputs.new.outs) }
     {
+        if self.down.is_full() {
+            return self.fail(EQUIPMENT_FAILURE, outputs);
+        }
         let mut put = Messages::new(self.alloc);
         if let ShortMessageLink::Down = self.link {
             put.push(establish_request(&self.serving))?;
         }
         let made = Outputs::made(self.alloc, self.number, &put)?;
         outputs.reserve(made.len())?;
-        match self.down.put(Sapi::Three, message.into_vec()) {
-            Ok(()) => {}
-            Err(HoldFault::Full(_)) => return self.fail(EQUIPMENT_FAILURE, outputs),
-            Err(HoldFault::Memory(_)) => return Err(Memory),
-        }
+        self.down
+            .put(Sapi::Three, message.into_vec())
+            .map_err(|_| Memory)?;
         outputs.append(made);
         self.link = ShortMessageLink::Asked;
         Ok(())

@@ -2,13 +2,23 @@
 //! the table in `conn_table`.
 #![tactic(auto)]
 
+pub use conn::Conn;
+pub use conn_messages::{Channel, Out, Outputs};
+pub use conn_table::Input;
+pub use plan::Plan;
+
 mod changes;
+mod conn;
 mod core;
 mod downlink;
 mod drains;
 mod ends;
 mod links;
 mod places;
+mod plan;
+mod planned;
 mod release;
+mod stepping;
 mod switch;
 mod uplink;
+mod views;

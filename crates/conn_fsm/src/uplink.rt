@@ -24,6 +24,7 @@ use octets::{Memory, Octets};
 
 impl Core {
     /// A layer 3 message of the mobile: of the first tenure it is relayed, of another held.
+    #[tactic(auto, using(crate::proofs::Pushing::tenure_within))]
     pub(crate) fn dtap(
         &mut self,
         at: Place,
@@ -148,6 +149,7 @@ impl Core {
     }
 
     /// The channel of the tenure at this place.
+    #[tactic(auto, using(crate::proofs::Pushing::channel_at, crate::proofs::Pushing::channel_behind))]
     pub(crate) fn channel_of(&self, tenure: usize) -> Channel
         ensures { result ≡ first_channel (dropped tenure self.now.draining) self.now.serving }
     {
@@ -158,6 +160,7 @@ impl Core {
     }
 
     /// What is held in the tenure at this place is relayed, SAPI 0 first.
+    #[tactic(auto, using(crate::proofs::Pushing::held_in, crate::proofs::Pushing::few_in, crate::proofs::Pushing::tenure_put))]
     pub(crate) fn put_tenure(
         &self,
         reference: Reference,
@@ -168,10 +171,11 @@ impl Core {
         ensures { OnOk result (put.new ≡ put.old ++ tenure_outs reference (first_channel (dropped tenure self.now.draining) self.now.serving) (dropped tenure self.now.up.tenures)) }
     {
         self.put_tenure_of(reference, tenure, Sapi::Zero, put)?;
-        self.put_tenure_of(reference, tenure, Sapi::Three, put)
+        self.put_tenure_of(reference, tenure, Sapi::Three, put)?;
+        Ok(())
     }
 
-    #[tactic(auto, using(crate::proofs::Pushing::pushed, crate::proofs::Pushing::all_pushed, crate::proofs::Pushing::none_pushed, crate::proofs::Pushing::is_layer3))]
+    #[tactic(auto, using(crate::proofs::Pushing::all_at, crate::proofs::Pushing::all_taken))]
     fn put_tenure_of(
         &self,
         reference: Reference,

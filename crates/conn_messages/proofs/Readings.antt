@@ -1,5 +1,5 @@
 -- What is written is read as the message that was put.
-use Rattle.std.proofs.Common.{◌≡◌, ℕ, ◌≤◌, ◌<◌, ◌^◌, ◌++◌, List, [], length, Some, None, Ok, refl, subst, ◌∙◌, ap, sym, arith, rules, append-nil, nat_lt, cond}
+use Rattle.std.proofs.Common.{◌≡◌, ℕ, ◌≤◌, ◌<◌, ◌^◌, ◌++◌, List, [], Some, None, Ok, refl, subst, rules, append-nil}
 use Rattle.octets.specs.declared.limits.TheConstants.{LENGTH_LIMIT}
 use Rattle.bssmap_codec.specs.declared.bssap.Bssap.{Bssap}
 use Rattle.bssmap_codec.specs.declared.sccp.Sccp.{Sccp}

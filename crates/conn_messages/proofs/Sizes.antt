@@ -1,21 +1,19 @@
 -- What can be written fits a frame.
-use Rattle.std.proofs.Common.{◌≡◌, ℕ, ◌+◌, ◌*◌, ◌≤◌, ◌++◌, ◌||◌, Bool, true, false, cond, List, [], ◌∷◌, length, length-append, Option, Some, None, option_map, refl, arith}
+use Rattle.std.proofs.Common.{◌≡◌, ℕ, ◌+◌, ◌*◌, ◌≤◌, ◌<◌, get_or, ◌||◌, Bool, true, false, cond, List, [], ◌∷◌, length, length-append, Option, Some, None, option_map, refl, arith}
 use Rattle.std.proofs.lemmas.Bool.{ltb-false}
 use Rattle.std.proofs.lemmas.Grind.{common_steps}
+use Rattle.std.proofs.lemmas.List.Elements.{All-from_recursion}
 use Rattle.std.specs.List.{AllByRecursion}
 use Rattle.octets.specs.declared.element.Format.{Format}
 use Rattle.octets.specs.declared.element.Format.TheVariants.{Tv, Tlv, TlvE}
 use Rattle.octets.specs.declared.limits.TheConstants.{LENGTH_LIMIT, MESSAGE_LIMIT}
 use Rattle.octets.specs.Element.{Element, element, format_in}
 use Rattle.octets.specs.Field.{Field, element_text_by}
-use Rattle.bssmap_codec.specs.declared.bssap.Bssap.{Bssap}
-use Rattle.bssmap_codec.specs.BssapText.{bssap_text}
-use Rattle.bssmap_codec.specs.SccpText.{sccp_text}
 use Rattle.conn_messages.specs.declared.message.Message.{Message}
 use Rattle.conn_messages.specs.declared.message.Message.TheVariants as puts
-use Rattle.conn_messages.specs.Out.{IsWritable, out_of}
+use Rattle.conn_messages.specs.Out.{IsSound, IsWritable, out_of}
 use Rattle.conn_messages.specs.OutputsState.{IsSendable}
-use Rattle.rsl_codec.specs.declared.fault.RslFault.{RslFault}
+use Rattle.ipa_framing.specs.declared.frame.TheConstants.{MAX_BODY}
 use Rattle.rsl_codec.specs.declared.fault.RslFault.TheVariants as faults
 use Rattle.rsl_codec.specs.declared.identifiers.TheConstants.{ELEMENTS}
 use Rattle.rsl_codec.specs.declared.rsl.Rsl.{Rsl}
@@ -110,7 +108,7 @@ fields_length [] short = omega arith
 fields_length (f ∷ fs) short =
     omega (arith, length-append (rsl_field_text f.id f.value) (rsl_fields_text fs), field_length f.id f.value short.0, fields_length fs short.1)
 
-rsl_length : (v : Rsl) → rsl_write_fault v ≡ None → length (rsl_text v) ≤ 2048
+rsl_length : (v : Rsl) → rsl_write_fault v ≡ None → length (rsl_text v) ≤ MAX_BODY
 rsl_length v e = let short = writable_short v e in omega (arith, fields_length (fields v) short.1, short.0)
 
 -- ---- every message
@@ -122,3 +120,8 @@ out_fits number (puts.Station station message) writable = rsl_length message wri
 out_fits number (puts.Request message) writable = grind (arith, common_steps, writable.short)
 out_fits number (puts.Data destination message) writable = grind (arith, common_steps, writable.short)
 out_fits number (puts.ReleaseComplete destination) writable = omega arith
+
+-- the frame of the message at a place
+pub out_fits_at : (number : ℕ) (list : List Message) (place : ℕ) (default : Message) → place < length list → AllByRecursion IsSound list → IsSendable (out_of number (get_or list place default))
+out_fits_at number list place default within all =
+    out_fits number (get_or list place default) (All-from_recursion IsSound list all place default within).0

@@ -59,6 +59,10 @@ IsLawfulMessage (Request message) = HasDlci message
 IsLawfulMessage (Data destination message) = IsReference destination × HasDlci message
 IsLawfulMessage (ReleaseComplete destination) = IsReference destination
 
+-- what can be written, and is read as it was put
+abbrev pub IsSound : Message → Type 0
+IsSound message = IsWritable message × IsLawfulMessage message
+
 -- Whoever gets the octets reads the message of them: RSL, or BSSAP in CR or DT1, or RLC.
 abbrev pub IsReadOf : ℕ → Message → List ℕ → Type 0
 IsReadOf number (Station station message) octets = rsl_reading octets ≡ Ok message

@@ -14,7 +14,6 @@ use Rattle.dtap_codec.specs.declared.sapi.Sapi.TheVariants.{Zero, Three}
 use Rattle.dtap_codec.specs.RrText.{rr_text}
 use Rattle.rsl_codec.specs.declared.channel_number.TheConstants.{FIRST_TCH_H, FIRST_SDCCH, PCH_AND_AGCH}
 use Rattle.rsl_codec.specs.declared.link_identifier.TheConstants.{MAIN_LINK_SAPI_0}
-use Rattle.rsl_codec.specs.declared.rsl.Rsl.{Rsl}
 use Rattle.rsl_codec.specs.declared.rsl.Rsl.TheVariants.{DataRequest, EstablishRequest, ImmediateAssignCommand, ChannelActivation, RfChannelRelease}
 use Rattle.rsl_codec.specs.declared.values.ActivationType.{ActivationType}
 use Rattle.rsl_codec.specs.declared.values.TheConstants.{IMMEDIATE_ASSIGNMENT, NORMAL_ASSIGNMENT, ASYNCHRONOUS_HANDOVER}

@@ -1,5 +1,5 @@
 -- The messages to the switch (TS 48.006 clause 9.3, TS 48.008 clause 3.2.1).
-use Rattle.std.specs.Prelude.{ℕ, nat_le, if◌then◌else◌, List, [], ◌∷◌, Option, Some, None}
+use Rattle.std.specs.Prelude.{ℕ, nat_le, if◌then◌else◌, List, [], ◌∷◌, Option, Some}
 use Rattle.bssmap_codec.specs.declared.bssap.Bssap.TheVariants.{Management, Transfer}
 use Rattle.bssmap_codec.specs.declared.bssmap.Bssmap.{Bssmap}
 use Rattle.bssmap_codec.specs.declared.bssmap.Bssmap.TheVariants.{AssignmentComplete, AssignmentFailure, HandoverPerformed, ClearComplete, ClearRequest, SapiNReject, CompleteLayer3Information, CipherModeReject}

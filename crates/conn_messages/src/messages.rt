@@ -1,13 +1,14 @@
 ghost use Rattle.std.specs.Prelude.{◌≡◌, ◌↔◌, [], ◌∷◌, ◌++◌, length, IsTrue, OnOk, OnErr};
 ghost use Rattle.std.specs.List.{AllByRecursion};
-ghost use Rattle.conn_messages.specs.Out.{IsWritable};
+ghost use Rattle.conn_messages.specs.Out.{IsLawfulMessage, IsSound, IsWritable};
 
 use crate::Message;
 use octets::Memory;
 use std::alloc::Global;
 use std::marker::Model;
 
-/// Messages that a connection puts, in order, each of which can be written. Contracts see their list.
+/// Messages that a connection puts, in order. Each can be written, and what is written is read as it. Contracts see their
+/// list.
 #[derive(Drop)]
 pub struct Messages {
     messages: Vec<Message>,
@@ -17,13 +18,13 @@ impl Model for Messages {
     ghost use Rattle.std.specs.Prelude.{List};
     ghost use Rattle.std.specs.List.{AllByRecursion};
     ghost use Rattle.conn_messages.specs.declared.message.Message.{Message as MessageValue};
-    ghost use Rattle.conn_messages.specs.Out.{IsWritable};
+    ghost use Rattle.conn_messages.specs.Out.{IsSound};
 
     ghost Value = { List MessageValue };
 
     ghost view = { λ m. m.messages.items };
 
-    ghost invariant = { λ m. AllByRecursion IsWritable m.messages.items };
+    ghost invariant = { λ m. AllByRecursion IsSound m.messages.items };
 }
 
 impl Messages {
@@ -38,7 +39,8 @@ impl Messages {
 
     /// Puts a message behind the others. An `Err` changes nothing.
     pub fn push(&mut self, message: Message) -> Result<(), Memory>
-        requires { IsWritable message }
+        requires writable { IsWritable message }
+        requires lawful { IsLawfulMessage message }
         ensures ok { OnOk result (self.new ≡ self.old ++ message ∷ []) }
         ensures err { OnErr result (self.new ≡ self.old) }
     {
@@ -63,7 +65,7 @@ impl Messages {
     /// The messages, in order.
     pub fn as_slice(&self) -> &[Message]
         ensures messages { result.now ≡ self.now }
-        ensures writable { AllByRecursion IsWritable result.now }
+        ensures sound { AllByRecursion IsSound result.now }
     {
         self.messages.as_slice()
     }

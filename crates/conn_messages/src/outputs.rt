@@ -1,6 +1,6 @@
 ghost use Rattle.std.specs.Prelude.{◌≡◌, ◌+◌, ◌≤◌, ◌<◌, ◌^◌, ◌↔◌, [], ◌∷◌, ◌++◌, length, IsTrue, IfOk, OnOk, OnErr, option_map, slice_get};
 ghost use Rattle.std.specs.List.{AllByRecursion};
-ghost use Rattle.conn_messages.specs.Out.{outs_of};
+ghost use Rattle.conn_messages.specs.Out.{IsSound, outs_of};
 ghost use Rattle.conn_messages.specs.OutputsState.{IsSendable};
 
 use crate::framing::frame_of;
@@ -41,7 +41,8 @@ impl Outputs {
     /// The frames that carry the messages of the connection with this number, in order.
     pub fn made(alloc: Global, number: u32, messages: &Messages) -> Result<Outputs, Memory>
         requires { number < 2 ^ 24 }
-        ensures { IfOk result (λ made. made.outs ≡ outs_of number messages.now) }
+        ensures made { IfOk result (λ made. made.outs ≡ outs_of number messages.now) }
+        ensures sound { AllByRecursion IsSound messages.now }
     {
         let mut made = Outputs::new(alloc);
         for message in messages.as_slice() {
@@ -67,6 +68,7 @@ impl Outputs {
     pub fn put_all(&mut self, alloc: Global, number: u32, messages: &Messages) -> Result<(), Memory>
         requires { number < 2 ^ 24 }
         ensures ok { OnOk result (self.new.outs ≡ self.old.outs ++ outs_of number messages.now) }
+        ensures sound { AllByRecursion IsSound messages.now }
         ensures err { OnErr result (self.new ≡ self.old) }
     {
         let made = Outputs::made(alloc, number, messages)?;

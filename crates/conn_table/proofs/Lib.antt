@@ -5,3 +5,16 @@ pub mod UplinkRows
 pub mod UplinkSteps
 pub mod UplinkTable
 pub mod UplinkTenures
+pub mod Closing
+pub mod Downlink
+pub mod DownlinkMessages
+pub mod DownlinkSteps
+pub mod DownlinkTable
+pub mod Roles
+pub mod RolesAccount
+pub mod RolesSteps
+pub mod RolesTable
+pub mod Standing
+pub mod StandingChanges
+pub mod StandingSteps
+pub mod StandingTable

@@ -1,4 +1,5 @@
 pub mod Connection
+pub mod Roles
 pub mod Standing
 pub mod Steps
 pub mod Streams

@@ -2,11 +2,13 @@
 #![tactic(auto)]
 
 pub use input::Input;
+pub use laws::{changing_is_silent, closing_is_final, downlink_is_kept, invariant_is_kept, roles_change};
 pub use limits::{DOWN_LIMIT, DRAIN_LIMIT, UP_LIMIT};
 pub use state::{Clearing, Drain, ShortMessageLink, Stage, State, Target};
 pub use uplink_law::uplink_is_kept;
 
 mod input;
+mod laws;
 mod limits;
 mod state;
 mod uplink_law;

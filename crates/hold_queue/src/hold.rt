@@ -1,4 +1,4 @@
-ghost use Rattle.std.specs.Prelude.{◌≡◌, ◌<◌, ◌≤◌, ◌↔◌, [], ◌∷◌, ◌++◌, length, IsTrue, OnOk, OnErr, IfErr, option_map, slice_get, drop as dropped};
+ghost use Rattle.std.specs.Prelude.{◌≡◌, ◌==◌, ◌<◌, ◌≤◌, ◌↔◌, [], ◌∷◌, ◌++◌, length, IsTrue, OnOk, OnErr, IfErr, option_map, slice_get, drop as dropped};
 ghost use Rattle.hold_queue.specs.ChainState.{tenure_count};
 ghost use Rattle.hold_queue.specs.HoldState.{HoldState, new_hold, messages, with_messages, count};
 ghost use Rattle.hold_queue.specs.Refusal.{HandsBack};
@@ -50,6 +50,13 @@ impl Hold {
         self.queues.len() == 0
     }
 
+    /// Whether as many messages as the limit are held, over both SAPIs.
+    pub fn is_full(&self) -> bool
+        ensures { result ≡ (count self.now == self.now.limit) }
+    {
+        self.len() == self.limit
+    }
+
     /// Puts a message behind those of its SAPI. It refuses with `Full` where as many as the limit are held over both
     /// SAPIs, then with `Memory`; either hands the message back and leaves the hold as it was.
     pub fn put(&mut self, sapi: Sapi, message: Vec<u8>) -> Result<(), HoldFault>
@@ -58,7 +65,7 @@ impl Hold {
         ensures refused { IfErr result (HandsBack self.old message.items) }
         ensures err { OnErr result (self.new ≡ self.old) }
     {
-        if self.len() == self.limit {
+        if self.is_full() {
             return Err(HoldFault::Full(message));
         }
         self.queues.put(sapi, message)

@@ -9,7 +9,9 @@ use Rattle.rsl_codec.specs.declared.rsl.Rsl.{Rsl}
 use Rattle.rsl_codec.specs.declared.rsl.Rsl.TheVariants as messages
 use Rattle.rsl_codec.specs.declared.rsl_type.RslType.{RslType}
 use Rattle.rsl_codec.specs.declared.rsl_type.RslType.TheVariants as types
+use Rattle.rsl_codec.specs.declared.values.TheConstants.{ASYNCHRONOUS_HANDOVER, IMMEDIATE_ASSIGNMENT, NORMAL_ASSIGNMENT}
 use Rattle.rsl_codec.specs.ChannelNumber.{channel_by, is_channel}
+use Rattle.rsl_codec.specs.LinkIdentifier.{short_message_link}
 use Rattle.rsl_codec.specs.RslReading.{rsl_reading, message_at, elements_of, breaks_off, channel_only_at, link_at, data_at, error_at, establishment_at, release_at, channel_required_at, assignment_at, activation_at, activation_ack_at, failure_at, detection_at, measurement_result_at}
 use Rattle.rsl_codec.specs.RslText.{rsl_text, rsl_element_text, rsl_write_fault}
 use Rattle.rsl_codec.specs.RslType.{rsl_discriminator, rsl_octet, rsl_type}
@@ -72,6 +74,16 @@ channel_read = refl
 
 channel_refused : channel_by 0x80 ≡ Err faults.BadChannel
 channel_refused = refl
+
+-- ---- links and activation types
+
+-- SAPI 3 on a TCH/F, the last TCH/H, the first SDCCH/4, an SDCCH/8
+short_message_links : map short_message_link (0x0a ∷ 0x1f ∷ 0x20 ∷ 0x41 ∷ []) ≡ 0x43 ∷ 0x43 ∷ 0x03 ∷ 0x03 ∷ []
+short_message_links = refl
+
+-- immediate assignment, normal assignment, asynchronous handover
+activation_types : map (λ kind. kind.0) (IMMEDIATE_ASSIGNMENT ∷ NORMAL_ASSIGNMENT ∷ ASYNCHRONOUS_HANDOVER ∷ []) ≡ 0x00 ∷ 0x01 ∷ 0x02 ∷ []
+activation_types = refl
 
 -- ---- each message: what the octets are read as, and what is written of it
 

@@ -1,0 +1,78 @@
+-- What holds of a connection is kept by its calls.
+use Rattle.std.proofs.Common.{◌≡◌, ◌++◌, ℕ, Bool, List, [], ◌∷◌, Option, Some, None, refl, sym, subst, ap, ◌∙◌}
+use Rattle.std.proofs.lemmas.List.{append-nil}
+use Rattle.conn_messages.specs.declared.channel.Channel.{Channel}
+use Rattle.conn_messages.specs.declared.out.Out.{Out}
+use Rattle.conn_table.specs.declared.input.Input.{Input}
+use Rattle.conn_table.specs.declared.input.Input.TheVariants as inputs
+use Rattle.conn_table.specs.declared.state.State.{State}
+use Rattle.conn_table.specs.declared.state.Drain.{Drain}
+use Rattle.conn_table.specs.Connection.{Connection, new_connection}
+use Rattle.conn_table.specs.Standing.{DrainTime, IsCarried, Stands}
+use Rattle.conn_table.specs.Steps.{Row}
+use Rattle.conn_table.specs.Streams.{OfRow}
+use Rattle.conn_table.specs.Table.{row_of}
+use Rattle.conn_table.proofs.StandingTable.{Stands-row}
+use Rattle.conn_table.proofs.StandingSteps.{Stands-new}
+use Rattle.rsl_codec.specs.declared.values.RequestReference.{RequestReference}
+use Rattle.conn_fsm.specs.Doing.{Closes, Commits, EndsIn, Finishes, IsPlanned, Plans, Stays, Steps}
+use Rattle.conn_fsm.specs.Views.{after_pass, drained_after, saturated}
+
+stands_by : (r : Option Row) (fits : Bool) (old new : Connection) (outs outs_after : List Out) →
+    Stands old → OfRow (λ r. Stands r.next) r → Steps r fits old new outs outs_after → Stands new
+stands_by (Some r) fits old new outs outs_after stands next done = subst Stands (sym done.1.0) next
+stands_by None fits old new outs outs_after stands next done = subst Stands (sym done.1.0) stands
+
+pub step_stands : (input : Input) (offer : Option Channel) (fits : Bool) (old new : Connection) (outs outs_after : List Out) →
+    Stands old → IsCarried input → Steps (row_of old input offer) fits old new outs outs_after → Stands new
+step_stands input offer fits old new outs outs_after stands carried done =
+    stands_by (row_of old input offer) fits old new outs outs_after stands (Stands-row old input offer stands carried) done
+
+pub stays_stands : (old new : Connection) (outs outs_after : List Out) → Stands old → Stays old new outs outs_after → Stands new
+stays_stands old new outs outs_after stands stays = subst Stands (sym stays.0) stands
+
+planned_carried : (input : Input) → IsPlanned input → IsCarried input
+planned_carried inputs.Expiry planned = tt
+planned_carried inputs.DrainExpiry planned = tt
+planned_carried (inputs.StationDown station) planned = tt
+planned_carried inputs.SwitchDown planned = tt
+planned_carried _ planned = absurd planned
+
+commits_by : (r : Option Row) (old new : Connection) (outs : List Out) → Stands old → OfRow (λ r. Stands r.next) r → Commits r old new outs → Stands new
+commits_by (Some r) old new outs stands next done = subst Stands (sym done.0) next
+commits_by None old new outs stands next done = subst Stands (sym done.0) stands
+
+pub commit_stands : (input : Input) (old new : Connection) (outs : List Out) → Stands old → IsPlanned input → Commits (row_of old input None) old new outs → Stands new
+commit_stands input old new outs stands planned done =
+    commits_by (row_of old input None) old new outs stands (Stands-row old input None stands (planned_carried input planned)) done
+
+-- ---- plans
+
+pub finished : (last : Option State) (made : List Out) (r : Option Row) (fits : Bool) (old new : Connection) (outs outs_after : List Out) →
+    Plans made last r old → Finishes last made fits old new outs outs_after → Steps r fits old new outs outs_after
+finished (Some last) made (Some r) fits old new outs outs_after plans done =
+    (done.0, (done.1 ∙ sym plans.1, done.2 ∙ ap (λ more. outs ++ more) plans.0))
+finished None made None fits old new outs outs_after plans done =
+    (done.0, (done.1, done.2 ∙ ap (λ more. outs ++ more) plans.0 ∙ append-nil outs))
+finished (Some last) made None fits old new outs outs_after plans done = absurd plans.1
+finished None made (Some r) fits old new outs outs_after plans done = absurd plans.1
+
+pub committed : (last : Option State) (made : List Out) (r : Option Row) (s new : Connection) → Plans made last r s → Closes last s new → Commits r s new made
+committed (Some last) made (Some r) s new plans closes = (closes ∙ sym plans.1, plans.0)
+committed None made None s new plans closes = (closes, plans.0)
+committed (Some last) made None s new plans closes = absurd plans.1
+committed None made (Some r) s new plans closes = absurd plans.1
+
+-- ---- beginnings, and time
+
+pub new_stands : (number : ℕ) (channel : Channel) (request : RequestReference) (delay : ℕ) → Stands (new_connection number channel request delay)
+new_stands number channel request delay = Stands-new number channel request delay
+
+drain_time : (ms : ℕ) (draining : List Drain) (drained : ℕ) → DrainTime draining drained → DrainTime draining (drained_after ms draining drained)
+drain_time ms [] drained time = time
+drain_time ms (d ∷ ds) drained time = tt
+
+pub pass_stands : (ms : ℕ) (s : Connection) → Stands s → Stands (after_pass ms s)
+pass_stands ms s stands = record {
+    state = stands.state; down_limit = stands.down_limit; up_limit = stands.up_limit; down_within = stands.down_within; up_within = stands.up_within;
+    down_zero = stands.down_zero; down_three = stands.down_three; up_messages = stands.up_messages; drain_time = drain_time ms s.draining s.drained stands.drain_time }

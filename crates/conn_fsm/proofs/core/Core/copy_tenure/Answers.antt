@@ -1,0 +1,9 @@
+use Rattle.std.proofs.Common.{rules}
+use Rattle.hold_queue.specs.ChainState.{messages_in}
+use Rattle.conn_fsm.proofs.Pushing.{copied_next}
+use Rattle.conn_fsm.proofs.core.Core.copy_tenure.Goals as goal
+
+pub loop-place-preserved : goal.loop-place-preserved
+loop-place-preserved c =
+    copied_next (messages_in c.args.tenure c.args.sapi c.args.self.now.up.tenures) c.loop-place.place c.in_ok-copy.field-0 c.args.list.now.items c.loop-place.list.items c.push.new.self.items
+    (search rules) c.loop-place.invariant (search rules)

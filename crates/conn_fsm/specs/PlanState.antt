@@ -1,0 +1,15 @@
+-- A plan for an expiry or a broken link.
+use Rattle.std.specs.Prelude.{List, Option}
+use Rattle.conn_messages.specs.declared.out.Out.{Out}
+use Rattle.conn_table.specs.declared.input.Input.{Input}
+use Rattle.conn_table.specs.declared.state.State.{State}
+use Rattle.conn_table.specs.Connection.{Connection}
+
+pub record PlanState : Type 0 where
+  -- the frames that are put
+  pub outs : List Out
+  -- the state that the connection ends in; None where no row fits
+  pub last : Option State
+  -- the connection and the input that it is a plan for
+  pub was : Connection
+  pub input : Input

@@ -1,0 +1,147 @@
+ghost use Rattle.std.specs.Prelude.{◌≡◌, ◌<◌, ◌^◌, None, IfOk, OnOk, OnErr};
+ghost use Rattle.conn_table.specs.Connection.{new_connection};
+ghost use Rattle.conn_table.specs.Standing.{IsCarried, Stands};
+ghost use Rattle.conn_table.specs.Table.{row_of};
+ghost use Rattle.hold_queue.specs.HoldState.{messages};
+ghost use Rattle.conn_fsm.specs.Doing.{Commits, IsPlanned, Stays, Steps};
+ghost use Rattle.conn_fsm.specs.Views.{after_pass, joined};
+
+use crate::Plan;
+use crate::core::Core;
+use conn_messages::{Channel, Outputs};
+use conn_table::{Input, State};
+use dtap_codec::Sapi;
+use octets::{Memory, Octets};
+use rsl_codec::{AccessDelay, RequestReference};
+use std::alloc::Global;
+use std::marker::Model;
+
+/// A connection of the base station controller: a mobile's way from its access to the clear (TS 48.008 clause 3.1,
+/// TS 44.018 clause 3). Each step is a row of the table.
+#[derive(Drop)]
+pub struct Conn {
+    core: Core,
+}
+
+impl Model for Conn {
+    ghost use Rattle.conn_table.specs.Connection.{Connection};
+    ghost use Rattle.conn_table.specs.Standing.{Stands};
+
+    ghost Value = { Connection };
+
+    ghost view = { λ c. c.core };
+
+    ghost invariant = { λ c. Stands c.core };
+}
+
+impl Conn {
+    /// A connection with this number, whose access channel was activated for the request of a CHANNEL REQUIRED and its access
+    /// delay. It makes the room for all old channels and keeps the allocator.
+    #[tactic(auto, using(crate::proofs::Keeping::new_stands))]
+    pub fn new(
+        alloc: Global,
+        number: u32,
+        channel: Channel,
+        request: RequestReference,
+        delay: AccessDelay,
+    ) -> Result<Conn, Memory>
+        requires { number < 2 ^ 24 }
+        ensures { IfOk result (λ c. c ≡ new_connection number channel request delay.0) }
+    {
+        let core = Core::new(alloc, number, channel, request, delay)?;
+        Ok(Conn { core })
+    }
+
+    /// Does the one row of the table that fits the input, with the channel that is offered to a change which begins in it:
+    /// its frames are appended, and it answers true; where no row fits it answers false, and nothing changes. Layer 3
+    /// messages have 1 to 251 octets. A refusal, for want of memory, changes nothing.
+    #[tactic(auto, unfolding(conn_table::specs::Table::row_of), using(crate::proofs::Keeping::step_stands))]
+    pub fn step(
+        &mut self,
+        input: Input,
+        offer: Option<Channel>,
+        outputs: &mut Outputs,
+    ) -> Result<bool, Memory>
+        requires { IsCarried input }
+        ensures done { IfOk result (λ fits. Steps (row_of self.old input offer) fits self.old self.new outputs.old.outs outputs.new.outs) }
+        ensures err { OnErr result (Stays self.old self.new outputs.old.outs outputs.new.outs) }
+    {
+        self.core.step(input, offer, outputs)
+    }
+
+    /// What an expiry or a broken link will make of the connection: with `commit` it is that step. A refusal is for want of
+    /// memory.
+    pub fn plan(&self, input: Input) -> Result<Plan, Memory>
+        requires { IsPlanned input }
+        ensures was { IfOk result (λ plan. plan.was ≡ self.now) }
+        ensures input { IfOk result (λ plan. plan.input ≡ input) }
+    {
+        self.core.plan(input)
+    }
+
+    /// Does the step that was planned, the connection being as it was, and gives its frames. It takes no memory.
+    #[tactic(auto, using(crate::proofs::Keeping::commit_stands))]
+    pub fn commit(&mut self, plan: Plan) -> Outputs
+        requires { plan.was ≡ self.old }
+        ensures { Commits (row_of self.old plan.input None) self.old self.new result.outs }
+    {
+        self.core.commit(plan)
+    }
+
+    /// So many milliseconds pass: for the state's timer, and for the drain time where a channel drains.
+    #[tactic(auto, using(crate::proofs::Keeping::pass_stands))]
+    pub fn pass(&mut self, ms: u32)
+        ensures { self.new ≡ after_pass ms self.old }
+    {
+        self.core.pass(ms);
+    }
+
+    /// The number of the connection, which is its reference too.
+    pub fn number(&self) -> u32
+        ensures number { result ≡ self.now.number }
+        ensures three_octets { result < 2 ^ 24 }
+    {
+        self.core.number
+    }
+
+    pub fn state(&self) -> State
+        ensures { result ≡ self.now.state }
+    {
+        self.core.state
+    }
+
+    /// The channel that serves.
+    pub fn serving(&self) -> Channel
+        ensures { result ≡ self.now.serving }
+    {
+        self.core.serving
+    }
+
+    /// Milliseconds in the state, as far as 64 bits say them.
+    pub fn waited(&self) -> u64
+        ensures { result ≡ self.now.waited }
+    {
+        self.core.waited
+    }
+
+    /// Milliseconds for which the oldest draining channel drained, as far as 64 bits say them; 0 where none drains.
+    pub fn drained(&self) -> u64
+        ensures { result ≡ self.now.drained }
+    {
+        self.core.drained
+    }
+
+    /// A copy of the switch's messages of a SAPI that are held, in order.
+    pub fn held(&self, sapi: Sapi) -> Result<Vec<Octets>, Memory>
+        ensures { IfOk result (λ list. list.items ≡ messages self.now.down sapi) }
+    {
+        self.core.held(sapi)
+    }
+
+    /// A copy of the mobile's messages of a SAPI that are held, those of the oldest tenure first, in order.
+    pub fn held_up(&self, sapi: Sapi) -> Result<Vec<Octets>, Memory>
+        ensures { IfOk result (λ list. list.items ≡ joined sapi self.now.up.tenures) }
+    {
+        self.core.held_up(sapi)
+    }
+}

@@ -1,0 +1,45 @@
+use crate::core::Core;
+use conn_messages::Outputs;
+use conn_table::{Input, State};
+use std::marker::Model;
+use std::snapshot::Snapshot;
+
+/// What an expiry or a broken link will make of a connection. All memory that the step wants is in it already.
+#[derive(Drop)]
+pub struct Plan {
+    pub(crate) outputs: Outputs,
+    pub(crate) last: Option<State>,
+    pub(crate) was: Snapshot<Core>,
+    pub(crate) input: Snapshot<Input>,
+}
+
+impl Model for Plan {
+    ghost use Rattle.std.specs.Prelude.{None};
+    ghost use Rattle.conn_table.specs.Table.{row_of};
+    ghost use Rattle.conn_fsm.specs.Doing.{IsPlanned, Plans};
+    ghost use Rattle.conn_fsm.specs.PlanState.{PlanState};
+
+    ghost Value = { PlanState };
+
+    ghost view = { λ plan. record { outs = plan.outputs.outs; last = plan.last; was = plan.was.value; input = plan.input.value } };
+
+    ghost invariant = { λ plan. IsPlanned plan.input.value × Plans plan.outputs.outs plan.last (row_of plan.was.value plan.input.value None) plan.was.value };
+}
+
+impl Plan {
+    ghost use Rattle.std.specs.Prelude.{◌≡◌, ◌↔◌, Some, IsTrue, length};
+
+    /// How many frames it puts.
+    pub fn len(&self) -> usize
+        ensures { result ≡ length self.now.outs }
+    {
+        self.outputs.len()
+    }
+
+    /// Whether it puts none.
+    pub fn is_empty(&self) -> bool
+        ensures { IsTrue result ↔ (length self.now.outs ≡ 0) }
+    {
+        self.outputs.len() == 0
+    }
+}

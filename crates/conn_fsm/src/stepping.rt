@@ -1,0 +1,141 @@
+ghost use Rattle.std.specs.Prelude.{◌≡◌, None, IfOk, OnErr};
+ghost use Rattle.conn_table.specs.Standing.{IsCarried, Stands};
+ghost use Rattle.conn_table.specs.Table.{row_of};
+ghost use Rattle.conn_fsm.specs.Doing.{Closes, Commits, Finishes, IsPlanned, Stays, Steps};
+ghost use Rattle.conn_fsm.specs.Views.{after_pass};
+
+use crate::Plan;
+use crate::core::Core;
+use crate::planned::Ending;
+use conn_messages::{Channel, Outputs};
+use conn_table::{Input, State};
+use octets::Memory;
+use std::snapshot::Snapshot;
+
+impl Core {
+    /// The row that fits.
+    #[tactic(auto, unfolding(conn_table::specs::Table::row_of), using(crate::proofs::Keeping::finished))]
+    pub(crate) fn step(
+        &mut self,
+        input: Input,
+        offer: Option<Channel>,
+        outputs: &mut Outputs,
+    ) -> Result<bool, Memory>
+        requires stands { Stands self.old }
+        requires carried { IsCarried input }
+        ensures done { IfOk result (λ fits. Steps (row_of self.old input offer) fits self.old self.new outputs.old.outs outputs.new.outs) }
+        ensures err { OnErr result (Stays self.old self.new outputs.old.outs outputs.new.outs) }
+    {
+        match input {
+            Input::ActivationAck { at } => self.activation_ack(at, outputs),
+            Input::ActivationNack { at } => self.activation_nack(at, offer, outputs),
+            Input::EstablishIndication { at, sapi, message } => {
+                self.establish_indication(at, sapi, message, outputs)
+            }
+            Input::EstablishConfirm { at, sapi } => self.establish_confirm(at, sapi, outputs),
+            Input::ReleaseIndication { at, sapi } => self.release_indication(at, sapi, outputs),
+            Input::ErrorIndication { at, sapi } => self.error_indication(at, sapi, outputs),
+            Input::ConnectionFailure { at } => self.main_link_lost(at, outputs),
+            Input::Dtap { at, sapi, message } => self.dtap(at, sapi, message, outputs),
+            Input::Complete { at, change, cause } => {
+                self.completed(at, change, cause, offer, outputs)
+            }
+            Input::Failure { at, change, cause } => self.failed(at, change, cause, offer, outputs),
+            Input::ReleaseAck { at } => self.release_ack(at, offer, outputs),
+            Input::Move => self.move_away(offer, outputs),
+            Input::ConnectionConfirm { source } => self.confirm(source, outputs),
+            Input::ConnectionRefused => self.refused(outputs),
+            Input::Released { source } => self.released(source, outputs),
+            Input::Downlink { sapi, message } => self.downlink(sapi, message, outputs),
+            Input::AssignmentRequest { is_speech } => {
+                self.assignment_request(is_speech, offer, outputs)
+            }
+            Input::CipherModeCommand => self.cipher_mode_command(outputs),
+            Input::ClearCommand => self.clear_command(outputs),
+            Input::Expiry => {
+                let ending = self.expiry()?;
+                self.finish(ending, outputs)
+            }
+            Input::DrainExpiry => {
+                let ending = self.drain_expiry()?;
+                self.finish(ending, outputs)
+            }
+            Input::StationDown { station } => {
+                let ending = self.station_down(station)?;
+                self.finish(ending, outputs)
+            }
+            Input::SwitchDown => {
+                let ending = self.switch_down()?;
+                self.finish(ending, outputs)
+            }
+        }
+    }
+
+    // The connection ends as its ending says, where a row fits.
+    fn finish(&mut self, ending: Ending, outputs: &mut Outputs) -> Result<bool, Memory>
+        ensures done { IfOk result (λ fits. Finishes ending.last ending.outputs.outs fits self.old self.new outputs.old.outs outputs.new.outs) }
+        ensures err { OnErr result (Stays self.old self.new outputs.old.outs outputs.new.outs) }
+    {
+        let Ending {
+            outputs: made,
+            last,
+        } = ending;
+        outputs.reserve(made.len())?;
+        outputs.append(made);
+        let fits = last.is_some();
+        self.close(last);
+        Ok(fits)
+    }
+
+    // The connection ends in this state, if there is one.
+    fn close(&mut self, last: Option<State>)
+        ensures { Closes last self.old self.new }
+    {
+        if let Some(last) = last {
+            self.empty(last);
+        }
+    }
+
+    /// What an expiry or a broken link will make of the connection.
+    #[tactic(auto, unfolding(conn_table::specs::Table::row_of))]
+    pub(crate) fn plan(&self, input: Input) -> Result<Plan, Memory>
+        requires { IsPlanned input }
+        ensures was { IfOk result (λ plan. plan.was ≡ self.now) }
+        ensures input { IfOk result (λ plan. plan.input ≡ input) }
+    {
+        let ending = match &input {
+            Input::Expiry => self.expiry()?,
+            Input::DrainExpiry => self.drain_expiry()?,
+            Input::StationDown { station } => self.station_down(*station)?,
+            Input::SwitchDown => self.switch_down()?,
+            _ => unreachable!(),
+        };
+        Ok(Plan {
+            outputs: ending.outputs,
+            last: ending.last,
+            was: Snapshot::of(self),
+            input: Snapshot::of(&input),
+        })
+    }
+
+    /// Does the step that was planned, and gives its frames.
+    #[tactic(auto, using(crate::proofs::Keeping::committed))]
+    pub(crate) fn commit(&mut self, plan: Plan) -> Outputs
+        requires { plan.was ≡ self.old }
+        ensures { Commits (row_of self.old plan.input None) self.old self.new result.outs }
+    {
+        let Plan { outputs, last, .. } = plan;
+        self.close(last);
+        outputs
+    }
+
+    /// So many milliseconds pass: for the state's timer, and for the drain time where a channel drains.
+    pub(crate) fn pass(&mut self, ms: u32)
+        ensures { self.new ≡ after_pass ms self.old }
+    {
+        self.waited = self.waited.saturating_add(u64::from(ms));
+        if !self.draining.is_empty() {
+            self.drained = self.drained.saturating_add(u64::from(ms));
+        }
+    }
+}

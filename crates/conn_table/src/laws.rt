@@ -1,0 +1,45 @@
+ghost use Rattle.std.specs.Prelude.{ℕ, Option};
+ghost use Rattle.conn_messages.specs.declared.channel.Channel.{Channel};
+ghost use Rattle.rsl_codec.specs.declared.values.RequestReference.{RequestReference};
+ghost use Rattle.dtap_codec.specs.declared.sapi.Sapi.{Sapi};
+ghost use Rattle.conn_table.specs.declared.input.Input.{Input};
+ghost use Rattle.conn_table.specs.Connection.{Connection, new_connection};
+ghost use Rattle.conn_table.specs.Roles.{ChangesRolesBy, KeepsAccount};
+ghost use Rattle.conn_table.specs.Standing.{IsCarried, Stands};
+ghost use Rattle.conn_table.specs.Streams.{IsFinal, IsSilent, KeepsDownlink, OfRow};
+ghost use Rattle.conn_table.specs.Table.{row_of};
+
+/// What holds of every connection (`Stands`) holds of a new one, and of the next where a row fits. It is a law on the table:
+/// it does nothing.
+pub fn invariant_is_kept()
+    ensures at_first { (number : ℕ) (channel : Channel) (request : RequestReference) (delay : ℕ) → Stands (new_connection number channel request delay) }
+    ensures by_rows { (s : Connection) (input : Input) (offer : Option Channel) → Stands s → IsCarried input → OfRow (λ r. Stands r.next) (row_of s input offer) }
+{}
+
+/// Of each SAPI, what a row hands and then what is held is what was held and then what came, without what was rejected, until
+/// the connection closes; and what is handed goes to the channel that serves after the row. It does nothing.
+pub fn downlink_is_kept()
+    ensures { (sapi : Sapi) (s : Connection) (input : Input) (offer : Option Channel) → Stands s → OfRow (KeepsDownlink sapi s input) (row_of s input offer) }
+{}
+
+/// While the mobile changes its channel nothing is handed, nor by the row that commands it to. It does nothing.
+pub fn changing_is_silent()
+    ensures { (s : Connection) (input : Input) (offer : Option Channel) → OfRow IsSilent (row_of s input offer) }
+{}
+
+/// From the row that closes a connection on nothing is relayed or handed, and it doesn't open again; after CLEAR COMPLETE only
+/// RLC is put. It does nothing.
+pub fn closing_is_final()
+    ensures { (s : Connection) (input : Input) (offer : Option Channel) → OfRow (IsFinal s) (row_of s input offer) }
+{}
+
+/// What a row does to the roles of channels: the step that its input brings (the mobile is commanded, the change completes or
+/// goes back, old channels leave), and then perhaps a change begins; or the connection ends. It is said what is ordered of
+/// stations, and that the mobile gets nothing else but what the switch sent. Where no row fits, the input brings no step. From
+/// it follows the account: a channel in use that isn't any more was put its RF CHANNEL RELEASE, or its station broke, or its
+/// activation was refused; a new one is the offer, with its CHANNEL ACTIVATION put; an old channel was the serving one, with
+/// its RF CHANNEL RELEASE put, and remains until that is acknowledged. It does nothing.
+pub fn roles_change()
+    ensures steps { (s : Connection) (input : Input) (offer : Option Channel) → Stands s → ChangesRolesBy s input offer (row_of s input offer) }
+    ensures account { (s : Connection) (input : Input) (offer : Option Channel) → Stands s → OfRow (KeepsAccount s input offer) (row_of s input offer) }
+{}
