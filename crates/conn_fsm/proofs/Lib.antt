@@ -1,3 +1,4 @@
 pub mod Keeping
+pub mod Leaving
 pub mod OldChannels
 pub mod Pushing

@@ -1,3 +1,4 @@
 pub mod Doing
+pub mod Leaving
 pub mod PlanState
 pub mod Views

@@ -2,6 +2,7 @@ ghost use Rattle.std.specs.Prelude.{◌≡◌, ◌<◌, ◌≤◌, ◌↔◌, []
 ghost use Rattle.conn_table.specs.Connection.{drain_at};
 ghost use Rattle.conn_table.specs.Steps.{done_at};
 ghost use Rattle.conn_table.specs.Table.{drains_at};
+ghost use Rattle.conn_fsm.specs.Leaving.{leaving};
 
 use crate::places::is_at;
 use conn_messages::{Channel, Place};
@@ -65,6 +66,19 @@ impl Drains {
         self.list
             .iter()
             .position(|drain| is_at(at, &drain.channel) && !drain.is_done)
+    }
+
+    /// How many leave where the one at this place is done.
+    pub(crate) fn leaving(&self, place: usize) -> usize
+        ensures number { result ≡ leaving (done_at place self.now) }
+        ensures few { result ≤ length self.now }
+    {
+        for k in 0..self.list.len() {
+            if k != place && !self.list[k].is_done {
+                return k;
+            }
+        }
+        self.list.len()
     }
 
     /// Whether a channel of this station is there that isn't done.

@@ -1,13 +1,19 @@
-ghost use Rattle.std.specs.Prelude.{IfOk, OnErr};
-ghost use Rattle.conn_table.specs.Standing.{Stands};
-ghost use Rattle.conn_table.specs.Table.{on_release_ack};
-ghost use Rattle.conn_fsm.specs.Doing.{Stays, Steps};
+ghost use Rattle.std.specs.Prelude.{◌≡◌, ◌<◌, ◌≤◌, ◌+◌, ◌&&◌, ◌++◌, length, IfOk, OnOk, OnErr, drop as dropped};
+ghost use Rattle.conn_table.specs.declared.state.State.TheVariants.{Live};
+ghost use Rattle.conn_table.specs.Standing.{FirstIsEmpty, Stands};
+ghost use Rattle.conn_table.specs.Steps.{done_at, may_begin, settled};
+ghost use Rattle.conn_table.specs.Table.{on_release_ack, release};
+ghost use Rattle.conn_fsm.specs.Doing.{Does, Stays, Steps};
+ghost use Rattle.conn_fsm.specs.Leaving.{left, left_outs, oldest_left};
 
 use crate::core::Core;
-use conn_messages::{Channel, Outputs, Place};
+use bssmap_codec::Reference;
+use conn_messages::{Channel, Messages, Outputs, Place};
+use conn_table::{DRAIN_LIMIT, Stage, State};
 use octets::Memory;
 
 impl Core {
+    /// RF CHANNEL RELEASE ACK of an old channel.
     pub(crate) fn release_ack(
         &mut self,
         at: Place,
@@ -18,6 +24,117 @@ impl Core {
         ensures done { IfOk result (λ fits. Steps (on_release_ack self.old.state self.old at offer) fits self.old self.new outputs.old.outs outputs.new.outs) }
         ensures err { OnErr result (Stays self.old self.new outputs.old.outs outputs.new.outs) }
     {
-        Err(Memory)
+        let state = self.state;
+        let State::Live(reference, stage) = state else {
+            return Ok(false);
+        };
+        let Some(place) = self.draining.place_of(&at) else {
+            return Ok(false);
+        };
+        self.release(reference, &stage, place, &offer, outputs)?;
+        Ok(true)
+    }
+
+    // The channel at the place is done. While the oldest is, it leaves, and what is held in the next tenure is relayed.
+    #[tactic(auto, using(crate::proofs::Leaving::length_done))]
+    fn release(
+        &mut self,
+        reference: Reference,
+        stage: &Stage,
+        place: usize,
+        offer: &Option<Channel>,
+        outputs: &mut Outputs,
+    ) -> Result<(), Memory>
+        requires stands { Stands self.old }
+        requires live { self.old.state ≡ Live reference stage.now }
+        requires within { place < length self.old.draining }
+        ensures done { OnOk result (Does (release reference stage.now place offer.now self.old) self.old self.new outputs.old.outs outputs.new.outs) }
+        ensures err { OnErr result (Stays self.old self.new outputs.old.outs outputs.new.outs) }
+    {
+        let leaves = self.draining.leaving(place);
+        let begins = self.begins_without(leaves, stage);
+        let mut put = Messages::new(self.alloc);
+        self.put_left(reference, leaves, &mut put)?;
+        self.put_waiting(begins, reference, *offer, &mut put)?;
+        self.put(&put, outputs)?;
+        self.mark_done(place);
+        self.leave(leaves);
+        self.settle(reference, stage);
+        self.begin_waiting(begins, reference, *offer);
+        Ok(())
+    }
+
+    // Whether the waiting request begins once so many left.
+    fn begins_without(&self, leaves: usize, stage: &Stage) -> bool
+        requires { leaves ≤ length self.now.draining }
+        ensures { result ≡ (self.now.waits && may_begin stage.now (dropped leaves self.now.draining)) }
+    {
+        self.waits
+            && match stage {
+                Stage::Active => true,
+                Stage::Draining => self.draining.len() - leaves < DRAIN_LIMIT,
+                Stage::Preparing(_) | Stage::Changing(_) => false,
+            }
+    }
+
+    // What is held in the tenures behind those that leave is relayed.
+    fn put_left(
+        &self,
+        reference: Reference,
+        leaves: usize,
+        put: &mut Messages,
+    ) -> Result<(), Memory>
+        requires stands { Stands self.now }
+        requires few { leaves ≤ length self.now.draining }
+        ensures { OnOk result (put.new ≡ put.old ++ left_outs reference leaves self.now) }
+    {
+        for k in 0..leaves {
+            self.put_tenure(reference, k + 1, put)?;
+        }
+        Ok(())
+    }
+
+    // The channel at the place is done.
+    fn mark_done(&mut self, place: usize)
+        requires { place < length self.old.draining }
+        ensures { self.new ≡ record self.old { draining = done_at place self.old.draining } }
+    {
+        self.draining.mark_done(place);
+    }
+
+    // So many of the oldest leave.
+    #[tactic(auto, using(crate::proofs::Leaving::length_left, crate::proofs::Leaving::first_left))]
+    fn leave(&mut self, leaves: usize)
+        requires few { leaves ≤ length self.old.draining }
+        requires tenures { length self.old.up.tenures ≡ length self.old.draining + 1 }
+        requires first { FirstIsEmpty self.old.up.tenures }
+        ensures { self.new ≡ left leaves self.old }
+    {
+        for _k in 0..leaves {
+            self.leave_oldest();
+        }
+    }
+
+    // The oldest leaves, and its tenure with it. What the next held was relayed, and its drain time begins.
+    #[tactic(auto, using(crate::proofs::Leaving::first_of))]
+    fn leave_oldest(&mut self)
+        requires drains { 1 ≤ length self.old.draining }
+        requires tenures { length self.old.up.tenures ≡ length self.old.draining + 1 }
+        requires first { FirstIsEmpty self.old.up.tenures }
+        ensures { self.new ≡ oldest_left self.old }
+    {
+        self.draining.shift();
+        self.up.shift();
+        self.up.clear_first();
+        self.drained = 0;
+    }
+
+    // Draining without an old channel is Active.
+    fn settle(&mut self, reference: Reference, stage: &Stage)
+        ensures { self.new ≡ settled reference stage.now self.old.draining self.old }
+    {
+        if matches!(stage, Stage::Draining) && self.draining.is_empty() {
+            self.enter(State::Live(reference, Stage::Active));
+        }
     }
 }

@@ -1,0 +1,27 @@
+-- Old channels leave: how many, and what a connection is and puts then.
+use Rattle.std.specs.Prelude.{ℕ, zero, suc, if◌then◌else◌, List, [], ◌∷◌, ◌++◌, drop}
+use Rattle.conn_messages.specs.declared.message.Message.{Message}
+use Rattle.conn_table.specs.declared.state.Drain.{Drain}
+use Rattle.conn_table.specs.Connection.{Connection, first_channel}
+use Rattle.conn_table.specs.Steps.{tenure_outs}
+use Rattle.hold_queue.specs.ChainState.{first_cleared}
+
+-- how many leave: the oldest ones, as long as they are done
+abbrev pub leaving : List Drain → ℕ
+leaving [] = 0
+leaving (d ∷ ds) = if d.is_done then suc (leaving ds) else 0
+
+-- the oldest left, and the next tenure was relayed
+abbrev pub oldest_left : Connection → Connection
+oldest_left s = record s { draining = drop 1 s.draining; up = record s.up { tenures = first_cleared (drop 1 s.up.tenures) }; drained = 0 }
+
+-- so many left
+abbrev pub left : ℕ → Connection → Connection
+left zero s = s
+left (suc n) s = oldest_left (left n s)
+
+-- what is relayed then: the tenures behind those that left
+abbrev pub left_outs : ℕ → ℕ → Connection → List Message
+left_outs reference zero s = []
+left_outs reference (suc n) s =
+    left_outs reference n s ++ tenure_outs reference (first_channel (drop (suc n) s.draining) s.serving) (drop (suc n) s.up.tenures)
