@@ -1,5 +1,5 @@
 -- What holds of a connection is kept by its calls.
-use Rattle.std.proofs.Common.{◌≡◌, ◌++◌, ℕ, Bool, List, [], ◌∷◌, Option, Some, None, refl, sym, subst, ap, ◌∙◌}
+use Rattle.std.proofs.Common.{◌++◌, ℕ, Bool, List, [], ◌∷◌, Option, Some, None, sym, subst, ap, ◌∙◌}
 use Rattle.std.proofs.lemmas.List.{append-nil}
 use Rattle.conn_messages.specs.declared.channel.Channel.{Channel}
 use Rattle.conn_messages.specs.declared.out.Out.{Out}
@@ -15,8 +15,8 @@ use Rattle.conn_table.specs.Table.{row_of}
 use Rattle.conn_table.proofs.StandingTable.{Stands-row}
 use Rattle.conn_table.proofs.StandingSteps.{Stands-new}
 use Rattle.rsl_codec.specs.declared.values.RequestReference.{RequestReference}
-use Rattle.conn_fsm.specs.Doing.{Closes, Commits, EndsIn, Finishes, IsPlanned, Plans, Stays, Steps}
-use Rattle.conn_fsm.specs.Views.{after_pass, drained_after, saturated}
+use Rattle.conn_fsm.specs.Doing.{Closes, Commits, Finishes, IsPlanned, Plans, Stays, Steps}
+use Rattle.conn_fsm.specs.Views.{after_pass, drained_after}
 
 stands_by : (r : Option Row) (fits : Bool) (old new : Connection) (outs outs_after : List Out) →
     Stands old → OfRow (λ r. Stands r.next) r → Steps r fits old new outs outs_after → Stands new
@@ -74,5 +74,13 @@ drain_time ms (d ∷ ds) drained time = tt
 
 pub pass_stands : (ms : ℕ) (s : Connection) → Stands s → Stands (after_pass ms s)
 pass_stands ms s stands = record {
-    state = stands.state; down_limit = stands.down_limit; up_limit = stands.up_limit; down_within = stands.down_within; up_within = stands.up_within;
-    down_zero = stands.down_zero; down_three = stands.down_three; up_messages = stands.up_messages; drain_time = drain_time ms s.draining s.drained stands.drain_time }
+  state = stands.state;
+  down_limit = stands.down_limit;
+  up_limit = stands.up_limit;
+  down_within = stands.down_within;
+  up_within = stands.up_within;
+  down_zero = stands.down_zero;
+  down_three = stands.down_three;
+  up_messages = stands.up_messages;
+  drain_time = drain_time ms s.draining s.drained stands.drain_time;
+}

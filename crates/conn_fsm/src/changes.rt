@@ -13,7 +13,7 @@ ghost use Rattle.conn_table.specs.Table.{complete, failure, on_activation_ack, o
 ghost use Rattle.hold_queue.specs.HoldState.{messages};
 ghost use Rattle.conn_fsm.specs.Doing.{Does, Stays, Steps};
 
-use crate::core::Core;
+use crate::machine::Machine;
 use crate::places::{is_at, same_change};
 use bssmap_codec::{Reference, RrCause as ReportedCause};
 use conn_messages::causes::{
@@ -30,7 +30,7 @@ use conn_table::{DOWN_LIMIT, DRAIN_LIMIT, ShortMessageLink, Stage, State, Target
 use dtap_codec::{RrCause, Sapi};
 use octets::{Memory, Octets};
 
-impl Core {
+impl Machine {
     // ---- a change begins
 
     /// Whether a change may begin: in Active, and in Draining while there is room for one more old channel.
@@ -258,12 +258,7 @@ impl Core {
         ensures err { OnErr result (Stays self.old self.new outputs.old.outs outputs.new.outs) }
     {
         let mut put = Messages::new(self.alloc);
-        put.push(immediate_assign_command(
-            self.alloc,
-            &self.serving,
-            self.request,
-            self.delay,
-        )?)?;
+        put.push(immediate_assign_command(self.alloc, &self.serving, self.request, self.delay)?)?;
         self.put(&put, outputs)?;
         self.enter(State::WaitEstablish);
         Ok(())
@@ -280,12 +275,7 @@ impl Core {
         ensures err { OnErr result (Stays self.old self.new outputs.old.outs outputs.new.outs) }
     {
         let mut put = Messages::new(self.alloc);
-        put.push(change_command(
-            self.alloc,
-            &self.serving,
-            target.change,
-            &target.channel,
-        )?)?;
+        put.push(change_command(self.alloc, &self.serving, target.change, &target.channel)?)?;
         self.put(&put, outputs)?;
         self.link = ShortMessageLink::Down;
         self.enter(State::Live(reference, Stage::Changing(target)));
@@ -349,12 +339,7 @@ impl Core {
     {
         let mut put = Messages::new(self.alloc);
         if let Change::Assignment = change {
-            put.push(assignment_failure(
-                self.alloc,
-                reference,
-                EQUIPMENT_FAILURE,
-                None,
-            )?)?;
+            put.push(assignment_failure(self.alloc, reference, EQUIPMENT_FAILURE, None)?)?;
         }
         let begins = self.waits && self.may_begin(self.resting_stage());
         self.put_waiting(begins, reference, offer, &mut put)?;

@@ -7,7 +7,7 @@ ghost use Rattle.conn_fsm.specs.Doing.{Commits, IsPlanned, Stays, Steps};
 ghost use Rattle.conn_fsm.specs.Views.{after_pass, joined};
 
 use crate::Plan;
-use crate::core::Core;
+use crate::machine::Machine;
 use conn_messages::{Channel, Outputs};
 use conn_table::{Input, State};
 use dtap_codec::Sapi;
@@ -20,7 +20,7 @@ use std::marker::Model;
 /// TS 44.018 clause 3). Each step is a row of the table.
 #[derive(Drop)]
 pub struct Conn {
-    core: Core,
+    machine: Machine,
 }
 
 impl Model for Conn {
@@ -29,9 +29,9 @@ impl Model for Conn {
 
     ghost Value = { Connection };
 
-    ghost view = { λ c. c.core };
+    ghost view = { λ c. c.machine };
 
-    ghost invariant = { λ c. Stands c.core };
+    ghost invariant = { λ c. Stands c.machine };
 }
 
 impl Conn {
@@ -48,8 +48,8 @@ impl Conn {
         requires { number < 2 ^ 24 }
         ensures { IfOk result (λ c. c ≡ new_connection number channel request delay.0) }
     {
-        let core = Core::new(alloc, number, channel, request, delay)?;
-        Ok(Conn { core })
+        let machine = Machine::new(alloc, number, channel, request, delay)?;
+        Ok(Conn { machine })
     }
 
     /// Does the one row of the table that fits the input, with the channel that is offered to a change which begins in it:
@@ -66,7 +66,7 @@ impl Conn {
         ensures done { IfOk result (λ fits. Steps (row_of self.old input offer) fits self.old self.new outputs.old.outs outputs.new.outs) }
         ensures err { OnErr result (Stays self.old self.new outputs.old.outs outputs.new.outs) }
     {
-        self.core.step(input, offer, outputs)
+        self.machine.step(input, offer, outputs)
     }
 
     /// What an expiry or a broken link will make of the connection: with `commit` it is that step. A refusal is for want of
@@ -76,7 +76,7 @@ impl Conn {
         ensures was { IfOk result (λ plan. plan.was ≡ self.now) }
         ensures input { IfOk result (λ plan. plan.input ≡ input) }
     {
-        self.core.plan(input)
+        self.machine.plan(input)
     }
 
     /// Does the step that was planned, the connection being as it was, and gives its frames. It takes no memory.
@@ -85,7 +85,7 @@ impl Conn {
         requires { plan.was ≡ self.old }
         ensures { Commits (row_of self.old plan.input None) self.old self.new result.outs }
     {
-        self.core.commit(plan)
+        self.machine.commit(plan)
     }
 
     /// So many milliseconds pass: for the state's timer, and for the drain time where a channel drains.
@@ -93,7 +93,7 @@ impl Conn {
     pub fn pass(&mut self, ms: u32)
         ensures { self.new ≡ after_pass ms self.old }
     {
-        self.core.pass(ms);
+        self.machine.pass(ms);
     }
 
     /// The number of the connection, which is its reference too.
@@ -101,47 +101,47 @@ impl Conn {
         ensures number { result ≡ self.now.number }
         ensures three_octets { result < 2 ^ 24 }
     {
-        self.core.number
+        self.machine.number
     }
 
     pub fn state(&self) -> State
         ensures { result ≡ self.now.state }
     {
-        self.core.state
+        self.machine.state
     }
 
     /// The channel that serves.
     pub fn serving(&self) -> Channel
         ensures { result ≡ self.now.serving }
     {
-        self.core.serving
+        self.machine.serving
     }
 
     /// Milliseconds in the state, as far as 64 bits say them.
     pub fn waited(&self) -> u64
         ensures { result ≡ self.now.waited }
     {
-        self.core.waited
+        self.machine.waited
     }
 
     /// Milliseconds for which the oldest draining channel drained, as far as 64 bits say them; 0 where none drains.
     pub fn drained(&self) -> u64
         ensures { result ≡ self.now.drained }
     {
-        self.core.drained
+        self.machine.drained
     }
 
     /// A copy of the switch's messages of a SAPI that are held, in order.
     pub fn held(&self, sapi: Sapi) -> Result<Vec<Octets>, Memory>
         ensures { IfOk result (λ list. list.items ≡ messages self.now.down sapi) }
     {
-        self.core.held(sapi)
+        self.machine.held(sapi)
     }
 
     /// A copy of the mobile's messages of a SAPI that are held, those of the oldest tenure first, in order.
     pub fn held_up(&self, sapi: Sapi) -> Result<Vec<Octets>, Memory>
         ensures { IfOk result (λ list. list.items ≡ joined sapi self.now.up.tenures) }
     {
-        self.core.held_up(sapi)
+        self.machine.held_up(sapi)
     }
 }

@@ -7,7 +7,7 @@ ghost use Rattle.conn_table.specs.Steps.{hold_down, hold_short_message, request_
 ghost use Rattle.conn_table.specs.Table.{on_downlink};
 ghost use Rattle.conn_fsm.specs.Doing.{Does, Stays, Steps};
 
-use crate::core::Core;
+use crate::machine::Machine;
 use conn_messages::causes::EQUIPMENT_FAILURE;
 use conn_messages::station_message::{establish_request, handing};
 use conn_messages::{Messages, Outputs};
@@ -16,7 +16,7 @@ use dtap_codec::Sapi;
 use hold_queue::HoldFault;
 use octets::{Memory, Octets};
 
-impl Core {
+impl Machine {
     /// A layer 3 message for the mobile: while the channel changes it is held, and so is one of SAPI 3 while its link isn't
     /// up; else it is handed.
     pub(crate) fn downlink(

@@ -2,15 +2,15 @@ ghost use Rattle.std.specs.Prelude.{◌≡◌, ◌++◌, OnOk, OnErr, Some, None
 ghost use Rattle.conn_table.specs.Steps.{dropping, ending, end_outs, failing, target_release};
 ghost use Rattle.conn_fsm.specs.Doing.{Does, Stays};
 
-use crate::core::Core;
+use crate::machine::Machine;
+use conn_messages::causes::ABNORMAL_RELEASE;
 use conn_messages::station_message::{channel_release, rf_channel_release};
 use conn_messages::switch_message::clear_request;
-use conn_messages::causes::ABNORMAL_RELEASE;
 use conn_messages::{Messages, Outputs};
 use conn_table::{Clearing, Stage, State};
 use octets::Memory;
 
-impl Core {
+impl Machine {
     /// The release of the target, where there is one.
     pub(crate) fn put_target_release(&self, put: &mut Messages) -> Result<(), Memory>
         ensures { OnOk result (put.new ≡ put.old ++ target_release self.now.state) }

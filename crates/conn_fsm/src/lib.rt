@@ -9,11 +9,11 @@ pub use plan::Plan;
 
 mod changes;
 mod conn;
-mod core;
 mod downlink;
 mod drains;
 mod ends;
 mod links;
+mod machine;
 mod places;
 mod plan;
 mod planned;

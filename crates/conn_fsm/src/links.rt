@@ -6,7 +6,7 @@ ghost use Rattle.conn_table.specs.Steps.{link_down, link_up};
 ghost use Rattle.conn_table.specs.Table.{access, on_connection_failure, on_error_indication, on_establish_confirm, on_establish_indication, on_release_indication};
 ghost use Rattle.conn_fsm.specs.Doing.{Does, IsInitial, Stays, Steps};
 
-use crate::core::Core;
+use crate::machine::Machine;
 use crate::places::is_at;
 use bssmap_codec::Reference;
 use conn_messages::causes::RADIO_INTERFACE_FAILURE;
@@ -16,7 +16,7 @@ use conn_table::{ShortMessageLink, Stage, State};
 use dtap_codec::Sapi;
 use octets::{INITIAL_LIMIT, Memory, Octets};
 
-impl Core {
+impl Machine {
     // ---- access
 
     /// ESTABLISH INDICATION.
@@ -59,11 +59,7 @@ impl Core {
         match message {
             Some(initial) if initial.len() <= INITIAL_LIMIT => {
                 let mut put = Messages::new(self.alloc);
-                put.push(complete_layer3(
-                    self.alloc,
-                    &self.serving,
-                    initial.as_slice(),
-                )?)?;
+                put.push(complete_layer3(self.alloc, &self.serving, initial.as_slice())?)?;
                 self.put(&put, outputs)?;
                 self.enter(State::WaitConfirm);
                 Ok(())

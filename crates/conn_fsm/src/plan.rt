@@ -1,4 +1,4 @@
-use crate::core::Core;
+use crate::machine::Machine;
 use conn_messages::Outputs;
 use conn_table::{Input, State};
 use std::marker::Model;
@@ -9,7 +9,7 @@ use std::snapshot::Snapshot;
 pub struct Plan {
     pub(crate) outputs: Outputs,
     pub(crate) last: Option<State>,
-    pub(crate) was: Snapshot<Core>,
+    pub(crate) was: Snapshot<Machine>,
     pub(crate) input: Snapshot<Input>,
 }
 

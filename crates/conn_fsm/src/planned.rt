@@ -5,11 +5,9 @@ ghost use Rattle.conn_table.specs.Steps.{dropping, end_outs, failing, goes_to, t
 ghost use Rattle.conn_table.specs.Table.{on_drain_expiry, on_expiry, on_station_down, on_switch_down};
 ghost use Rattle.conn_fsm.specs.Doing.{Plans};
 
-use crate::core::Core;
+use crate::machine::Machine;
 use crate::places::targets;
-use conn_messages::causes::{
-    ABNORMAL_RELEASE, EQUIPMENT_FAILURE, RADIO_INTERFACE_MESSAGE_FAILURE,
-};
+use conn_messages::causes::{ABNORMAL_RELEASE, EQUIPMENT_FAILURE, RADIO_INTERFACE_MESSAGE_FAILURE};
 use conn_messages::station_message::{channel_release, rf_channel_release};
 use conn_messages::switch_message::clear_request;
 use conn_messages::{Messages, Outputs};
@@ -24,7 +22,7 @@ pub(crate) struct Ending {
     pub(crate) last: Option<State>,
 }
 
-impl Core {
+impl Machine {
     // No row fits.
     fn ending_none(&self) -> Ending
         ensures { Plans result.outputs.outs result.last None self.now }
@@ -98,8 +96,7 @@ impl Core {
             }
             State::WaitConfirm if serves => self.failing_without(station),
             State::Live(_, stage)
-                if serves || targets(station, stage) || self.draining.drains_at(station) =>
-            {
+                if serves || targets(station, stage) || self.draining.drains_at(station) => {
                 self.failing_without(station)
             }
             _ => Ok(self.ending_none()),
@@ -135,18 +132,13 @@ impl Core {
         self.put_target_release_without(station, put)
     }
 
-    fn put_target_release_without(
-        &self,
-        station: u16,
-        put: &mut Messages,
-    ) -> Result<(), Memory>
+    fn put_target_release_without(&self, station: u16, put: &mut Messages) -> Result<(), Memory>
         ensures { OnOk result (put.new ≡ put.old ++ filter (λ m. not (goes_to station m)) (target_release self.now.state)) }
     {
         let state = self.state;
         match state {
             State::Live(_, Stage::Preparing(target) | Stage::Changing(target))
-                if target.channel.station != station =>
-            {
+                if target.channel.station != station => {
                 put.push(rf_channel_release(&target.channel))
             }
             _ => Ok(()),

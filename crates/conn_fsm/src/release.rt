@@ -6,13 +6,13 @@ ghost use Rattle.conn_table.specs.Table.{on_release_ack, release};
 ghost use Rattle.conn_fsm.specs.Doing.{Does, Stays, Steps};
 ghost use Rattle.conn_fsm.specs.Leaving.{left, left_outs, oldest_left};
 
-use crate::core::Core;
+use crate::machine::Machine;
 use bssmap_codec::Reference;
 use conn_messages::{Channel, Messages, Outputs, Place};
 use conn_table::{DRAIN_LIMIT, Stage, State};
 use octets::Memory;
 
-impl Core {
+impl Machine {
     /// RF CHANNEL RELEASE ACK of an old channel.
     pub(crate) fn release_ack(
         &mut self,

@@ -5,14 +5,14 @@ ghost use Rattle.conn_fsm.specs.Doing.{Closes, Commits, Finishes, IsPlanned, Sta
 ghost use Rattle.conn_fsm.specs.Views.{after_pass};
 
 use crate::Plan;
-use crate::core::Core;
+use crate::machine::Machine;
 use crate::planned::Ending;
 use conn_messages::{Channel, Outputs};
 use conn_table::{Input, State};
 use octets::Memory;
 use std::snapshot::Snapshot;
 
-impl Core {
+impl Machine {
     /// The row that fits.
     #[tactic(auto, unfolding(conn_table::specs::Table::row_of), using(crate::proofs::Keeping::finished))]
     pub(crate) fn step(

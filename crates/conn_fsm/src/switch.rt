@@ -5,7 +5,7 @@ ghost use Rattle.conn_table.specs.Standing.{Stands};
 ghost use Rattle.conn_table.specs.Table.{on_cipher_mode_command, on_clear_command, on_confirm, on_refused, on_released};
 ghost use Rattle.conn_fsm.specs.Doing.{Does, Stays, Steps};
 
-use crate::core::Core;
+use crate::machine::Machine;
 use bssmap_codec::Reference;
 use conn_messages::causes::{ABNORMAL_RELEASE, NORMAL_EVENT};
 use conn_messages::switch_message::{
@@ -15,7 +15,7 @@ use conn_messages::{Messages, Outputs};
 use conn_table::{Clearing, Stage, State};
 use octets::Memory;
 
-impl Core {
+impl Machine {
     /// CC: what the mobile sent meanwhile is relayed; of a connection that ended meanwhile the clearing is asked for.
     pub(crate) fn confirm(
         &mut self,
@@ -117,11 +117,7 @@ impl Core {
     }
 
     // The mobile was dismissed, and CLEAR COMPLETE is still to be put.
-    fn clear_closed(
-        &mut self,
-        clearing: Clearing,
-        outputs: &mut Outputs,
-    ) -> Result<bool, Memory>
+    fn clear_closed(&mut self, clearing: Clearing, outputs: &mut Outputs) -> Result<bool, Memory>
         ensures done { IfOk result (λ fits. Steps (on_clear_command (Closed clearing) self.old) fits self.old self.new outputs.old.outs outputs.new.outs) }
         ensures err { OnErr result (Stays self.old self.new outputs.old.outs outputs.new.outs) }
     {

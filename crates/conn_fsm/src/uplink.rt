@@ -11,7 +11,7 @@ ghost use Rattle.conn_table.specs.Table.{dtap_before_access, dtap_on_target, on_
 ghost use Rattle.hold_queue.specs.ChainState.{messages_in};
 ghost use Rattle.conn_fsm.specs.Doing.{Does, Stays, Steps};
 
-use crate::core::Core;
+use crate::machine::Machine;
 use crate::places::is_at;
 use bssmap_codec::Reference;
 use conn_messages::causes::EQUIPMENT_FAILURE;
@@ -22,7 +22,7 @@ use dtap_codec::Sapi;
 use hold_queue::HoldFault;
 use octets::{Memory, Octets};
 
-impl Core {
+impl Machine {
     /// A layer 3 message of the mobile: of the first tenure it is relayed, of another held.
     #[tactic(auto, using(crate::proofs::Pushing::tenure_within))]
     pub(crate) fn dtap(

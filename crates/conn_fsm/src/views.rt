@@ -4,13 +4,13 @@ ghost use Rattle.hold_queue.specs.ChainState.{messages_in};
 ghost use Rattle.hold_queue.specs.HoldState.{messages};
 ghost use Rattle.conn_fsm.specs.Views.{joined};
 
-use crate::core::Core;
+use crate::machine::Machine;
 use conn_table::{DOWN_LIMIT, UP_LIMIT};
 use dtap_codec::Sapi;
 use hold_queue::TENURE_LIMIT;
 use octets::{Memory, Octets};
 
-impl Core {
+impl Machine {
     /// A copy of the switch's messages of a SAPI that are held.
     pub(crate) fn held(&self, sapi: Sapi) -> Result<Vec<Octets>, Memory>
         requires { Stands self.now }
@@ -51,12 +51,7 @@ impl Core {
 
     // Appends a copy of the messages of a SAPI that are held in a tenure.
     #[tactic(auto, using(crate::proofs::Pushing::all_taken))]
-    fn copy_tenure(
-        &self,
-        tenure: usize,
-        sapi: Sapi,
-        list: &mut Vec<Octets>,
-    ) -> Result<(), Memory>
+    fn copy_tenure(&self, tenure: usize, sapi: Sapi, list: &mut Vec<Octets>) -> Result<(), Memory>
         requires { length (messages_in tenure sapi self.now.up.tenures) ≤ UP_LIMIT }
         ensures { OnOk result (list.new.items ≡ list.old.items ++ messages_in tenure sapi self.now.up.tenures) }
     {

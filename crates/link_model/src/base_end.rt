@@ -6,9 +6,7 @@ ghost use Rattle.link_model.specs.Base.{is_active, new_base, after_activate, ref
 use crate::LinkFault;
 use dtap_codec::Sapi;
 use octets::{Memory, Octets};
-use rsl_codec::{
-    ActivationAck, ChanNo, Data, Establishment, FrameNumber, LinkId, Rsl,
-};
+use rsl_codec::{ActivationAck, ChanNo, Data, Establishment, FrameNumber, LinkId, Rsl};
 use std::alloc::Global;
 use std::collections::VecDeque;
 use std::marker::Model;

@@ -37,11 +37,7 @@ fn at(station: u16, octet: u8) -> Result<Place, Fail> {
 }
 
 /// Asserts that these frames were put.
-fn are(
-    rt: &(impl Abort + AllocGlobal),
-    outputs: &Outputs,
-    expected: &[Put],
-) -> Result<(), Fail> {
+fn are(rt: &(impl Abort + AllocGlobal), outputs: &Outputs, expected: &[Put]) -> Result<(), Fail> {
     assert!(rt; outputs.len() == expected.len());
     for (out, (link, body)) in outputs.as_slice().iter().zip(expected.iter()) {
         assert!(rt; out.to == *link && out.conn == 1);
@@ -105,7 +101,11 @@ fn confirmed(rt: &(impl Abort + AllocGlobal)) -> Result<Conn, Fail> {
     };
     let mut conn = Conn::new(alloc, 1, channel(1, 0x41)?, request, AccessDelay(5))?;
     let mut outputs = Outputs::new(alloc);
-    conn.step(Input::ActivationAck { at: at(1, 0x41)? }, None, &mut outputs)?;
+    conn.step(
+        Input::ActivationAck { at: at(1, 0x41)? },
+        None,
+        &mut outputs,
+    )?;
     let initial = Input::EstablishIndication {
         at: at(1, 0x41)?,
         sapi: Sapi::Zero,
@@ -162,7 +162,8 @@ fn a_life_with_an_assignment_and_short_messages(rt: HostRuntime) -> Result<(), F
     let command: Put = (
         1,
         &[
-            0x03, 0x01, 0x01, 0x41, 0x02, 0x00, 0x0b, 0x00, 0x06, 0x06, 0x2e, 0x0a, 0x20, 0x14, 0x00,
+            0x03, 0x01, 0x01, 0x41, 0x02, 0x00, 0x0b, 0x00, 0x06, 0x06, 0x2e, 0x0a, 0x20, 0x14,
+            0x00,
         ],
     );
     let ack = Input::ActivationAck { at: at(1, 0x0a)? };

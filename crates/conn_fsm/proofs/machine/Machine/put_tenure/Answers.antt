@@ -1,7 +1,7 @@
 use Rattle.std.proofs.Common.{drop}
 use Rattle.conn_table.specs.Connection.{first_channel}
 use Rattle.conn_fsm.proofs.Pushing.{tenure_put}
-use Rattle.conn_fsm.proofs.core.Core.put_tenure.Goals as goal
+use Rattle.conn_fsm.proofs.machine.Machine.put_tenure.Goals as goal
 
 pub returns : goal.returns
 returns c =

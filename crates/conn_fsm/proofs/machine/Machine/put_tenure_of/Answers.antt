@@ -2,7 +2,7 @@ use Rattle.std.proofs.Common.{rules}
 use Rattle.conn_messages.specs.SwitchMessage.{relaying}
 use Rattle.hold_queue.specs.ChainState.{messages_in}
 use Rattle.conn_fsm.proofs.Pushing.{put_next}
-use Rattle.conn_fsm.proofs.core.Core.put_tenure_of.Goals as goal
+use Rattle.conn_fsm.proofs.machine.Machine.put_tenure_of.Goals as goal
 
 pub loop-place-preserved : goal.loop-place-preserved
 loop-place-preserved c =

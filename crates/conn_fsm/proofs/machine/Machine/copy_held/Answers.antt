@@ -1,7 +1,7 @@
 use Rattle.std.proofs.Common.{rules}
 use Rattle.hold_queue.specs.HoldState.{messages}
 use Rattle.conn_fsm.proofs.Pushing.{copied_next}
-use Rattle.conn_fsm.proofs.core.Core.copy_held.Goals as goal
+use Rattle.conn_fsm.proofs.machine.Machine.copy_held.Goals as goal
 
 pub loop-place-preserved : goal.loop-place-preserved
 loop-place-preserved c =

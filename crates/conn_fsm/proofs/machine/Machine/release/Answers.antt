@@ -5,7 +5,7 @@ use Rattle.conn_table.specs.Connection.{Connection}
 use Rattle.conn_table.specs.Steps.{done_at}
 use Rattle.conn_fsm.specs.Leaving.{leaving}
 use Rattle.conn_fsm.proofs.Leaving.{does_next, does_outs}
-use Rattle.conn_fsm.proofs.core.Core.release.Goals as goal
+use Rattle.conn_fsm.proofs.machine.Machine.release.Goals as goal
 
 pub returns-clause-done : goal.returns-clause-done
 returns-clause-done c =

@@ -1,6 +1,6 @@
 use Rattle.std.proofs.Common.{◌≡◌, take}
 use Rattle.conn_fsm.specs.Views.{joined}
-use Rattle.conn_fsm.proofs.core.Core.held_up.Given as goal
+use Rattle.conn_fsm.proofs.machine.Machine.held_up.Given as goal
 
 abbrev pub invariant-loop-tenure : goal.invariant-loop-tenure
 invariant-loop-tenure l = l.list.items ≡ joined l.sapi (take l.tenure l.self.up.tenures)

@@ -1,7 +1,7 @@
 use Rattle.std.proofs.Common.{◌≡◌, ◌∙◌, Some, ap, sym}
 use Rattle.conn_table.specs.Connection.{Connection, drain_at}
 use Rattle.conn_fsm.proofs.Pushing.{drain_within}
-use Rattle.conn_fsm.proofs.core.Core.release_ack.Goals as goal
+use Rattle.conn_fsm.proofs.machine.Machine.release_ack.Goals as goal
 
 pub release-requires-clause-within : goal.release-requires-clause-within
 release-requires-clause-within c =

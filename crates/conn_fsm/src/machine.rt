@@ -15,7 +15,7 @@ use std::marker::Model;
 /// The parts of a connection, and the rows of its table. A row is done in this order: its messages are made, their frames
 /// are appended, and then the parts change, which takes no memory; so a refusal changes nothing.
 #[derive(Drop)]
-pub(crate) struct Core {
+pub(crate) struct Machine {
     pub(crate) alloc: Global,
     pub(crate) number: u32,
     pub(crate) request: RequestReference,
@@ -31,31 +31,42 @@ pub(crate) struct Core {
     pub(crate) drained: u64,
 }
 
-impl Model for Core {
+impl Model for Machine {
     ghost use Rattle.std.specs.Prelude.{◌<◌, ◌^◌};
     ghost use Rattle.conn_table.specs.Connection.{Connection};
 
     ghost Value = { Connection };
 
     ghost view = { λ c. record {
-        number = c.number; request = c.request; delay = c.delay.0; state = c.state; serving = c.serving; link = c.link;
-        draining = c.draining; down = c.down; up = c.up; waits = c.waits; waited = c.waited; drained = c.drained } };
+      number = c.number;
+      request = c.request;
+      delay = c.delay.0;
+      state = c.state;
+      serving = c.serving;
+      link = c.link;
+      draining = c.draining;
+      down = c.down;
+      up = c.up;
+      waits = c.waits;
+      waited = c.waited;
+      drained = c.drained;
+    } };
 
     ghost invariant = { λ c. c.number < 2 ^ 24 };
 }
 
-impl Core {
+impl Machine {
     pub(crate) fn new(
         alloc: Global,
         number: u32,
         channel: Channel,
         request: RequestReference,
         delay: AccessDelay,
-    ) -> Result<Core, Memory>
+    ) -> Result<Machine, Memory>
         requires { number < 2 ^ 24 }
         ensures { IfOk result (λ c. c ≡ new_connection number channel request delay.0) }
     {
-        Ok(Core {
+        Ok(Machine {
             alloc,
             number,
             request,

@@ -1,5 +1,5 @@
 use Rattle.conn_fsm.proofs.Pushing.{joined_more}
-use Rattle.conn_fsm.proofs.core.Core.held_up.Goals as goal
+use Rattle.conn_fsm.proofs.machine.Machine.held_up.Goals as goal
 
 pub loop-tenure-preserved : goal.loop-tenure-preserved
 loop-tenure-preserved c =

@@ -1,7 +1,7 @@
 use Rattle.std.proofs.Common.{◌≡◌, ◌+◌, length}
 use Rattle.conn_table.specs.Standing.{FirstIsEmpty}
 use Rattle.conn_fsm.specs.Leaving.{left}
-use Rattle.conn_fsm.proofs.core.Core.leave.Given as goal
+use Rattle.conn_fsm.proofs.machine.Machine.leave.Given as goal
 
 abbrev pub invariant-loop-k : goal.invariant-loop-k
 invariant-loop-k l = record {
