@@ -1,5 +1,5 @@
 -- What holds of a connection is kept by its calls.
-use Rattle.std.proofs.Common.{◌++◌, ℕ, Bool, List, [], ◌∷◌, Option, Some, None, sym, subst, ap, ◌∙◌}
+use Rattle.std.proofs.Common.{◌≡◌, ◌++◌, refl, ℕ, Bool, true, false, List, [], ◌∷◌, Option, Some, None, sym, subst, ap, ◌∙◌, arith}
 use Rattle.std.proofs.lemmas.List.{append-nil}
 use Rattle.conn_messages.specs.declared.channel.Channel.{Channel}
 use Rattle.conn_messages.specs.declared.out.Out.{Out}
@@ -11,11 +11,11 @@ use Rattle.conn_table.specs.Connection.{Connection, new_connection}
 use Rattle.conn_table.specs.Standing.{DrainTime, IsCarried, Stands}
 use Rattle.conn_table.specs.Steps.{Row}
 use Rattle.conn_table.specs.Streams.{OfRow}
-use Rattle.conn_table.specs.Table.{row_of}
+use Rattle.conn_table.specs.Table.{row_if, row_of}
 use Rattle.conn_table.proofs.StandingTable.{Stands-row}
 use Rattle.conn_table.proofs.StandingSteps.{Stands-new}
 use Rattle.rsl_codec.specs.declared.values.RequestReference.{RequestReference}
-use Rattle.conn_fsm.specs.Doing.{Closes, Commits, Finishes, IsPlanned, Plans, Stays, Steps}
+use Rattle.conn_fsm.specs.Doing.{Closes, Commits, Does, Finishes, IsPlanned, Plans, Stays, Steps}
 use Rattle.conn_fsm.specs.Views.{after_pass, drained_after}
 
 stands_by : (r : Option Row) (fits : Bool) (old new : Connection) (outs outs_after : List Out) →
@@ -51,14 +51,14 @@ commit_stands input old new outs stands planned done =
 pub finished : (last : Option State) (made : List Out) (r : Option Row) (fits : Bool) (old new : Connection) (outs outs_after : List Out) →
     Plans made last r old → Finishes last made fits old new outs outs_after → Steps r fits old new outs outs_after
 finished (Some last) made (Some r) fits old new outs outs_after plans done =
-    (done.0, (done.1 ∙ sym plans.1, done.2 ∙ ap (λ more. outs ++ more) plans.0))
+    (done.0, (done.1 ∙ sym plans.1, done.2 ∙ ap (λ more. outs ++ more) plans.0, plans.2))
 finished None made None fits old new outs outs_after plans done =
     (done.0, (done.1, done.2 ∙ ap (λ more. outs ++ more) plans.0 ∙ append-nil outs))
 finished (Some last) made None fits old new outs outs_after plans done = absurd plans.1
 finished None made (Some r) fits old new outs outs_after plans done = absurd plans.1
 
 pub committed : (last : Option State) (made : List Out) (r : Option Row) (s new : Connection) → Plans made last r s → Closes last s new → Commits r s new made
-committed (Some last) made (Some r) s new plans closes = (closes ∙ sym plans.1, plans.0)
+committed (Some last) made (Some r) s new plans closes = (closes ∙ sym plans.1, plans.0, plans.2)
 committed None made None s new plans closes = (closes, plans.0)
 committed (Some last) made None s new plans closes = absurd plans.1
 committed None made (Some r) s new plans closes = absurd plans.1
@@ -84,3 +84,9 @@ pass_stands ms s stands = record {
   up_messages = stands.up_messages;
   drain_time = drain_time ms s.draining s.drained stands.drain_time;
 }
+
+-- ---- a row that fits
+
+pub fitting : (test : Bool) (r : Row) (old new : Connection) (outs outs_after : List Out) → test ≡ true → Does r old new outs outs_after → Steps (row_if test r) true old new outs outs_after
+fitting true r old new outs outs_after holds done = (refl, done)
+fitting false r old new outs outs_after holds done = absurd (grind (arith, holds))

@@ -2,7 +2,8 @@
 use Rattle.std.specs.Prelude.{◌≡◌, ℕ, Bool, true, false, List, [], ◌++◌, Option, Some, None}
 use Rattle.bssmap_codec.specs.Layer3.{IsLayer3}
 use Rattle.conn_messages.specs.declared.out.Out.{Out}
-use Rattle.conn_messages.specs.Out.{outs_of}
+use Rattle.std.specs.List.{AllByRecursion}
+use Rattle.conn_messages.specs.Out.{IsSound, outs_of}
 use Rattle.conn_table.specs.declared.input.Input.{Input}
 use Rattle.conn_table.specs.declared.input.Input.TheVariants.{Expiry, DrainExpiry, StationDown, SwitchDown}
 use Rattle.conn_table.specs.declared.state.State.{State}
@@ -11,7 +12,7 @@ use Rattle.conn_table.specs.Steps.{Row}
 
 -- the row's messages are appended, and the connection is its next
 abbrev pub Does : Row → Connection → Connection → List Out → List Out → Type 0
-Does r old new outs outs_after = (new ≡ r.next) × (outs_after ≡ outs ++ outs_of old.number r.outs)
+Does r old new outs outs_after = (new ≡ r.next) × (outs_after ≡ outs ++ outs_of old.number r.outs) × AllByRecursion IsSound r.outs
 
 -- nothing is appended, and the connection is as it was
 abbrev pub Stays : Connection → Connection → List Out → List Out → Type 0
@@ -49,9 +50,14 @@ abbrev pub IsInitial : Option (List ℕ) → Type 0
 IsInitial None = Unit {0}
 IsInitial (Some message) = IsLayer3 message
 
+-- the messages of the row that fits can be written, and are read back as they are
+abbrev pub AreSound : Option Row → Type 0
+AreSound (Some r) = AllByRecursion IsSound r.outs
+AreSound None = Unit {0}
+
 -- the frames of the row that fits, and the state that it ends in
 abbrev pub Plans : List Out → Option State → Option Row → Connection → Type 0
-Plans outs last r s = (outs ≡ outs_in r s.number) × EndsIn last r s
+Plans outs last r s = (outs ≡ outs_in r s.number) × EndsIn last r s × AreSound r
 
 -- the connection ends in this state, if there is one
 abbrev pub Closes : Option State → Connection → Connection → Type 0
@@ -65,5 +71,5 @@ Finishes None made fits old new outs outs_after = (fits ≡ false) × (new ≡ o
 
 -- the row that fits is done, and these are its frames; where none does, nothing changes
 abbrev pub Commits : Option Row → Connection → Connection → List Out → Type 0
-Commits (Some r) old new outs = (new ≡ r.next) × (outs ≡ outs_of old.number r.outs)
+Commits (Some r) old new outs = (new ≡ r.next) × (outs ≡ outs_of old.number r.outs) × AllByRecursion IsSound r.outs
 Commits None old new outs = (new ≡ old) × (outs ≡ [])

@@ -1,12 +1,12 @@
 ghost use Rattle.std.specs.Prelude.{◌≡◌, ◌<◌, ◌≤◌, [], ◌∷◌, ◌++◌, None, map, length, IfOk, OnOk, OnErr};
 ghost use Rattle.std.specs.List.{AllByRecursion};
 ghost use Rattle.bssmap_codec.specs.Layer3.{IsLayer3};
-ghost use Rattle.conn_messages.specs.Out.{outs_of};
+ghost use Rattle.conn_messages.specs.Out.{IsSound, outs_of};
 ghost use Rattle.conn_messages.specs.StationMessage.{handing as handing_word};
 ghost use Rattle.conn_messages.specs.SwitchMessage as words;
 ghost use Rattle.conn_table.specs.declared.limits.TheConstants.{DRAIN_LIMIT};
 ghost use Rattle.conn_table.specs.declared.state.Stage.TheVariants.{Changing, Preparing};
-ghost use Rattle.conn_table.specs.declared.state.State.TheVariants.{Live};
+ghost use Rattle.conn_table.specs.declared.state.State.TheVariants.{Live, WaitActivation};
 ghost use Rattle.conn_table.specs.Standing.{Stands};
 ghost use Rattle.conn_table.specs.Steps.{after_begin, after_waiting, ask_for_held, begin, begin_outs, may_begin, moved, request_for, resting, resting_stage, waiting_outs};
 ghost use Rattle.conn_table.specs.Table.{complete, failure, on_activation_ack, on_activation_nack, on_complete, on_failure, on_move, on_assignment_request, assign_immediately, command_to, refuse};
@@ -223,13 +223,21 @@ impl Machine {
     {
         let state = self.state;
         match state {
-            State::WaitActivation if is_at(&at, &self.serving) => {
-                self.assign_immediately(outputs)?;
-                Ok(true)
-            }
+            State::WaitActivation => self.access_activated(&at, outputs),
             State::Live(reference, stage) => self.target_activated(reference, stage, &at, outputs),
             _ => Ok(false),
         }
+    }
+
+    fn access_activated(&mut self, at: &Place, outputs: &mut Outputs) -> Result<bool, Memory>
+        ensures done { IfOk result (λ fits. Steps (on_activation_ack WaitActivation self.old at.now) fits self.old self.new outputs.old.outs outputs.new.outs) }
+        ensures err { OnErr result (Stays self.old self.new outputs.old.outs outputs.new.outs) }
+    {
+        if !is_at(at, &self.serving) {
+            return Ok(false);
+        }
+        self.assign_immediately(outputs)?;
+        Ok(true)
     }
 
     fn target_activated(
@@ -531,6 +539,7 @@ impl Machine {
         outputs: &mut Outputs,
     ) -> Result<(), Memory>
         ensures done { OnOk result (outputs.new.outs ≡ outputs.old.outs ++ outs_of self.now.number (words.assignment_failure reference cause None ∷ [])) }
+        ensures sound { OnOk result (AllByRecursion IsSound (words.assignment_failure reference cause None ∷ [])) }
         ensures err { OnErr result (outputs.new.outs ≡ outputs.old.outs) }
     {
         let mut put = Messages::new(self.alloc);

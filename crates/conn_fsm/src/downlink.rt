@@ -1,6 +1,7 @@
 ghost use Rattle.std.specs.Prelude.{◌≡◌, [], ◌∷◌, ◌++◌, IfOk, OnOk, OnErr};
 ghost use Rattle.bssmap_codec.specs.Layer3.{IsLayer3};
-ghost use Rattle.conn_messages.specs.Out.{outs_of};
+ghost use Rattle.conn_messages.specs.Out.{IsSound, outs_of};
+ghost use Rattle.std.specs.List.{AllByRecursion};
 ghost use Rattle.conn_messages.specs.StationMessage as words;
 ghost use Rattle.conn_table.specs.Standing.{Stands};
 ghost use Rattle.conn_table.specs.Steps.{hold_down, hold_short_message, request_where, short_message};
@@ -43,6 +44,7 @@ impl Machine {
     fn hand(&self, sapi: Sapi, message: Octets, outputs: &mut Outputs) -> Result<(), Memory>
         requires { IsLayer3 message }
         ensures done { OnOk result (outputs.new.outs ≡ outputs.old.outs ++ outs_of self.now.number (words.handing self.now.serving sapi message ∷ [])) }
+        ensures sound { OnOk result (AllByRecursion IsSound (words.handing self.now.serving sapi message ∷ [])) }
         ensures err { OnErr result (outputs.new.outs ≡ outputs.old.outs) }
     {
         let mut put = Messages::new(self.alloc);

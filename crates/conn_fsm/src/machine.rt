@@ -1,5 +1,6 @@
 ghost use Rattle.std.specs.Prelude.{◌≡◌, ◌<◌, ◌^◌, ◌++◌, IfOk, OnOk, OnErr};
-ghost use Rattle.conn_messages.specs.Out.{outs_of};
+ghost use Rattle.conn_messages.specs.Out.{IsSound, outs_of};
+ghost use Rattle.std.specs.List.{AllByRecursion};
 ghost use Rattle.conn_table.specs.Connection.{new_connection, enter, emptied};
 
 use crate::drains::Drains;
@@ -86,6 +87,7 @@ impl Machine {
     /// Appends the frames of the messages.
     pub(crate) fn put(&self, messages: &Messages, outputs: &mut Outputs) -> Result<(), Memory>
         ensures ok { OnOk result (outputs.new.outs ≡ outputs.old.outs ++ outs_of self.now.number messages.now) }
+        ensures sound { AllByRecursion IsSound messages.now }
         ensures err { OnErr result (outputs.new.outs ≡ outputs.old.outs) }
     {
         outputs.put_all(self.alloc, self.number, messages)

@@ -1,5 +1,6 @@
 ghost use Rattle.std.specs.Prelude.{◌≡◌, ◌++◌, IfOk, OnOk, Some, None, filter, not};
-ghost use Rattle.conn_messages.specs.Out.{outs_of};
+ghost use Rattle.conn_messages.specs.Out.{IsSound, outs_of};
+ghost use Rattle.std.specs.List.{AllByRecursion};
 ghost use Rattle.conn_messages.specs.declared.causes.TheConstants.{ABNORMAL_RELEASE, EQUIPMENT_FAILURE};
 ghost use Rattle.conn_table.specs.Steps.{dropping, end_outs, failing, goes_to, target_release, without_station};
 ghost use Rattle.conn_table.specs.Table.{on_drain_expiry, on_expiry, on_station_down, on_switch_down};
@@ -35,7 +36,7 @@ impl Machine {
 
     // The connection ends in this state with these messages.
     fn ending_in(&self, put: &Messages, last: State) -> Result<Ending, Memory>
-        ensures { IfOk result (λ e. (e.outputs.outs ≡ outs_of self.now.number put.now) × (e.last ≡ Some last)) }
+        ensures { IfOk result (λ e. (e.outputs.outs ≡ outs_of self.now.number put.now) × (e.last ≡ Some last) × AllByRecursion IsSound put.now) }
     {
         Ok(Ending {
             outputs: Outputs::made(self.alloc, self.number, put)?,

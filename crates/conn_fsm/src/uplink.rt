@@ -1,7 +1,7 @@
 ghost use Rattle.std.specs.Prelude.{◌≡◌, ◌<◌, ◌≤◌, [], ◌∷◌, ◌++◌, length, map, IfOk, OnOk, OnErr, drop as dropped};
 ghost use Rattle.std.specs.List.{AllByRecursion};
 ghost use Rattle.bssmap_codec.specs.Layer3.{IsLayer3};
-ghost use Rattle.conn_messages.specs.Out.{outs_of};
+ghost use Rattle.conn_messages.specs.Out.{IsSound, outs_of};
 ghost use Rattle.conn_messages.specs.SwitchMessage.{relaying as relaying_word};
 ghost use Rattle.conn_table.specs.declared.state.State.TheVariants.{Live};
 ghost use Rattle.conn_table.specs.Connection.{first_channel, tenure_at};
@@ -110,6 +110,7 @@ impl Machine {
     ) -> Result<(), Memory>
         requires { IsLayer3 message }
         ensures done { OnOk result (outputs.new.outs ≡ outputs.old.outs ++ outs_of self.now.number (relay_dtap reference sapi message self.now).outs) }
+        ensures sound { OnOk result (AllByRecursion IsSound (relay_dtap reference sapi message self.now).outs) }
         ensures err { OnErr result (outputs.new.outs ≡ outputs.old.outs) }
     {
         let channel = self.channel_of(0);

@@ -1,6 +1,7 @@
-use Rattle.std.proofs.Common.{◌≡◌, ◌∙◌, ◌++◌, List, ap}
+use Rattle.std.proofs.Common.{◌≡◌, ◌∙◌, ◌++◌, List, ap, subst}
 use Rattle.conn_messages.specs.declared.message.Message.{Message}
-use Rattle.conn_messages.specs.Out.{outs_of}
+use Rattle.conn_messages.specs.Out.{IsSound, outs_of}
+use Rattle.std.specs.List.{AllByRecursion}
 use Rattle.conn_table.specs.Connection.{Connection}
 use Rattle.conn_table.specs.Steps.{done_at}
 use Rattle.conn_fsm.specs.Leaving.{leaving}
@@ -20,4 +21,9 @@ returns-clause-done c =
           (does_outs c.args.reference c.args.stage.now c.args.place c.args.offer.now c.leaving-leaves.result c.begins_without-begins.result s
           c.new-put.result c.put_left.new.put c.put_waiting.new.put
           number c.begins_without-begins.ensures c.new-put.ensures c.in_ok-put_left.ensures c.in_ok-put_waiting.ensures),
+      subst (AllByRecursion IsSound)
+          (does_outs c.args.reference c.args.stage.now c.args.place c.args.offer.now c.leaving-leaves.result c.begins_without-begins.result s
+          c.new-put.result c.put_left.new.put c.put_waiting.new.put
+          number c.begins_without-begins.ensures c.new-put.ensures c.in_ok-put_left.ensures c.in_ok-put_waiting.ensures)
+          c.in_ok-put.ensures.sound,
     )
