@@ -19,4 +19,6 @@ mod program;
 #[cfg(test)]
 mod reception;
 #[cfg(test)]
+mod settings_text;
+#[cfg(test)]
 mod switch;
