@@ -3,6 +3,7 @@ pub mod Downlink
 pub mod DownlinkMessages
 pub mod DownlinkSteps
 pub mod DownlinkTable
+mod Lives
 pub mod Roles
 pub mod RolesAccount
 pub mod RolesApart
@@ -14,6 +15,7 @@ pub mod Standing
 pub mod StandingChanges
 pub mod StandingSteps
 pub mod StandingTable
+mod TimerRows
 pub mod UplinkMessages
 pub mod UplinkPlaces
 pub mod UplinkRows

@@ -1,95 +1,19 @@
 -- The table against literal rows: lives of a connection with number 1 over cells 1 and 2, octet by octet.
 use Rattle.std.proofs.Common.{◌≡◌, ℕ, Bool, true, false, List, [], ◌∷◌, ◌++◌, map, replicate, Option, Some, None, refl}
 use Rattle.conn_messages.specs.declared.channel.Change.TheVariants.{Assignment, Handover}
-use Rattle.conn_messages.specs.declared.channel.Channel.{Channel}
-use Rattle.conn_messages.specs.declared.channel.Place.{Place}
-use Rattle.conn_messages.specs.declared.out.Out.{Out}
-use Rattle.conn_messages.specs.Out.{out_of, outs_of}
+use Rattle.conn_messages.specs.Out.{out_of}
 use Rattle.conn_table.specs.declared.input.Input.{Input}
 use Rattle.conn_table.specs.declared.input.Input.TheVariants as inputs
 use Rattle.conn_table.specs.declared.state.Stage.TheVariants.{Active, Preparing, Draining}
 use Rattle.conn_table.specs.declared.state.State.TheVariants.{WaitConfirm, Live, Removed}
-use Rattle.conn_table.specs.Connection.{Connection, new_connection}
+use Rattle.conn_table.specs.Connection.{Connection}
 use Rattle.conn_table.specs.Steps.{Row}
 use Rattle.conn_table.specs.Table.{row_of}
 use Rattle.dtap_codec.specs.declared.sapi.Sapi.TheVariants.{Zero, Three}
+use Rattle.conn_table.proofs.Lives.{put, Turn, turn, played, after, cell_1, cell_2, again, on_1, on_2, request, fresh, active, unconfirmed, preparing, changing, handing_over, handed_over, two_drain, three_drain}
 use Rattle.rsl_codec.specs.RslText.{rsl_element_text}
 
--- ---- lives
-
--- a frame's link and body
-record Put : Type 0 where
-  link : ℕ
-  body : List ℕ
-
-abbrev put : ℕ → List ℕ → Put
-put link body = record { link = link; body = body }
-
-abbrev put_of : Out → Put
-put_of out = put out.to out.frame.body
-
--- an input, and what is offered to a change that begins with it
-record Turn : Type 0 where
-  input : Input
-  offer : Option Channel
-
-abbrev turn : Input → Option Channel → Turn
-turn input offer = record { input = input; offer = offer }
-
-abbrev puts_of : Option Row → Option (List Put)
-puts_of None = None
-puts_of (Some r) = Some (map put_of (outs_of 1 r.outs))
-
-abbrev next_of : Connection → Option Row → Connection
-next_of s None = s
-next_of s (Some r) = r.next
-
--- what each turn puts; None where no row fits
-abbrev played : Connection → List Turn → List (Option (List Put))
-played s [] = []
-played s (t ∷ ts) = puts_of (row_of s t.input t.offer) ∷ played (next_of s (row_of s t.input t.offer)) ts
-
-abbrev after : Connection → List Turn → Connection
-after s [] = s
-after s (t ∷ ts) = after (next_of s (row_of s t.input t.offer)) ts
-
--- ---- two cells
-
-abbrev cell_1 : ℕ → Channel
-cell_1 number = record {
-  station = 1;
-  number = number;
-  cell = 0x00 ∷ 0x00 ∷ 0xf1 ∷ 0x10 ∷ 0x00 ∷ 0x01 ∷ 0x00 ∷ 0x01 ∷ [];
-  description = record { arfcn = 20; ncc = 1; bcc = 1 };
-  reference = record { 0 = 0 };
-}
-
-abbrev cell_2 : ℕ → Channel
-cell_2 number = record {
-  station = 2;
-  number = number;
-  cell = 0x00 ∷ 0x00 ∷ 0xf1 ∷ 0x10 ∷ 0x00 ∷ 0x01 ∷ 0x00 ∷ 0x02 ∷ [];
-  description = record { arfcn = 30; ncc = 2; bcc = 2 };
-  reference = record { 0 = 0 };
-}
-
--- with the reference of the second handover
-abbrev again : Channel → Channel
-again channel = record channel { reference = record { 0 = 1 } }
-
-abbrev on_1 : ℕ → Place
-on_1 number = record { station = 1; number = number }
-
-abbrev on_2 : ℕ → Place
-on_2 number = record { station = 2; number = number }
-
-abbrev request : Input
-request = inputs.AssignmentRequest true
-
 -- ---- access and establishment
-
-abbrev fresh : Connection
-fresh = new_connection 1 (cell_1 0x41) (record { access = 0x7f; frame = 0x0102 }) 5
 
 opens : played fresh (turn (inputs.ActivationAck (on_1 0x41)) None
     ∷ turn (inputs.EstablishIndication (on_1 0x41) Zero (Some (0x05 ∷ 0x24 ∷ 0x71 ∷ []))) None
@@ -100,15 +24,9 @@ opens : played fresh (turn (inputs.ActivationAck (on_1 0x41)) None
 unfolding row_of out_of rsl_element_text
 opens = refl
 
-abbrev active : Connection
-active = after fresh (turn (inputs.ActivationAck (on_1 0x41)) None ∷ turn (inputs.EstablishIndication (on_1 0x41) Zero (Some (0x05 ∷ 0x24 ∷ 0x71 ∷ []))) None ∷ turn (inputs.ConnectionConfirm 0x800001) None ∷ [])
-
 is_active : (active).state ≡ Live 0x800001 Active
 unfolding row_of
 is_active = refl
-
-abbrev unconfirmed : Connection
-unconfirmed = after fresh (turn (inputs.ActivationAck (on_1 0x41)) None ∷ turn (inputs.EstablishIndication (on_1 0x41) Zero (Some (0x05 ∷ 0x24 ∷ 0x71 ∷ []))) None ∷ [])
 
 refuses_the_channel : played fresh (turn (inputs.ActivationNack (on_1 0x41)) None ∷ [])
     ≡ Some [] ∷ []
@@ -269,12 +187,6 @@ answers_without_channel : played active (turn request None ∷ [])
     ≡ Some (put 0 (0x06 ∷ 0x80 ∷ 0x00 ∷ 0x01 ∷ 0x00 ∷ 0x01 ∷ 0x06 ∷ 0x00 ∷ 0x04 ∷ 0x03 ∷ 0x04 ∷ 0x01 ∷ 0x21 ∷ []) ∷ []) ∷ []
 unfolding row_of out_of rsl_element_text
 answers_without_channel = refl
-
-abbrev preparing : Connection
-preparing = after active (turn request (Some (cell_1 0x0a)) ∷ [])
-
-abbrev changing : Connection
-changing = after active (turn request (Some (cell_1 0x0a)) ∷ turn (inputs.ActivationAck (on_1 0x0a)) None ∷ [])
 
 commands : played active (turn request (Some (cell_1 0x0a))
     ∷ turn (inputs.ActivationAck (on_1 0x0a)) None ∷ [])
@@ -445,12 +357,6 @@ is_active_without_offer : (after active (turn inputs.Move None ∷ [])).state �
 unfolding row_of
 is_active_without_offer = refl
 
-abbrev handing_over : Connection
-handing_over = after active (turn inputs.Move (Some (cell_2 0x41)) ∷ turn (inputs.ActivationAck (on_2 0x41)) None ∷ [])
-
-abbrev handed_over : Connection
-handed_over = after handing_over (turn (inputs.Complete (on_2 0x41) Handover (record { 0 = 0 })) None ∷ [])
-
 is_handed_over : played handing_over (turn (inputs.Complete (on_2 0x41) Handover (record { 0 = 0 })) None
     ∷ turn (inputs.Dtap (on_2 0x41) Zero (0x03 ∷ 0x8f ∷ [])) None
     ∷ turn (inputs.Dtap (on_1 0x41) Zero (0x03 ∷ 0x45 ∷ [])) None
@@ -552,15 +458,9 @@ drains_two : played handed_over (turn inputs.Move (Some (again (cell_1 0x49)))
 unfolding row_of out_of rsl_element_text
 drains_two = refl
 
-abbrev two_drain : Connection
-two_drain = after handed_over (turn inputs.Move (Some (again (cell_1 0x49))) ∷ turn (inputs.ActivationAck (on_1 0x49)) None ∷ turn (inputs.Complete (on_1 0x49) Handover (record { 0 = 0 })) None ∷ [])
-
 is_active_behind_two : (after two_drain (turn (inputs.ReleaseAck (on_2 0x41)) None ∷ turn (inputs.ReleaseAck (on_1 0x41)) None ∷ [])).state ≡ Live 0x800001 Active
 unfolding row_of
 is_active_behind_two = refl
-
-abbrev three_drain : Connection
-three_drain = after two_drain (turn request (Some (cell_1 0x0a)) ∷ turn (inputs.ActivationAck (on_1 0x0a)) None ∷ turn (inputs.Complete (on_1 0x0a) Assignment (record { 0 = 0 })) None ∷ [])
 
 drains_three : played two_drain (turn request (Some (cell_1 0x0a))
     ∷ turn (inputs.ActivationAck (on_1 0x0a)) None
