@@ -3,3 +3,4 @@ pub mod Resuming
 mod Rows
 pub mod Slices
 pub mod Lives
+pub mod GoingOn
