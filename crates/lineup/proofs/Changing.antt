@@ -1,13 +1,14 @@
 -- What holds while a connection lives is kept by changes of its channels.
 use Rattle.std.proofs.Common.{◌≡◌, ℕ, Bool, true, false, List, [], ◌∷◌, ◌++◌, refl, sym, ap, ◌∙◌, subst, append_assoc, cond}
+use Rattle.std.proofs.lemmas.List.{append-nil}
 use Rattle.mobile_end.specs.Control.{is_control}
 use Rattle.mobile_end.proofs.Resuming.{is_control-apart}
 use Rattle.lineup.specs.LineUp.{Item, Tenure, LineUp, flow, messages_in, part_of, parts_of, with_items, fresh}
 use Rattle.lineup.specs.LineUp.Item.{brought, released}
 use Rattle.lineup.specs.Alive.{Alive, Condition}
 use Rattle.lineup.specs.ChangeStep.{ChangeStep, after_complete, done}
-use Rattle.lineup.specs.ChangeStep.ChangeStep.{commands, completes, goes_back, releases, leaves_to_old, leaves_to_serving}
-use Rattle.lineup.proofs.Lines.{flow-apart, hold_relayed, parts-within, parts-tail, some_lost-at, some_lost-push, FirstRelays-at, FirstRelays-push, controls-first, bare_target}
+use Rattle.lineup.specs.ChangeStep.ChangeStep.{commands, completes, goes_back, is_released, releases, leaves_to_old, leaves_to_serving}
+use Rattle.lineup.proofs.Lines.{flow-apart, messages_in-append, hold_relayed, parts-within, parts-tail, some_lost-at, some_lost-push, FirstRelays-at, FirstRelays-push, controls-first, bare_target}
 use Rattle.lineup.proofs.Standing.{Stands-commands, Stands-completes, Stands-goes_back}
 use Rattle.lineup.proofs.Conditions.{Condition-completes, Condition-goes_back}
 use Rattle.lineup.proofs.Following.{Follows-line}
@@ -47,6 +48,16 @@ Alive-change (goes_back l t x items is) alive =
       stands = back.1;
       condition = Condition-goes_back back.0 alive.condition;
       bare = refl;
+    }
+Alive-change (is_released l before t after whole) alive =
+    let e : Tenure = with_items t (t.items ++ released ∷ []) in
+    let part : part_of t ≡ part_of e = ap (λ (messages : List (List ℕ)). flow t.hold ++ flow messages) (sym (messages_in-append t.items (released ∷ []) ∙ append-nil (messages_in t.items))) in
+    record {
+      follows = Follows-line (ap (λ (parts : List (List ℕ)). (flow l.taken ++ flow l.out) ++ parts) (parts-within before t e after (l.serving ∷ l.target ∷ []) part refl)) alive.follows;
+      first = FirstRelays-at l.is_confirmed before t e after l.serving.hold refl alive.first;
+      stands = alive.stands;
+      condition = subst (λ (b : Bool). Condition l.seat b l.serving.is_lost l.target.is_lost l.is_intact) (some_lost-at before t e after refl) alive.condition;
+      bare = alive.bare;
     }
 Alive-change (releases l before t after) alive = record {
   follows = Follows-line (ap (λ (parts : List (List ℕ)). (flow l.taken ++ flow l.out) ++ parts) (parts-within before (with_items t (released ∷ [])) (done t) after (l.serving ∷ l.target ∷ []) refl refl)) alive.follows;

@@ -7,3 +7,4 @@ pub mod Changing
 pub mod Breaking
 pub mod Moving
 pub mod Ordering
+mod Rows

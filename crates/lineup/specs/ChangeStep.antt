@@ -38,7 +38,10 @@ pub data ChangeStep : LineUp → LineUp → Type 0 where
   goes_back : (l : LineUp) (t : Tenure) (x : List ℕ) (items : List Item) → is_control x ≡ true →
       ChangeStep (record l { is_changing = true; serving = with_items t (brought x ∷ items) })
       (record l { is_changing = false; serving = with_items t items; target = fresh })
-  -- RF CHANNEL RELEASE ACK of an old channel
+  -- the station of an old channel releases it: its RF CHANNEL RELEASE ACK comes last
+  is_released : (l : LineUp) (before : List Tenure) (t : Tenure) (after : List Tenure) → t.is_lost ≡ false →
+      ChangeStep (record l { old = before ++ t ∷ after }) (record l { old = before ++ with_items t (t.items ++ released ∷ []) ∷ after })
+  -- that RF CHANNEL RELEASE ACK is taken
   releases : (l : LineUp) (before : List Tenure) (t : Tenure) (after : List Tenure) →
       ChangeStep (record l { old = before ++ with_items t (released ∷ []) ∷ after }) (record l { old = before ++ done t ∷ after })
   -- the oldest one is released and leaves: what was held of the next is relayed
