@@ -4,3 +4,4 @@ mod Rows
 pub mod Slices
 pub mod Lives
 pub mod GoingOn
+pub mod GoingOnByCalls

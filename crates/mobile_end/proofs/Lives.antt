@@ -36,22 +36,22 @@ pub is_sendable-clear : (sapi : Sapi) (message : List ℕ) → is_sendable sapi 
 is_sendable-clear sapi [] lawful = refl
 is_sendable-clear sapi (first ∷ rest) lawful = second_so _ (has_clear_number (first ∷ rest)) lawful
 
-is_initial-clear : (message : List ℕ) → is_initial message ≡ true → has_clear_number message ≡ true
+pub is_initial-clear : (message : List ℕ) → is_initial message ≡ true → has_clear_number message ≡ true
 is_initial-clear [] lawful = refl
 is_initial-clear (first ∷ rest) lawful = second_so _ (has_clear_number (first ∷ rest)) lawful
 
 -- what is behind a refusal that didn't come
-unless_refused-by : (P : MobileState → Type 0) (lawful : Bool) (earlier : Option MobileFault) (old new : MobileState) → P old → (lawful ≡ true → P new) → P (unless_refused (first_refusal earlier (cond lawful None (Some BadMessage))) old new)
+pub unless_refused-by : (P : MobileState → Type 0) (lawful : Bool) (earlier : Option MobileFault) (old new : MobileState) → P old → (lawful ≡ true → P new) → P (unless_refused (first_refusal earlier (cond lawful None (Some BadMessage))) old new)
 unless_refused-by P lawful (Some fault) old new kept made = kept
 unless_refused-by P true None old new kept made = made refl
 unless_refused-by P false None old new kept made = kept
 
-unless_connected-by : (P : MobileState → Type 0) (stage : Stage) (old new : MobileState) → P old → P new → P (unless_connected stage old new)
+pub unless_connected-by : (P : MobileState → Type 0) (stage : Stage) (old new : MobileState) → P old → P new → P (unless_connected stage old new)
 unless_connected-by P New old new kept made = made
 unless_connected-by P Connected old new kept made = kept
 
 -- What calls keep: the modulus, and what was sent.
-record IsKept (old new : MobileState) : Type 0 where
+pub record IsKept (old new : MobileState) : Type 0 where
   pub modulus : new.modulus ≡ old.modulus
   pub more : List (List ℕ)
   pub sent : new.sent ≡ old.sent ++ more
@@ -107,7 +107,7 @@ IsKept-call mobile leaves = record { modulus = refl; more = []; sent = sym (appe
 IsKept-call mobile (arrives complete) = IsKept-arrival mobile complete
 IsKept-call mobile (gives_up failure) = IsKept-arrival mobile failure
 
-IsKept-calls : (mobile : MobileState) (calls : List Call) → IsKept mobile (after_calls mobile calls)
+pub IsKept-calls : (mobile : MobileState) (calls : List Call) → IsKept mobile (after_calls mobile calls)
 IsKept-calls mobile [] = IsKept-same mobile mobile refl refl
 IsKept-calls mobile (call ∷ calls) = IsKept-then (IsKept-call mobile call) (IsKept-calls (after_call mobile call) calls)
 
