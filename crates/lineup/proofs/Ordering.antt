@@ -13,7 +13,8 @@ use Rattle.lineup.specs.Alive.Stays.{remains}
 use Rattle.lineup.specs.Alive.Follows.{goes_on}
 use Rattle.lineup.specs.Alive.Stands.{rests}
 use Rattle.lineup.specs.Alive.Condition.{sound}
-use Rattle.lineup.specs.Ended.{Ended, IsInOrder, coming, opened}
+use Rattle.lineup.specs.Order.{Ended, IsInOrder, coming}
+use Rattle.lineup.specs.Opening.{opened}
 use Rattle.lineup.specs.Steps.{Step, Steps}
 use Rattle.lineup.specs.Steps.Step.{by_mobile, by_relaying, by_change, by_break}
 use Rattle.lineup.specs.Steps.Steps.{none, first}

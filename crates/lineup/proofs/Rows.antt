@@ -13,7 +13,8 @@ use Rattle.lineup.specs.Alive.Follows.{goes_on, rises}
 use Rattle.lineup.specs.Alive.Stays.{remains}
 use Rattle.lineup.specs.Alive.Stands.{arrives as has_arrived}
 use Rattle.lineup.specs.Alive.Condition.{sound, lost_serving}
-use Rattle.lineup.specs.Ended.{coming, opened}
+use Rattle.lineup.specs.Order.{coming}
+use Rattle.lineup.specs.Opening.{opened}
 use Rattle.lineup.specs.MobileStep.MobileStep.{taken_on_serving, taken_on_target, acknowledged, follows_command, arrives}
 use Rattle.lineup.specs.RelayStep.RelayStep.{holds_serving, relays_oldest, confirms}
 use Rattle.lineup.specs.ChangeStep.ChangeStep.{commands, completes, is_released, releases, leaves_to_serving}

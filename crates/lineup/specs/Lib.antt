@@ -4,5 +4,6 @@ pub mod MobileStep
 pub mod RelayStep
 pub mod ChangeStep
 pub mod BreakStep
-pub mod Ended
+pub mod Opening
+pub mod Order
 pub mod Steps
