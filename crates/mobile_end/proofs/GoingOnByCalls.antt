@@ -17,7 +17,9 @@ use Rattle.mobile_end.specs.Calls.{Call, after_call, after_calls, taken_by_call,
 use Rattle.mobile_end.specs.Calls.Call.{connects, sends, frames, acknowledges, leaves, arrives, gives_up}
 use Rattle.mobile_end.specs.Control.{is_control}
 use Rattle.mobile_end.specs.DataLinkState.{DataLinkState}
-use Rattle.mobile_end.specs.DataLink.{waits, lent_message, after_lending}
+use Rattle.dtap_codec.specs.Places.{Rise}
+use Rattle.dtap_codec.proofs.Rising.{Rise-front, Rise-of_flow}
+use Rattle.mobile_end.specs.DataLink.{to_be_taken, waits, lent_message, after_lending}
 use Rattle.mobile_end.specs.GoesOn.{GoesOn}
 use Rattle.mobile_end.specs.Lawful.{has_clear_number, is_initial, is_sendable}
 use Rattle.mobile_end.specs.Mobile.{new_mobile, after_queue, after_number, with_link, link_of, after_connect, refusal_of_connect, refusal_before_connect, frame_answer_at, after_frame_at, after_acked_at, after_arrival}
@@ -108,3 +110,10 @@ pub GoesOn-calls : (m : ℕ) (calls : List Call) → GoesOn m (after_calls (new_
 GoesOn-calls m calls =
     let mobile : MobileState = after_calls (new_mobile m) calls in
     subst (λ (n : ℕ). GoesOn n mobile.sent (filter is_flow_message (taken_by_calls (new_mobile m) calls)) mobile.zero) (IsKept-calls (new_mobile m) calls).modulus (by_calls (new_mobile m) [] calls (GoesOn-new m))
+
+-- so the places of what stations took rise
+pub Rise-calls : (m : ℕ) (calls : List Call) → (k : ℕ) × Rise m (after_calls (new_mobile m) calls).sent 0 (taken_by_calls (new_mobile m) calls) k
+Rise-calls m calls =
+    let taken : List (List ℕ) = taken_by_calls (new_mobile m) calls in
+    let front = Rise-front (filter is_flow_message taken) (filter is_flow_message (to_be_taken (after_calls (new_mobile m) calls).zero)) (GoesOn-calls m calls).now in
+    (front.0, Rise-of_flow taken front.1)
