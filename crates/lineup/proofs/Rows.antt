@@ -15,11 +15,12 @@ use Rattle.lineup.specs.Alive.Stands.{arrives as has_arrived}
 use Rattle.lineup.specs.Alive.Condition.{sound, lost_serving}
 use Rattle.lineup.specs.Order.{coming}
 use Rattle.lineup.specs.Opening.{opened}
-use Rattle.lineup.specs.MobileStep.MobileStep.{taken_on_serving, taken_on_target, acknowledged, follows_command, arrives}
-use Rattle.lineup.specs.RelayStep.RelayStep.{holds_serving, relays_oldest, confirms}
-use Rattle.lineup.specs.ChangeStep.ChangeStep.{commands, completes, is_released, releases, leaves_to_serving}
+use Rattle.lineup.specs.MobileStep.MobileStep.{taken_on_serving, taken_on_target, acknowledged, follows_command, arrives, returns}
+use Rattle.lineup.specs.RelayStep.RelayStep.{relays_serving, holds_serving, relays_oldest, confirms}
+use Rattle.lineup.specs.ChangeStep.ChangeStep.{commands, completes, goes_back, is_released, releases, leaves_to_serving}
+use Rattle.lineup.specs.BreakStep.BreakStep.{breaks_target}
 use Rattle.lineup.specs.Steps.{Steps}
-use Rattle.lineup.specs.Steps.Step.{by_mobile, by_relaying, by_change}
+use Rattle.lineup.specs.Steps.Step.{by_mobile, by_relaying, by_change, by_break}
 use Rattle.lineup.specs.Steps.Steps.{none, first}
 use Rattle.lineup.proofs.Ordering.{IsInOrder-alive}
 
@@ -209,3 +210,37 @@ run =
 -- the switch accepts both messages, once
 accepted : (accepted_list 4 last.out ≡ two_sent) × (progress 4 last.out ≡ Some 2)
 accepted = (refl, refl)
+
+-- ---- the mobile returns: FAILURE comes behind what was taken before it left, and the same message once more behind that
+
+abbrev failure : List ℕ
+failure = 0x06 ∷ 0x28 ∷ 0x6f ∷ []
+
+abbrev has_returned : LineUp
+has_returned = record has_left { seat = on_serving; link = record { waiting = m1 ∷ []; air = Given failure } }
+
+abbrev brought_failure : LineUp
+brought_failure = record has_returned { link = record { waiting = m1 ∷ []; air = Reached failure }; serving = record fresh { items = brought m1 ∷ brought failure ∷ [] } }
+
+abbrev was_relayed_before : LineUp
+was_relayed_before = record brought_failure { serving = record fresh { items = brought failure ∷ [] }; out = m0 ∷ m1 ∷ [] }
+
+abbrev went_back : LineUp
+went_back = record was_relayed_before { is_changing = false; serving = fresh }
+
+run_back : Steps 4 has_left went_back
+run_back =
+    first (by_mobile (returns has_left failure refl)) (first (by_mobile (taken_on_serving has_returned failure refl refl))
+    (first (by_relaying (relays_serving brought_failure fresh m1 (brought failure ∷ []))) (first (by_change (goes_back was_relayed_before fresh failure [] refl)) (none went_back))))
+
+-- ---- the target's link breaks: COMPLETE was put in the inbox before, the message behind it wasn't
+
+abbrev target_broke : LineUp
+target_broke = record brought_again { target = record fresh { items = brought complete ∷ []; is_lost = true }; is_intact = false }
+
+break_of_target : Steps 4 brought_again target_broke
+break_of_target = first (by_break (breaks_target brought_again fresh (brought complete ∷ []) (brought m1 ∷ []) remains)) (none target_broke)
+
+-- then the old channel's message is still on the line, and the one that was dropped isn't
+line_of_target_broke : (line brought_again ≡ m0 ∷ m1 ∷ m1 ∷ []) × (line target_broke ≡ m0 ∷ m1 ∷ [])
+line_of_target_broke = (refl, refl)

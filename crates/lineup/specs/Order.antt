@@ -4,9 +4,9 @@ use Rattle.dtap_codec.specs.Places.{Rise}
 use Rattle.nsd_filter.specs.AcceptedList.{accepted_list, progress}
 use Rattle.lineup.specs.LineUp.{LineUp, flow, parts_of}
 
--- The switch accepted the first messages that the mobile's upper layers sent, once and in order, and judged no gap. Of these
--- messages, which may still come, the first is the next one sent or the last accepted again, and so on: places rise by
--- steps of 0 or 1.
+-- The switch accepted the first messages that the mobile's upper layers sent, once and in order, and judged no gap. What may
+-- still come goes on there: its first message of the flow is the next one sent, or the last accepted once more, and so on, by
+-- steps of 1 or 0.
 pub record IsInOrder (m : ℕ) (sent taken coming : List (List ℕ)) : Type 0 where
   pub count : ℕ
   pub accepted : accepted_list m taken ≡ take count sent
