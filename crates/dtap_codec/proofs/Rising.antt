@@ -1,13 +1,13 @@
 -- Laws of places that rise, over plain lists and for any number m of numbers.
-use Rattle.std.proofs.Common.{◌≡◌, ℕ, ◌+◌, ◌%◌, Some, List, [], ◌∷◌, ◌++◌, length, take, sym, ap, ◌∙◌, subst, arith, slice_get, inl, inr, length-append, append_assoc}
+use Rattle.std.proofs.Common.{◌≡◌, ℕ, ◌+◌, ◌%◌, Some, List, [], ◌∷◌, ◌++◌, length, take, refl, sym, ap, ◌∙◌, subst, arith, slice_get, inl, inr, length-append, append_assoc}
 use Rattle.std.proofs.lemmas.Bool.{cases_Bool, cond-true, cond-false}
-use Rattle.std.proofs.lemmas.List.{take_more}
+use Rattle.std.proofs.lemmas.List.{take_more, append-nil}
 use Rattle.std.proofs.lemmas.Option.{slice_get_within, get_or_from_slice_get}
 use Rattle.std.specs.Prelude.{filter}
 use Rattle.octets.proofs.ListLemmas.{slice_get-append, slice_get-append_seam}
 use Rattle.dtap_codec.specs.Message.{is_flow_message}
 use Rattle.dtap_codec.specs.Number.{with_number}
-use Rattle.dtap_codec.specs.Places.{with_numbers_from, AreClear, Carries, Rise}
+use Rattle.dtap_codec.specs.Places.{with_numbers_from, IsClear, AreClear, Carries, Rise}
 use Rattle.dtap_codec.specs.Places.Rise.{over, other, next, again}
 
 -- the messages up to a place, and the one there, are those up to the next place
@@ -66,4 +66,63 @@ Rise-with_numbers_from m sent (x ∷ xs) before (y ∷ ys) n split place clear i
           let longer : length (before ++ y ∷ []) ≡ n + 1 = length-append before (y ∷ []) ∙ ap (λ (k : ℕ). k + 1) place in
           next (record { message = y; is_sent = here; is_clear = clear.0; carries = cc }) (Rise-with_numbers_from m sent xs (before ++ y ∷ []) ys (n + 1) regrouped longer clear.1 cc)
       | inr flow ↦ other flow (Rise-with_numbers_from m sent xs before (y ∷ ys) n split place clear (sym (cond-false (is_flow_message x) _ _ flow) ∙ is))
+    ]
+
+-- the front of a list that rises
+pub Rise-front : {m : ℕ} {sent : List (List ℕ)} (xs ys : List (List ℕ)) {n k : ℕ} → Rise m sent n (xs ++ ys) k → (j : ℕ) × Rise m sent n xs j
+Rise-front xs ys rise = let cut = Rise-cut xs ys rise in (cut.0, cut.1)
+
+-- a message may come twice
+pub Rise-twice : {m : ℕ} {sent : List (List ℕ)} {n k : ℕ} {x : List ℕ} {ys : List (List ℕ)} → Rise m sent n (x ∷ ys) k → Rise m sent n (x ∷ x ∷ ys) k
+Rise-twice (other flow rise) = other flow (other flow rise)
+Rise-twice (next c rise) = next c (again refl c rise)
+Rise-twice (again e c rise) = again e c (again e c rise)
+
+-- so may one behind others
+pub Rise-twice_behind : {m : ℕ} {sent : List (List ℕ)} (xs : List (List ℕ)) (x : List ℕ) (ys : List (List ℕ)) {n k : ℕ} → Rise m sent n (xs ++ x ∷ ys) k → Rise m sent n (xs ++ x ∷ x ∷ ys) k
+Rise-twice_behind [] x ys rise = Rise-twice rise
+Rise-twice_behind (y ∷ xs) x ys (other flow rise) = other flow (Rise-twice_behind xs x ys rise)
+Rise-twice_behind (y ∷ xs) x ys (next c rise) = next c (Rise-twice_behind xs x ys rise)
+Rise-twice_behind (y ∷ xs) x ys (again e c rise) = again e c (Rise-twice_behind xs x ys rise)
+
+-- what stands behind a message may be another list
+Rise-behind : {m : ℕ} {sent : List (List ℕ)} {n k : ℕ} {x : List ℕ} {ys : List (List ℕ)} (xs : List (List ℕ)) → ((p : ℕ) → Rise m sent p ys k → Rise m sent p xs k) → Rise m sent n (x ∷ ys) k → Rise m sent n (x ∷ xs) k
+Rise-behind {n} xs behind (other flow rise) = other flow (behind n rise)
+Rise-behind {n} xs behind (next c rise) = next c (behind (n + 1) rise)
+Rise-behind {n} xs behind (again e c rise) = again e c (behind n rise)
+
+-- where the messages of the flow rise, messages of other protocols may stand among them
+pub Rise-of_flow : {m : ℕ} {sent : List (List ℕ)} (xs : List (List ℕ)) {n k : ℕ} → Rise m sent n (filter is_flow_message xs) k → Rise m sent n xs k
+Rise-of_flow [] rise = rise
+Rise-of_flow {m} {sent} (x ∷ xs) {n} {k} rise =
+    elim (cases_Bool (is_flow_message x)) [
+      | inl flow ↦
+          Rise-behind xs (λ p. Rise-of_flow xs)
+          (subst (λ (ys : List (List ℕ)). Rise m sent n ys k) (cond-true (is_flow_message x) (x ∷ filter is_flow_message xs) (filter is_flow_message xs) flow) rise)
+      | inr flow ↦
+          other flow (Rise-of_flow xs (subst (λ (ys : List (List ℕ)). Rise m sent n ys k) (cond-false (is_flow_message x) (x ∷ filter is_flow_message xs) (filter is_flow_message xs) flow) rise))
+    ]
+
+-- one more is sent, and stands last with the number of its place
+pub Rise-push : {m n : ℕ} {sent xs : List (List ℕ)} (message : List ℕ) → IsClear message → Rise m sent n xs (length sent) → Rise m (sent ++ message ∷ []) n (xs ++ with_number (length sent % m) message ∷ []) (length (sent ++ message ∷ []))
+Rise-push {m} {n} {sent} {xs} message clear rise =
+    let number : List ℕ = with_number (length sent % m) message in
+    let end : length sent + 1 ≡ length (sent ++ message ∷ []) = sym (length-append sent (message ∷ [])) in
+    let here : Carries m (sent ++ message ∷ []) (length sent) number = record { message = message; is_sent = slice_get-append_seam sent message []; is_clear = clear; carries = refl } in
+    Rise-append (number ∷ []) (Rise-grow (message ∷ []) rise) (next here (subst (λ (k : ℕ). Rise m (sent ++ message ∷ []) (length sent + 1) [] k) end (over (length sent + 1))))
+
+-- what was taken and is still to come may come again
+pub Rise-flow_twice : {m : ℕ} {sent : List (List ℕ)} (xs : List (List ℕ)) (x : List ℕ) (ys : List (List ℕ)) {n k : ℕ} → Rise m sent n (xs ++ filter is_flow_message (x ∷ ys)) k → Rise m sent n ((xs ++ filter is_flow_message (x ∷ [])) ++ filter is_flow_message (x ∷ ys)) k
+Rise-flow_twice {m} {sent} xs x ys {n} {k} rise =
+    let after : List (List ℕ) = filter is_flow_message ys in
+    elim (cases_Bool (is_flow_message x)) [
+      | inl flow ↦
+          let one : filter is_flow_message (x ∷ ys) ≡ x ∷ after = cond-true (is_flow_message x) (x ∷ after) after flow in
+          let alone : filter is_flow_message (x ∷ []) ≡ x ∷ [] = cond-true (is_flow_message x) (x ∷ []) [] flow in
+          let twice : (xs ++ filter is_flow_message (x ∷ [])) ++ filter is_flow_message (x ∷ ys) ≡ xs ++ x ∷ x ∷ after = rw (one, alone) (append_assoc xs (x ∷ []) (x ∷ after)) in
+          subst (λ (list : List (List ℕ)). Rise m sent n list k) (sym twice) (Rise-twice_behind xs x after (subst (λ (list : List (List ℕ)). Rise m sent n (xs ++ list) k) one rise))
+      | inr flow ↦
+          let none : filter is_flow_message (x ∷ []) ≡ [] = cond-false (is_flow_message x) (x ∷ []) [] flow in
+          let same : (xs ++ filter is_flow_message (x ∷ [])) ++ filter is_flow_message (x ∷ ys) ≡ xs ++ filter is_flow_message (x ∷ ys) = rw none (ap (λ (list : List (List ℕ)). list ++ filter is_flow_message (x ∷ ys)) (append-nil xs)) in
+          subst (λ (list : List (List ℕ)). Rise m sent n list k) (sym same) rise
     ]

@@ -3,3 +3,5 @@ pub mod Resuming
 mod Rows
 pub mod Slices
 pub mod Lives
+pub mod GoingOn
+pub mod GoingOnByCalls

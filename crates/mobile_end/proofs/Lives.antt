@@ -5,7 +5,6 @@ use Rattle.std.proofs.lemmas.Bool.{cases_Bool, cond-true, cond-false, cond_both}
 use Rattle.std.proofs.lemmas.List.{append-nil}
 use Rattle.octets.specs.Refusal.{first_refusal}
 use Rattle.dtap_codec.specs.Message.{is_flow_message}
-use Rattle.dtap_codec.specs.Places.{AreClear, Rise}
 use Rattle.dtap_codec.specs.declared.sapi.Sapi.{Sapi}
 use Rattle.dtap_codec.specs.declared.sapi.Sapi.TheVariants.{Zero, Three}
 use Rattle.link_model.specs.AirLink.{after_ack}
@@ -23,35 +22,35 @@ use Rattle.mobile_end.specs.DataLink.{waits, lent_message, after_lending}
 use Rattle.mobile_end.specs.Lawful.{has_clear_number, is_initial, is_sendable}
 use Rattle.mobile_end.specs.MobileState.{MobileState}
 use Rattle.mobile_end.specs.Mobile.{new_mobile, after_queue, after_number, with_link, link_of, after_connect, refusal_of_connect, refusal_before_connect, frame_answer_at, after_frame_at, after_acked_at, after_arrival}
-use Rattle.mobile_end.specs.Calls.{Call, after_call, after_calls, taken_by_call, taken_by_calls, unless_refused, unless_connected, may_arrive, frame_lent, begins, establishments}
+use Rattle.mobile_end.specs.Calls.{Call, after_call, after_calls, taken_by_call, unless_refused, unless_connected, may_arrive, frame_lent, begins, establishments}
 use Rattle.mobile_end.specs.Calls.Call.{connects, sends, frames, acknowledges, leaves, arrives, gives_up}
 use Rattle.mobile_end.specs.OneRepeat.{OneRepeat}
 use Rattle.mobile_end.specs.OneRepeat.OneRepeat.{over, goes_on, repeats}
 use Rattle.mobile_end.proofs.Numbering.{IsNumbered-after_queue, IsNumbered-frame, IsNumbered-acked, IsNumbered-new}
 use Rattle.mobile_end.proofs.Resuming.{IsLastTaken, IsGoing, IsCut, arrival-cut, arrival-going}
-use Rattle.mobile_end.proofs.Slices.{IsSlice-of_parts, IsSlice-grow, joined, Rise-slices}
+use Rattle.mobile_end.proofs.Slices.{IsSlice-of_parts, IsSlice-grow}
 
 -- what may be sent has no number
 pub is_sendable-clear : (sapi : Sapi) (message : List ℕ) → is_sendable sapi message ≡ true → has_clear_number message ≡ true
 is_sendable-clear sapi [] lawful = refl
 is_sendable-clear sapi (first ∷ rest) lawful = second_so _ (has_clear_number (first ∷ rest)) lawful
 
-is_initial-clear : (message : List ℕ) → is_initial message ≡ true → has_clear_number message ≡ true
+pub is_initial-clear : (message : List ℕ) → is_initial message ≡ true → has_clear_number message ≡ true
 is_initial-clear [] lawful = refl
 is_initial-clear (first ∷ rest) lawful = second_so _ (has_clear_number (first ∷ rest)) lawful
 
 -- what is behind a refusal that didn't come
-unless_refused-by : (P : MobileState → Type 0) (lawful : Bool) (earlier : Option MobileFault) (old new : MobileState) → P old → (lawful ≡ true → P new) → P (unless_refused (first_refusal earlier (cond lawful None (Some BadMessage))) old new)
+pub unless_refused-by : (P : MobileState → Type 0) (lawful : Bool) (earlier : Option MobileFault) (old new : MobileState) → P old → (lawful ≡ true → P new) → P (unless_refused (first_refusal earlier (cond lawful None (Some BadMessage))) old new)
 unless_refused-by P lawful (Some fault) old new kept made = kept
 unless_refused-by P true None old new kept made = made refl
 unless_refused-by P false None old new kept made = kept
 
-unless_connected-by : (P : MobileState → Type 0) (stage : Stage) (old new : MobileState) → P old → P new → P (unless_connected stage old new)
+pub unless_connected-by : (P : MobileState → Type 0) (stage : Stage) (old new : MobileState) → P old → P new → P (unless_connected stage old new)
 unless_connected-by P New old new kept made = made
 unless_connected-by P Connected old new kept made = kept
 
 -- What calls keep: the modulus, and what was sent.
-record IsKept (old new : MobileState) : Type 0 where
+pub record IsKept (old new : MobileState) : Type 0 where
   pub modulus : new.modulus ≡ old.modulus
   pub more : List (List ℕ)
   pub sent : new.sent ≡ old.sent ++ more
@@ -107,7 +106,7 @@ IsKept-call mobile leaves = record { modulus = refl; more = []; sent = sym (appe
 IsKept-call mobile (arrives complete) = IsKept-arrival mobile complete
 IsKept-call mobile (gives_up failure) = IsKept-arrival mobile failure
 
-IsKept-calls : (mobile : MobileState) (calls : List Call) → IsKept mobile (after_calls mobile calls)
+pub IsKept-calls : (mobile : MobileState) (calls : List Call) → IsKept mobile (after_calls mobile calls)
 IsKept-calls mobile [] = IsKept-same mobile mobile refl refl
 IsKept-calls mobile (call ∷ calls) = IsKept-then (IsKept-call mobile call) (IsKept-calls (after_call mobile call) calls)
 
@@ -268,48 +267,3 @@ OneRepeat-calls m before mobile taken (call ∷ calls) going =
 -- nothing was taken of a mobile that never sent
 pub IsGoing-new : (m : ℕ) → IsGoing m [] (new_mobile m) []
 IsGoing-new m = record { numbered = IsNumbered-new m; last = tt; modulus = refl }
-
--- a call that begins an establishment takes nothing
-taken_by_call-begins : (mobile : MobileState) (call : Call) → begins mobile call ≡ true → taken_by_call mobile call ≡ []
-taken_by_call-begins mobile (arrives complete) does = refl
-taken_by_call-begins mobile (gives_up failure) does = refl
-taken_by_call-begins mobile (connects initial) does = refl
-taken_by_call-begins mobile (sends sapi message) does = refl
-taken_by_call-begins mobile (frames sapi) does = absurd cc
-taken_by_call-begins mobile (acknowledges sapi) does = refl
-taken_by_call-begins mobile leaves does = refl
-
--- what was taken in all establishments is what was taken
-pub joined-establishments : (mobile : MobileState) (taken : List (List ℕ)) (calls : List Call) → joined (establishments mobile taken calls) ≡ taken ++ taken_by_calls mobile calls
-joined-establishments mobile taken [] = refl
-joined-establishments mobile taken (call ∷ calls) =
-    let behind : List (List ℕ) = taken_by_calls (after_call mobile call) calls in
-    elim (cases_Bool (begins mobile call)) [
-      | inl does ↦
-          ap joined (cond-true (begins mobile call) (taken ∷ establishments (after_call mobile call) [] calls) (establishments (after_call mobile call) (taken ++ taken_by_call mobile call) calls) does)
-          ∙ ap (λ (xs : List (List ℕ)). taken ++ xs) (joined-establishments (after_call mobile call) [] calls)
-          ∙ ap (λ (xs : List (List ℕ)). taken ++ (xs ++ behind)) (sym (taken_by_call-begins mobile call does))
-      | inr doesnt ↦
-          ap joined (cond-false (begins mobile call) (taken ∷ establishments (after_call mobile call) [] calls) (establishments (after_call mobile call) (taken ++ taken_by_call mobile call) calls) doesnt)
-          ∙ joined-establishments (after_call mobile call) (taken ++ taken_by_call mobile call) calls ∙ append_assoc taken (taken_by_call mobile call) behind
-    ]
-
--- what was sent is clear
-AreClear-calls : (m : ℕ) (before : List (List ℕ)) (mobile : MobileState) (taken : List (List ℕ)) (calls : List Call) → IsGoing m before mobile taken → AreClear (after_calls mobile calls).sent
-AreClear-calls m before mobile taken [] going = going.numbered.clear
-AreClear-calls m before mobile taken (call ∷ calls) going =
-    elim (cases_Bool (begins mobile call)) [
-      | inl does ↦
-          let arrival = IsArrival-begins mobile call does in
-          let next = subst (λ (new : MobileState). IsGoing m (arrival-cut m before mobile taken going).next new []) (sym arrival.arrived) (arrival-going m before mobile taken arrival.control arrival.is_one going) in
-          AreClear-calls m (arrival-cut m before mobile taken going).next (after_call mobile call) [] calls next
-      | inr doesnt ↦ AreClear-calls m before (after_call mobile call) (taken ++ taken_by_call mobile call) calls (IsGoing-call m before mobile taken call doesnt going)
-    ]
-
--- the places of what was taken rise
-pub Rise-calls : (m : ℕ) (calls : List Call) → (k : ℕ) × Rise m (after_calls (new_mobile m) calls).sent 0 (taken_by_calls (new_mobile m) calls) k
-Rise-calls m calls =
-    let rule = OneRepeat-calls m [] (new_mobile m) [] calls (IsGoing-new m) in
-    let clear = AreClear-calls m [] (new_mobile m) [] calls (IsGoing-new m) in
-    let rise = Rise-slices m (after_calls (new_mobile m) calls).sent 0 0 (establishments (new_mobile m) [] calls) clear (inl refl) rule in
-    (rise.0, subst (λ (xs : List (List ℕ)). Rise m (after_calls (new_mobile m) calls).sent 0 xs rise.0) (joined-establishments (new_mobile m) [] calls) rise.1)

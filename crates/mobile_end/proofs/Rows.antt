@@ -16,7 +16,10 @@ use Rattle.mobile_end.specs.Mobile.{new_mobile, idle_link, after_connect, refusa
 use Rattle.mobile_end.specs.Calls.{Call, after_calls, taken_by_calls, establishments}
 use Rattle.mobile_end.specs.Calls.Call.{connects, sends, frames, acknowledges, leaves, arrives, gives_up}
 use Rattle.mobile_end.specs.OneRepeat.{OneRepeat}
-use Rattle.mobile_end.specs.OneRepeat.OneRepeat.{over, goes_on, repeats}
+use Rattle.mobile_end.specs.OneRepeat.OneRepeat.{over as ended, goes_on, repeats}
+use Rattle.mobile_end.specs.GoesOn.{GoesOn}
+use Rattle.dtap_codec.specs.Places.{Carries, Rise}
+use Rattle.dtap_codec.specs.Places.Rise.{over, next, again}
 
 -- ---- what may be sent
 
@@ -302,7 +305,7 @@ each_repeats_the_last : OneRepeat 4 ((0x03 ∷ 0x05 ∷ []) ∷ (0x03 ∷ 0x0f �
 each_repeats_the_last =
     repeats {p = 0} (omega arith) (record { begins = omega arith; ends = omega arith; taken = refl })
     (repeats {p = 1} (omega arith) (record { begins = omega arith; ends = omega arith; taken = refl })
-    (goes_on {e = 2} (record { begins = omega arith; ends = omega arith; taken = refl }) (over 2)))
+    (goes_on {e = 2} (record { begins = omega arith; ends = omega arith; taken = refl }) (ended 2)))
 
 taken_behind_service_request : taken_by_calls (new_mobile 4) (connects (Some (0x05 ∷ 0x24 ∷ 0x71 ∷ [])) ∷ sends Zero (0x03 ∷ 0x05 ∷ []) ∷ frames Zero ∷ acknowledges Zero ∷ frames Zero ∷ []) ≡
     (0x05 ∷ 0x24 ∷ 0x71 ∷ []) ∷ (0x03 ∷ 0x45 ∷ []) ∷ []
@@ -325,3 +328,25 @@ refused_calls = refl
 
 second_connect : after_calls (new_mobile 4) (connects None ∷ connects (Some (0x05 ∷ 0x24 ∷ [])) ∷ []) ≡ record (new_mobile 4) { stage = Connected }
 second_connect = refl
+
+-- ---- a link that goes on
+
+abbrev two_messages : List (List ℕ)
+two_messages = (0x05 ∷ 0x24 ∷ []) ∷ (0x03 ∷ 0x05 ∷ []) ∷ []
+
+place_0 : Carries 4 two_messages 0 (0x05 ∷ 0x24 ∷ [])
+place_0 = record { message = 0x05 ∷ 0x24 ∷ []; is_sent = refl; is_clear = record { is_flow = refl; cleared = refl }; carries = refl }
+
+place_1 : Carries 4 two_messages 1 (0x03 ∷ 0x45 ∷ [])
+place_1 = record { message = 0x03 ∷ 0x05 ∷ []; is_sent = refl; is_clear = record { is_flow = refl; cleared = refl }; carries = refl }
+
+-- the station took the first message, which comes again on another channel; the second one waits
+link_in_the_middle : GoesOn 4 two_messages ((0x05 ∷ 0x24 ∷ []) ∷ []) (record { waiting = (0x03 ∷ 0x45 ∷ []) ∷ []; air = Reached (0x05 ∷ 0x24 ∷ []) })
+link_in_the_middle = record { now = next place_0 (next place_1 (over 2)); anew = next place_0 (again refl place_0 (next place_1 (over 2))) }
+
+-- a link that gives nothing more doesn't go on to the end of the sent list
+link_too_short : GoesOn 4 two_messages [] (record { waiting = []; air = Empty }) → ⊥
+link_too_short going = none going.now
+  where
+    none : Rise 4 two_messages 0 [] 2 → ⊥
+    none rise = elim rise [ ]

@@ -1,5 +1,7 @@
-ghost use Rattle.std.specs.Prelude.{ℕ, List, []};
+ghost use Rattle.std.specs.Prelude.{ℕ, List, [], filter};
+ghost use Rattle.dtap_codec.specs.Message.{is_flow_message};
 ghost use Rattle.dtap_codec.specs.Places.{Rise};
+ghost use Rattle.mobile_end.specs.GoesOn.{GoesOn};
 ghost use Rattle.mobile_end.specs.Mobile.{new_mobile};
 ghost use Rattle.mobile_end.specs.Calls.{Call, after_calls, taken_by_calls, establishments};
 ghost use Rattle.mobile_end.specs.OneRepeat.{OneRepeat};
@@ -14,4 +16,10 @@ pub fn repeats_at_most_one()
 /// So the places of what stations take, over all channels, rise by steps of 0 or 1 from place 0. It does nothing.
 pub fn numbers_run_on()
     ensures { (m : ℕ) (calls : List Call) → (k : ℕ) × Rise m (after_calls (new_mobile m) calls).sent 0 (taken_by_calls (new_mobile m) calls) k }
+{}
+
+/// And the link of SAPI 0 goes on where what stations took ended: in what they can still take of it, and in what they can take
+/// once the mobile sends again on another channel. It does nothing.
+pub fn link_goes_on()
+    ensures { (m : ℕ) (calls : List Call) → GoesOn m (after_calls (new_mobile m) calls).sent (filter is_flow_message (taken_by_calls (new_mobile m) calls)) (after_calls (new_mobile m) calls).zero }
 {}

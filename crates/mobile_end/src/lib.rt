@@ -3,7 +3,7 @@
 #![tactic(auto)]
 
 pub use fault::MobileFault;
-pub use laws::{numbers_run_on, repeats_at_most_one};
+pub use laws::{link_goes_on, numbers_run_on, repeats_at_most_one};
 pub use mobile_end::{MobileEnd, Place, Stage};
 
 mod data_link;

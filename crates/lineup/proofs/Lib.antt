@@ -1,0 +1,10 @@
+pub mod Lines
+pub mod Standing
+pub mod Conditions
+pub mod Following
+pub mod Relaying
+pub mod Changing
+pub mod Breaking
+pub mod Moving
+pub mod Ordering
+mod Rows

@@ -1,0 +1,23 @@
+-- How the line-up begins.
+use Rattle.std.specs.Prelude.{ℕ, true, false, List, [], ◌∷◌}
+use Rattle.mobile_end.specs.DataLinkState.{DataLinkState}
+use Rattle.lineup.specs.LineUp.{Item, LineUp, fresh, with_items}
+use Rattle.lineup.specs.LineUp.Seat.{on_serving}
+
+-- A connection that its initial message opened: CR waits for the switch with that message, and these items are on their way
+-- up behind it.
+abbrev pub opened : List (List ℕ) → DataLinkState → List ℕ → List Item → LineUp
+opened sent link initial items = record {
+  sent = sent;
+  link = link;
+  seat = on_serving;
+  is_intact = true;
+  commands = 0;
+  is_changing = false;
+  is_confirmed = false;
+  old = [];
+  serving = with_items fresh items;
+  target = fresh;
+  out = initial ∷ [];
+  taken = [];
+}
