@@ -70,7 +70,7 @@ impl Model for Taker {
 /// What an outbox still holds when both of its ends are done.
 #[derive(Drop)]
 pub struct Unsent {
-    end: End<Line>,
+    both: End<Line>,
 }
 
 impl Model for Unsent {
@@ -80,9 +80,9 @@ impl Model for Unsent {
 
     ghost Value = { UnsentView };
 
-    ghost view = { λ u. record { put = u.end.seen.put; taken = u.end.seen.taken } };
+    ghost view = { λ u. record { put = u.both.seen.put; taken = u.both.seen.taken } };
 
-    ghost invariant = { λ u. u.end.seen ≡ left_over u.end.seen.put u.end.seen.taken };
+    ghost invariant = { λ u. u.both.seen ≡ left_over u.both.seen.put u.both.seen.taken };
 }
 
 impl Outbox {
@@ -115,7 +115,7 @@ impl Outbox {
     {
         let mut end = taker.end;
         end.join(putter.end);
-        Unsent { end }
+        Unsent { both: end }
     }
 }
 
@@ -172,6 +172,6 @@ impl Unsent {
         ensures some { MatchOption result (self.new ≡ self.old) (λ line. GivesLine self.old line self.new) }
         ensures none { IfNone result (self.old.put ≡ self.old.taken) }
     {
-        self.end.take(rt)
+        self.both.take(rt)
     }
 }
