@@ -1,17 +1,30 @@
 -- Desk and passes come together place by place.
-use Rattle.std.proofs.Common.{◌≡◌, ◌≢◌, ℕ, zero, suc, ◌+◌, ◌<◌, ◌≤◌, true, List, [], ◌∷◌, length, drop, sym, ap, ◌∙◌, subst, ⊎_elim, arith, add-one}
-use mathlib.Core.Option.{some}
+use Rattle.std.proofs.Common.{◌≡◌, ◌≢◌, ℕ, zero, suc, ◌+◌, ◌<◌, ◌≤◌, true, List, [], ◌∷◌, length, drop, map, sym, ap, ◌∙◌, subst, ⊎_elim, arith, add-one}
+use Rattle.std.proofs.lemmas.List.{length-map}
+use mathlib.Core.Option.{some, some-injective}
 use lib.ListN.{get_elem?}
-use Rattle.atomic_table.proofs.Lists.{at_set}
+use Rattle.atomic_table.proofs.Lists.{at_set, at_map}
 use Rattle.atomic_table.specs.Seated.{TableId}
 use Rattle.relay_items.specs.declared.What.{What}
 use Rattle.ruled_relay.specs.declared.rule.Seen.{Seen}
 use Rattle.ruled_relay.specs.Rule.{left_over}
 use Rattle.ruled_relay.specs.Ends.{EndView, knowing}
 use Rattle.ruled_relay.specs.Row.{EachAt, HasAt, JoinsAt, Row}
-use Rattle.ruled_relay.specs.Inbox.{AreEndsOfOne, AreJoined, IsJoined, PassView}
+use Rattle.ruled_relay.specs.Inbox.{AreJoined, IsJoined, PassView, queues_of}
 use Rattle.ruled_relay.proofs.Places.{length_set, there, within}
 use Rattle.ruled_relay.proofs.Turns.{IsLeft, IsTaking}
+
+-- the desk's end and the pass at each place are of one queue
+abbrev pub AreEndsOfOne : Row → List PassView → Type 0
+AreEndsOfOne desk passes = (at : ℕ) (e : EndView What) (p : PassView) → get_elem? desk at ≡ some e → get_elem? passes at ≡ some p → p.queue ≡ e.queue
+
+pub ends_of_one : (desk : Row) (passes : List PassView) → queues_of desk ≡ map (λ (p : PassView). p.queue) passes → AreEndsOfOne desk passes
+ends_of_one desk passes same at e p here there =
+    some-injective p.queue e.queue
+    (sym (at_map (λ (y : PassView). y.queue) passes at p there) ∙ ap (λ qs. get_elem? qs at) (sym same) ∙ at_map (λ (y : EndView What). y.queue) desk at e here)
+
+pub pairs : (desk : Row) (passes : List PassView) → queues_of desk ≡ map (λ (p : PassView). p.queue) passes → length passes ≡ length desk
+pairs desk passes same = sym (length-map passes (λ (p : PassView). p.queue)) ∙ ap length (sym same) ∙ length-map desk (λ (e : EndView What). e.queue)
 
 -- the places before this one have come together, the others are as on the desk
 abbrev pub Progress : Row → List PassView → ℕ → Row → Type 0

@@ -1,5 +1,6 @@
 -- An inbox is made place by place.
-use Rattle.std.proofs.Common.{◌≡◌, ℕ, zero, suc, ◌+◌, ◌⊎◌, inl, inr, List, [], ◌∷◌, ◌++◌, length, refl, sym, ap, ◌∙◌, subst, ⊎_elim, arith, length-append}
+use Rattle.std.proofs.Common.{◌≡◌, ℕ, zero, suc, ◌+◌, ◌⊎◌, inl, inr, List, [], ◌∷◌, ◌++◌, length, refl, sym, ap, ◌∙◌, subst, ⊎_elim, arith, length-append, map}
+use Rattle.std.proofs.lemmas.List.{map-append}
 use mathlib.Core.Option.{some, some-injective, some-ne-none}
 use lib.ListN.{get_elem?}
 use Rattle.relay_items.specs.declared.What.{What}
@@ -7,7 +8,7 @@ use Rattle.ruled_relay.specs.Rule.{taking}
 use Rattle.ruled_relay.specs.Ends.{AreNew}
 use Rattle.ruled_relay.specs.Ends.{EndView}
 use Rattle.ruled_relay.specs.Row.{EachAt, Row}
-use Rattle.ruled_relay.specs.Inbox.{AreNewInbox, PassView}
+use Rattle.ruled_relay.specs.Inbox.{AreNewInbox, PassView, queues_of}
 use Rattle.ruled_relay.proofs.Places.{within}
 use Rattle.ruled_relay.proofs.Turns.{IsTaking}
 
@@ -41,10 +42,11 @@ pass_at n w = record { queue = w.queue; capacity = w.capacity; source = n; put =
 -- one more source: its end at the desk, and its pass
 pub more_made : (capacity n : ℕ) (desk new_desk : Row) (passes new_passes : List PassView) (e w : EndView What) (p : PassView)
     → new_desk ≡ desk ++ e ∷ [] → new_passes ≡ passes ++ p ∷ []
-    → length desk ≡ n → length passes ≡ n → EachAt desk (λ i e. IsTaking e) → AreNewInbox capacity desk passes
+    → length desk ≡ n → length passes ≡ n → EachAt desk (λ i e. IsTaking e) → AreNewInbox capacity desk passes → queues_of desk ≡ map (λ (y : PassView). y.queue) passes
     → AreNew capacity e w → p ≡ pass_at n w
     → (length new_desk ≡ n + 1) × (length new_passes ≡ n + 1) × EachAt new_desk (λ i e. IsTaking e) × AreNewInbox capacity new_desk new_passes
-more_made capacity n desk new_desk passes new_passes e w p is_desk is_passes size_d size_p each made fresh is_p =
+    × (queues_of new_desk ≡ map (λ (y : PassView). y.queue) new_passes)
+more_made capacity n desk new_desk passes new_passes e w p is_desk is_passes size_d size_p each made paired fresh is_p =
     let same : p.queue ≡ e.queue = ap (λ (y : PassView). y.queue) is_p ∙ ap (λ (y : EndView What). y.queue) fresh.1 in
     let room : p.capacity ≡ capacity = ap (λ (y : PassView). y.capacity) is_p ∙ ap (λ (y : EndView What). y.capacity) fresh.1 in
     let place : p.source ≡ length passes = ap (λ (y : PassView). y.source) is_p ∙ sym size_p in
@@ -56,4 +58,6 @@ more_made capacity n desk new_desk passes new_passes e w p is_desk is_passes siz
       ap length is_passes ∙ omega (arith, length-append passes (p ∷ [])),
       subst (λ (row : Row). EachAt row (λ i e. IsTaking e)) (sym is_desk) (one_taking desk e each new),
       subst (λ (y : Row × List PassView). AreNewInbox capacity y.0 y.1) (λ i. (sym is_desk i, sym is_passes i)) (one_made capacity desk passes e p (size_d ∙ sym size_p) made new_e new_p),
+      ap queues_of is_desk ∙ map-append (λ (y : EndView What). y.queue) desk (e ∷ []) ∙ (λ k. paired k ++ sym same k ∷ [])
+          ∙ sym (map-append (λ (y : PassView). y.queue) passes (p ∷ [])) ∙ ap (map (λ (y : PassView). y.queue)) (sym is_passes),
     )

@@ -1,5 +1,5 @@
 -- Rows of ends, place by place.
-use Rattle.std.proofs.Common.{◌≡◌, ℕ, zero, suc, ◌<◌, List, [], ◌∷◌, length, set, slice_set, Option, Some, None, refl, sym, ap, ◌∙◌, subst, arith}
+use Rattle.std.proofs.Common.{◌≡◌, ℕ, zero, suc, ◌<◌, List, [], ◌∷◌, length, map, set, slice_set, Option, Some, None, refl, sym, ap, ◌∙◌, subst, arith}
 use mathlib.Core.Option.{some, some-injective, some-ne-none}
 use lib.ListN.{get_elem?}
 use Rattle.atomic_table.proofs.Lists.{set_again}
@@ -29,6 +29,13 @@ module _ {A : Type 0} where
   length_set [] at a = refl
   length_set (x ∷ xs) zero a = refl
   length_set (x ∷ xs) (suc at) a = ap suc (length_set xs at a)
+
+module _ {A B : Type 0} (f : A → B) where
+  -- a new element at a place, of which f is the same, leaves f of each
+  pub map_set : (row : List A) (at : ℕ) (a b : A) → get_elem? row at ≡ some a → f b ≡ f a → map f (set row at b) ≡ map f row
+  map_set [] at a b here same = refl
+  map_set (x ∷ xs) zero a b here same = λ k. (same ∙ sym (ap f (some-injective x a here))) k ∷ map f xs
+  map_set (x ∷ xs) (suc at) a b here same = λ k. f x ∷ map_set xs at a b here same k
 
 -- ---- one place
 

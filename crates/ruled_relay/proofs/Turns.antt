@@ -1,5 +1,5 @@
 -- What a desk, or what is left, keeps when an item is taken of one of its queues.
-use Rattle.std.proofs.Common.{◌≡◌, ◌≢◌, ℕ, true, [], ◌∷◌, ◌++◌, length, slice_set, Option, Some, None, MatchOption, sym, ap, ◌∙◌, subst, ⊎_elim, arith}
+use Rattle.std.proofs.Common.{◌≡◌, ◌≢◌, ℕ, true, [], ◌∷◌, ◌++◌, length, slice_set, Option, Some, None, MatchOption, refl, sym, ap, ◌∙◌, subst, ⊎_elim, arith}
 use mathlib.Core.Option.{some}
 use lib.ListN.{get_elem?}
 use Rattle.atomic_table.proofs.Lists.{at_set}
@@ -9,8 +9,8 @@ use Rattle.ruled_relay.specs.declared.rule.Seen.{Seen}
 use Rattle.ruled_relay.specs.Rule.{seen, taking, left_over}
 use Rattle.ruled_relay.specs.Ends.{EndView, Takes, knowing}
 use Rattle.ruled_relay.specs.Row.{EachAt, Row, TakesAmong, TakesOne}
-use Rattle.ruled_relay.specs.Inbox.{GivesItem, IsAllGiven, TakesItem}
-use Rattle.ruled_relay.proofs.Places.{length_set, within}
+use Rattle.ruled_relay.specs.Inbox.{GivesItem, IsAllGiven, TakesItem, queues_of}
+use Rattle.ruled_relay.proofs.Places.{map_set, length_set, within}
 
 abbrev pub IsTaking : EndView What → Type 0
 IsTaking e = e.seen ≡ taking e.seen.taken
@@ -51,6 +51,11 @@ desk_kept old new sources item size each h =
 pub desk_took : (old new : Row) (sources : ℕ) (item : Item) → EachAt old (λ i e. IsTaking e) → TakesOne sources old (Some item) new → TakesItem old item new
 desk_took old new sources item each h =
     let c = h.1 in (c.0, c.2, c.3 ∙ ap (λ (y : EndView What). slice_set old item.source y) (took c.0 c.1 item.what (each item.source c.0 c.2) c.4))
+
+pub desk_same : (old new : Row) (found : Option Item) → MatchOption found (new ≡ old) (λ item. TakesItem old item new) → queues_of new ≡ queues_of old
+desk_same old new (Some item) h =
+    let e = h.0 in ap queues_of h.2 ∙ map_set (λ (y : EndView What). y.queue) old item.source e (knowing e (taking (e.seen.taken ++ item.what ∷ []))) h.1 refl
+desk_same old new None h = ap queues_of h
 
 pub left_kept : (old new : Row) (sources : ℕ) (found : Option Item) → length old ≡ sources → EachAt old (λ i e. IsLeft e) → TakesAmong 0 sources old found new
     → (length new ≡ sources) × EachAt new (λ i e. IsLeft e)

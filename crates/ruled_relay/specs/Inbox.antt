@@ -1,5 +1,5 @@
 -- What the ends of an inbox show, and what their calls do. An item's source is its place in the row of queues.
-use Rattle.std.specs.Prelude.{◌≡◌, ◌≢◌, ℕ, ◌<◌, List, [], ◌∷◌, ◌++◌, length, Result, Ok, Err, slice_set}
+use Rattle.std.specs.Prelude.{◌≡◌, ◌≢◌, ℕ, ◌<◌, List, [], ◌∷◌, ◌++◌, length, Result, Ok, Err, map, slice_set}
 use mathlib.Core.Option.{some}
 use lib.ListN.{get_elem?}
 use Rattle.atomic_table.specs.Seated.{TableId}
@@ -38,9 +38,9 @@ abbrev pub TakesItem : Row → Item → Row → Type 0
 TakesItem old item new =
     (e : EndView What) × (get_elem? old item.source ≡ some e) × (new ≡ slice_set old item.source (knowing e (taking (e.seen.taken ++ item.what ∷ []))))
 
--- the desk's end and the pass at each place are of one queue
-abbrev pub AreEndsOfOne : Row → List PassView → Type 0
-AreEndsOfOne desk passes = (at : ℕ) (e : EndView What) (p : PassView) → get_elem? desk at ≡ some e → get_elem? passes at ≡ some p → p.queue ≡ e.queue
+-- which queues the ends at a desk are of, in the order of the sources
+abbrev pub queues_of : Row → List TableId
+queues_of row = map (λ (e : EndView What). e.queue) row
 
 -- desk and pass of this place have come together: what was put is what was taken, and then a rest
 abbrev pub IsJoined : Row → List PassView → ℕ → EndView What → Type 0

@@ -1,5 +1,5 @@
-ghost use Rattle.std.specs.Prelude.{◌≡◌, ◌<◌, length, IfOk, MatchOption, vec_len};
-ghost use Rattle.ruled_relay.specs.Inbox.{AreEndsOfOne, AreJoined, AreNewInbox, GivesItem, IsAllGiven, PutsItem, TakesItem};
+ghost use Rattle.std.specs.Prelude.{◌≡◌, ◌<◌, length, IfOk, MatchOption, map, vec_len};
+ghost use Rattle.ruled_relay.specs.Inbox.{AreJoined, AreNewInbox, GivesItem, IsAllGiven, PutsItem, TakesItem, queues_of};
 
 use crate::bell::Bell;
 use crate::end::{End, ends};
@@ -94,6 +94,7 @@ impl Inbox {
         requires { 0 < capacity }
         ensures count { IfOk result (λ r. (length r.0 ≡ sources) × (vec_len r.1 ≡ sources)) }
         ensures each { IfOk result (λ r. AreNewInbox capacity r.0 r.1.items) }
+        ensures queues { IfOk result (λ r. queues_of r.0 ≡ map (λ p. p.queue) r.1.items) }
     {
         let bell = Bell::new(alloc)?;
         let mut desk = Vec::with_capacity(alloc, usize::from(sources))?;
@@ -119,8 +120,7 @@ impl Inbox {
     /// Brings the ends of one inbox together, with the passes in the order of their sources. What a source has put is
     /// what was taken of it, and then what is left.
     pub fn finish(desk: Desk, passes: Vec<SourcePass>) -> Left
-        requires count { vec_len passes ≡ length desk }
-        requires each { AreEndsOfOne desk passes.items }
+        requires { queues_of desk ≡ map (λ p. p.queue) passes.items }
         ensures { AreJoined desk passes.items result }
     {
         let mut ends = desk.ends;
@@ -139,7 +139,8 @@ impl Inbox {
 impl SourcePass {
     /// Puts an item last. One of another source is refused first; a refusal changes nothing.
     pub fn put<R: Wait>(&mut self, rt: &R, item: Item) -> Result<(), PutFault>
-        ensures { PutsItem self.old item result self.new }
+        ensures puts { PutsItem self.old item result self.new }
+        ensures same { (self.new.queue ≡ self.old.queue) × (self.new.source ≡ self.old.source) }
     {
         if item.source != self.source {
             return Err(PutFault::Foreign(item));
@@ -161,7 +162,8 @@ impl Desk {
     /// Takes an item, if a source has one. The sources are asked in turn, beginning after the one that was taken from
     /// last, at first with source 0.
     pub fn take<R: Wait>(&mut self, rt: &R) -> Option<Item>
-        ensures { MatchOption result (self.new ≡ self.old) (λ item. TakesItem self.old item self.new) }
+        ensures takes { MatchOption result (self.new ≡ self.old) (λ item. TakesItem self.old item self.new) }
+        ensures same { queues_of self.new ≡ queues_of self.old }
     {
         let item = take_in_turn(rt, &mut self.ends, self.turn, self.sources)?;
         self.turn = item.source + 1;

@@ -122,7 +122,8 @@ impl Outbox {
 impl Putter {
     /// Puts a line last. A full outbox hands it back; nothing changes then, but that a frame's refusal is counted.
     pub fn put<R: Wait>(&mut self, rt: &R, line: Line) -> Result<(), Full>
-        ensures { PutsLine self.old line result self.new }
+        ensures puts { PutsLine self.old line result self.new }
+        ensures same { self.new.queue ≡ self.old.queue }
     {
         match self.end.put(rt, line) {
             Ok(()) => {
@@ -155,7 +156,8 @@ impl Putter {
 impl Taker {
     /// Takes the first line, if there is one.
     pub fn take<R: Wait>(&mut self, rt: &R) -> Option<Line>
-        ensures { MatchOption result (self.new ≡ self.old) (λ line. TakesLine self.old line self.new) }
+        ensures takes { MatchOption result (self.new ≡ self.old) (λ line. TakesLine self.old line self.new) }
+        ensures same { self.new.queue ≡ self.old.queue }
     {
         self.end.take(rt)
     }
