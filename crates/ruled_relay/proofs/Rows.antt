@@ -1,0 +1,142 @@
+-- The definitions at literal values.
+use Rattle.std.proofs.Common.{◌≡◌, ℕ, zero, suc, true≢false, List, [], ◌∷◌, ◌++◌, length, slice_index_or, Ok, Err, refl, sym, ap, ◌∙◌, subst, arith, length-append}
+use mathlib.Core.Option.{some, some-injective, some-ne-none}
+use lib.ListN.{get_elem?}
+use Rattle.atomic_table.specs.Seated.{TableId}
+use Rattle.ipa_framing.specs.declared.frame.Frame.{Frame}
+use Rattle.relay_items.specs.declared.Item.{Item}
+use Rattle.relay_items.specs.declared.What.{What}
+use Rattle.relay_items.specs.declared.What.TheVariants as whats
+use Rattle.ruled_relay.specs.declared.rule.Seen.{Seen}
+use Rattle.ruled_relay.specs.declared.outbox.Line.{Line}
+use Rattle.ruled_relay.specs.declared.outbox.Line.TheVariants as lines
+use Rattle.ruled_relay.specs.declared.inbox.PutFault.TheVariants as faults
+use Rattle.ruled_relay.specs.Rule.{putting, taking, left_over, Fits, Relayed}
+use Rattle.ruled_relay.specs.Ends.{EndView}
+use Rattle.ruled_relay.specs.Outbox.{PutterView, PutsLine, greater, one_more, refusing}
+use Rattle.ruled_relay.specs.Row.{Row}
+use Rattle.ruled_relay.specs.Inbox.{GivesItem, IsAllGiven, PassView, PutsItem, TakesItem}
+
+-- ---- the rule of a queue
+
+-- 5 and 7 were put and 5 was taken: the queue holds 7
+one_left : (at : ℕ) (v : Seen ℕ) → get_elem? (taking (5 ∷ []) ∷ putting (5 ∷ 7 ∷ []) ∷ []) at ≡ some v → Fits 1 0 (5 ∷ 7 ∷ []) (5 ∷ []) at v
+one_left zero v e = subst (Fits 1 0 (5 ∷ 7 ∷ []) (5 ∷ []) 0) (some-injective _ _ e) ((λ p. absurd (true≢false (sym p))), λ _. (refl, refl))
+one_left (suc zero) v e = subst (Fits 1 0 (5 ∷ 7 ∷ []) (5 ∷ []) 1) (some-injective _ _ e) ((λ _. (refl, refl)), λ p. absurd (true≢false (sym p)))
+one_left (suc (suc at)) v e = absurd (some-ne-none v (sym e))
+
+holds_what_is_left : Relayed {T = ℕ} (7 ∷ []) (taking (5 ∷ []) ∷ putting (5 ∷ 7 ∷ []) ∷ [])
+holds_what_is_left = (1, 0, 5 ∷ 7 ∷ [], 5 ∷ [], refl, one_left)
+
+-- what an end that takes and one that puts know, if the rule holds
+told : (items taken put : List ℕ) → Relayed items (taking taken ∷ putting put ∷ []) → put ≡ taken ++ items
+told items taken put h = ((h.5 1 (putting put) refl).0 refl).1 ∙ h.4 ∙ ap (λ t. t ++ items) (sym ((h.5 0 (taking taken) refl).1 refl).1)
+
+nothing_is_lost : Relayed {T = ℕ} [] (taking (5 ∷ []) ∷ putting (5 ∷ 7 ∷ []) ∷ []) → ⊥
+nothing_is_lost h = let l = ap length (told [] (5 ∷ []) (5 ∷ 7 ∷ []) h) in absurd (omega arith)
+
+nothing_is_given_twice : Relayed {T = ℕ} (5 ∷ []) (taking (5 ∷ []) ∷ putting (5 ∷ []) ∷ []) → ⊥
+nothing_is_given_twice h = let l = ap length (told (5 ∷ []) (5 ∷ []) (5 ∷ []) h) in absurd (omega arith)
+
+nothing_overtakes : Relayed {T = ℕ} (5 ∷ []) (taking (7 ∷ []) ∷ putting (5 ∷ 7 ∷ []) ∷ []) → ⊥
+nothing_overtakes h = let l = ap (λ xs. slice_index_or xs 0 0) (told (5 ∷ []) (7 ∷ []) (5 ∷ 7 ∷ []) h) in absurd (omega arith)
+
+one_end_puts : Relayed [] (putting {T = ℕ} [] ∷ putting [] ∷ []) → ⊥
+one_end_puts h = let a = ((h.5 0 (putting []) refl).0 refl).0 in let b = ((h.5 1 (putting []) refl).0 refl).0 in absurd (omega arith)
+
+one_end_takes : Relayed [] (taking {T = ℕ} [] ∷ taking [] ∷ []) → ⊥
+one_end_takes h = let a = ((h.5 0 (taking []) refl).1 refl).0 in let b = ((h.5 1 (taking []) refl).1 refl).0 in absurd (omega arith)
+
+-- ---- an outbox for one line
+
+frame : ℕ → Frame
+frame octet = record { stream = 0; body = octet ∷ [] }
+
+line : ℕ → Line
+line octet = lines.Frame (frame octet)
+
+putter : TableId → List Line → ℕ → ℕ → PutterView
+putter q put refused refusals = record { queue = q; capacity = 1; put = put; refused = refused; refusals = refusals }
+
+a_frame_is_put : (q : TableId) → PutsLine (putter q [] 0 0) (line 8) (Ok tt) (putter q (line 8 ∷ []) 0 0)
+unfolding putter
+a_frame_is_put q = refl
+
+a_second_is_refused : (q : TableId) → PutsLine (putter q (line 8 ∷ []) 0 0) (line 9) (Err (record { 0 = line 9 })) (putter q (line 8 ∷ []) 1 1)
+unfolding putter line
+a_second_is_refused q = (refl, (line 8 ∷ [], refl, ([], refl)), refl)
+
+so_is_the_mark_but_not_counted : (q : TableId) → PutsLine (putter q (line 8 ∷ []) 1 1) lines.End (Err (record { 0 = lines.End })) (putter q (line 8 ∷ []) 1 1)
+unfolding putter line
+so_is_the_mark_but_not_counted q = (refl, (line 8 ∷ [], refl, ([], refl)), refl)
+
+the_mark_is_put : (q : TableId) → PutsLine (putter q (line 8 ∷ []) 1 3) lines.End (Ok tt) (putter q (line 8 ∷ lines.End ∷ []) 0 3)
+unfolding putter line
+the_mark_is_put q = refl
+
+none_is_refused_of_an_empty_outbox : (q : TableId) (new : PutterView) → PutsLine (putter q [] 0 0) (line 8) (Err (record { 0 = line 8 })) new → ⊥
+unfolding putter line
+none_is_refused_of_an_empty_outbox q new h = let full = h.1 in let size = full.1 in let l = ap length full.2.1 in absurd (omega (arith, length-append full.2.0 full.0))
+
+fewer_than_before : (q : TableId) → refusing (line 9) (putter q [] 3 5) ≡ putter q [] 4 5
+unfolding putter line
+fewer_than_before q = refl
+
+more_than_before : (q : TableId) → refusing (line 9) (putter q [] 5 5) ≡ putter q [] 6 6
+unfolding putter line
+more_than_before q = refl
+
+last_count : one_more 4294967294 ≡ 4294967295
+last_count = refl
+
+no_more_counts : one_more 4294967295 ≡ 4294967295
+no_more_counts = refl
+
+greater_of_two : (greater 2 3 ≡ 3) × (greater 3 2 ≡ 3) × (greater 3 3 ≡ 3)
+greater_of_two = (refl, refl, refl)
+
+-- ---- an inbox
+
+what : ℕ → What
+what octet = whats.Frame (frame octet)
+
+item : ℕ → What → Item
+item source w = record { source = source; what = w }
+
+pass : TableId → List What → PassView
+pass q put = record { queue = q; capacity = 1; source = 2; put = put }
+
+its_own_is_put : (q : TableId) → PutsItem (pass q (what 8 ∷ [])) (item 2 whats.Down) (Ok tt) (pass q (what 8 ∷ whats.Down ∷ []))
+unfolding pass item what
+its_own_is_put q = (refl, refl)
+
+anothers_is_foreign : (q : TableId) → PutsItem (pass q []) (item 1 (what 8)) (Err (faults.Foreign (item 1 (what 8)))) (pass q [])
+unfolding pass item what
+anothers_is_foreign q = ((λ e. absurd (omega arith)), refl, refl)
+
+also_where_the_queue_is_full : (q : TableId) (new : PassView) → PutsItem (pass q (what 8 ∷ [])) (item 1 (what 9)) (Err (faults.Full (item 1 (what 9)))) new → ⊥
+unfolding pass item what
+also_where_the_queue_is_full q new h = let e = h.0 in absurd (omega arith)
+
+full : (q : TableId) → PutsItem (pass q (what 8 ∷ [])) (item 2 (what 9)) (Err (faults.Full (item 2 (what 9)))) (pass q (what 8 ∷ []))
+unfolding pass item what
+full q = (refl, refl, (what 8 ∷ [], refl, ([], refl)), refl)
+
+desk_end : TableId → List What → EndView What
+desk_end q taken = record { queue = q; capacity = 1; seen = taking taken }
+
+taken_at_its_place : (q r : TableId)
+    → TakesItem (desk_end q (what 8 ∷ []) ∷ desk_end r (what 9 ∷ []) ∷ []) (item 1 whats.Down) (desk_end q (what 8 ∷ []) ∷ desk_end r (what 9 ∷ whats.Down ∷ []) ∷ [])
+unfolding desk_end item what
+taken_at_its_place q r = (desk_end r (what 9 ∷ []), refl, refl)
+
+joined : TableId → List What → List What → EndView What
+joined q put taken = record { queue = q; capacity = 1; seen = left_over put taken }
+
+first_all_of_the_first : (q r : TableId) (new : Row) → GivesItem (joined q (what 8 ∷ []) [] ∷ joined r (what 9 ∷ []) [] ∷ []) (item 1 (what 9)) new → ⊥
+unfolding joined item what
+first_all_of_the_first q r new h = let l = ap length (h.4 0 (joined q (what 8 ∷ []) []) (omega arith) refl) in absurd (omega arith)
+
+not_all_given : (q : TableId) → IsAllGiven (joined q (what 8 ∷ []) [] ∷ []) → ⊥
+unfolding joined
+not_all_given q h = let l = ap length (h 0 (joined q (what 8 ∷ []) []) refl) in absurd (omega arith)

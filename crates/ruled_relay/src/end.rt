@@ -1,0 +1,76 @@
+ghost use Rattle.std.specs.Prelude.{◌≡◌, ◌<◌, true, IfOk, MatchOption, MatchResult};
+ghost use Rattle.ruled_relay.specs.Ends.{AreNew, IsDrained, Joins, Puts, Takes, WasFull};
+
+use crate::rule::{Ends, InOrder, Putting, Seen, Taking};
+use crossbeam_queue::{Pass, RuledArrayQueue};
+use octets::Memory;
+use std::alloc::Global;
+use std::marker::Model;
+use std::sync::{Arc, Wait};
+
+type Queue<T> = RuledArrayQueue<T, Seen<T>, InOrder>;
+
+/// An end of a queue: the one that puts, the one that takes, or what the two become when they come together.
+#[derive(Drop)]
+pub(crate) struct End<T> {
+    queue: Arc<Queue<T>, Global>,
+    pass: Pass<T, Seen<T>>,
+}
+
+impl<T> Model for End<T> {
+    ghost use Rattle.crossbeam_queue.specs.Passes.{view as pass_view, IsPassOf, ruled_capacity};
+    ghost use Rattle.std.specs.Arc.{arc_value};
+    ghost use Rattle.ruled_relay.specs.Ends.{EndView};
+
+    ghost Value = { EndView T };
+
+    ghost view = { λ e. record { queue = e.pass.table_id; capacity = ruled_capacity (arc_value e.queue); seen = pass_view e.pass } };
+
+    ghost invariant = { λ e. IsPassOf (arc_value e.queue) e.pass };
+}
+
+/// A queue of so many items, as its two ends: the one that takes, and the one that puts.
+pub(crate) fn ends<T: Drop>(alloc: Global, capacity: usize) -> Result<(End<T>, End<T>), Memory>
+    requires { 0 < capacity }
+    ensures { IfOk result (λ r. AreNew capacity r.0 r.1) }
+{
+    let (queue, mut pass) = Queue::<T>::ruled(alloc, capacity)?;
+    let queue = Arc::new(alloc, queue)?;
+    let other = Arc::try_clone(&queue)?;
+    let putter = queue.another::<Ends>(&mut pass);
+    Ok((
+        End { queue, pass },
+        End {
+            queue: other,
+            pass: putter,
+        },
+    ))
+}
+
+impl<T: Drop> End<T> {
+    /// Puts an item last. A full queue hands it back.
+    pub(crate) fn put<R: Wait>(&mut self, rt: &R, item: T) -> Result<(), T>
+        requires { self.old.seen.puts ≡ true }
+        ensures { MatchResult result (λ _. Puts self.old item self.new) (λ x. (x ≡ item) × (self.new ≡ self.old) × WasFull self.old.capacity self.old.seen) }
+    {
+        self.queue.push_as::<Putting, R>(rt, &mut self.pass, item)
+    }
+
+    /// Takes the first item, if there is one.
+    pub(crate) fn take<R: Wait>(&mut self, rt: &R) -> Option<T>
+        requires { self.old.seen.takes ≡ true }
+        ensures { MatchOption result ((self.new ≡ self.old) × IsDrained self.old.seen) (λ x. Takes self.old x self.new) }
+    {
+        self.queue.pop_as::<Taking, R>(rt, &mut self.pass)
+    }
+
+    /// Takes in the end that puts.
+    pub(crate) fn join(&mut self, other: End<T>)
+        requires queue { other.queue ≡ self.old.queue }
+        requires ends { (self.old.seen.takes ≡ true) × (other.seen.puts ≡ true) }
+        ensures { Joins self.old other self.new }
+    {
+        self.queue.absorb::<Ends>(&mut self.pass, other.pass);
+        self.queue.learn_as::<Taking>(&mut self.pass);
+    }
+}

@@ -1,0 +1,187 @@
+ghost use Rattle.std.specs.Prelude.{◌≡◌, ◌<◌, length, IfOk, MatchOption, map, vec_len};
+ghost use Rattle.ruled_relay.specs.Inbox.{AreJoined, AreNewInbox, GivesItem, IsAllGiven, PutsItem, TakesItem, queues_of};
+
+use crate::bell::Bell;
+use crate::end::{End, ends};
+use crate::row::{join_at, take_among, take_in_turn};
+use octets::Memory;
+use relay_items::{Item, What};
+use std::alloc::Global;
+use std::marker::Model;
+use std::sync::Wait;
+use std::time::Duration;
+
+/// Why an item wasn't put. Either way it comes back.
+#[derive(Drop)]
+pub enum PutFault {
+    /// It is of another source than the pass.
+    Foreign(Item),
+    /// The queue of its source was full.
+    Full(Item),
+}
+
+/// The queues of the links that are read, one for each source, from the threads that read them to the one that takes.
+pub struct Inbox;
+
+/// The end of a source's queue that puts. Contracts see the source, and what it has put.
+#[derive(Drop)]
+pub struct SourcePass {
+    end: End<What>,
+    bell: Bell,
+    source: u16,
+}
+
+impl Model for SourcePass {
+    ghost use Rattle.std.specs.Prelude.{◌≡◌};
+    ghost use Rattle.ruled_relay.specs.Inbox.{PassView};
+    ghost use Rattle.ruled_relay.specs.Rule.{putting};
+
+    ghost Value = { PassView };
+
+    ghost view = { λ p. record { queue = p.end.queue; capacity = p.end.capacity; source = p.source; put = p.end.seen.put } };
+
+    ghost invariant = { λ p. p.end.seen ≡ putting p.end.seen.put };
+}
+
+/// The ends of all queues of an inbox that take. Contracts see them in the order of the sources.
+#[derive(Drop)]
+pub struct Desk {
+    ends: Vec<End<What>>,
+    bell: Bell,
+    sources: u16,
+    turn: u16,
+}
+
+impl Model for Desk {
+    ghost use Rattle.std.specs.Prelude.{◌≡◌, ◌≤◌, length};
+    ghost use Rattle.ruled_relay.specs.Row.{EachAt, Row};
+    ghost use Rattle.ruled_relay.specs.Rule.{taking};
+
+    ghost Value = { Row };
+
+    ghost view = { λ d. d.ends.items };
+
+    ghost invariant = { λ d. (length d.ends.items ≡ d.sources) × (d.turn ≤ d.sources) × EachAt d.ends.items (λ at e. e.seen ≡ taking e.seen.taken) };
+}
+
+/// What an inbox still holds when its desk and all of its passes are done. Contracts see what each source has put, and
+/// what was taken of it, in the order of the sources.
+#[derive(Drop)]
+pub struct Left {
+    ends: Vec<End<What>>,
+    sources: u16,
+}
+
+impl Model for Left {
+    ghost use Rattle.std.specs.Prelude.{◌≡◌, length};
+    ghost use Rattle.ruled_relay.specs.Row.{EachAt, Row};
+    ghost use Rattle.ruled_relay.specs.Rule.{left_over};
+
+    ghost Value = { Row };
+
+    ghost view = { λ l. l.ends.items };
+
+    ghost invariant = { λ l. (length l.ends.items ≡ l.sources) × EachAt l.ends.items (λ at e. e.seen ≡ left_over e.seen.put e.seen.taken) };
+}
+
+impl Inbox {
+    /// An inbox for the sources 0, 1 and so on, so many of them, with at most so many items of each.
+    pub fn new(
+        alloc: Global,
+        sources: u16,
+        capacity: usize,
+    ) -> Result<(Desk, Vec<SourcePass>), Memory>
+        requires { 0 < capacity }
+        ensures count { IfOk result (λ r. (length r.0 ≡ sources) × (vec_len r.1 ≡ sources)) }
+        ensures each { IfOk result (λ r. AreNewInbox capacity r.0 r.1.items) }
+        ensures queues { IfOk result (λ r. queues_of r.0 ≡ map (λ p. p.queue) r.1.items) }
+    {
+        let bell = Bell::new(alloc)?;
+        let mut desk = Vec::with_capacity(alloc, usize::from(sources))?;
+        let mut passes = Vec::with_capacity(alloc, usize::from(sources))?;
+        for source in 0..sources {
+            let (taking, putting) = ends(alloc, capacity)?;
+            desk.push(taking)?;
+            passes.push(SourcePass {
+                end: putting,
+                bell: bell.share()?,
+                source,
+            })?;
+        }
+        let desk = Desk {
+            ends: desk,
+            bell,
+            sources,
+            turn: 0,
+        };
+        Ok((desk, passes))
+    }
+
+    /// Brings the ends of one inbox together, with the passes in the order of their sources. What a source has put is
+    /// what was taken of it, and then what is left.
+    pub fn finish(desk: Desk, passes: Vec<SourcePass>) -> Left
+        requires { queues_of desk ≡ map (λ p. p.queue) passes.items }
+        ensures { AreJoined desk passes.items result }
+    {
+        let mut ends = desk.ends;
+        let mut at = 0;
+        for pass in passes {
+            join_at(&mut ends, at, pass.end);
+            at += 1;
+        }
+        Left {
+            ends,
+            sources: desk.sources,
+        }
+    }
+}
+
+impl SourcePass {
+    /// Puts an item last. One of another source is refused first; a refusal changes nothing.
+    pub fn put<R: Wait>(&mut self, rt: &R, item: Item) -> Result<(), PutFault>
+        ensures puts { PutsItem self.old item result self.new }
+        ensures same { (self.new.queue ≡ self.old.queue) × (self.new.source ≡ self.old.source) }
+    {
+        if item.source != self.source {
+            return Err(PutFault::Foreign(item));
+        }
+        let Item { source, what } = item;
+        match self.end.put(rt, what) {
+            Ok(()) => Ok(()),
+            Err(what) => Err(PutFault::Full(Item { source, what })),
+        }
+    }
+
+    /// Wakes the thread that waits at the desk.
+    pub fn ring(&self) {
+        self.bell.ring();
+    }
+}
+
+impl Desk {
+    /// Takes an item, if a source has one. The sources are asked in turn, beginning after the one that was taken from
+    /// last, at first with source 0.
+    pub fn take<R: Wait>(&mut self, rt: &R) -> Option<Item>
+        ensures takes { MatchOption result (self.new ≡ self.old) (λ item. TakesItem self.old item self.new) }
+        ensures same { queues_of self.new ≡ queues_of self.old }
+    {
+        let item = take_in_turn(rt, &mut self.ends, self.turn, self.sources)?;
+        self.turn = item.source + 1;
+        Some(item)
+    }
+
+    /// Waits until a pass rings, at most so long. It may end sooner.
+    pub fn wait<R: Wait>(&self, rt: &R, longest: Duration) {
+        self.bell.wait(rt, longest);
+    }
+}
+
+impl Left {
+    /// Takes the next item that is left: all of source 0 in order, then all of source 1, and so on. With none, all that
+    /// was put was taken.
+    pub fn next<R: Wait>(&mut self, rt: &R) -> Option<Item>
+        ensures { MatchOption result ((self.new ≡ self.old) × IsAllGiven self.old) (λ item. GivesItem self.old item self.new) }
+    {
+        take_among(rt, &mut self.ends, 0, self.sources)
+    }
+}

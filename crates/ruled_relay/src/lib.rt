@@ -1,0 +1,16 @@
+//! The queues between the threads of the running relay: an inbox, which has a queue for each link that is read, and an
+//! outbox for each link that is written.
+//!
+//! The rule of each queue: what was put is what was taken, followed by what the queue holds.
+#![tactic(auto)]
+
+pub use inbox::{Desk, Inbox, Left, PutFault, SourcePass};
+pub use outbox::{Full, Line, Outbox, Putter, Taker, Unsent};
+pub use relay_items::{Item, What};
+
+mod bell;
+mod end;
+mod inbox;
+mod outbox;
+mod row;
+mod rule;

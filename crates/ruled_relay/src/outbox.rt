@@ -1,0 +1,179 @@
+ghost use Rattle.std.specs.Prelude.{◌≡◌, ◌<◌, [], ◌∷◌, ◌++◌, List, IfOk, MatchOption, IfNone};
+ghost use Rattle.ruled_relay.specs.Outbox.{AreNewOutbox, PutsLine, TakesLine, GivesLine};
+
+use crate::bell::Bell;
+use crate::end::{End, ends};
+use ipa_framing::Frame;
+use octets::Memory;
+use std::alloc::Global;
+use std::marker::Model;
+use std::sync::Wait;
+use std::time::Duration;
+
+/// What is put for the writer of a link.
+#[derive(Drop)]
+pub enum Line {
+    /// A frame to be written.
+    Frame(Frame),
+    /// The mark behind the last frame.
+    End,
+}
+
+/// A line wasn't put, since the outbox was full. It comes back.
+#[derive(Drop)]
+pub struct Full(pub Line);
+
+/// The queue of a link that is written, from the thread that puts its frames to the one that writes them.
+pub struct Outbox;
+
+/// The end of an outbox that puts. Contracts see all that was put, how many frames were refused since a line was put
+/// last, and the greatest such number so far, both of at most 2^32 - 1.
+#[derive(Drop)]
+pub struct Putter {
+    end: End<Line>,
+    bell: Bell,
+    refused: u32,
+    refusals: u32,
+}
+
+impl Model for Putter {
+    ghost use Rattle.std.specs.Prelude.{◌≡◌};
+    ghost use Rattle.ruled_relay.specs.Outbox.{PutterView};
+    ghost use Rattle.ruled_relay.specs.Rule.{putting};
+
+    ghost Value = { PutterView };
+
+    ghost view = { λ p. record { queue = p.end.queue; capacity = p.end.capacity; put = p.end.seen.put; refused = p.refused; refusals = p.refusals } };
+
+    ghost invariant = { λ p. p.end.seen ≡ putting p.end.seen.put };
+}
+
+/// The end of an outbox that takes. Contracts see all that was taken.
+#[derive(Drop)]
+pub struct Taker {
+    end: End<Line>,
+    bell: Bell,
+}
+
+impl Model for Taker {
+    ghost use Rattle.std.specs.Prelude.{◌≡◌};
+    ghost use Rattle.ruled_relay.specs.Outbox.{TakerView};
+    ghost use Rattle.ruled_relay.specs.Rule.{taking};
+
+    ghost Value = { TakerView };
+
+    ghost view = { λ t. record { queue = t.end.queue; capacity = t.end.capacity; taken = t.end.seen.taken } };
+
+    ghost invariant = { λ t. t.end.seen ≡ taking t.end.seen.taken };
+}
+
+/// What an outbox still holds when both of its ends are done.
+#[derive(Drop)]
+pub struct Unsent {
+    both: End<Line>,
+}
+
+impl Model for Unsent {
+    ghost use Rattle.std.specs.Prelude.{◌≡◌};
+    ghost use Rattle.ruled_relay.specs.Outbox.{UnsentView};
+    ghost use Rattle.ruled_relay.specs.Rule.{left_over};
+
+    ghost Value = { UnsentView };
+
+    ghost view = { λ u. record { put = u.both.seen.put; taken = u.both.seen.taken } };
+
+    ghost invariant = { λ u. u.both.seen ≡ left_over u.both.seen.put u.both.seen.taken };
+}
+
+impl Outbox {
+    /// An outbox for so many lines at most.
+    pub fn new(alloc: Global, capacity: usize) -> Result<(Putter, Taker), Memory>
+        requires { 0 < capacity }
+        ensures { IfOk result (λ r. AreNewOutbox capacity r.0 r.1) }
+    {
+        let bell = Bell::new(alloc)?;
+        let heard = bell.share()?;
+        let (taking, putting) = ends(alloc, capacity)?;
+        let putter = Putter {
+            end: putting,
+            bell,
+            refused: 0,
+            refusals: 0,
+        };
+        let taker = Taker {
+            end: taking,
+            bell: heard,
+        };
+        Ok((putter, taker))
+    }
+
+    /// Brings the two ends of one outbox together: what was put is what was taken, and then what is left.
+    pub fn finish(putter: Putter, taker: Taker) -> Unsent
+        requires { putter.queue ≡ taker.queue }
+        ensures lists { result ≡ record { put = putter.put; taken = taker.taken } }
+        ensures rule { (rest : List _) × (putter.put ≡ taker.taken ++ rest) }
+    {
+        let mut end = taker.end;
+        end.join(putter.end);
+        Unsent { both: end }
+    }
+}
+
+impl Putter {
+    /// Puts a line last. A full outbox hands it back; nothing changes then, but that a frame's refusal is counted.
+    pub fn put<R: Wait>(&mut self, rt: &R, line: Line) -> Result<(), Full>
+        ensures puts { PutsLine self.old line result self.new }
+        ensures same { self.new.queue ≡ self.old.queue }
+    {
+        match self.end.put(rt, line) {
+            Ok(()) => {
+                self.refused = 0;
+                Ok(())
+            }
+            Err(line) => {
+                if let Line::Frame(_) = line {
+                    self.refused = self.refused.saturating_add(1);
+                    self.refusals = self.refusals.max(self.refused);
+                }
+                Err(Full(line))
+            }
+        }
+    }
+
+    /// The greatest number of frames that were refused with no line put between them; at most 2^32 - 1.
+    pub fn refusals(&self) -> u32
+        ensures { result ≡ self.now.refusals }
+    {
+        self.refusals
+    }
+
+    /// Wakes the thread that waits at the other end.
+    pub fn ring(&self) {
+        self.bell.ring();
+    }
+}
+
+impl Taker {
+    /// Takes the first line, if there is one.
+    pub fn take<R: Wait>(&mut self, rt: &R) -> Option<Line>
+        ensures takes { MatchOption result (self.new ≡ self.old) (λ line. TakesLine self.old line self.new) }
+        ensures same { self.new.queue ≡ self.old.queue }
+    {
+        self.end.take(rt)
+    }
+
+    /// Waits until the other end rings, at most so long. It may end sooner.
+    pub fn wait<R: Wait>(&self, rt: &R, longest: Duration) {
+        self.bell.wait(rt, longest);
+    }
+}
+
+impl Unsent {
+    /// Takes the first line that is left. With none, all that was put was taken.
+    pub fn next<R: Wait>(&mut self, rt: &R) -> Option<Line>
+        ensures some { MatchOption result (self.new ≡ self.old) (λ line. GivesLine self.old line self.new) }
+        ensures none { IfNone result (self.old.put ≡ self.old.taken) }
+    {
+        self.both.take(rt)
+    }
+}
