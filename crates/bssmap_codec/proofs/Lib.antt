@@ -1,3 +1,4 @@
+pub mod BssapCauses
 pub mod BssapTexts
 pub mod Bssaps
 pub mod Contents

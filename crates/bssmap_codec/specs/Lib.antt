@@ -1,4 +1,5 @@
 pub mod Bssap
+pub mod BssapFaults
 pub mod BssapReading
 pub mod BssapText
 pub mod BssmapType
