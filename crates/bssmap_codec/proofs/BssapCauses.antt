@@ -31,20 +31,20 @@ use Rattle.bssmap_codec.specs.Layer3.{layer3_fault}
 use Rattle.bssmap_codec.specs.Values.{is_dlci}
 use Rattle.bssmap_codec.proofs.Contents.{one_octet}
 
-abbrev Causes : Type 0
+abbrev pub Causes : Type 0
 Causes = List (Bool × InterfaceFault)
 
 -- ---- steps
 
-map_err : {A B : Type 0} (f : A → B) (r : Result A InterfaceFault) → result_err (result_map f r) ≡ result_err r
+pub map_err : {A B : Type 0} (f : A → B) (r : Result A InterfaceFault) → result_err (result_map f r) ≡ result_err r
 map_err f (Ok x) = refl
 map_err f (Err fault) = refl
 
-then_ok : {A B : Type 0} (f : A → B) (r : Result A InterfaceFault) → result_err (r >>= (λ x. Ok (f x))) ≡ result_err r
+pub then_ok : {A B : Type 0} (f : A → B) (r : Result A InterfaceFault) → result_err (r >>= (λ x. Ok (f x))) ≡ result_err r
 then_ok f (Ok x) = refl
 then_ok f (Err fault) = refl
 
-bind_again : {A B C : Type 0} (r : Result A InterfaceFault) (f : A → Result B InterfaceFault) (g : B → Result C InterfaceFault) → (r >>= f >>= g) ≡ (r >>= (λ x. f x >>= g))
+pub bind_again : {A B C : Type 0} (r : Result A InterfaceFault) (f : A → Result B InterfaceFault) (g : B → Result C InterfaceFault) → (r >>= f >>= g) ≡ (r >>= (λ x. f x >>= g))
 bind_again (Ok x) f g = refl
 bind_again (Err fault) f g = refl
 

@@ -6,6 +6,7 @@ pub mod BssmapType
 pub mod Layer3
 pub mod Reference
 pub mod Sccp
+pub mod SccpFaults
 pub mod SccpReading
 pub mod SccpText
 pub mod SccpType
