@@ -17,7 +17,7 @@ use Rattle.rsl_codec.specs.declared.rsl.Rsl.{Rsl}
 use Rattle.rsl_codec.specs.declared.rsl_type.RslType.{RslType}
 use Rattle.rsl_codec.specs.declared.rsl_type.RslType.TheVariants as types
 use Rattle.rsl_codec.specs.ChannelNumber.{is_channel}
-use Rattle.rsl_codec.specs.RslFaults.{lacks, meets, has_value, is_bad_channel, element_causes, FirstFault, RefusesOctets}
+use Rattle.rsl_codec.specs.RslFaults.{lacks, meets, has_value, is_bad_channel, element_causes, FirstFault, RefusesRsl}
 use Rattle.rsl_codec.specs.RslFaults.FirstFault.{ends, unknown, known}
 use Rattle.rsl_codec.specs.RslReading.{elements_of, breaks_off, needed_value, value_or_missing, channel_at, l3_at, optional_l3_at, channel_only_at, link_at, data_at, error_at, establishment_at, release_at, channel_required_at, assignment_at, activation_at, activation_ack_at, failure_at, detection_at, measurement_result_at, message_at, rsl_reading_by, rsl_reading}
 use Rattle.rsl_codec.specs.RslType.{rsl_type}
@@ -224,5 +224,5 @@ first_fault [] fits = ends [] (omega arith)
 first_fault (a ∷ []) fits = ends (a ∷ []) (omega arith)
 first_fault (a ∷ b ∷ body) fits = first_by a b body (rsl_type a b) (λ i. fits (suc (suc i))) refl
 
-pub refuses_octets : (octets : List ℕ) (r : Result Rsl RslFault) → AreOctets octets → Gives Memory (λ v. v) r (rsl_reading octets) → RefusesOctets octets r
-refuses_octets octets r fits g = record { first = result_err (rsl_reading octets); is_first = first_fault octets fits; refuses = refused_by Memory r (rsl_reading octets) g }
+pub refuses_rsl : (octets : List ℕ) (r : Result Rsl RslFault) → AreOctets octets → Gives Memory (λ v. v) r (rsl_reading octets) → RefusesRsl octets r
+refuses_rsl octets r fits g = record { first = result_err (rsl_reading octets); is_first = first_fault octets fits; refuses = refused_by Memory r (rsl_reading octets) g }

@@ -76,7 +76,7 @@ pub data FirstFault : List ℕ → Option RslFault → Type 0 where
       → FirstFault (discriminator ∷ octet ∷ body) (first_that_holds ((is_cut, Short) ∷ element_causes kind es))
 
 -- The result refuses octets with their first fault, and wants memory only where they have none.
-pub record RefusesOctets (octets : List ℕ) (result : Result Rsl RslFault) : Type 0 where
+pub record RefusesRsl (octets : List ℕ) (result : Result Rsl RslFault) : Type 0 where
   pub first : Option RslFault
   pub is_first : FirstFault octets first
   pub refuses : RefusesBy Memory result first
