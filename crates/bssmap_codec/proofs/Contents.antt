@@ -81,7 +81,7 @@ cause_ok es cause e =
     let a = bind_ok (needed_value CAUSE es) _ cause e in
     needed_ok CAUSE es a.0 a.1 ∙ ap (λ (c : Cause). Some c.0) (ok_is {A = Cause} {F = InterfaceFault} (cause_of a.0) cause a.2)
 
-one_octet : (format : Format) (size : ℕ) → (let f : Option Format = Some (Tv 1) in f) ≡ Some format → HasSize format size → size ≡ 1
+pub one_octet : (format : Format) (size : ℕ) → (let f : Option Format = Some (Tv 1) in f) ≡ Some format → HasSize format size → size ≡ 1
 one_octet (Tv n) size e h = let same : 1 ≡ n = cc in h ∙ sym same
 one_octet Tlv size e h = absurd cc
 one_octet TlvE size e h = absurd cc

@@ -1,3 +1,4 @@
+pub mod BssapCauses
 pub mod BssapTexts
 pub mod Bssaps
 pub mod Contents
@@ -6,5 +7,6 @@ pub mod Layer3s
 pub mod Options
 pub mod OptionsGrammar
 mod Rows
+pub mod SccpCauses
 pub mod SccpTexts
 pub mod Sccps

@@ -1,21 +1,28 @@
 -- Definitions against literal octets: what is read of them, and what is written.
-use Rattle.std.proofs.Common.{◌≡◌, [], ◌∷◌, true, false, replicate, Some, None, Ok, Err, refl}
+use Rattle.std.proofs.Common.{◌≡◌, ℕ, Bool, List, map, [], ◌∷◌, true, false, replicate, Some, None, Ok, Err, refl}
+use Rattle.std.specs.Prelude.{slice_index}
+use Rattle.octets.specs.Causes.{first_that_holds}
 use Rattle.octets.specs.Element.{element}
 use Rattle.octets.specs.Front.{octet_at, counted_at}
 use Rattle.octets.specs.Walk.{walk}
 use Rattle.bssmap_codec.specs.declared.bssap.Bssap.TheVariants.{Management, Transfer}
 use Rattle.bssmap_codec.specs.declared.bssmap.Bssmap.TheVariants.{AssignmentRequest, AssignmentComplete, AssignmentFailure, HandoverPerformed, ClearCommand, ClearComplete, ClearRequest, SapiNReject, CipherModeCommand, CompleteLayer3Information, CipherModeReject}
+use Rattle.bssmap_codec.specs.declared.bssmap_type.BssmapType.{BssmapType}
 use Rattle.bssmap_codec.specs.declared.bssmap_type.BssmapType.TheVariants as kinds
+use Rattle.bssmap_codec.specs.declared.fault.InterfaceFault.{InterfaceFault}
 use Rattle.bssmap_codec.specs.declared.fault.InterfaceFault.TheVariants.{Short, UnknownType, MissingElement, BadPointer, TooLong}
 use Rattle.bssmap_codec.specs.declared.sccp.Sccp.TheVariants.{ConnectionRequest, ConnectionConfirm, ConnectionRefused, Released, ReleaseComplete, DataForm1}
+use Rattle.bssmap_codec.specs.declared.sccp_type.SccpType.TheVariants as sccp_kinds
+use Rattle.bssmap_codec.specs.BssapFaults.{element_causes, needed}
 use Rattle.bssmap_codec.specs.BssapReading.{cause_of, cell_of, channel_of, rr_cause_of, rejected_of, elements_of, breaks_off, needed_value, needed_octet, rr_cause_in, layer3_at, cause_at, assignment_request_at, assignment_complete_at, assignment_failure_at, handover_performed_at, reject_at, complete_layer3_at, content_at, message_at, management_at, transfer_at, bssap_reading}
 use Rattle.bssmap_codec.specs.BssapText.{bssap_text, bssap_write_fault}
 use Rattle.bssmap_codec.specs.BssmapType.{bssmap_type}
 use Rattle.bssmap_codec.specs.Reference.{reference_at, references_at}
+use Rattle.bssmap_codec.specs.SccpFaults.{fixed, has_parts, option_causes, part_causes}
 use Rattle.bssmap_codec.specs.SccpReading.{part_at, option_at, data_in, user_data_at, request_at, fixed_references_at, refused_at, data_behind_at, data_form_at, sccp_reading}
 use Rattle.bssmap_codec.specs.SccpText.{sccp_text, sccp_write_fault}
 use Rattle.bssmap_codec.specs.SccpType.{sccp_type}
-use Rattle.bssmap_codec.specs.Values.{dlci_of, is_speech_type}
+use Rattle.bssmap_codec.specs.Values.{dlci_of, is_dlci, is_speech_type}
 
 -- ---- SCCP, read
 
@@ -201,6 +208,21 @@ type_7_alone = refl
 request_alone : sccp_reading (0x01 ∷ []) ≡ Err Short
 unfolding sccp_reading octet_at sccp_type reference_at references_at fixed_references_at refused_at request_at part_at counted_at user_data_at data_in option_at data_behind_at data_form_at
 request_alone = refl
+
+-- the octets behind the type that each message always has: references, class, cause, pointers
+fixed_octets : map fixed (sccp_kinds.ConnectionRequest ∷ sccp_kinds.ConnectionConfirm ∷ sccp_kinds.ConnectionRefused ∷ sccp_kinds.Released ∷ sccp_kinds.ReleaseComplete ∷ sccp_kinds.DataForm1 ∷ []) ≡ 6 ∷ 8 ∷ 5 ∷ 8 ∷ 6 ∷ 5 ∷ []
+fixed_octets = refl
+
+with_parts : map has_parts (sccp_kinds.ConnectionRequest ∷ sccp_kinds.ConnectionConfirm ∷ sccp_kinds.ConnectionRefused ∷ sccp_kinds.Released ∷ sccp_kinds.ReleaseComplete ∷ sccp_kinds.DataForm1 ∷ []) ≡ true ∷ false ∷ false ∷ false ∷ false ∷ true ∷ []
+with_parts = refl
+
+-- a pointer to a value: itself, past the end, to a value that is cut, to a whole one
+parts : map (λ (octets : List ℕ). first_that_holds (part_causes (slice_index octets 0) octets)) ((0x00 ∷ 0x00 ∷ []) ∷ (0x02 ∷ 0x00 ∷ []) ∷ (0x01 ∷ 0x01 ∷ []) ∷ (0x01 ∷ 0x01 ∷ 0x05 ∷ []) ∷ []) ≡ Some BadPointer ∷ Some BadPointer ∷ Some Short ∷ None ∷ []
+parts = refl
+
+-- a pointer to options: none, past the end, to options that are cut, to whole ones
+options : map (λ (p : ℕ × Bool). first_that_holds (option_causes p.0 (p.0 ∷ 0x0f ∷ []) p.1)) ((0, true) ∷ (2, true) ∷ (1, true) ∷ (1, false) ∷ []) ≡ None ∷ Some BadPointer ∷ Some Short ∷ None ∷ []
+options = refl
 
 -- ---- SCCP, written
 
@@ -395,6 +417,10 @@ reject_cause_missing : bssap_reading (0x00 ∷ 0x03 ∷ 0x25 ∷ 0x18 ∷ 0x83 �
 unfolding bssap_reading octet_at management_at transfer_at bssmap_type message_at breaks_off elements_of walk needed_value needed_octet rr_cause_in layer3_at cause_at assignment_request_at assignment_complete_at assignment_failure_at handover_performed_at reject_at complete_layer3_at
 reject_cause_missing = refl
 
+complete_layer3_both_missing : bssap_reading (0x00 ∷ 0x01 ∷ 0x57 ∷ []) ≡ Err (MissingElement 0x05)
+unfolding bssap_reading octet_at management_at transfer_at bssmap_type message_at breaks_off elements_of walk needed_value needed_octet rr_cause_in layer3_at cause_at assignment_request_at assignment_complete_at assignment_failure_at handover_performed_at reject_at complete_layer3_at
+complete_layer3_both_missing = refl
+
 complete_layer3_missing : bssap_reading (0x00 ∷ 0x03 ∷ 0x57 ∷ 0x17 ∷ 0x00 ∷ []) ≡ Err (MissingElement 0x05)
 unfolding bssap_reading octet_at management_at transfer_at bssmap_type message_at breaks_off elements_of walk needed_value needed_octet rr_cause_in layer3_at cause_at assignment_request_at assignment_complete_at assignment_failure_at handover_performed_at reject_at complete_layer3_at
 complete_layer3_missing = refl
@@ -466,6 +492,19 @@ sapi_2_with_too_few_octets = refl
 sapi_2_without_length : bssap_reading (0x01 ∷ 0x02 ∷ []) ≡ Err Short
 unfolding bssap_reading octet_at management_at transfer_at bssmap_type message_at breaks_off elements_of walk needed_value needed_octet rr_cause_in layer3_at cause_at assignment_request_at assignment_complete_at assignment_failure_at handover_performed_at reject_at complete_layer3_at
 sapi_2_without_length = refl
+
+-- the elements that each message of BSSMAP needs, in written order
+abbrev all_types : List BssmapType
+all_types = kinds.AssignmentRequest ∷ kinds.AssignmentComplete ∷ kinds.AssignmentFailure ∷ kinds.HandoverPerformed ∷ kinds.ClearCommand ∷ kinds.ClearComplete ∷ kinds.ClearRequest ∷ kinds.SapiNReject ∷ kinds.CipherModeCommand ∷ kinds.CompleteLayer3Information ∷ kinds.CipherModeReject ∷ []
+
+needed_elements : map needed all_types ≡
+    (0x0b ∷ []) ∷ [] ∷ (0x04 ∷ []) ∷ (0x04 ∷ 0x05 ∷ []) ∷ (0x04 ∷ []) ∷ [] ∷ (0x04 ∷ []) ∷ (0x18 ∷ 0x04 ∷ []) ∷ [] ∷ (0x05 ∷ 0x17 ∷ []) ∷ (0x04 ∷ []) ∷ []
+needed_elements = refl
+
+-- the faults of elements, in the order in which they are looked for
+order_of_faults : map (λ (cause : Bool × InterfaceFault). cause.1) (element_causes kinds.CompleteLayer3Information (element 0x17 [] ∷ [])) ≡
+    MissingElement 0x05 ∷ MissingElement 0x17 ∷ Short ∷ TooLong ∷ []
+order_of_faults = refl
 
 -- ---- BSSAP, written
 
@@ -548,6 +587,10 @@ dlci_sapi_3_keeps_the_channel = refl
 
 dlci_sapi_1 : dlci_of 0x01 ≡ None
 dlci_sapi_1 = refl
+
+-- of the eight SAPIs 0 and 3
+sapis : map is_dlci (0x00 ∷ 0x01 ∷ 0x02 ∷ 0x03 ∷ 0x04 ∷ 0x05 ∷ 0x06 ∷ 0x07 ∷ []) ≡ true ∷ false ∷ false ∷ true ∷ false ∷ false ∷ false ∷ false ∷ []
+sapis = refl
 
 dlci_sapi_4 : dlci_of 0x04 ≡ None
 dlci_sapi_4 = refl

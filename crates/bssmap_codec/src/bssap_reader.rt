@@ -6,6 +6,7 @@ ghost use Rattle.octets.specs.Walk.{first_of};
 ghost use Rattle.bssmap_codec.specs.declared.bssap.Bssap.{Bssap as BssapValue};
 ghost use Rattle.bssmap_codec.specs.declared.fault.InterfaceFault.TheVariants.{Memory as OutOfMemory};
 ghost use Rattle.bssmap_codec.specs.Bssap.{IsBssap};
+ghost use Rattle.bssmap_codec.specs.BssapFaults.{RefusesBssap};
 ghost use Rattle.bssmap_codec.specs.BssapReading as reading;
 
 use crate::bssap::{MANAGEMENT, TRANSFER};
@@ -37,6 +38,8 @@ pub fn read_bssap(alloc: Global, octets: &[u8]) -> Result<Bssap, InterfaceFault>
     ensures only { (message : BssapValue) → IsBssap octets.now message → (result ≡ Ok message) ⊎ (result ≡ Err OutOfMemory) }
     // A refusal is the first fault, and memory runs out only where there is none.
     ensures refused { RefusesBy OutOfMemory result (result_err (reading.bssap_reading octets.now)) }
+    // The first fault is that of the first cause that holds of the message's length and elements.
+    ensures fault { RefusesBssap octets.now result }
 {
     read(alloc, octets)
 }

@@ -6,6 +6,7 @@ ghost use Rattle.bssmap_codec.specs.declared.fault.InterfaceFault.TheVariants.{M
 ghost use Rattle.bssmap_codec.specs.declared.sccp.Sccp.{Sccp as SccpValue};
 ghost use Rattle.bssmap_codec.specs.Reference.{references_at};
 ghost use Rattle.bssmap_codec.specs.Sccp.{IsSccp};
+ghost use Rattle.bssmap_codec.specs.SccpFaults.{RefusesSccp};
 ghost use Rattle.bssmap_codec.specs.SccpReading as reading;
 
 use crate::pointers::{part, user_data};
@@ -31,6 +32,8 @@ pub fn read_sccp(alloc: Global, octets: &[u8]) -> Result<Sccp, InterfaceFault>
     ensures only { (message : SccpValue) → IsSccp octets.now message → (result ≡ Ok message) ⊎ (result ≡ Err OutOfMemory) }
     // A refusal is the first fault, and memory runs out only where there is none.
     ensures refused { RefusesBy OutOfMemory result (result_err (reading.sccp_reading octets.now)) }
+    // The first fault is that of the first cause that holds of the message's size and pointers.
+    ensures fault { RefusesSccp octets.now result }
 {
     read(alloc, octets)
 }

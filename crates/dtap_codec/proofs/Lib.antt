@@ -3,4 +3,5 @@ pub mod Numbers
 pub mod Reports
 pub mod Rising
 mod Rows
+pub mod RrEndings
 pub mod RrGrammar

@@ -14,7 +14,7 @@ use Rattle.dtap_codec.specs.declared.rr_fault.RrFault.TheVariants.{Short, Unknow
 use Rattle.dtap_codec.specs.declared.rr_type.RrType.TheVariants as types
 use Rattle.dtap_codec.specs.declared.rr_type.TheConstants.{PSEUDO_LENGTH}
 use Rattle.dtap_codec.specs.declared.number.Modulus.TheVariants.{Four, Two}
-use Rattle.dtap_codec.specs.Message.{discriminator, is_flow_message}
+use Rattle.dtap_codec.specs.Message.{discriminator, is_flow_message, is_flow_protocol}
 use Rattle.dtap_codec.specs.Number.{count_of, number_in, with_number, without_number}
 use Rattle.dtap_codec.specs.Places.{with_numbers_from, Carries, Rise}
 use Rattle.dtap_codec.specs.Places.Rise.{over, other, next, again}
@@ -41,6 +41,11 @@ of_the_flow = refl
 
 not_of_the_flow : map is_flow_message ([] ∷ (0x03 ∷ []) ∷ (0x06 ∷ 0x45 ∷ []) ∷ (0x09 ∷ 0x45 ∷ []) ∷ (0xf4 ∷ 0x45 ∷ []) ∷ []) ≡ false ∷ false ∷ false ∷ false ∷ false ∷ []
 not_of_the_flow = refl
+
+-- of the sixteen protocols three: 3, 5 and B
+protocols_of_the_flow : map is_flow_protocol (0x0 ∷ 0x1 ∷ 0x2 ∷ 0x3 ∷ 0x4 ∷ 0x5 ∷ 0x6 ∷ 0x7 ∷ 0x8 ∷ 0x9 ∷ 0xa ∷ 0xb ∷ 0xc ∷ 0xd ∷ 0xe ∷ 0xf ∷ []) ≡
+    false ∷ false ∷ false ∷ true ∷ false ∷ true ∷ false ∷ false ∷ false ∷ false ∷ false ∷ true ∷ false ∷ false ∷ false ∷ false ∷ []
+protocols_of_the_flow = refl
 
 -- ---- send sequence numbers
 
@@ -227,6 +232,11 @@ short = refl
 other_discriminators : map rr_reading ((0x03 ∷ []) ∷ (0x16 ∷ 0x29 ∷ 0x00 ∷ []) ∷ (0x2d ∷ 0x03 ∷ []) ∷ (0x2d ∷ 0x16 ∷ 0x3f ∷ []) ∷ (0x2d ∷ 0x2d ∷ []) ∷ []) ≡ refused UnknownRr ∷ refused UnknownRr ∷ refused UnknownRr ∷ refused UnknownRr ∷ refused UnknownRr ∷ []
 unfolding rr_reading typed_at pseudo_at octet_at
 other_discriminators = refl
+
+-- a type that isn't known comes before octets that are missing, and so does another discriminator before its type
+unknown_alone : map rr_reading ((0x06 ∷ 0x99 ∷ []) ∷ (0x06 ∷ 0x3f ∷ []) ∷ (0x2d ∷ 0x06 ∷ 0x15 ∷ []) ∷ (0x05 ∷ []) ∷ []) ≡ refused UnknownRr ∷ refused UnknownRr ∷ refused UnknownRr ∷ refused UnknownRr ∷ []
+unfolding rr_reading typed_at rr_type pseudo_at octet_at
+unknown_alone = refl
 
 -- the type 3F without a pseudo length, and other types behind one
 other_types : map rr_reading ((0x06 ∷ 0x99 ∷ []) ∷ (0x06 ∷ 0x3f ∷ 0x00 ∷ []) ∷ (0x2d ∷ 0x06 ∷ 0x29 ∷ 0x00 ∷ []) ∷ (0x2d ∷ 0x06 ∷ 0x99 ∷ []) ∷ []) ≡ refused UnknownRr ∷ refused UnknownRr ∷ refused UnknownRr ∷ refused UnknownRr ∷ []

@@ -4,6 +4,7 @@ pub mod Number
 pub mod Places
 pub mod Report
 pub mod Rr
+pub mod RrFaults
 pub mod RrReading
 pub mod RrText
 pub mod RrType

@@ -1,9 +1,10 @@
-ghost use Rattle.std.specs.Prelude.{◌≡◌, ◌⊎◌, IfOk, Ok, Err};
+ghost use Rattle.std.specs.Prelude.{◌≡◌, ◌⊎◌, IfErr, IfOk, Ok, Err};
 ghost use Rattle.std.specs.Result.{result_err};
 ghost use Rattle.octets.specs.Answer.{Gives, result_map};
 ghost use Rattle.octets.specs.Refusal.{RefusesBy};
 ghost use Rattle.dtap_codec.specs.declared.rr.RrMessage.{RrMessage as RrValue};
 ghost use Rattle.dtap_codec.specs.Rr.{IsRr};
+ghost use Rattle.dtap_codec.specs.RrFaults.{HasFault};
 ghost use Rattle.dtap_codec.specs.RrReading as reading;
 
 use crate::message::RADIO_RESOURCE;
@@ -34,6 +35,9 @@ impl RrMessage {
         ensures only { (message : RrValue) → IsRr octets.now message → (result ≡ Ok message) ⊎ (result ≡ Err RrFault.Memory) }
         // A refusal is the first fault, and memory runs out only where there is none.
         ensures refused { RefusesBy RrFault.Memory result (result_err (reading.rr_reading octets.now)) }
+        // Short are octets that are no text, but octets behind them would make one of them; where no octets behind them
+        // would, the fault is UnknownRr; memory is wanted for a text alone.
+        ensures fault { IfErr result (λ fault. HasFault octets.now fault) }
     {
         read_message(alloc, octets)
     }

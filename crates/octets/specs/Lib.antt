@@ -1,4 +1,5 @@
 pub mod Answer
+pub mod Causes
 pub mod Element
 pub mod Field
 pub mod Front

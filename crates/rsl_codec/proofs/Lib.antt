@@ -1,3 +1,4 @@
+mod Causes
 pub mod Steps
 pub mod Lines
 pub mod Messages

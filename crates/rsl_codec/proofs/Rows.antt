@@ -1,8 +1,9 @@
 -- Definitions against literal octets (TS 48.058 clauses 8 and 9).
-use Rattle.std.proofs.Common.{◌≡◌, ℕ, List, [], ◌∷◌, length, map, replicate, true, false, Some, None, Ok, Err, refl}
+use Rattle.std.proofs.Common.{◌≡◌, ℕ, Bool, List, [], ◌∷◌, length, map, replicate, true, false, Some, None, Ok, Err, refl}
 use Rattle.octets.specs.declared.element.Format.TheVariants.{Tv, Tlv, TlvE}
 use Rattle.octets.specs.Element.{format_in}
 use Rattle.octets.specs.Walk.{walk}
+use Rattle.rsl_codec.specs.declared.fault.RslFault.{RslFault}
 use Rattle.rsl_codec.specs.declared.fault.RslFault.TheVariants as faults
 use Rattle.rsl_codec.specs.declared.identifiers.TheConstants.{ELEMENTS}
 use Rattle.rsl_codec.specs.declared.rsl.Rsl.{Rsl}
@@ -12,6 +13,7 @@ use Rattle.rsl_codec.specs.declared.rsl_type.RslType.TheVariants as types
 use Rattle.rsl_codec.specs.declared.values.TheConstants.{ASYNCHRONOUS_HANDOVER, IMMEDIATE_ASSIGNMENT, NORMAL_ASSIGNMENT}
 use Rattle.rsl_codec.specs.ChannelNumber.{channel_by, is_channel}
 use Rattle.rsl_codec.specs.LinkIdentifier.{short_message_link}
+use Rattle.rsl_codec.specs.RslFaults.{element_causes, has_l3, needed}
 use Rattle.rsl_codec.specs.RslReading.{rsl_reading, message_at, elements_of, breaks_off, channel_only_at, link_at, data_at, error_at, establishment_at, release_at, channel_required_at, assignment_at, activation_at, activation_ack_at, failure_at, detection_at, measurement_result_at}
 use Rattle.rsl_codec.specs.RslText.{rsl_text, rsl_element_text, rsl_write_fault}
 use Rattle.rsl_codec.specs.RslType.{rsl_discriminator, rsl_octet, rsl_type}
@@ -61,12 +63,29 @@ unknown_identifiers = refl
 no_other_element : length ELEMENTS ≡ 17
 no_other_element = refl
 
+-- ---- the elements that each message needs, in written order
+
+needed_elements : map needed all_types ≡
+    (0x01 ∷ 0x02 ∷ 0x0b ∷ []) ∷ (0x01 ∷ 0x02 ∷ 0x0b ∷ []) ∷ (0x01 ∷ 0x02 ∷ []) ∷ (0x01 ∷ 0x02 ∷ []) ∷ (0x01 ∷ 0x02 ∷ []) ∷ (0x01 ∷ 0x02 ∷ [])
+    ∷ (0x01 ∷ 0x02 ∷ 0x14 ∷ []) ∷ (0x01 ∷ 0x02 ∷ []) ∷ (0x01 ∷ 0x02 ∷ []) ∷ (0x01 ∷ 0x13 ∷ 0x11 ∷ []) ∷ (0x01 ∷ 0x2b ∷ []) ∷ (0x01 ∷ 0x03 ∷ 0x06 ∷ [])
+    ∷ (0x01 ∷ []) ∷ (0x01 ∷ []) ∷ (0x01 ∷ []) ∷ (0x01 ∷ []) ∷ (0x01 ∷ 0x1b ∷ []) ∷ (0x01 ∷ []) ∷ (0x01 ∷ []) ∷ []
+needed_elements = refl
+
+with_l3 : map has_l3 all_types ≡
+    true ∷ true ∷ false ∷ false ∷ false ∷ true ∷ false ∷ false ∷ false ∷ false ∷ false ∷ false ∷ false ∷ false ∷ false ∷ false ∷ true ∷ false ∷ false ∷ []
+with_l3 = refl
+
+-- the faults of elements, in the order in which they are looked for
+order_of_faults : map (λ (cause : Bool × RslFault). cause.1) (element_causes types.DataRequest []) ≡
+    faults.MissingElement 0x01 ∷ faults.MissingElement 0x02 ∷ faults.MissingElement 0x0b ∷ faults.BadChannel ∷ faults.Short ∷ faults.TooLong ∷ []
+order_of_faults = refl
+
 -- ---- channel numbers: TCH/F, TCH/H, SDCCH/4, SDCCH/8, RACH, PCH and AGCH
 
 channels : map is_channel (0x08 ∷ 0x0f ∷ 0x10 ∷ 0x1f ∷ 0x20 ∷ 0x3f ∷ 0x40 ∷ 0x7f ∷ 0x88 ∷ 0x90 ∷ []) ≡ replicate 10 true
 channels = refl
 
-no_channels : map is_channel (0x00 ∷ 0x07 ∷ 0x80 ∷ 0x87 ∷ 0x89 ∷ 0x8f ∷ 0x91 ∷ 0xff ∷ []) ≡ replicate 8 false
+no_channels : map is_channel (0x00 ∷ 0x07 ∷ 0x80 ∷ 0x87 ∷ 0x89 ∷ 0x8f ∷ 0x91 ∷ 0x98 ∷ 0xa0 ∷ 0xc0 ∷ 0xe0 ∷ 0xff ∷ []) ≡ replicate 12 false
 no_channels = refl
 
 channel_read : channel_by 0x0a ≡ Ok 0x0a
@@ -285,7 +304,12 @@ establish_link_missing : rsl_reading (0x02 ∷ 0x06 ∷ 0x01 ∷ 0x41 ∷ []) �
 unfolding rsl_reading message_at elements_of breaks_off rsl_type walk establishment_at
 establish_link_missing = refl
 
-request_reference_missing : rsl_reading (0x0c ∷ 0x13 ∷ 0x01 ∷ 0x88 ∷ []) ≡ Err (faults.MissingElement 0x13)
+-- of two that are missing the first in written order
+request_reference_and_access_delay_missing : rsl_reading (0x0c ∷ 0x13 ∷ 0x01 ∷ 0x80 ∷ []) ≡ Err (faults.MissingElement 0x13)
+unfolding rsl_reading message_at elements_of breaks_off rsl_type walk channel_required_at
+request_reference_and_access_delay_missing = refl
+
+request_reference_missing : rsl_reading (0x0c ∷ 0x13 ∷ 0x01 ∷ 0x88 ∷ 0x11 ∷ 0x05 ∷ []) ≡ Err (faults.MissingElement 0x13)
 unfolding rsl_reading message_at elements_of breaks_off rsl_type walk channel_required_at
 request_reference_missing = refl
 
@@ -328,6 +352,15 @@ release_channel_missing = refl
 bad_channel : rsl_reading (0x02 ∷ 0x04 ∷ 0x01 ∷ 0xff ∷ 0x02 ∷ 0x00 ∷ []) ≡ Err faults.BadChannel
 unfolding rsl_reading message_at elements_of breaks_off rsl_type walk link_at
 bad_channel = refl
+
+-- of a repeated channel number the first is the one that is looked at
+bad_channel_before_another : rsl_reading (0x02 ∷ 0x04 ∷ 0x01 ∷ 0x98 ∷ 0x02 ∷ 0x00 ∷ 0x01 ∷ 0x41 ∷ []) ≡ Err faults.BadChannel
+unfolding rsl_reading message_at elements_of breaks_off rsl_type walk link_at
+bad_channel_before_another = refl
+
+bad_channel_behind_another : rsl_reading (0x02 ∷ 0x04 ∷ 0x01 ∷ 0x41 ∷ 0x02 ∷ 0x00 ∷ 0x01 ∷ 0x98 ∷ []) ≡ Ok (messages.EstablishRequest (record { channel = 0x41; link = 0x00 }))
+unfolding rsl_reading message_at elements_of breaks_off rsl_type walk link_at
+bad_channel_behind_another = refl
 
 bad_channel_and_empty_l3 : rsl_reading (0x03 ∷ 0x02 ∷ 0x01 ∷ 0xff ∷ 0x02 ∷ 0x00 ∷ 0x0b ∷ 0x00 ∷ 0x00 ∷ []) ≡ Err faults.BadChannel
 unfolding rsl_reading message_at elements_of breaks_off rsl_type walk data_at

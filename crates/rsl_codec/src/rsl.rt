@@ -6,6 +6,7 @@ ghost use Rattle.octets.specs.Refusal.{RefusesBy};
 ghost use Rattle.rsl_codec.specs.declared.rsl.Rsl.{Rsl as RslValue};
 ghost use Rattle.rsl_codec.specs.declared.identifiers.TheConstants.{ELEMENTS};
 ghost use Rattle.rsl_codec.specs.Rsl.{IsLawful, IsRsl, fields, l3_of};
+ghost use Rattle.rsl_codec.specs.RslFaults.{RefusesRsl};
 ghost use Rattle.rsl_codec.specs.RslReading.{elements_of, message_at, rsl_reading};
 ghost use Rattle.rsl_codec.specs.RslText.{rsl_fields_text, rsl_text, rsl_write_fault, value_of};
 ghost use Rattle.rsl_codec.specs.RslType.{type_of};
@@ -112,6 +113,8 @@ impl Rsl {
         ensures only { (v : RslValue) → IsRsl octets.now v → ((result ≡ Ok v) ⊎ (result ≡ Err RslFault.Memory)) }
         // A refusal is the first fault, and memory runs out only where there is none.
         ensures refused { RefusesBy RslFault.Memory result (result_err (rsl_reading octets.now)) }
+        // The first fault is that of the first cause that holds of the elements behind the type.
+        ensures fault { RefusesRsl octets.now result }
     {
         read_all(alloc, octets)
     }

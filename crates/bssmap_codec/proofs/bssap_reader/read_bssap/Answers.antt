@@ -1,6 +1,7 @@
 use Rattle.std.proofs.Common.{arith}
 use Rattle.bssmap_codec.specs.Bssap.{IsBssap}
 use Rattle.octets.proofs.Steps.{found_by, only_by, refused_by}
+use Rattle.bssmap_codec.proofs.BssapCauses.{refuses_bssap}
 use Rattle.bssmap_codec.proofs.Bssaps.{bssap_ok, bssap_again}
 use Rattle.bssmap_codec.proofs.bssap_reader.read_bssap.Goals as goal
 
@@ -12,3 +13,6 @@ returns-clause-only c = λ message is. only_by _ _ _ message (bssap_again _ mess
 
 pub returns-clause-refused : goal.returns-clause-refused
 returns-clause-refused c = refused_by _ _ _ c.read.ensures
+
+pub returns-clause-fault : goal.returns-clause-fault
+returns-clause-fault c = refuses_bssap _ _ (λ i. omega (arith, c.type_inv.octets i)) c.read.ensures

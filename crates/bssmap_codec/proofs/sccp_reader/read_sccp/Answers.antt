@@ -1,6 +1,7 @@
 use Rattle.std.proofs.Common.{arith}
 use Rattle.bssmap_codec.specs.Sccp.{IsSccp}
 use Rattle.octets.proofs.Steps.{found_by, only_by, refused_by}
+use Rattle.bssmap_codec.proofs.SccpCauses.{refuses_sccp}
 use Rattle.bssmap_codec.proofs.Sccps.{sccp_ok, sccp_again}
 use Rattle.bssmap_codec.proofs.sccp_reader.read_sccp.Goals as goal
 
@@ -12,3 +13,6 @@ returns-clause-only c = λ message is. only_by _ _ _ message (sccp_again _ messa
 
 pub returns-clause-refused : goal.returns-clause-refused
 returns-clause-refused c = refused_by _ _ _ c.read.ensures
+
+pub returns-clause-fault : goal.returns-clause-fault
+returns-clause-fault c = refuses_sccp _ _ (λ i. omega (arith, c.type_inv.octets i)) c.read.ensures

@@ -1,0 +1,82 @@
+-- Which fault octets have that are no text of a message, by their elements (TS 48.058 clauses 8 and 9).
+use Rattle.std.specs.Prelude.{◌≡◌, ℕ, ◌<◌, Bool, true, false, not, ◌==◌, nat_lt, List, [], ◌∷◌, ◌++◌, map, length, slice_index, Option, Some, None, is_none, Result}
+use Rattle.octets.specs.Causes.{first_that_holds}
+use Rattle.octets.specs.Element.{Element, AreElements}
+use Rattle.octets.specs.Refusal.{RefusesBy}
+use Rattle.octets.specs.Walk.{first_of}
+use Rattle.octets.specs.declared.limits.TheConstants.{MESSAGE_LIMIT}
+use Rattle.rsl_codec.specs.declared.fault.RslFault.{RslFault}
+use Rattle.rsl_codec.specs.declared.fault.RslFault.TheVariants.{Short, UnknownType, MissingElement, BadChannel, Memory, TooLong}
+use Rattle.rsl_codec.specs.declared.identifiers.TheConstants.{ELEMENTS, ACCESS_DELAY, ACTIVATION_TYPE, CHANNEL_MODE, CHANNEL_NUMBER, FULL_IMMEDIATE_ASSIGN, L3_INFORMATION, LINK_IDENTIFIER, MEASUREMENT_NUMBER, RELEASE_MODE, REQUEST_REFERENCE}
+use Rattle.rsl_codec.specs.declared.rsl.Rsl.{Rsl}
+use Rattle.rsl_codec.specs.declared.rsl_type.RslType.{RslType}
+use Rattle.rsl_codec.specs.declared.rsl_type.RslType.TheVariants.{DataRequest, DataIndication, ErrorIndication, EstablishRequest, EstablishConfirm, EstablishIndication, ReleaseRequest, ReleaseConfirm, ReleaseIndication, ChannelRequired, ImmediateAssignCommand, ChannelActivation, ChannelActivationAck, ChannelActivationNack, ConnectionFailure, HandoverDetection, MeasurementResult, RfChannelRelease, RfChannelReleaseAck}
+use Rattle.rsl_codec.specs.ChannelNumber.{is_channel}
+use Rattle.rsl_codec.specs.RslType.{rsl_type}
+
+-- the elements that a message of this type needs, in written order
+abbrev pub needed : RslType → List ℕ
+needed DataRequest = CHANNEL_NUMBER ∷ LINK_IDENTIFIER ∷ L3_INFORMATION ∷ []
+needed DataIndication = CHANNEL_NUMBER ∷ LINK_IDENTIFIER ∷ L3_INFORMATION ∷ []
+needed ErrorIndication = CHANNEL_NUMBER ∷ LINK_IDENTIFIER ∷ []
+needed EstablishRequest = CHANNEL_NUMBER ∷ LINK_IDENTIFIER ∷ []
+needed EstablishConfirm = CHANNEL_NUMBER ∷ LINK_IDENTIFIER ∷ []
+needed EstablishIndication = CHANNEL_NUMBER ∷ LINK_IDENTIFIER ∷ []
+needed ReleaseRequest = CHANNEL_NUMBER ∷ LINK_IDENTIFIER ∷ RELEASE_MODE ∷ []
+needed ReleaseConfirm = CHANNEL_NUMBER ∷ LINK_IDENTIFIER ∷ []
+needed ReleaseIndication = CHANNEL_NUMBER ∷ LINK_IDENTIFIER ∷ []
+needed ChannelRequired = CHANNEL_NUMBER ∷ REQUEST_REFERENCE ∷ ACCESS_DELAY ∷ []
+needed ImmediateAssignCommand = CHANNEL_NUMBER ∷ FULL_IMMEDIATE_ASSIGN ∷ []
+needed ChannelActivation = CHANNEL_NUMBER ∷ ACTIVATION_TYPE ∷ CHANNEL_MODE ∷ []
+needed ChannelActivationAck = CHANNEL_NUMBER ∷ []
+needed ChannelActivationNack = CHANNEL_NUMBER ∷ []
+needed ConnectionFailure = CHANNEL_NUMBER ∷ []
+needed HandoverDetection = CHANNEL_NUMBER ∷ []
+needed MeasurementResult = CHANNEL_NUMBER ∷ MEASUREMENT_NUMBER ∷ []
+needed RfChannelRelease = CHANNEL_NUMBER ∷ []
+needed RfChannelReleaseAck = CHANNEL_NUMBER ∷ []
+
+-- a message of this type can have L3 information
+abbrev pub has_l3 : RslType → Bool
+has_l3 DataRequest = true
+has_l3 DataIndication = true
+has_l3 EstablishIndication = true
+has_l3 MeasurementResult = true
+has_l3 _ = false
+
+-- no element has this identifier
+abbrev pub lacks : List Element → ℕ → Bool
+lacks es id = is_none (first_of id es)
+
+abbrev pub meets : (List ℕ → Bool) → Option (List ℕ) → Bool
+meets test None = false
+meets test (Some value) = test value
+
+-- there is an element with this identifier, and the value of the first one meets the test
+abbrev pub has_value : (List ℕ → Bool) → List Element → ℕ → Bool
+has_value test es id = meets test (first_of id es)
+
+abbrev pub is_bad_channel : List ℕ → Bool
+is_bad_channel value = not (is_channel (slice_index value 0))
+
+abbrev pub l3_causes : Bool → List Element → List (Bool × RslFault)
+l3_causes false es = []
+l3_causes true es = (has_value (λ l3. length l3 == 0) es L3_INFORMATION, Short) ∷ (has_value (λ l3. nat_lt MESSAGE_LIMIT (length l3)) es L3_INFORMATION, TooLong) ∷ []
+
+-- what is wrong with elements of a message of this type, each condition with its fault
+abbrev pub element_causes : RslType → List Element → List (Bool × RslFault)
+element_causes kind es = map (λ id. (lacks es id, MissingElement id)) (needed kind) ++ ((has_value is_bad_channel es CHANNEL_NUMBER, BadChannel) ∷ l3_causes (has_l3 kind) es)
+
+-- The first fault of octets: they end before the type, no message has their discriminator and type, or else, whatever
+-- the elements behind the type are, the first cause that holds of them: one is cut, or what is wrong with them.
+pub data FirstFault : List ℕ → Option RslFault → Type 0 where
+  ends : (octets : List ℕ) → length octets < 2 → FirstFault octets (Some Short)
+  unknown : (discriminator octet : ℕ) (body : List ℕ) → rsl_type discriminator octet ≡ None → FirstFault (discriminator ∷ octet ∷ body) (Some UnknownType)
+  known : (discriminator octet : ℕ) (body : List ℕ) (kind : RslType) (es : List Element) (is_cut : Bool) → rsl_type discriminator octet ≡ Some kind → AreElements ELEMENTS body es is_cut
+      → FirstFault (discriminator ∷ octet ∷ body) (first_that_holds ((is_cut, Short) ∷ element_causes kind es))
+
+-- The result refuses octets with their first fault, and wants memory only where they have none.
+pub record RefusesRsl (octets : List ℕ) (result : Result Rsl RslFault) : Type 0 where
+  pub first : Option RslFault
+  pub is_first : FirstFault octets first
+  pub refuses : RefusesBy Memory result first
