@@ -1,0 +1,6 @@
+pub mod Channels
+pub mod Controller
+pub mod Life
+pub mod Reading
+pub mod Reports
+pub mod Views

@@ -1,0 +1,13 @@
+//! What the controller of base stations makes of what comes: its connections, channels and links, item by item and tick by
+//! tick. The definitions stand in `specs`.
+#![tactic(auto)]
+
+pub use forwarded::Forwarded;
+pub use item::{Item, What};
+pub use limits::{MAX_CONNECTION_NUMBER, MAX_IGNORED};
+pub use step::Step;
+
+mod forwarded;
+mod item;
+mod limits;
+mod step;
