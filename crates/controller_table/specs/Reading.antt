@@ -10,7 +10,6 @@ use Rattle.bssmap_codec.specs.declared.sccp.Sccp.TheVariants as sccp
 use Rattle.bssmap_codec.specs.BssapReading.{bssap_reading}
 use Rattle.bssmap_codec.specs.SccpReading.{sccp_reading}
 use Rattle.bssmap_codec.specs.Values.{is_speech_type}
-use Rattle.conn_messages.specs.declared.channel.Change.{Change}
 use Rattle.conn_messages.specs.declared.channel.Change.TheVariants.{Assignment, Handover}
 use Rattle.conn_messages.specs.declared.channel.Place.{Place}
 use Rattle.conn_messages.specs.declared.parameters.TheConstants.{SWITCH_LINK}

@@ -1,0 +1,189 @@
+-- Links, what is answered on them, and what is ignored.
+use Rattle.std.proofs.Common.{◌≡◌, [], ◌∷◌, Some, refl}
+use Rattle.conn_table.specs.declared.state.Clearing.TheVariants.{Asked}
+use Rattle.conn_table.specs.declared.state.State.TheVariants.{Closed}
+use Rattle.controller_table.specs.Controller.{new_controller}
+use Rattle.controller_table.specs.Views.{links as links_of}
+use Rattle.controller_table.proofs.Lives.{put, from_switch, from_station, on_stream, down, played, after, settings_s, state_of}
+use Rattle.controller_table.proofs.OnLiterals.{on_literals}
+use Rattle.controller_table.proofs.AccessRows.{active}
+
+-- PING on each link; PONG, no octet, OML, frames of other streams, and a link that isn't there
+answers : played (new_controller settings_s) (on_stream 0 0xfe (0x00 ∷ [])
+    ∷ on_stream 1 0xfe (0x00 ∷ [])
+    ∷ on_stream 2 0xfe (0x00 ∷ 0xff ∷ [])
+    ∷ on_stream 0 0xfe (0x01 ∷ [])
+    ∷ on_stream 1 0xfe []
+    ∷ on_stream 1 0xff (0x00 ∷ [])
+    ∷ on_stream 0 0x00 (0x0c ∷ 0x13 ∷ 0x01 ∷ 0x88 ∷ 0x13 ∷ 0x7f ∷ 0x01 ∷ 0x02 ∷ 0x11 ∷ 0x05 ∷ [])
+    ∷ on_stream 1 0xfd (0x0c ∷ 0x13 ∷ 0x01 ∷ 0x88 ∷ 0x13 ∷ 0x7f ∷ 0x01 ∷ 0x02 ∷ 0x11 ∷ 0x05 ∷ [])
+    ∷ on_stream 1 0x42 (0x0c ∷ 0x13 ∷ 0x01 ∷ 0x88 ∷ 0x13 ∷ 0x7f ∷ 0x01 ∷ 0x02 ∷ 0x11 ∷ 0x05 ∷ [])
+    ∷ on_stream 3 0xfe (0x00 ∷ []) ∷ [])
+    ≡ (put 0 (0x01 ∷ []) ∷ [])
+    ∷ (put 1 (0x01 ∷ []) ∷ [])
+    ∷ (put 2 (0x01 ∷ []) ∷ [])
+    ∷ []
+    ∷ []
+    ∷ []
+    ∷ []
+    ∷ []
+    ∷ []
+    ∷ [] ∷ []
+unfolding on_literals
+answers = refl
+
+counts_what_it_ignores : (after (new_controller settings_s) (on_stream 0 0xfe (0x00 ∷ []) ∷ on_stream 1 0xfe (0x00 ∷ []) ∷ on_stream 2 0xfe (0x00 ∷ 0xff ∷ []) ∷ on_stream 0 0xfe (0x01 ∷ []) ∷ on_stream 1 0xfe [] ∷ on_stream 1 0xff (0x00 ∷ []) ∷ on_stream 0 0x00 (0x0c ∷ 0x13 ∷ 0x01 ∷ 0x88 ∷ 0x13 ∷ 0x7f ∷ 0x01 ∷ 0x02 ∷ 0x11 ∷ 0x05 ∷ []) ∷ on_stream 1 0xfd (0x0c ∷ 0x13 ∷ 0x01 ∷ 0x88 ∷ 0x13 ∷ 0x7f ∷ 0x01 ∷ 0x02 ∷ 0x11 ∷ 0x05 ∷ []) ∷ on_stream 1 0x42 (0x0c ∷ 0x13 ∷ 0x01 ∷ 0x88 ∷ 0x13 ∷ 0x7f ∷ 0x01 ∷ 0x02 ∷ 0x11 ∷ 0x05 ∷ []) ∷ on_stream 3 0xfe (0x00 ∷ []) ∷ [])).ignored ≡ 7
+unfolding on_literals
+counts_what_it_ignores = refl
+
+-- a break, a second one, and frames behind it
+takes_a_break_once : played active (down 1
+    ∷ down 1
+    ∷ on_stream 1 0xfe (0x00 ∷ [])
+    ∷ from_station 1 (0x0c ∷ 0x13 ∷ 0x01 ∷ 0x88 ∷ 0x13 ∷ 0x7f ∷ 0x01 ∷ 0x02 ∷ 0x11 ∷ 0x05 ∷ [])
+    ∷ from_station 2 (0x0c ∷ 0x13 ∷ 0x01 ∷ 0x88 ∷ 0x13 ∷ 0x7f ∷ 0x01 ∷ 0x02 ∷ 0x11 ∷ 0x05 ∷ []) ∷ [])
+    ≡ (put 0 (0x06 ∷ 0x80 ∷ 0x00 ∷ 0x01 ∷ 0x00 ∷ 0x01 ∷ 0x06 ∷ 0x00 ∷ 0x04 ∷ 0x22 ∷ 0x04 ∷ 0x01 ∷ 0x20 ∷ []) ∷ [])
+    ∷ []
+    ∷ []
+    ∷ []
+    ∷ (put 2 (0x08 ∷ 0x21 ∷ 0x01 ∷ 0x41 ∷ 0x03 ∷ 0x00 ∷ 0x06 ∷ 0x04 ∷ 0x00 ∷ 0x03 ∷ 0x01 ∷ 0x00 ∷ []) ∷ []) ∷ []
+unfolding on_literals
+takes_a_break_once = refl
+
+counts_behind_a_break : (after active (down 1 ∷ down 1 ∷ on_stream 1 0xfe (0x00 ∷ []) ∷ from_station 1 (0x0c ∷ 0x13 ∷ 0x01 ∷ 0x88 ∷ 0x13 ∷ 0x7f ∷ 0x01 ∷ 0x02 ∷ 0x11 ∷ 0x05 ∷ []) ∷ [])).ignored ≡ 3
+unfolding on_literals
+counts_behind_a_break = refl
+
+counts_no_break : (after active (down 1 ∷ [])).ignored ≡ 0
+unfolding on_literals
+counts_no_break = refl
+
+counts_the_break_of_no_link : (after active (down 3 ∷ [])).ignored ≡ 1
+unfolding on_literals
+counts_the_break_of_no_link = refl
+
+is_asked_about : state_of (after active (down 1 ∷ [])) 1 ≡ Some (Closed (Asked 0x800001))
+unfolding on_literals
+is_asked_about = refl
+
+-- the break of the switch's link, by rising number
+breaks_at_the_switch : played active (from_station 1 (0x0c ∷ 0x13 ∷ 0x01 ∷ 0x88 ∷ 0x13 ∷ 0x7f ∷ 0x01 ∷ 0x02 ∷ 0x11 ∷ 0x05 ∷ [])
+    ∷ from_station 2 (0x0c ∷ 0x13 ∷ 0x01 ∷ 0x88 ∷ 0x13 ∷ 0x7f ∷ 0x01 ∷ 0x02 ∷ 0x11 ∷ 0x05 ∷ [])
+    ∷ down 0
+    ∷ from_switch (0x06 ∷ 0x00 ∷ 0x00 ∷ 0x01 ∷ 0x00 ∷ 0x01 ∷ 0x06 ∷ 0x00 ∷ 0x04 ∷ 0x20 ∷ 0x04 ∷ 0x01 ∷ 0x09 ∷ [])
+    ∷ down 0 ∷ [])
+    ≡ (put 1 (0x08 ∷ 0x21 ∷ 0x01 ∷ 0x49 ∷ 0x03 ∷ 0x00 ∷ 0x06 ∷ 0x04 ∷ 0x00 ∷ 0x03 ∷ 0x01 ∷ 0x00 ∷ []) ∷ [])
+    ∷ (put 2 (0x08 ∷ 0x21 ∷ 0x01 ∷ 0x41 ∷ 0x03 ∷ 0x00 ∷ 0x06 ∷ 0x04 ∷ 0x00 ∷ 0x03 ∷ 0x01 ∷ 0x00 ∷ []) ∷ [])
+    ∷ (put 1 (0x03 ∷ 0x01 ∷ 0x01 ∷ 0x41 ∷ 0x02 ∷ 0x00 ∷ 0x0b ∷ 0x00 ∷ 0x03 ∷ 0x06 ∷ 0x0d ∷ 0x01 ∷ []) ∷ put 1 (0x08 ∷ 0x2e ∷ 0x01 ∷ 0x41 ∷ []) ∷ put 1 (0x08 ∷ 0x2e ∷ 0x01 ∷ 0x49 ∷ []) ∷ put 2 (0x08 ∷ 0x2e ∷ 0x01 ∷ 0x41 ∷ []) ∷ [])
+    ∷ []
+    ∷ [] ∷ []
+unfolding on_literals
+breaks_at_the_switch = refl
+
+leaves_none : (after active (from_station 1 (0x0c ∷ 0x13 ∷ 0x01 ∷ 0x88 ∷ 0x13 ∷ 0x7f ∷ 0x01 ∷ 0x02 ∷ 0x11 ∷ 0x05 ∷ []) ∷ from_station 2 (0x0c ∷ 0x13 ∷ 0x01 ∷ 0x88 ∷ 0x13 ∷ 0x7f ∷ 0x01 ∷ 0x02 ∷ 0x11 ∷ 0x05 ∷ []) ∷ down 0 ∷ [])).entries ≡ []
+unfolding on_literals
+leaves_none = refl
+
+counts_behind_the_switch : (after active (from_station 1 (0x0c ∷ 0x13 ∷ 0x01 ∷ 0x88 ∷ 0x13 ∷ 0x7f ∷ 0x01 ∷ 0x02 ∷ 0x11 ∷ 0x05 ∷ []) ∷ from_station 2 (0x0c ∷ 0x13 ∷ 0x01 ∷ 0x88 ∷ 0x13 ∷ 0x7f ∷ 0x01 ∷ 0x02 ∷ 0x11 ∷ 0x05 ∷ []) ∷ down 0 ∷ from_switch (0x06 ∷ 0x00 ∷ 0x00 ∷ 0x01 ∷ 0x00 ∷ 0x01 ∷ 0x06 ∷ 0x00 ∷ 0x04 ∷ 0x20 ∷ 0x04 ∷ 0x01 ∷ 0x09 ∷ []) ∷ down 0 ∷ [])).ignored ≡ 2
+unfolding on_literals
+counts_behind_the_switch = refl
+
+three_links : links_of (new_controller settings_s) ≡ 3
+unfolding on_literals
+three_links = refl
+
+-- ---- what is ignored in Active
+
+ignores_a_connection_request : after active (from_switch (0x01 ∷ 0x00 ∷ 0x00 ∷ 0x01 ∷ 0x02 ∷ 0x02 ∷ 0x04 ∷ 0x02 ∷ 0x42 ∷ 0xfe ∷ 0x0f ∷ 0x12 ∷ 0x00 ∷ 0x10 ∷ 0x57 ∷ 0x05 ∷ 0x08 ∷ 0x00 ∷ 0x00 ∷ 0xf1 ∷ 0x10 ∷ 0x00 ∷ 0x01 ∷ 0x00 ∷ 0x01 ∷ 0x17 ∷ 0x03 ∷ 0x05 ∷ 0x24 ∷ 0x71 ∷ 0x00 ∷ []) ∷ []) ≡ record active { ignored = 1 }
+unfolding on_literals
+ignores_a_connection_request = refl
+
+ignores_a_second_confirm : after active (from_switch (0x02 ∷ 0x00 ∷ 0x00 ∷ 0x01 ∷ 0x80 ∷ 0x00 ∷ 0x01 ∷ 0x02 ∷ 0x00 ∷ []) ∷ []) ≡ record active { ignored = 1 }
+unfolding on_literals
+ignores_a_second_confirm = refl
+
+ignores_a_refusal : after active (from_switch (0x03 ∷ 0x00 ∷ 0x00 ∷ 0x01 ∷ 0x00 ∷ 0x00 ∷ []) ∷ []) ≡ record active { ignored = 1 }
+unfolding on_literals
+ignores_a_refusal = refl
+
+ignores_release_complete : after active (from_switch (0x05 ∷ 0x00 ∷ 0x00 ∷ 0x01 ∷ 0x80 ∷ 0x00 ∷ 0x01 ∷ []) ∷ []) ≡ record active { ignored = 1 }
+unfolding on_literals
+ignores_release_complete = refl
+
+ignores_an_unknown_connection : after active (from_switch (0x06 ∷ 0x00 ∷ 0x00 ∷ 0x02 ∷ 0x00 ∷ 0x01 ∷ 0x05 ∷ 0x01 ∷ 0x00 ∷ 0x02 ∷ 0x83 ∷ 0x02 ∷ []) ∷ []) ≡ record active { ignored = 1 }
+unfolding on_literals
+ignores_an_unknown_connection = refl
+
+ignores_what_sccp_refuses : after active (from_switch (0x06 ∷ 0x00 ∷ 0x00 ∷ 0x01 ∷ 0x01 ∷ 0x01 ∷ 0x01 ∷ 0x00 ∷ []) ∷ []) ≡ record active { ignored = 1 }
+unfolding on_literals
+ignores_what_sccp_refuses = refl
+
+ignores_what_bssap_refuses : after active (from_switch (0x06 ∷ 0x00 ∷ 0x00 ∷ 0x01 ∷ 0x00 ∷ 0x01 ∷ 0x04 ∷ 0x01 ∷ 0x02 ∷ 0x01 ∷ 0x05 ∷ []) ∷ []) ≡ record active { ignored = 1 }
+unfolding on_literals
+ignores_what_bssap_refuses = refl
+
+ignores_clear_request : after active (from_switch (0x06 ∷ 0x00 ∷ 0x00 ∷ 0x01 ∷ 0x00 ∷ 0x01 ∷ 0x06 ∷ 0x00 ∷ 0x04 ∷ 0x22 ∷ 0x04 ∷ 0x01 ∷ 0x20 ∷ []) ∷ []) ≡ record active { ignored = 1 }
+unfolding on_literals
+ignores_clear_request = refl
+
+ignores_a_second_activation : after active (from_station 1 (0x08 ∷ 0x22 ∷ 0x01 ∷ 0x41 ∷ 0x08 ∷ 0x00 ∷ 0x00 ∷ []) ∷ []) ≡ record active { ignored = 1 }
+unfolding on_literals
+ignores_a_second_activation = refl
+
+ignores_nack_in_use : after active (from_station 1 (0x08 ∷ 0x23 ∷ 0x01 ∷ 0x41 ∷ []) ∷ []) ≡ record active { ignored = 1 }
+unfolding on_literals
+ignores_nack_in_use = refl
+
+ignores_release_ack_in_use : after active (from_station 1 (0x08 ∷ 0x33 ∷ 0x01 ∷ 0x41 ∷ []) ∷ []) ≡ record active { ignored = 1 }
+unfolding on_literals
+ignores_release_ack_in_use = refl
+
+ignores_an_unused_channel : after active (from_station 1 (0x03 ∷ 0x02 ∷ 0x01 ∷ 0x49 ∷ 0x02 ∷ 0x00 ∷ 0x0b ∷ 0x00 ∷ 0x02 ∷ 0x03 ∷ 0x45 ∷ []) ∷ []) ≡ record active { ignored = 1 }
+unfolding on_literals
+ignores_an_unused_channel = refl
+
+ignores_another_station : after active (from_station 2 (0x03 ∷ 0x02 ∷ 0x01 ∷ 0x41 ∷ 0x02 ∷ 0x00 ∷ 0x0b ∷ 0x00 ∷ 0x02 ∷ 0x03 ∷ 0x45 ∷ []) ∷ []) ≡ record active { ignored = 1 }
+unfolding on_literals
+ignores_another_station = refl
+
+ignores_another_sapi : after active (from_station 1 (0x03 ∷ 0x02 ∷ 0x01 ∷ 0x41 ∷ 0x02 ∷ 0x01 ∷ 0x0b ∷ 0x00 ∷ 0x02 ∷ 0x03 ∷ 0x45 ∷ []) ∷ []) ≡ record active { ignored = 1 }
+unfolding on_literals
+ignores_another_sapi = refl
+
+ignores_sapi_0_on_the_sacch : after active (from_station 1 (0x03 ∷ 0x02 ∷ 0x01 ∷ 0x41 ∷ 0x02 ∷ 0x40 ∷ 0x0b ∷ 0x00 ∷ 0x02 ∷ 0x03 ∷ 0x45 ∷ []) ∷ []) ≡ record active { ignored = 1 }
+unfolding on_literals
+ignores_sapi_0_on_the_sacch = refl
+
+ignores_rr_with_a_skip_indicator : after active (from_station 1 (0x03 ∷ 0x02 ∷ 0x01 ∷ 0x41 ∷ 0x02 ∷ 0x00 ∷ 0x0b ∷ 0x00 ∷ 0x03 ∷ 0x16 ∷ 0x29 ∷ 0x00 ∷ []) ∷ []) ≡ record active { ignored = 1 }
+unfolding on_literals
+ignores_rr_with_a_skip_indicator = refl
+
+ignores_complete_without_change : after active (from_station 1 (0x03 ∷ 0x02 ∷ 0x01 ∷ 0x41 ∷ 0x02 ∷ 0x00 ∷ 0x0b ∷ 0x00 ∷ 0x03 ∷ 0x06 ∷ 0x29 ∷ 0x00 ∷ []) ∷ []) ≡ record active { ignored = 1 }
+unfolding on_literals
+ignores_complete_without_change = refl
+
+ignores_what_rsl_refuses : after active (from_station 1 (0x08 ∷ 0x22 ∷ []) ∷ []) ≡ record active { ignored = 1 }
+unfolding on_literals
+ignores_what_rsl_refuses = refl
+
+ignores_a_message_to_stations : after active (from_station 1 (0x08 ∷ 0x2e ∷ 0x01 ∷ 0x41 ∷ []) ∷ []) ≡ record active { ignored = 1 }
+unfolding on_literals
+ignores_a_message_to_stations = refl
+
+ignores_a_result_without_report : after active (from_station 1 (0x08 ∷ 0x28 ∷ 0x01 ∷ 0x41 ∷ 0x1b ∷ 0x05 ∷ 0x19 ∷ 0x03 ∷ 0x14 ∷ 0x14 ∷ 0x00 ∷ 0x04 ∷ 0x00 ∷ []) ∷ []) ≡ record active { ignored = 1 }
+unfolding on_literals
+ignores_a_result_without_report = refl
+
+ignores_an_invalid_report : after active (from_station 1 (0x08 ∷ 0x28 ∷ 0x01 ∷ 0x41 ∷ 0x1b ∷ 0x05 ∷ 0x0b ∷ 0x00 ∷ 0x12 ∷ 0x06 ∷ 0x15 ∷ 0x14 ∷ 0x54 ∷ 0x00 ∷ 0x57 ∷ 0x02 ∷ 0x40 ∷ 0x00 ∷ 0x00 ∷ 0x00 ∷ 0x00 ∷ 0x00 ∷ 0x00 ∷ 0x00 ∷ 0x00 ∷ 0x00 ∷ 0x00 ∷ []) ∷ []) ≡ record active { ignored = 1 }
+unfolding on_literals
+ignores_an_invalid_report = refl
+
+ignores_establishment_of_sapi_0 : after active (from_station 1 (0x02 ∷ 0x06 ∷ 0x01 ∷ 0x41 ∷ 0x02 ∷ 0x00 ∷ 0x0b ∷ 0x00 ∷ 0x03 ∷ 0x05 ∷ 0x24 ∷ 0x71 ∷ []) ∷ []) ≡ record active { ignored = 1 }
+unfolding on_literals
+ignores_establishment_of_sapi_0 = refl
+
+-- a greater count isn't told
+
+counts_no_further : (after (record active { ignored = 18446744073709551615 }) (from_station 1 (0x08 ∷ 0x22 ∷ 0x01 ∷ 0x41 ∷ 0x08 ∷ 0x00 ∷ 0x00 ∷ []) ∷ [])).ignored ≡ 18446744073709551615
+unfolding on_literals
+counts_no_further = refl
