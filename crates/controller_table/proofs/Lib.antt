@@ -1,5 +1,6 @@
 mod AccessRows
 mod ChangeRows
+pub mod Decides
 mod DrainRows
 mod LinkRows
 mod Lives

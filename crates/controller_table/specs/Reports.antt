@@ -42,15 +42,21 @@ abbrev pub places_from : {X : Type 0} → ℕ → List X → List ℕ
 places_from first [] = []
 places_from first (x ∷ xs) = first ∷ places_from (first + 1) xs
 
--- the cells that reach the bound, but the serving one, by their places
-abbrev pub reaching : Settings → List Report → List ℕ
-reaching s reports =
-    filter (λ place. not (place + 1 == s.serving) && nat_le (bound s reports) (average_at s reports place)) (places_from 0 s.cells)
+-- another cell, whose average reaches the bound
+abbrev pub reaches : Settings → List Report → ℕ → Bool
+reaches s reports place = not (place + 1 == s.serving) && nat_le (bound s reports) (average_at s reports place)
 
--- the first of them whose average no other's exceeds
+-- such cells, by their places
+abbrev pub reaching : Settings → List Report → List ℕ
+reaching s reports = filter (reaches s reports) (places_from 0 s.cells)
+
+-- no average of these cells exceeds that of this one
+abbrev pub is_greatest : Settings → List Report → List ℕ → ℕ → Bool
+is_greatest s reports places place = list_all (λ other. nat_le (average_at s reports other) (average_at s reports place)) places
+
+-- the first one of greatest average
 abbrev pub best : Settings → List Report → Option ℕ
-best s reports =
-    find (λ place. list_all (λ other. nat_le (average_at s reports other) (average_at s reports place)) (reaching s reports)) (reaching s reports)
+best s reports = find (is_greatest s reports (reaching s reports)) (reaching s reports)
 
 -- the number of a cell is its place, from 1
 abbrev pub moving_to : Option ℕ → Decision

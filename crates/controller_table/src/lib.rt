@@ -4,10 +4,12 @@
 
 pub use forwarded::Forwarded;
 pub use item::{Item, What};
+pub use laws::decision_is_one;
 pub use limits::{MAX_CONNECTION_NUMBER, MAX_IGNORED};
 pub use step::Step;
 
 mod forwarded;
 mod item;
+mod laws;
 mod limits;
 mod step;
