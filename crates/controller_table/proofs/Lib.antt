@@ -5,5 +5,6 @@ mod DrainRows
 mod LinkRows
 mod Lives
 mod OnLiterals
+pub mod ReportBits
 mod ReportRows
 mod ViewRows

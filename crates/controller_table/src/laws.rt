@@ -1,11 +1,19 @@
-ghost use Rattle.std.specs.Prelude.{◌≡◌, ℕ, List};
-ghost use Rattle.controller_table.specs.Reports.{decision_over};
+ghost use Rattle.std.specs.Prelude.{◌≡◌, ℕ, List, take};
+ghost use Rattle.controller_table.specs.Reports.{decision_over, report_reading};
 ghost use Rattle.dtap_codec.specs.declared.report.Report.{Report};
+ghost use Rattle.dtap_codec.specs.declared.report.TheConstants.{REPORT_LENGTH};
+ghost use Rattle.dtap_codec.specs.Report.{IsReport};
 ghost use Rattle.ho_decision.specs.declared.decision.Decision.{Decision};
 ghost use Rattle.ho_decision.specs.Decision.{Decides};
 ghost use Rattle.ho_decision.specs.Settings.{Settings};
 
-/// The decision over reports is the one of `ho_decision`.
+/// A report is read as the one that its octets are the text of.
+pub fn report_is_read()
+    ensures { (octets : List ℕ) (report : Report) → IsReport octets report
+        → report ≡ report_reading (take REPORT_LENGTH octets) }
+{}
+
+/// The decision over reports is the one that they and the settings have.
 pub fn decision_is_one()
     ensures { (s : Settings) (reports : List Report) (number : ℕ) (d : Decision) → Decides s reports number d
         → d ≡ decision_over s reports number }
