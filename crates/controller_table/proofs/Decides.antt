@@ -1,12 +1,12 @@
 -- The decision over reports is the one that the handover decision's relation has.
-use Rattle.std.proofs.Common.{◌≡◌, ◌≢◌, ℕ, ◌+◌, ◌<◌, ◌≤◌, ◌&&◌, ◌==◌, nat_le, not, Bool, true, false, cond, List, [], ◌∷◌, length, find, filter, Option, Some, None, refl, sym, ap, ◌∙◌, inl, inr, arith}
+use Rattle.std.proofs.Common.{◌≡◌, ◌≢◌, ℕ, ◌+◌, ◌<◌, ◌≤◌, ◌&&◌, ◌==◌, nat_le, not, Bool, true, false, cond, List, [], ◌∷◌, length, find, filter, Some, None, refl, sym, ap, ◌∙◌, inl, inr, arith}
 use Rattle.std.specs.List.{list_all}
 use Rattle.std.specs.Cmp.Derive.{both_true}
 use Rattle.std.proofs.lemmas.Bool.{cases_Bool, cases_lt, leb-true, le-leb, lt-leb, ne_eqb, eqb-false, not-true}
 use Rattle.dtap_codec.specs.declared.report.Report.{Report}
 use Rattle.ho_decision.specs.declared.decision.Decision.{Decision}
 use Rattle.ho_decision.specs.declared.decision.Decision.TheVariants.{Stay, Move}
-use Rattle.ho_decision.specs.Decision.{IsOther, IsChosen, Chooses, Decides, NoneReaches, average_at, bound, is_due}
+use Rattle.ho_decision.specs.Decision.{IsChosen, Chooses, Decides, NoneReaches, average_at, bound, is_due}
 use Rattle.ho_decision.specs.Settings.{Settings}
 use Rattle.controller_table.specs.Reports.{places_from, reaches, reaching, is_greatest, best, moving_to, decision_where, decision_over}
 

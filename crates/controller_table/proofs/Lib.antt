@@ -1,5 +1,6 @@
 mod AccessRows
 mod ChangeRows
+mod ChannelRows
 pub mod Decides
 mod DrainRows
 mod LinkRows
