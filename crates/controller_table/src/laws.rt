@@ -1,4 +1,9 @@
-ghost use Rattle.std.specs.Prelude.{◌≡◌, ℕ, List, take};
+ghost use Rattle.std.specs.Prelude.{◌≡◌, ℕ, List, Option, take};
+ghost use Rattle.conn_messages.specs.declared.channel.Channel.{Channel};
+ghost use Rattle.conn_table.specs.declared.input.Input.{Input};
+ghost use Rattle.conn_table.specs.Connection.{Connection};
+ghost use Rattle.conn_table.specs.Streams.{OfRow};
+ghost use Rattle.conn_table.specs.Table.{row_of};
 ghost use Rattle.controller_table.specs.Reports.{decision_over, report_reading};
 ghost use Rattle.dtap_codec.specs.declared.report.Report.{Report};
 ghost use Rattle.dtap_codec.specs.declared.report.TheConstants.{REPORT_LENGTH};
@@ -17,4 +22,9 @@ pub fn report_is_read()
 pub fn decision_is_one()
     ensures { (s : Settings) (reports : List Report) (number : ℕ) (d : Decision) → Decides s reports number d
         → d ≡ decision_over s reports number }
+{}
+
+/// A row of the table leaves its connection's number.
+pub fn row_keeps_number()
+    ensures { (s : Connection) (input : Input) (offer : Option Channel) → OfRow (λ r. r.next.number ≡ s.number) (row_of s input offer) }
 {}
