@@ -1,13 +1,13 @@
 -- A row leaves its connection's number.
-use Rattle.std.proofs.Common.{◌≡◌, ℕ, zero, suc, ◌==◌, ◌&&◌, nat_le, Bool, true, false, not, if◌then◌else◌, List, [], ◌∷◌, ◌++◌, length, Option, Some, None, refl, ◌∙◌}
-use Rattle.conn_messages.specs.declared.causes.TheConstants.{ABNORMAL_RELEASE, EQUIPMENT_FAILURE, NORMAL_EVENT, PROTOCOL_ERROR, RADIO_INTERFACE_FAILURE, RADIO_INTERFACE_MESSAGE_FAILURE}
+use Rattle.std.proofs.Common.{◌≡◌, ℕ, zero, suc, ◌&&◌, Bool, true, false, if◌then◌else◌, List, [], ◌∷◌, Option, Some, None, refl, ◌∙◌}
+use Rattle.conn_messages.specs.declared.causes.TheConstants.{EQUIPMENT_FAILURE}
 use Rattle.conn_messages.specs.declared.channel.Change.{Change}
 use Rattle.conn_messages.specs.declared.channel.Change.TheVariants.{Assignment, Handover}
 use Rattle.conn_messages.specs.declared.channel.Channel.{Channel}
 use Rattle.conn_messages.specs.declared.channel.Place.{Place}
 use Rattle.conn_table.specs.declared.input.Input.{Input}
 use Rattle.conn_table.specs.declared.input.Input.TheVariants as inputs
-use Rattle.conn_table.specs.declared.state.Clearing.TheVariants.{Due, Asked as WasAsked, Complete}
+use Rattle.conn_table.specs.declared.state.Clearing.TheVariants.{Due, Asked as WasAsked}
 use Rattle.conn_table.specs.declared.state.Drain.{Drain}
 use Rattle.conn_table.specs.declared.state.ShortMessageLink.{ShortMessageLink}
 use Rattle.conn_table.specs.declared.state.ShortMessageLink.TheVariants.{Down, Asked, Up}
@@ -16,9 +16,9 @@ use Rattle.conn_table.specs.declared.state.Stage.TheVariants.{Active, Preparing,
 use Rattle.conn_table.specs.declared.state.State.{State}
 use Rattle.conn_table.specs.declared.state.State.TheVariants.{WaitActivation, WaitEstablish, WaitConfirm, Live, Closed, Removed}
 use Rattle.conn_table.specs.Connection.{Connection, tenure_at, drain_at}
-use Rattle.conn_table.specs.Steps.{Row, failing, begin, begin_waiting, after_waiting, after_begin, hold_down, hold_short_message, short_message, link_down, hold_up, relay_held, leave, shifted, settled, settled_stage, resting_stage, resting, moved, hand_held, ask_for_held, done_at, may_begin}
+use Rattle.conn_table.specs.Steps.{Row, failing, begin, begin_waiting, after_waiting, hold_down, hold_short_message, short_message, link_down, hold_up, relay_held, leave, shifted, settled, settled_stage, resting_stage, resting, moved, hand_held, ask_for_held, done_at, may_begin}
 use Rattle.conn_table.specs.Streams.{OfRow}
-use Rattle.conn_table.specs.Table.{row_of, row_if, refuse, access, release, complete, failure, speech_request, release_in, dtap_in, dtap_on_target, dtap_before_access, on_activation_ack, on_activation_nack, on_establish_indication, on_establish_confirm, on_release_indication, on_error_indication, on_connection_failure, on_dtap, on_complete, on_failure, on_release_ack, on_move, on_confirm, on_refused, on_released, on_downlink, on_assignment_request, on_cipher_mode_command, on_clear_command, on_expiry, on_drain_expiry, on_station_down, on_switch_down}
+use Rattle.conn_table.specs.Table.{row_of, row_if, refuse, access, release, complete, failure, speech_request, release_in, dtap_in, dtap_on_target, on_activation_ack, on_activation_nack, on_establish_indication, on_establish_confirm, on_release_indication, on_error_indication, on_connection_failure, on_dtap, on_complete, on_failure, on_release_ack, on_move, on_confirm, on_refused, on_released, on_downlink, on_assignment_request, on_cipher_mode_command, on_clear_command, on_expiry, on_drain_expiry, on_station_down, on_switch_down}
 use Rattle.dtap_codec.specs.declared.sapi.Sapi.{Sapi}
 use Rattle.dtap_codec.specs.declared.sapi.Sapi.TheVariants.{Zero, Three}
 

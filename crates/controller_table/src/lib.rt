@@ -4,7 +4,7 @@
 
 pub use forwarded::Forwarded;
 pub use item::{Item, What};
-pub use laws::{decision_is_one, report_is_read, row_keeps_number};
+pub use laws::{decision_is_one, others_are_left, report_is_read, row_keeps_number};
 pub use limits::{MAX_CONNECTION_NUMBER, MAX_IGNORED};
 pub use step::Step;
 
