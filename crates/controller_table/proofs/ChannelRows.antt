@@ -1,7 +1,7 @@
 -- Channels of cells, and their identifiers.
 use Rattle.std.proofs.Common.{◌≡◌, ℕ, true, false, List, [], ◌∷◌, map, Some, None, option_map, codes, refl}
 use Rattle.controller_table.specs.Controller.{Controller, new_controller, place_at}
-use Rattle.controller_table.proofs.Lives.{put, from_switch, from_station, down, played, after, settings_s}
+use Rattle.controller_table.proofs.Lives.{put, from_switch, from_station, down, played, after, usual_settings}
 use Rattle.controller_table.proofs.OnLiterals.{on_literals}
 use Rattle.controller_table.proofs.ChangeRows.{active_1, handing_over}
 use Rattle.controller_table.specs.Channels.{cell_identifier, is_sdcch, is_tch, is_alike, first_free}
@@ -37,7 +37,7 @@ sdcch_4_and_8 = refl
 
 -- a cell with each kind, not in the order of their numbers
 abbrev each_kind : Controller
-each_kind = new_controller (record settings_s { network = record { mcc = codes "262"; mnc = codes "71"; release98 = false }; cells = cell 0x1234 0x5678 (0x12 ∷ 0x22 ∷ 0x41 ∷ 0x09 ∷ []) ∷ [] })
+each_kind = new_controller (record usual_settings { network = record { mcc = codes "262"; mnc = codes "71"; release98 = false }; cells = cell 0x1234 0x5678 (0x12 ∷ 0x22 ∷ 0x41 ∷ 0x09 ∷ []) ∷ [] })
 
 gives_by_order : first_free each_kind 1 7 is_sdcch ≡ Some (record { station = 1; number = 0x22; cell = (0x00 ∷ 0x62 ∷ 0xf2 ∷ 0x17 ∷ 0x12 ∷ 0x34 ∷ 0x56 ∷ 0x78 ∷ []); description = record { arfcn = 700; ncc = 5; bcc = 3 }; reference = record { 0 = 7 } })
 unfolding on_literals

@@ -4,12 +4,12 @@ use Rattle.conn_table.specs.declared.state.Clearing.TheVariants.{Asked}
 use Rattle.conn_table.specs.declared.state.State.TheVariants.{Closed}
 use Rattle.controller_table.specs.Controller.{new_controller}
 use Rattle.controller_table.specs.Views.{links as links_of}
-use Rattle.controller_table.proofs.Lives.{put, from_switch, from_station, on_stream, down, played, after, settings_s, state_of}
+use Rattle.controller_table.proofs.Lives.{put, from_switch, from_station, on_stream, down, played, after, usual_settings, state_of}
 use Rattle.controller_table.proofs.OnLiterals.{on_literals}
 use Rattle.controller_table.proofs.AccessRows.{active}
 
 -- PING on each link; PONG, no octet, OML, frames of other streams, and a link that isn't there
-answers : played (new_controller settings_s) (on_stream 0 0xfe (0x00 ∷ [])
+answers : played (new_controller usual_settings) (on_stream 0 0xfe (0x00 ∷ [])
     ∷ on_stream 1 0xfe (0x00 ∷ [])
     ∷ on_stream 2 0xfe (0x00 ∷ 0xff ∷ [])
     ∷ on_stream 0 0xfe (0x01 ∷ [])
@@ -32,7 +32,7 @@ answers : played (new_controller settings_s) (on_stream 0 0xfe (0x00 ∷ [])
 unfolding on_literals
 answers = refl
 
-counts_what_it_ignores : (after (new_controller settings_s) (on_stream 0 0xfe (0x00 ∷ []) ∷ on_stream 1 0xfe (0x00 ∷ []) ∷ on_stream 2 0xfe (0x00 ∷ 0xff ∷ []) ∷ on_stream 0 0xfe (0x01 ∷ []) ∷ on_stream 1 0xfe [] ∷ on_stream 1 0xff (0x00 ∷ []) ∷ on_stream 0 0x00 (0x0c ∷ 0x13 ∷ 0x01 ∷ 0x88 ∷ 0x13 ∷ 0x7f ∷ 0x01 ∷ 0x02 ∷ 0x11 ∷ 0x05 ∷ []) ∷ on_stream 1 0xfd (0x0c ∷ 0x13 ∷ 0x01 ∷ 0x88 ∷ 0x13 ∷ 0x7f ∷ 0x01 ∷ 0x02 ∷ 0x11 ∷ 0x05 ∷ []) ∷ on_stream 1 0x42 (0x0c ∷ 0x13 ∷ 0x01 ∷ 0x88 ∷ 0x13 ∷ 0x7f ∷ 0x01 ∷ 0x02 ∷ 0x11 ∷ 0x05 ∷ []) ∷ on_stream 3 0xfe (0x00 ∷ []) ∷ [])).ignored ≡ 7
+counts_what_it_ignores : (after (new_controller usual_settings) (on_stream 0 0xfe (0x00 ∷ []) ∷ on_stream 1 0xfe (0x00 ∷ []) ∷ on_stream 2 0xfe (0x00 ∷ 0xff ∷ []) ∷ on_stream 0 0xfe (0x01 ∷ []) ∷ on_stream 1 0xfe [] ∷ on_stream 1 0xff (0x00 ∷ []) ∷ on_stream 0 0x00 (0x0c ∷ 0x13 ∷ 0x01 ∷ 0x88 ∷ 0x13 ∷ 0x7f ∷ 0x01 ∷ 0x02 ∷ 0x11 ∷ 0x05 ∷ []) ∷ on_stream 1 0xfd (0x0c ∷ 0x13 ∷ 0x01 ∷ 0x88 ∷ 0x13 ∷ 0x7f ∷ 0x01 ∷ 0x02 ∷ 0x11 ∷ 0x05 ∷ []) ∷ on_stream 1 0x42 (0x0c ∷ 0x13 ∷ 0x01 ∷ 0x88 ∷ 0x13 ∷ 0x7f ∷ 0x01 ∷ 0x02 ∷ 0x11 ∷ 0x05 ∷ []) ∷ on_stream 3 0xfe (0x00 ∷ []) ∷ [])).ignored ≡ 7
 unfolding on_literals
 counts_what_it_ignores = refl
 
@@ -88,7 +88,7 @@ counts_behind_the_switch : (after active (from_station 1 (0x0c ∷ 0x13 ∷ 0x01
 unfolding on_literals
 counts_behind_the_switch = refl
 
-three_links : links_of (new_controller settings_s) ≡ 3
+three_links : links_of (new_controller usual_settings) ≡ 3
 unfolding on_literals
 three_links = refl
 
@@ -187,3 +187,23 @@ ignores_establishment_of_sapi_0 = refl
 counts_no_further : (after (record active { ignored = 18446744073709551615 }) (from_station 1 (0x08 ∷ 0x22 ∷ 0x01 ∷ 0x41 ∷ 0x08 ∷ 0x00 ∷ 0x00 ∷ []) ∷ [])).ignored ≡ 18446744073709551615
 unfolding on_literals
 counts_no_further = refl
+
+-- ---- streams of other links, and bits of link identifiers
+
+ignores_sccp_of_a_station : after active (on_stream 1 0xfd (0x06 ∷ 0x00 ∷ 0x00 ∷ 0x01 ∷ 0x00 ∷ 0x01 ∷ 0x06 ∷ 0x00 ∷ 0x04 ∷ 0x20 ∷ 0x04 ∷ 0x01 ∷ 0x09 ∷ []) ∷ []) ≡ record active { ignored = 1 }
+unfolding on_literals
+ignores_sccp_of_a_station = refl
+
+ignores_rsl_of_the_switch : after active (on_stream 0 0x00 (0x03 ∷ 0x02 ∷ 0x01 ∷ 0x41 ∷ 0x02 ∷ 0x00 ∷ 0x0b ∷ 0x00 ∷ 0x02 ∷ 0x03 ∷ 0x45 ∷ []) ∷ []) ≡ record active { ignored = 1 }
+unfolding on_literals
+ignores_rsl_of_the_switch = refl
+
+ignores_sapi_3_of_other_channels : after active (from_station 1 (0x03 ∷ 0x02 ∷ 0x01 ∷ 0x41 ∷ 0x02 ∷ 0x83 ∷ 0x0b ∷ 0x00 ∷ 0x02 ∷ 0x09 ∷ 0x01 ∷ []) ∷ []) ≡ record active { ignored = 1 }
+unfolding on_literals
+ignores_sapi_3_of_other_channels = refl
+
+takes_sapi_3_on_either_link : played active (from_station 1 (0x03 ∷ 0x02 ∷ 0x01 ∷ 0x41 ∷ 0x02 ∷ 0x3b ∷ 0x0b ∷ 0x00 ∷ 0x02 ∷ 0x09 ∷ 0x01 ∷ [])
+    ∷ from_station 1 (0x03 ∷ 0x02 ∷ 0x01 ∷ 0x41 ∷ 0x02 ∷ 0x43 ∷ 0x0b ∷ 0x00 ∷ 0x02 ∷ 0x09 ∷ 0x02 ∷ []) ∷ [])
+    ≡ (put 0 (0x06 ∷ 0x80 ∷ 0x00 ∷ 0x01 ∷ 0x00 ∷ 0x01 ∷ 0x05 ∷ 0x01 ∷ 0x83 ∷ 0x02 ∷ 0x09 ∷ 0x01 ∷ []) ∷ []) ∷ (put 0 (0x06 ∷ 0x80 ∷ 0x00 ∷ 0x01 ∷ 0x00 ∷ 0x01 ∷ 0x05 ∷ 0x01 ∷ 0x83 ∷ 0x02 ∷ 0x09 ∷ 0x02 ∷ []) ∷ []) ∷ []
+unfolding on_literals
+takes_sapi_3_on_either_link = refl

@@ -47,8 +47,8 @@ abbrev pub state_of : Controller → ℕ → Option State
 state_of c number = option_map (λ e. e.connection.state) (entry_of c number)
 
 -- cell 1 has two SDCCH and a TCH, cell 2 one of each
-abbrev pub settings_s : Parameters
-settings_s = record {
+abbrev pub usual_settings : Parameters
+usual_settings = record {
   network = record { mcc = codes "001"; mnc = codes "01"; release98 = false };
   switch_address = codes "127.0.0.1:5000";
   timers = record { t3101_ms = 3000; t3103_ms = 5000; t3107_ms = 5000; drain_ms = 2000 };
@@ -60,5 +60,5 @@ settings_s = record {
 }
 
 -- each report decides
-abbrev pub settings_s1 : Parameters
-settings_s1 = record settings_s { handover = record { rxlev_window = 10; rxqual_window = 1; neighbour_window = 10; interval = 1; hysteresis = 3 } }
+abbrev pub eager_settings : Parameters
+eager_settings = record usual_settings { handover = record { rxlev_window = 10; rxqual_window = 1; neighbour_window = 10; interval = 1; hysteresis = 3 } }

@@ -2,7 +2,7 @@
 use Rattle.std.proofs.Common.{◌≡◌, ℕ, true, List, [], ◌∷◌, ◌++◌, Some, None, refl}
 use Rattle.controller_table.specs.Controller.{new_controller}
 use Rattle.controller_table.specs.Views.{rxqual}
-use Rattle.controller_table.proofs.Lives.{put, from_station, played, after, settings_s}
+use Rattle.controller_table.proofs.Lives.{put, from_station, played, after, usual_settings}
 use Rattle.controller_table.proofs.OnLiterals.{on_literals}
 use Rattle.controller_table.proofs.AccessRows.{active, unconfirmed}
 use Rattle.controller_table.proofs.ChangeRows.{assigning}
@@ -13,10 +13,10 @@ use Rattle.ho_decision.specs.Settings.{Settings, settings_of}
 use Rattle.settings.specs.Parameters.{handover_settings_of}
 
 abbrev two_cells : Settings
-two_cells = handover_settings_of settings_s 1
+two_cells = handover_settings_of usual_settings 1
 
 abbrev three_cells : Settings
-three_cells = settings_of settings_s.handover (two_cells.cells ++ record { arfcn = 40; bsic = 27 } ∷ []) 1
+three_cells = settings_of usual_settings.handover (two_cells.cells ++ record { arfcn = 40; bsic = 27 } ∷ []) 1
 
 abbrev read : List ℕ → Report
 read octets = report_reading octets
@@ -129,7 +129,7 @@ decides_nothing_before_confirm : played unconfirmed (from_station 1 (0x08 ∷ 0x
 unfolding on_literals
 decides_nothing_before_confirm = refl
 
-counts_a_report_before : (after (new_controller settings_s) (from_station 1 (0x0c ∷ 0x13 ∷ 0x01 ∷ 0x88 ∷ 0x13 ∷ 0x7f ∷ 0x01 ∷ 0x02 ∷ 0x11 ∷ 0x05 ∷ []) ∷ from_station 1 (0x08 ∷ 0x22 ∷ 0x01 ∷ 0x41 ∷ 0x08 ∷ 0x00 ∷ 0x00 ∷ []) ∷ from_station 1 (0x08 ∷ 0x28 ∷ 0x01 ∷ 0x41 ∷ 0x1b ∷ 0x05 ∷ 0x19 ∷ 0x03 ∷ 0x14 ∷ 0x14 ∷ 0x00 ∷ 0x04 ∷ 0x00 ∷ 0x0b ∷ 0x00 ∷ 0x12 ∷ 0x06 ∷ 0x15 ∷ 0x14 ∷ 0x14 ∷ 0x00 ∷ 0x57 ∷ 0x02 ∷ 0x40 ∷ 0x00 ∷ 0x00 ∷ 0x00 ∷ 0x00 ∷ 0x00 ∷ 0x00 ∷ 0x00 ∷ 0x00 ∷ 0x00 ∷ 0x00 ∷ []) ∷ [])).ignored ≡ 1
+counts_a_report_before : (after (new_controller usual_settings) (from_station 1 (0x0c ∷ 0x13 ∷ 0x01 ∷ 0x88 ∷ 0x13 ∷ 0x7f ∷ 0x01 ∷ 0x02 ∷ 0x11 ∷ 0x05 ∷ []) ∷ from_station 1 (0x08 ∷ 0x22 ∷ 0x01 ∷ 0x41 ∷ 0x08 ∷ 0x00 ∷ 0x00 ∷ []) ∷ from_station 1 (0x08 ∷ 0x28 ∷ 0x01 ∷ 0x41 ∷ 0x1b ∷ 0x05 ∷ 0x19 ∷ 0x03 ∷ 0x14 ∷ 0x14 ∷ 0x00 ∷ 0x04 ∷ 0x00 ∷ 0x0b ∷ 0x00 ∷ 0x12 ∷ 0x06 ∷ 0x15 ∷ 0x14 ∷ 0x14 ∷ 0x00 ∷ 0x57 ∷ 0x02 ∷ 0x40 ∷ 0x00 ∷ 0x00 ∷ 0x00 ∷ 0x00 ∷ 0x00 ∷ 0x00 ∷ 0x00 ∷ 0x00 ∷ 0x00 ∷ 0x00 ∷ []) ∷ [])).ignored ≡ 1
 unfolding on_literals
 counts_a_report_before = refl
 
