@@ -1,0 +1,150 @@
+-- What concerns one connection leaves all others.
+use Rattle.std.proofs.Common.{◌≡◌, ◌≢◌, ℕ, Bool, true, false, cond, if◌then◌else◌, List, [], ◌∷◌, ◌++◌, find, Option, Some, None, option_map, refl, sym, subst, ap, ◌∙◌, inl, inr}
+use Rattle.std.specs.Option.{option_and_then}
+use Rattle.std.proofs.lemmas.Bool.{cases_Bool, eqb-true, ne_eqb}
+use Rattle.conn_messages.specs.declared.channel.Channel.{Channel}
+use Rattle.conn_messages.specs.declared.channel.Place.{Place}
+use Rattle.conn_table.specs.declared.input.Input.{Input}
+use Rattle.conn_table.specs.declared.input.Input.TheVariants as inputs
+use Rattle.conn_table.specs.declared.state.State.{State}
+use Rattle.conn_table.specs.declared.state.State.TheVariants.{WaitActivation, WaitEstablish, WaitConfirm, Live, Closed, Removed}
+use Rattle.conn_table.specs.Steps.{Row}
+use Rattle.conn_table.specs.Streams.{OfRow}
+use Rattle.controller_table.specs.Channels.{access_channel, handover_offer}
+use Rattle.controller_table.specs.Controller.{Controller, Entry, Turn, Use, turn, ignoring, has_number, entry_of, remaining, put_back, with_entry, use_of, freed}
+use Rattle.controller_table.specs.Life.{by_row, by_fitting, row_in, concerning, concerning_too, entry_after, given, may_open, new_entry, frees, on_use, on_channel_in_use, measures, on_decision, measured, with_report, on_report, on_word, told, aged, on_expiry, expiry, passed}
+use Rattle.controller_table.specs.Ownership.{concerned, Leaves}
+use Rattle.controller_table.specs.Reading.{Word, nothing, ping, asks, on_channel, reports, on_connection}
+use Rattle.controller_table.specs.Reports.{decision_over}
+use Rattle.controller_table.proofs.Numbers.{Keeps, keeps_number}
+use Rattle.dtap_codec.specs.declared.report.Report.{Report}
+use Rattle.ho_decision.specs.declared.decision.Decision.{Decision}
+use Rattle.ho_decision.specs.declared.decision.Decision.TheVariants.{Stay, Move}
+use Rattle.rsl_codec.specs.declared.values.RequestReference.{RequestReference}
+
+-- ---- entries
+
+IsOf : ℕ → Option Entry → Type 0
+IsOf number None = Unit {0}
+IsOf number (Some e) = e.connection.number ≡ number
+
+found_is_of : (number : ℕ) (entries : List Entry) → IsOf number (find (has_number number) entries)
+unfolding IsOf
+found_is_of number [] = tt
+found_is_of number (x ∷ xs) =
+    elim (cases_Bool (has_number number x)) [
+      | inl hit ↦ subst_found number (cond (has_number number x) (Some x) (find (has_number number) xs)) (Some x) (ap (λ b. cond b (Some x) (find (has_number number) xs)) hit) (eqb-true x.connection.number number hit)
+      | inr miss ↦ subst_found number (cond (has_number number x) (Some x) (find (has_number number) xs)) (find (has_number number) xs) (ap (λ b. cond b (Some x) (find (has_number number) xs)) miss) (found_is_of number xs)
+    ] where
+      subst_found : (n : ℕ) (a b : Option Entry) → a ≡ b → IsOf n b → IsOf n a
+      subst_found n a b e h = subst (λ o. IsOf n o) (sym e) h
+
+passed_over : (m : ℕ) (e : Entry) (xs : List Entry) → m ≢ e.connection.number → find (has_number m) (e ∷ xs) ≡ find (has_number m) xs
+passed_over m e xs other = ap (λ b. cond b (Some e) (find (has_number m) xs)) (ne_eqb e.connection.number m (λ same. other (sym same)))
+
+remaining_over : (m : ℕ) (state : State) (e : Entry) (xs : List Entry) → m ≢ e.connection.number → find (has_number m) (remaining state e ++ xs) ≡ find (has_number m) xs
+remaining_over m Removed e xs other = refl
+remaining_over m WaitActivation e xs other = passed_over m e xs other
+remaining_over m WaitEstablish e xs other = passed_over m e xs other
+remaining_over m WaitConfirm e xs other = passed_over m e xs other
+remaining_over m (Live reference stage) e xs other = passed_over m e xs other
+remaining_over m (Closed clearing) e xs other = passed_over m e xs other
+
+back_over : (m : ℕ) (e : Entry) (xs : List Entry) → m ≢ e.connection.number → find (has_number m) (put_back e xs) ≡ find (has_number m) xs
+back_over m e [] other = refl
+back_over m e (x ∷ xs) other =
+    elim (cases_Bool (has_number e.connection.number x)) [
+      | inl hit ↦
+          let same : x.connection.number ≡ e.connection.number = eqb-true x.connection.number e.connection.number hit in
+          ap (λ b. find (has_number m) (if b then remaining e.connection.state e ++ xs else x ∷ put_back e xs)) hit
+          ∙ remaining_over m e.connection.state e xs other
+          ∙ sym (passed_over m x xs (λ is. other (is ∙ same)))
+      | inr miss ↦
+          ap (λ b. find (has_number m) (if b then remaining e.connection.state e ++ xs else x ∷ put_back e xs)) miss
+          ∙ ap (λ o. cond (has_number m x) (Some x) o) (back_over m e xs other)
+    ]
+
+behind_over : (m : ℕ) (e : Entry) (xs : List Entry) → m ≢ e.connection.number → find (has_number m) (xs ++ e ∷ []) ≡ find (has_number m) xs
+behind_over m e [] other = passed_over m e [] other
+behind_over m e (x ∷ xs) other = ap (λ o. cond (has_number m x) (Some x) o) (behind_over m e xs other)
+
+-- ---- rows
+
+row_leaves : (m : ℕ) (e : Entry) (r : Row) (c : Controller) → Keeps e.connection.number r → m ≢ e.connection.number → Leaves m c (by_row e r c).next
+row_leaves m e r c keeps other = back_over m (entry_after c e r) c.entries (λ is. other (is ∙ keeps))
+
+fitting_leaves : (m : ℕ) (otherwise : Turn) (e : Entry) (r : Option Row) (c : Controller) → Leaves m c otherwise.next → OfRow (Keeps e.connection.number) r → m ≢ e.connection.number → Leaves m c (by_fitting otherwise e r c).next
+fitting_leaves m otherwise e None c stays keeps other = stays
+fitting_leaves m otherwise e (Some r) c stays keeps other = row_leaves m e r c keeps other
+
+concerning_leaves : (m : ℕ) (input : Input) (c : Controller) (number : ℕ) (o : Option Entry) → IsOf number o → m ≢ number → Leaves m c (concerning input c o).next
+unfolding IsOf
+concerning_leaves m input c number None is other = refl
+concerning_leaves m input c number (Some e) is other = fitting_leaves m (ignoring c) e (row_in c e.connection input) c refl (keeps_number e.connection input _) (λ same. other (same ∙ is))
+
+concerning_too_leaves : (m : ℕ) (input : Input) (c : Controller) (number : ℕ) (o : Option Entry) → IsOf number o → m ≢ number → Leaves m c (concerning_too input c o).next
+unfolding IsOf
+concerning_too_leaves m input c number None is other = refl
+concerning_too_leaves m input c number (Some e) is other = fitting_leaves m (turn [] c) e (row_in c e.connection input) c refl (keeps_number e.connection input _) (λ same. other (same ∙ is))
+
+-- ---- frames
+
+on_use_leaves : (m : ℕ) (b : Bool) (input : Input) (c : Controller) (u : Use) (o : Option Entry) → IsOf u.number o → m ≢ u.number → Leaves m c (on_use b input c u o).next
+on_use_leaves m true input c u o is other = concerning_too_leaves m input (freed u.at c) u.number o is other
+on_use_leaves m false input c u o is other = concerning_leaves m input c u.number o is other
+
+channel_leaves : (m : ℕ) (input : Input) (c : Controller) (o : Option Use) → option_map (λ u. u.number) o ≢ Some m → Leaves m c (on_channel_in_use input c o).next
+channel_leaves m input c None other = refl
+channel_leaves m input c (Some u) other =
+    on_use_leaves m (frees u (entry_of c u.number) input) input c u (entry_of c u.number) (found_is_of u.number c.entries) (λ same. other (ap (λ n. Some n) (sym same)))
+
+given_leaves : (m : ℕ) (c : Controller) (request : RequestReference) (delay : ℕ) (o : Option Channel) → m ≢ c.next_number → Leaves m c (given c request delay o).next
+given_leaves m c request delay None other = refl
+given_leaves m c request delay (Some channel) other = behind_over m (new_entry c channel request delay) c.entries other
+
+asked_leaves : (m : ℕ) (b : Bool) (c : Controller) (t : Turn) → Leaves m c t.next → Leaves m c (if b then t else ignoring c).next
+asked_leaves m true c t h = h
+asked_leaves m false c t h = refl
+
+decision_leaves : (m : ℕ) (d : Decision) (c : Controller) (e : Entry) → m ≢ e.connection.number → Leaves m c (on_decision d c e).next
+decision_leaves m Stay c e other = refl
+decision_leaves m (Move cell) c e other = fitting_leaves m (turn [] c) e _ c refl (keeps_number e.connection inputs.Move (handover_offer c e.connection.serving cell)) other
+
+measured_leaves : (m number : ℕ) (report : Report) (c : Controller) (e : Entry) → m ≢ e.connection.number → Leaves m c (measured number report c e).next
+measured_leaves m number report c e other =
+    decision_leaves m (decision_over (with_report number report e).averages.settings (with_report number report e).averages.reports number) (with_entry (with_report number report e) c) (with_report number report e) other
+    ∙ back_over m (with_report number report e) c.entries other
+
+report_leaves : (m : ℕ) (at : Place) (number : ℕ) (report : Report) (c : Controller) (n : ℕ) (o : Option Entry) → IsOf n o → m ≢ n → Leaves m c (on_report at number report c o).next
+unfolding IsOf
+report_leaves m at number report c n None is other = refl
+report_leaves m at number report c n (Some e) is other = asked_leaves m (measures at e) c (measured number report c e) (measured_leaves m number report c e (λ same. other (same ∙ is)))
+
+report_on_leaves : (m : ℕ) (at : Place) (number : ℕ) (report : Report) (c : Controller) (o : Option Use) → option_map (λ u. u.number) o ≢ Some m → Leaves m c (on_report at number report c (option_and_then (λ u. entry_of c u.number) o)).next
+report_on_leaves m at number report c None other = refl
+report_on_leaves m at number report c (Some u) other =
+    report_leaves m at number report c u.number (entry_of c u.number) (found_is_of u.number c.entries) (λ same. other (ap (λ n. Some n) (sym same)))
+
+pub word_leaves : (m source : ℕ) (word : Word) (c : Controller) → concerned c word ≢ Some m → Leaves m c (on_word source word c).next
+word_leaves m source nothing c other = refl
+word_leaves m source ping c other = refl
+word_leaves m source (asks request delay) c other =
+    asked_leaves m (may_open c) c (given c request delay (access_channel c source)) (given_leaves m c request delay (access_channel c source) (λ same. other (ap (λ n. Some n) (sym same))))
+word_leaves m source (on_channel at input) c other = channel_leaves m input c (use_of c at) other
+word_leaves m source (reports at number report) c other = report_on_leaves m at number report c (use_of c at) other
+word_leaves m source (on_connection number input) c other =
+    concerning_leaves m input c number (entry_of c number) (found_is_of number c.entries) (λ same. other (ap (λ n. Some n) (sym same)))
+
+-- ---- breaks and time: one connection after the other
+
+pub told_leaves : (m : ℕ) (input : Input) (c : Controller) (e : Entry) → m ≢ e.connection.number → Leaves m c (told input c e).next
+told_leaves m input c e other = fitting_leaves m (turn [] c) e (row_in c e.connection input) c refl (keeps_number e.connection input _) other
+
+expiry_leaves : (m : ℕ) (o : Option Input) (c : Controller) (e : Entry) → m ≢ e.connection.number → Leaves m c (on_expiry o c e).next
+expiry_leaves m None c e other = refl
+expiry_leaves m (Some input) c e other = told_leaves m input c e other
+
+pub passed_leaves : (m ms : ℕ) (c : Controller) (e : Entry) → m ≢ e.connection.number → Leaves m c (passed ms c e).next
+passed_leaves m ms c e other =
+    expiry_leaves m (expiry c.settings.timers (aged ms e).connection) (with_entry (aged ms e) c) (aged ms e) other
+    ∙ back_over m (aged ms e) c.entries other

@@ -1,0 +1,86 @@
+-- The channels of the cells, and which of them a connection is given or offered.
+use Rattle.std.specs.Prelude.{ℕ, ◌+◌, ◌-◌, ◌*◌, ◌/◌, ◌%◌, ◌&&◌, nat_le, nat_lt, Bool, if◌then◌else◌, List, [], ◌∷◌, find, slice_get, slice_index_or, Option, Some, None, option_map}
+use Rattle.std.specs.Option.{option_and_then}
+use Rattle.conn_messages.specs.declared.channel.Channel.{Channel}
+use Rattle.conn_table.specs.declared.input.Input.{Input}
+use Rattle.conn_table.specs.Connection.{Connection}
+use Rattle.conn_table.specs.Steps.{Row}
+use Rattle.conn_table.specs.Table.{row_of}
+use Rattle.controller_table.specs.Controller.{Controller, is_up, is_free, place_at}
+use Rattle.rsl_codec.specs.declared.channel_number.TheConstants.{FIRST_SDCCH}
+use Rattle.settings.specs.declared.network.Network.{Network}
+use Rattle.settings.specs.Parameters.{Parameters, CellParameters}
+
+-- ---- the identifier of a cell (TS 48.008 clause 3.2.2.17): the digits of the country and the network, two an octet; location area code; cell identity
+
+abbrev pub digit_at : List ℕ → ℕ → ℕ
+digit_at text place = slice_index_or text place 48 - 48
+
+-- a network code of two digits is filled up
+abbrev pub third_digit : List ℕ → ℕ
+third_digit (a ∷ b ∷ c ∷ rest) = c - 48
+third_digit text = 15
+
+abbrev pub digits : ℕ → ℕ → ℕ
+digits high low = 16 * high + low
+
+abbrev pub cell_identifier : Network → CellParameters → List ℕ
+cell_identifier n cell =
+    0 ∷ digits (digit_at n.mcc 1) (digit_at n.mcc 0) ∷ digits (third_digit n.mnc) (digit_at n.mcc 2) ∷ digits (digit_at n.mnc 1) (digit_at n.mnc 0)
+    ∷ (cell.location_area_code / 256) ∷ (cell.location_area_code % 256) ∷ (cell.cell_identity / 256) ∷ (cell.cell_identity % 256) ∷ []
+
+-- ---- channels
+
+abbrev pub channel_in : Parameters → ℕ → ℕ → CellParameters → ℕ → Channel
+channel_in p station reference cell number = record {
+  station = station;
+  number = number;
+  cell = cell_identifier p.network cell;
+  description = record { arfcn = cell.arfcn; ncc = cell.bsic.ncc; bcc = cell.bsic.bcc };
+  reference = record { 0 = reference };
+}
+
+abbrev pub is_sdcch : ℕ → Bool
+is_sdcch number = nat_le FIRST_SDCCH number
+
+abbrev pub is_tch : ℕ → Bool
+is_tch number = nat_lt number FIRST_SDCCH
+
+-- SDCCH for SDCCH, TCH for TCH
+abbrev pub is_alike : ℕ → ℕ → Bool
+is_alike one other = if is_sdcch one then is_sdcch other else is_tch other
+
+-- the first free channel of this kind in a cell, in the order of the settings
+abbrev pub free_in : Controller → ℕ → (ℕ → Bool) → CellParameters → Option ℕ
+free_in c station kind cell = find (λ number. kind number && is_free c (place_at station number)) cell.channels
+
+abbrev pub channel_of_kind : Controller → ℕ → ℕ → (ℕ → Bool) → CellParameters → Option Channel
+channel_of_kind c station reference kind cell = option_map (channel_in c.settings station reference cell) (free_in c station kind cell)
+
+-- the cell of a station, from 1, has one; none where its link is down
+abbrev pub first_free : Controller → ℕ → ℕ → (ℕ → Bool) → Option Channel
+first_free c station reference kind =
+    if is_up c station then option_and_then (channel_of_kind c station reference kind) (slice_get c.settings.cells (station - 1)) else None
+
+-- for access
+abbrev pub access_channel : Controller → ℕ → Option Channel
+access_channel c station = first_free c station 0 is_sdcch
+
+-- ---- offers
+
+-- a TCH of the cell that serves
+abbrev pub assignment_offer : Controller → Channel → Option Channel
+assignment_offer c serving = first_free c serving.station 0 is_tch
+
+-- a channel of the same kind in another cell
+abbrev pub handover_offer : Controller → Channel → ℕ → Option Channel
+handover_offer c serving station = first_free c station c.handovers (is_alike serving.number)
+
+-- what serves after an input
+abbrev pub serving_after : Connection → Option Row → Channel
+serving_after s None = s.serving
+serving_after s (Some r) = r.next.serving
+
+-- a request for an assignment that begins with this input, or waited and begins after it
+abbrev pub request_offer : Controller → Connection → Input → Option Channel
+request_offer c s input = assignment_offer c (serving_after s (row_of s input None))

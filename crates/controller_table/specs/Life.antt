@@ -1,0 +1,259 @@
+-- The controller over what it takes: what each item and each tick puts, and what it makes of the controller.
+use Rattle.std.specs.Prelude.{ℕ, ◌+◌, ◌-◌, ◌%◌, ◌^◌, ◌==◌, ◌&&◌, nat_le, min, Bool, true, false, if◌then◌else◌, List, [], ◌∷◌, ◌++◌, count_by, fold, Option, Some, None}
+use Rattle.std.specs.Option.{is_some, option_and_then}
+use Rattle.conn_messages.specs.declared.channel.Change.{Change}
+use Rattle.conn_messages.specs.declared.channel.Change.TheVariants.{Assignment, Handover}
+use Rattle.conn_messages.specs.declared.channel.Channel.{Channel}
+use Rattle.conn_messages.specs.declared.channel.Place.{Place}
+use Rattle.conn_messages.specs.declared.message.Message.{Message}
+use Rattle.conn_messages.specs.declared.message.Message.TheVariants.{Station}
+use Rattle.conn_messages.specs.declared.out.Out.{Out}
+use Rattle.conn_messages.specs.declared.parameters.TheConstants.{SWITCH_LINK}
+use Rattle.conn_messages.specs.Out.{out_of, outs_of}
+use Rattle.conn_messages.specs.StationMessage.{access_activation}
+use Rattle.conn_table.specs.declared.input.Input.{Input}
+use Rattle.conn_table.specs.declared.input.Input.TheVariants as inputs
+use Rattle.conn_table.specs.declared.state.Drain.{Drain}
+use Rattle.conn_table.specs.declared.state.Stage.TheVariants.{Preparing, Changing}
+use Rattle.conn_table.specs.declared.state.State.{State}
+use Rattle.conn_table.specs.declared.state.State.TheVariants.{WaitActivation, WaitEstablish, WaitConfirm, Live}
+use Rattle.conn_table.specs.Connection.{Connection, new_connection, is_at}
+use Rattle.conn_table.specs.Steps.{Row}
+use Rattle.conn_table.specs.Table.{row_of}
+use Rattle.controller_table.specs.declared.item.Item.{Item}
+use Rattle.controller_table.specs.declared.item.What.{What}
+use Rattle.controller_table.specs.declared.item.What.TheVariants as whats
+use Rattle.controller_table.specs.declared.limits.TheConstants.{MAX_CONNECTION_NUMBER}
+use Rattle.controller_table.specs.declared.step.Step.{Step}
+use Rattle.controller_table.specs.declared.step.Step.TheVariants.{Take, Tick}
+use Rattle.controller_table.specs.Channels.{access_channel, handover_offer, request_offer}
+use Rattle.controller_table.specs.Controller.{Controller, Entry, Turn, Use, turn, each, new_controller, ignoring, is_up, with_down, entry_of, with_entry, place_of, use_of, freed, freed_station, uses_after}
+use Rattle.controller_table.specs.Reading.{Word, nothing, ping, asks, on_channel, reports, on_connection, word_of}
+use Rattle.controller_table.specs.Reports.{decision_over}
+use Rattle.dtap_codec.specs.declared.report.Report.{Report}
+use Rattle.ho_decision.specs.declared.decision.Decision.{Decision}
+use Rattle.ho_decision.specs.declared.decision.Decision.TheVariants.{Stay, Move}
+use Rattle.ho_decision.specs.State.{State as Averages, new_state, after_report}
+use Rattle.ipa_framing.specs.declared.streams.TheConstants.{CCM_STREAM, PONG}
+use Rattle.rsl_codec.specs.declared.rsl.Rsl.TheVariants.{ChannelActivation}
+use Rattle.rsl_codec.specs.declared.values.RequestReference.{RequestReference}
+use Rattle.settings.specs.declared.timers.Timers.{Timers}
+use Rattle.settings.specs.Parameters.{Parameters, handover_settings_of}
+
+-- ---- a row of the table, in the controller
+
+-- of the channel that begins to serve nothing was reported
+abbrev pub new_averages : Controller → Channel → Averages
+new_averages c serving = new_state (handover_settings_of c.settings serving.station)
+
+abbrev pub averages_after : Controller → Channel → Channel → Averages → Averages
+averages_after c before after averages = if is_at (place_of before) after then averages else new_averages c after
+
+abbrev pub entry_after : Controller → Entry → Row → Entry
+entry_after c e r = record { connection = r.next; averages = averages_after c e.connection.serving r.next.serving e.averages }
+
+-- a channel is activated with a handover reference
+abbrev pub is_handover : Message → Bool
+is_handover (Station station (ChannelActivation a)) = is_some a.reference
+is_handover _ = false
+
+abbrev pub handovers_after : ℕ → List Message → ℕ
+handovers_after handovers messages = (handovers + count_by is_handover messages) % 256
+
+-- what it puts goes out; the connection, its channels and the handovers begun are as after it
+abbrev pub by_row : Entry → Row → Controller → Turn
+by_row e r c = turn (outs_of e.connection.number r.outs) (with_entry (entry_after c e r) (record c {
+  uses = fold (uses_after e.connection.number) c.uses r.outs;
+  handovers = handovers_after c.handovers r.outs;
+}))
+
+-- the row that fits; else this
+abbrev pub by_fitting : Turn → Entry → Option Row → Controller → Turn
+by_fitting otherwise e None c = otherwise
+by_fitting otherwise e (Some r) c = by_row e r c
+
+abbrev pub row_in : Controller → Connection → Input → Option Row
+row_in c s input = row_of s input (request_offer c s input)
+
+-- what concerns a connection; where no row fits it is ignored
+abbrev pub concerning : Input → Controller → Option Entry → Turn
+concerning input c None = ignoring c
+concerning input c (Some e) = by_fitting (ignoring c) e (row_in c e.connection input) c
+
+-- the same of what changed something already
+abbrev pub concerning_too : Input → Controller → Option Entry → Turn
+concerning_too input c None = turn [] c
+concerning_too input c (Some e) = by_fitting (turn [] c) e (row_in c e.connection input) c
+
+-- ---- a channel is asked for
+
+abbrev pub new_entry : Controller → Channel → RequestReference → ℕ → Entry
+new_entry c channel request delay =
+    record { connection = new_connection c.next_number channel request delay; averages = new_averages c channel }
+
+-- the next connection, with a channel that is activated
+abbrev pub with_connection : Controller → Channel → RequestReference → ℕ → Turn
+with_connection c channel request delay = turn (out_of c.next_number (access_activation channel) ∷ []) (record c {
+  uses = uses_after c.next_number c.uses (access_activation channel);
+  entries = c.entries ++ new_entry c channel request delay ∷ [];
+  next_number = c.next_number + 1;
+})
+
+abbrev pub given : Controller → RequestReference → ℕ → Option Channel → Turn
+given c request delay None = ignoring c
+given c request delay (Some channel) = with_connection c channel request delay
+
+-- while the switch's link is up and a number is left
+abbrev pub may_open : Controller → Bool
+may_open c = is_up c SWITCH_LINK && nat_le c.next_number MAX_CONNECTION_NUMBER
+
+abbrev pub asked : Controller → ℕ → RequestReference → ℕ → Turn
+asked c station request delay = if may_open c then given c request delay (access_channel c station) else ignoring c
+
+-- ---- what comes on a channel
+
+abbrev pub fits : Option Entry → Input → Bool
+fits None input = false
+fits (Some e) input = is_some (row_of e.connection input None)
+
+-- RF CHANNEL RELEASE ACK frees a channel that is releasing, NACK one that a connection waits for
+abbrev pub frees : Use → Option Entry → Input → Bool
+frees u e (inputs.ReleaseAck at) = u.is_releasing
+frees u e (inputs.ActivationNack at) = fits e (inputs.ActivationNack at)
+frees u e _ = false
+
+abbrev pub on_use : Bool → Input → Controller → Use → Option Entry → Turn
+on_use true input c u e = concerning_too input (freed u.at c) e
+on_use false input c u e = concerning input c e
+
+abbrev pub on_channel_in_use : Input → Controller → Option Use → Turn
+on_channel_in_use input c None = ignoring c
+on_channel_in_use input c (Some u) = on_use (frees u (entry_of c u.number) input) input c u (entry_of c u.number)
+
+-- ---- a report
+
+-- from the connection request on
+abbrev pub is_measured : State → Bool
+is_measured WaitConfirm = true
+is_measured (Live reference stage) = true
+is_measured _ = false
+
+abbrev pub measures : Place → Entry → Bool
+measures at e = is_at at e.connection.serving && is_measured e.connection.state
+
+-- a move begins a handover where it may
+abbrev pub on_decision : Decision → Controller → Entry → Turn
+on_decision Stay c e = turn [] c
+on_decision (Move cell) c e = by_fitting (turn [] c) e (row_of e.connection inputs.Move (handover_offer c e.connection.serving cell)) c
+
+abbrev pub decided : ℕ → Controller → Entry → Turn
+decided number c e = on_decision (decision_over e.averages.settings e.averages.reports number) c e
+
+abbrev pub with_report : ℕ → Report → Entry → Entry
+with_report number report e = record e { averages = after_report e.averages report number }
+
+abbrev pub measured : ℕ → Report → Controller → Entry → Turn
+measured number report c e = decided number (with_entry (with_report number report e) c) (with_report number report e)
+
+abbrev pub on_report : Place → ℕ → Report → Controller → Option Entry → Turn
+on_report at number report c None = ignoring c
+on_report at number report c (Some e) = if measures at e then measured number report c e else ignoring c
+
+-- ---- frames
+
+abbrev pub pong : ℕ → Out
+pong source = record { to = source; conn = 0; frame = record { stream = CCM_STREAM; body = PONG ∷ [] } }
+
+abbrev pub on_word : ℕ → Word → Controller → Turn
+on_word source nothing c = ignoring c
+on_word source ping c = turn (pong source ∷ []) c
+on_word source (asks request delay) c = asked c source request delay
+on_word source (on_channel at input) c = on_channel_in_use input c (use_of c at)
+on_word source (reports at number report) c = on_report at number report c (option_and_then (λ u. entry_of c u.number) (use_of c at))
+on_word source (on_connection number input) c = concerning input c (entry_of c number)
+
+-- ---- links break
+
+-- an input of the controller's own, which nobody ignores
+abbrev pub told : Input → Controller → Entry → Turn
+told input c e = concerning_too input c (Some e)
+
+abbrev pub break_of : ℕ → Input
+break_of source = if source == SWITCH_LINK then inputs.SwitchDown else inputs.StationDown source
+
+-- the connections learn of it, and the channels of a station go
+abbrev pub without_link : ℕ → Turn → Turn
+without_link source t = turn t.outs (if source == SWITCH_LINK then t.next else freed_station source t.next)
+
+abbrev pub on_break : ℕ → Controller → Turn
+on_break source c = without_link source (each (told (break_of source)) (with_down source c) c.entries)
+
+-- ---- an item: after the break of its link, and where there is none, it is ignored
+
+abbrev pub on_what : Bool → ℕ → What → Controller → Turn
+on_what true source (whats.Frame frame) c = on_word source (word_of source frame) c
+on_what true source whats.Down c = on_break source c
+on_what false source what c = ignoring c
+
+unfoldable pub take : Item → Controller → Turn
+take item c = on_what (is_up c item.source) item.source item.what c
+
+-- ---- time passes
+
+-- a timer stands still at the greatest number of 64 bits
+abbrev pub saturated : ℕ → ℕ
+saturated ms = min ms (2 ^ 64 - 1)
+
+-- the drain time passes while a channel drains
+abbrev pub drained_after : ℕ → List Drain → ℕ → ℕ
+drained_after ms [] drained = drained
+drained_after ms (d ∷ ds) drained = saturated (drained + ms)
+
+abbrev pub aged : ℕ → Entry → Entry
+aged ms e = record e {
+  connection = record e.connection {
+    waited = saturated (e.connection.waited + ms);
+    drained = drained_after ms e.connection.draining e.connection.drained;
+  };
+}
+
+abbrev pub change_time : Timers → Change → ℕ
+change_time timers Assignment = timers.t3107_ms
+change_time timers Handover = timers.t3103_ms
+
+-- the time of a state's timer
+abbrev pub time_of : Timers → State → Option ℕ
+time_of timers WaitActivation = Some timers.t3101_ms
+time_of timers WaitEstablish = Some timers.t3101_ms
+time_of timers (Live reference (Preparing target)) = Some (change_time timers target.change)
+time_of timers (Live reference (Changing target)) = Some (change_time timers target.change)
+time_of timers _ = None
+
+abbrev pub is_over : Option ℕ → ℕ → Bool
+is_over None waited = false
+is_over (Some time) waited = nat_le time waited
+
+-- the state's timer comes first, and then the drain time isn't looked at
+abbrev pub expiry : Timers → Connection → Option Input
+expiry timers s =
+    if is_over (time_of timers s.state) s.waited then Some inputs.Expiry
+    else if nat_le timers.drain_ms s.drained then Some inputs.DrainExpiry else None
+
+abbrev pub on_expiry : Option Input → Controller → Entry → Turn
+on_expiry None c e = turn [] c
+on_expiry (Some input) c e = told input c e
+
+abbrev pub passed : ℕ → Controller → Entry → Turn
+passed ms c e = on_expiry (expiry c.settings.timers (aged ms e).connection) (with_entry (aged ms e) c) (aged ms e)
+
+unfoldable pub tick : ℕ → Controller → Turn
+tick ms c = each (passed ms) c c.entries
+
+-- ---- a life
+
+abbrev pub step : Controller → Step → Turn
+step c (Take item) = take item c
+step c (Tick ms) = tick ms c
+
+unfoldable pub life : Parameters → List Step → Turn
+life settings steps = each step (new_controller settings) steps

@@ -1,0 +1,9 @@
+use dtap_codec::Sapi;
+use octets::Octets;
+
+/// A layer 3 message of a mobile that was passed on to the switch.
+#[derive(Drop)]
+pub struct Forwarded {
+    pub sapi: Sapi,
+    pub message: Octets,
+}

@@ -1,0 +1,15 @@
+//! What the controller of base stations makes of what comes: its connections, channels and links, item by item and tick by
+//! tick. The definitions stand in `specs`.
+#![tactic(auto)]
+
+pub use forwarded::Forwarded;
+pub use item::{Item, What};
+pub use laws::{decision_is_one, others_are_left, report_is_read, row_keeps_number};
+pub use limits::{MAX_CONNECTION_NUMBER, MAX_IGNORED};
+pub use step::Step;
+
+mod forwarded;
+mod item;
+mod laws;
+mod limits;
+mod step;

@@ -1,0 +1,5 @@
+/// The greatest number of a connection, which is its reference of three octets (Q.713 clause 3.2).
+pub const MAX_CONNECTION_NUMBER: u32 = 16_777_215;
+
+/// As far as ignored items are counted.
+pub const MAX_IGNORED: u64 = u64::MAX;
