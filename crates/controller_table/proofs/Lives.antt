@@ -4,7 +4,7 @@ use Rattle.conn_messages.specs.declared.out.Out.{Out}
 use Rattle.conn_table.specs.declared.state.State.{State}
 use Rattle.controller_table.specs.declared.step.Step.{Step}
 use Rattle.controller_table.specs.declared.step.Step.TheVariants.{Take}
-use Rattle.controller_table.specs.declared.item.What.TheVariants as whats
+use Rattle.relay_items.specs.declared.What.TheVariants as whats
 use Rattle.controller_table.specs.Controller.{Controller, entry_of}
 use Rattle.controller_table.specs.Life.{step}
 use Rattle.settings.specs.Parameters.{Parameters}

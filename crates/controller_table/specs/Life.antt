@@ -20,9 +20,9 @@ use Rattle.conn_table.specs.declared.state.State.TheVariants.{WaitActivation, Wa
 use Rattle.conn_table.specs.Connection.{Connection, new_connection, is_at}
 use Rattle.conn_table.specs.Steps.{Row}
 use Rattle.conn_table.specs.Table.{row_of}
-use Rattle.controller_table.specs.declared.item.Item.{Item}
-use Rattle.controller_table.specs.declared.item.What.{What}
-use Rattle.controller_table.specs.declared.item.What.TheVariants as whats
+use Rattle.relay_items.specs.declared.Item.{Item}
+use Rattle.relay_items.specs.declared.What.{What}
+use Rattle.relay_items.specs.declared.What.TheVariants as whats
 use Rattle.controller_table.specs.declared.limits.TheConstants.{MAX_CONNECTION_NUMBER}
 use Rattle.controller_table.specs.declared.step.Step.{Step}
 use Rattle.controller_table.specs.declared.step.Step.TheVariants.{Take, Tick}

@@ -3,13 +3,12 @@
 #![tactic(auto)]
 
 pub use forwarded::Forwarded;
-pub use item::{Item, What};
 pub use laws::{decision_is_one, others_are_left, report_is_read, row_keeps_number};
 pub use limits::{MAX_CONNECTION_NUMBER, MAX_IGNORED};
+pub use relay_items::{Item, What};
 pub use step::Step;
 
 mod forwarded;
-mod item;
 mod laws;
 mod limits;
 mod step;

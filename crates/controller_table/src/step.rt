@@ -1,4 +1,4 @@
-use crate::Item;
+use relay_items::Item;
 
 /// What the controller takes.
 #[derive(Drop)]
