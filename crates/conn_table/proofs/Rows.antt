@@ -4,8 +4,9 @@ use Rattle.conn_messages.specs.declared.channel.Change.TheVariants.{Assignment, 
 use Rattle.conn_messages.specs.Out.{out_of}
 use Rattle.conn_table.specs.declared.input.Input.{Input}
 use Rattle.conn_table.specs.declared.input.Input.TheVariants as inputs
+use Rattle.conn_table.specs.declared.state.Clearing.TheVariants.{Due, Asked, Complete}
 use Rattle.conn_table.specs.declared.state.Stage.TheVariants.{Active, Preparing, Draining}
-use Rattle.conn_table.specs.declared.state.State.TheVariants.{WaitConfirm, Live, Removed}
+use Rattle.conn_table.specs.declared.state.State.TheVariants.{WaitConfirm, Live, Closed, Removed}
 use Rattle.conn_table.specs.Connection.{Connection}
 use Rattle.conn_table.specs.Steps.{Row}
 use Rattle.conn_table.specs.Table.{row_of}
@@ -127,6 +128,78 @@ relays_what_was_held : played unconfirmed (turn (inputs.Dtap (on_1 0x41) Three (
     ∷ Some (put 0 (0x06 ∷ 0x80 ∷ 0x00 ∷ 0x01 ∷ 0x00 ∷ 0x01 ∷ 0x05 ∷ 0x01 ∷ 0x00 ∷ 0x02 ∷ 0x03 ∷ 0x45 ∷ []) ∷ put 0 (0x06 ∷ 0x80 ∷ 0x00 ∷ 0x01 ∷ 0x00 ∷ 0x01 ∷ 0x05 ∷ 0x01 ∷ 0x83 ∷ 0x02 ∷ 0x09 ∷ 0x01 ∷ []) ∷ []) ∷ []
 unfolding row_of out_of rsl_element_text
 relays_what_was_held = refl
+
+-- ---- ends before and after the switch confirms
+
+fails_at_release_before_it_is_confirmed : played unconfirmed (turn (inputs.ReleaseIndication (on_1 0x41) Zero) None
+    ∷ turn (inputs.ConnectionConfirm 0x800001) None ∷ [])
+    ≡ Some (put 1 (0x03 ∷ 0x01 ∷ 0x01 ∷ 0x41 ∷ 0x02 ∷ 0x00 ∷ 0x0b ∷ 0x00 ∷ 0x03 ∷ 0x06 ∷ 0x0d ∷ 0x01 ∷ []) ∷ put 1 (0x08 ∷ 0x2e ∷ 0x01 ∷ 0x41 ∷ []) ∷ [])
+    ∷ Some (put 0 (0x06 ∷ 0x80 ∷ 0x00 ∷ 0x01 ∷ 0x00 ∷ 0x01 ∷ 0x06 ∷ 0x00 ∷ 0x04 ∷ 0x22 ∷ 0x04 ∷ 0x01 ∷ 0x01 ∷ []) ∷ []) ∷ []
+unfolding row_of out_of rsl_element_text
+fails_at_release_before_it_is_confirmed = refl
+
+fails_at_connection_failure_before_it_is_confirmed : played unconfirmed (turn (inputs.ConnectionFailure (on_1 0x41)) None
+    ∷ turn (inputs.ConnectionConfirm 0x800001) None ∷ [])
+    ≡ Some (put 1 (0x03 ∷ 0x01 ∷ 0x01 ∷ 0x41 ∷ 0x02 ∷ 0x00 ∷ 0x0b ∷ 0x00 ∷ 0x03 ∷ 0x06 ∷ 0x0d ∷ 0x01 ∷ []) ∷ put 1 (0x08 ∷ 0x2e ∷ 0x01 ∷ 0x41 ∷ []) ∷ [])
+    ∷ Some (put 0 (0x06 ∷ 0x80 ∷ 0x00 ∷ 0x01 ∷ 0x00 ∷ 0x01 ∷ 0x06 ∷ 0x00 ∷ 0x04 ∷ 0x22 ∷ 0x04 ∷ 0x01 ∷ 0x01 ∷ []) ∷ []) ∷ []
+unfolding row_of out_of rsl_element_text
+fails_at_connection_failure_before_it_is_confirmed = refl
+
+fails_with_its_station_before_it_is_confirmed : played unconfirmed (turn (inputs.StationDown 1) None
+    ∷ turn (inputs.ConnectionConfirm 0x800001) None ∷ [])
+    ≡ Some []
+    ∷ Some (put 0 (0x06 ∷ 0x80 ∷ 0x00 ∷ 0x01 ∷ 0x00 ∷ 0x01 ∷ 0x06 ∷ 0x00 ∷ 0x04 ∷ 0x22 ∷ 0x04 ∷ 0x01 ∷ 0x20 ∷ []) ∷ []) ∷ []
+unfolding row_of out_of rsl_element_text
+fails_with_its_station_before_it_is_confirmed = refl
+
+gives_up_a_channel_that_is_not_active_with_its_station : played fresh (turn (inputs.StationDown 1) None ∷ [])
+    ≡ Some [] ∷ []
+unfolding row_of out_of rsl_element_text
+gives_up_a_channel_that_is_not_active_with_its_station = refl
+
+is_gone_with_its_station : (after fresh (turn (inputs.StationDown 1) None ∷ [])).state ≡ Removed
+unfolding row_of
+is_gone_with_its_station = refl
+
+is_gone_when_dropped : (after fresh (turn inputs.Expiry None ∷ [])).state ≡ Removed
+unfolding row_of
+is_gone_when_dropped = refl
+
+is_gone_when_refused : (after unconfirmed (turn inputs.ConnectionRefused None ∷ [])).state ≡ Removed
+unfolding row_of
+is_gone_when_refused = refl
+
+is_gone_when_refused_in_closed : (after unconfirmed (turn (inputs.ConnectionFailure (on_1 0x41)) None ∷ turn inputs.ConnectionRefused None ∷ [])).state ≡ Removed
+unfolding row_of
+is_gone_when_refused_in_closed = refl
+
+is_gone_when_released : (after active (turn (inputs.Released 0x800001) None ∷ [])).state ≡ Removed
+unfolding row_of
+is_gone_when_released = refl
+
+is_gone_when_released_in_closed : (after active (turn inputs.ClearCommand None ∷ turn (inputs.Released 0x800001) None ∷ [])).state ≡ Removed
+unfolding row_of
+is_gone_when_released_in_closed = refl
+
+is_gone_with_the_switch : (after active (turn inputs.SwitchDown None ∷ [])).state ≡ Removed
+unfolding row_of
+is_gone_with_the_switch = refl
+
+is_gone_with_the_switch_in_closed : (after active (turn inputs.ClearCommand None ∷ turn inputs.SwitchDown None ∷ [])).state ≡ Removed
+unfolding row_of
+is_gone_with_the_switch_in_closed = refl
+
+is_due_before_it_is_confirmed : (after unconfirmed (turn (inputs.ConnectionFailure (on_1 0x41)) None ∷ [])).state ≡ Closed (Due 0x01)
+unfolding row_of
+is_due_before_it_is_confirmed = refl
+
+was_asked_once_it_is_confirmed : (after unconfirmed (turn (inputs.ConnectionFailure (on_1 0x41)) None ∷ turn (inputs.ConnectionConfirm 0x800001) None ∷ [])).state ≡ Closed (Asked 0x800001)
+unfolding row_of
+was_asked_once_it_is_confirmed = refl
+
+is_complete_after_a_clear : (after active (turn inputs.ClearCommand None ∷ [])).state ≡ Closed Complete
+unfolding row_of
+is_complete_after_a_clear = refl
 
 -- ---- both ways, and clear
 
