@@ -16,7 +16,7 @@ use Rattle.conn_table.proofs.StandingTable.{Stands-row}
 use Rattle.conn_table.proofs.StandingSteps.{Stands-new}
 use Rattle.rsl_codec.specs.declared.values.RequestReference.{RequestReference}
 use Rattle.conn_fsm.specs.Doing.{Closes, Commits, Does, Finishes, IsPlanned, Plans, Stays, Steps}
-use Rattle.conn_fsm.specs.Views.{after_pass, drained_after}
+use Rattle.conn_table.specs.Timers.{after_pass, drained_after}
 
 stands_by : (r : Option Row) (fits : Bool) (old new : Connection) (outs outs_after : List Out) →
     Stands old → OfRow (λ r. Stands r.next) r → Steps r fits old new outs outs_after → Stands new

@@ -4,7 +4,8 @@ ghost use Rattle.conn_table.specs.Standing.{IsCarried, Stands};
 ghost use Rattle.conn_table.specs.Table.{row_of};
 ghost use Rattle.hold_queue.specs.HoldState.{messages};
 ghost use Rattle.conn_fsm.specs.Doing.{Commits, IsPlanned, Stays, Steps};
-ghost use Rattle.conn_fsm.specs.Views.{after_pass, joined};
+ghost use Rattle.conn_table.specs.Timers.{after_pass};
+ghost use Rattle.conn_fsm.specs.Views.{joined};
 
 use crate::Plan;
 use crate::machine::Machine;

@@ -1,8 +1,8 @@
 ghost use Rattle.std.specs.Prelude.{◌≡◌, None, IfOk, OnErr};
 ghost use Rattle.conn_table.specs.Standing.{IsCarried, Stands};
 ghost use Rattle.conn_table.specs.Table.{row_of};
-ghost use Rattle.conn_fsm.specs.Doing.{Closes, Commits, Finishes, IsPlanned, Stays, Steps};
-ghost use Rattle.conn_fsm.specs.Views.{after_pass};
+ghost use Rattle.conn_fsm.specs.Doing.{Closes, Commits, Finishes, IsPlanned, Plans, Stays, Steps};
+ghost use Rattle.conn_table.specs.Timers.{after_pass};
 
 use crate::Plan;
 use crate::machine::Machine;
@@ -14,7 +14,7 @@ use std::snapshot::Snapshot;
 
 impl Machine {
     /// The row that fits.
-    #[tactic(auto, unfolding(conn_table::specs::Table::row_of), using(crate::proofs::Keeping::finished))]
+    #[tactic(auto, unfolding(conn_table::specs::Table::row_of))]
     pub(crate) fn step(
         &mut self,
         input: Input,
@@ -52,27 +52,23 @@ impl Machine {
             }
             Input::CipherModeCommand => self.cipher_mode_command(outputs),
             Input::ClearCommand => self.clear_command(outputs),
-            Input::Expiry => {
-                let ending = self.expiry()?;
-                self.finish(ending, outputs)
-            }
-            Input::DrainExpiry => {
-                let ending = self.drain_expiry()?;
-                self.finish(ending, outputs)
-            }
-            Input::StationDown { station } => {
-                let ending = self.station_down(station)?;
-                self.finish(ending, outputs)
-            }
-            Input::SwitchDown => {
-                let ending = self.switch_down()?;
-                self.finish(ending, outputs)
-            }
+            planned => self.finish(&planned, outputs),
         }
     }
 
-    // The connection ends as its ending says, where a row fits.
-    fn finish(&mut self, ending: Ending, outputs: &mut Outputs) -> Result<bool, Memory>
+    // An expiry, or a link that broke, ends the connection where a row fits.
+    #[tactic(auto, using(crate::proofs::Keeping::finished))]
+    fn finish(&mut self, input: &Input, outputs: &mut Outputs) -> Result<bool, Memory>
+        requires { IsPlanned input.now }
+        ensures done { IfOk result (λ fits. Steps (row_of self.old input.now None) fits self.old self.new outputs.old.outs outputs.new.outs) }
+        ensures err { OnErr result (Stays self.old self.new outputs.old.outs outputs.new.outs) }
+    {
+        let ending = self.ending(input)?;
+        self.end_as(ending, outputs)
+    }
+
+    // The frames are appended, and the connection ends in the state, if there is one.
+    fn end_as(&mut self, ending: Ending, outputs: &mut Outputs) -> Result<bool, Memory>
         ensures done { IfOk result (λ fits. Finishes ending.last ending.outputs.outs fits self.old self.new outputs.old.outs outputs.new.outs) }
         ensures err { OnErr result (Stays self.old self.new outputs.old.outs outputs.new.outs) }
     {
@@ -96,23 +92,31 @@ impl Machine {
         }
     }
 
-    /// What an expiry or a broken link will make of the connection.
+    // What an expiry or a broken link makes of the connection.
     #[tactic(auto, unfolding(conn_table::specs::Table::row_of))]
+    fn ending(&self, input: &Input) -> Result<Ending, Memory>
+        requires { IsPlanned input.now }
+        ensures { IfOk result (λ e. Plans e.outputs.outs e.last (row_of self.now input.now None) self.now) }
+    {
+        match input {
+            Input::Expiry => self.expiry(),
+            Input::DrainExpiry => self.drain_expiry(),
+            Input::StationDown { station } => self.station_down(*station),
+            Input::SwitchDown => self.switch_down(),
+            _ => unreachable!(),
+        }
+    }
+
+    /// What an expiry or a broken link will make of the connection.
     pub(crate) fn plan(&self, input: Input) -> Result<Plan, Memory>
         requires { IsPlanned input }
         ensures was { IfOk result (λ plan. plan.was ≡ self.now) }
         ensures input { IfOk result (λ plan. plan.input ≡ input) }
     {
-        let ending = match &input {
-            Input::Expiry => self.expiry()?,
-            Input::DrainExpiry => self.drain_expiry()?,
-            Input::StationDown { station } => self.station_down(*station)?,
-            Input::SwitchDown => self.switch_down()?,
-            _ => unreachable!(),
-        };
+        let Ending { outputs, last } = self.ending(&input)?;
         Ok(Plan {
-            outputs: ending.outputs,
-            last: ending.last,
+            outputs,
+            last,
             was: Snapshot::of(self),
             input: Snapshot::of(&input),
         })

@@ -4,8 +4,9 @@ use Rattle.conn_messages.specs.declared.channel.Change.TheVariants.{Assignment}
 use Rattle.conn_table.specs.declared.input.Input.TheVariants as inputs
 use Rattle.conn_table.specs.Connection.{Connection}
 use Rattle.conn_table.specs.Table.{row_of}
+use Rattle.conn_table.specs.Timers.{after_pass}
 use Rattle.dtap_codec.specs.declared.sapi.Sapi.TheVariants.{Zero}
-use Rattle.conn_table.proofs.Lives.{Turn, turn, after, cell_1, on_1, on_2, request, changing, preparing, handed_over, two_drain, three_drain, unconfirmed}
+use Rattle.conn_table.proofs.Lives.{active, Turn, turn, after, cell_1, on_1, on_2, request, changing, preparing, handed_over, two_drain, three_drain, unconfirmed}
 
 -- so many milliseconds in the state, and so many for which the oldest drains
 abbrev at : ℕ → ℕ → Connection → Connection
@@ -80,6 +81,25 @@ a_clear_ends_the_timer = refl
 a_clear_ends_the_drain_time : drained_after (at 700 1500 two_drain) (turn (inputs.ClearCommand) None ∷ []) ≡ 0
 unfolding row_of
 a_clear_ends_the_drain_time = refl
+
+-- ---- time passes
+
+passes : after_pass 250 (at 700 1500 two_drain) ≡ at 950 1750 two_drain
+unfolding row_of
+passes = refl
+
+passes_while_none_drains : after_pass 250 (at 700 0 active) ≡ at 950 0 active
+unfolding row_of
+passes_while_none_drains = refl
+
+-- a timer stands still at the greatest number of 64 bits
+stands_still : after_pass 2 (at 18446744073709551614 18446744073709551615 two_drain) ≡ at 18446744073709551615 18446744073709551615 two_drain
+unfolding row_of
+stands_still = refl
+
+reaches_the_greatest : after_pass 1 (at 18446744073709551614 18446744073709551613 two_drain) ≡ at 18446744073709551615 18446744073709551614 two_drain
+unfolding row_of
+reaches_the_greatest = refl
 
 -- ---- the waiting request
 

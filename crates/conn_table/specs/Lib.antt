@@ -4,3 +4,4 @@ pub mod Standing
 pub mod Steps
 pub mod Streams
 pub mod Table
+pub mod Timers

@@ -1,6 +1,5 @@
 mod AccessRows
 mod ChangeRows
-mod ChannelRows
 pub mod Decides
 mod DrainRows
 mod LinkRows
@@ -10,4 +9,5 @@ mod OnLiterals
 pub mod ReportBits
 pub mod Others
 mod ReportRows
+mod Rows
 mod ViewRows

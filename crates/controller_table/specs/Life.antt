@@ -1,5 +1,5 @@
 -- The controller over what it takes: what each item and each tick puts, and what it makes of the controller.
-use Rattle.std.specs.Prelude.{ℕ, ◌+◌, ◌-◌, ◌%◌, ◌^◌, ◌==◌, ◌&&◌, nat_le, min, Bool, true, false, if◌then◌else◌, List, [], ◌∷◌, ◌++◌, count_by, fold, Option, Some, None}
+use Rattle.std.specs.Prelude.{ℕ, ◌+◌, ◌%◌, ◌==◌, ◌&&◌, nat_le, Bool, true, false, if◌then◌else◌, List, [], ◌∷◌, ◌++◌, count_by, fold, Option, Some, None}
 use Rattle.std.specs.Option.{is_some, option_and_then}
 use Rattle.conn_messages.specs.declared.channel.Change.{Change}
 use Rattle.conn_messages.specs.declared.channel.Change.TheVariants.{Assignment, Handover}
@@ -13,13 +13,13 @@ use Rattle.conn_messages.specs.Out.{out_of, outs_of}
 use Rattle.conn_messages.specs.StationMessage.{access_activation}
 use Rattle.conn_table.specs.declared.input.Input.{Input}
 use Rattle.conn_table.specs.declared.input.Input.TheVariants as inputs
-use Rattle.conn_table.specs.declared.state.Drain.{Drain}
 use Rattle.conn_table.specs.declared.state.Stage.TheVariants.{Preparing, Changing}
 use Rattle.conn_table.specs.declared.state.State.{State}
 use Rattle.conn_table.specs.declared.state.State.TheVariants.{WaitActivation, WaitEstablish, WaitConfirm, Live}
 use Rattle.conn_table.specs.Connection.{Connection, new_connection, is_at}
 use Rattle.conn_table.specs.Steps.{Row}
 use Rattle.conn_table.specs.Table.{row_of}
+use Rattle.conn_table.specs.Timers.{after_pass}
 use Rattle.relay_items.specs.declared.Item.{Item}
 use Rattle.relay_items.specs.declared.What.{What}
 use Rattle.relay_items.specs.declared.What.TheVariants as whats
@@ -200,22 +200,8 @@ take item c = on_what (is_up c item.source) item.source item.what c
 
 -- ---- time passes
 
--- a timer stands still at the greatest number of 64 bits
-abbrev pub saturated : ℕ → ℕ
-saturated ms = min ms (2 ^ 64 - 1)
-
--- the drain time passes while a channel drains
-abbrev pub drained_after : ℕ → List Drain → ℕ → ℕ
-drained_after ms [] drained = drained
-drained_after ms (d ∷ ds) drained = saturated (drained + ms)
-
 abbrev pub aged : ℕ → Entry → Entry
-aged ms e = record e {
-  connection = record e.connection {
-    waited = saturated (e.connection.waited + ms);
-    drained = drained_after ms e.connection.draining e.connection.drained;
-  };
-}
+aged ms e = record e { connection = after_pass ms e.connection }
 
 abbrev pub change_time : Timers → Change → ℕ
 change_time timers Assignment = timers.t3107_ms

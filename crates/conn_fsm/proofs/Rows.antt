@@ -1,0 +1,183 @@
+-- Definitions against literal values: a connection with number 7, and frames of it.
+use Rattle.std.proofs.Common.{◌≡◌, ℕ, Bool, true, false, List, [], ◌∷◌, map, Some, None, refl, arith}
+use Rattle.conn_messages.specs.declared.channel.Channel.{Channel}
+use Rattle.conn_messages.specs.declared.out.Out.{Out}
+use Rattle.conn_messages.specs.Out.{out_of}
+use Rattle.conn_messages.specs.SwitchMessage.{release_complete}
+use Rattle.conn_table.specs.declared.input.Input.TheVariants as inputs
+use Rattle.conn_table.specs.declared.state.Clearing.TheVariants.{Complete}
+use Rattle.conn_table.specs.declared.state.Drain.{Drain}
+use Rattle.conn_table.specs.declared.state.State.TheVariants.{Closed, Removed}
+use Rattle.conn_table.specs.Connection.{Connection, emptied, new_connection}
+use Rattle.conn_table.specs.Steps.{Row, row}
+use Rattle.dtap_codec.specs.declared.sapi.Sapi.TheVariants.{Zero, Three}
+use Rattle.hold_queue.specs.ChainState.{Tenure}
+use Rattle.conn_fsm.specs.Doing.{Closes, Commits, EndsIn, Finishes, IsInitial, IsPlanned, Stays, Steps, outs_in}
+use Rattle.conn_fsm.specs.Leaving.{leaving, left, left_outs, oldest_left}
+use Rattle.conn_fsm.specs.Views.{joined}
+
+abbrev channel : ℕ → Channel
+channel number = record {
+  station = 1;
+  number = number;
+  cell = 0x00 ∷ 0x00 ∷ 0xf1 ∷ 0x10 ∷ 0x00 ∷ 0x01 ∷ 0x00 ∷ 0x01 ∷ [];
+  description = record { arfcn = 20; ncc = 1; bcc = 1 };
+  reference = record { 0 = 0 };
+}
+
+abbrev connection : Connection
+connection = new_connection 7 (channel 0x41) (record { access = 0x7f; frame = 0x0102 }) 5
+
+-- RLC of the connection, and one of another
+abbrev complete : Out
+complete = record { to = 0; conn = 7; frame = record { stream = 0xfd; body = 0x05 ∷ 0x80 ∷ 0x00 ∷ 0x01 ∷ 0x00 ∷ 0x00 ∷ 0x07 ∷ [] } }
+
+abbrev other : Out
+other = record { to = 2; conn = 3; frame = record { stream = 0x00; body = 0x08 ∷ 0x2e ∷ 0x01 ∷ 0x41 ∷ [] } }
+
+-- a row that puts RLC and removes the connection
+abbrev released : Row
+released = row (release_complete 0x800001 ∷ []) (emptied Removed connection)
+
+-- ---- steps
+
+-- the frame comes behind those that were there, and the answer is true
+does_a_row : Steps (Some released) true connection (emptied Removed connection) (other ∷ []) (other ∷ complete ∷ [])
+unfolding out_of
+does_a_row = (refl, (refl, refl, ((tt, omega arith), tt)))
+
+-- the answer is false, and nothing changes
+does_none : Steps None false connection connection (other ∷ []) (other ∷ [])
+does_none = (refl, (refl, refl))
+
+no_row_answers_true : Steps None true connection connection [] [] → true ≡ false
+no_row_answers_true done = done.0
+
+a_row_answers_true : Steps (Some released) false connection (emptied Removed connection) [] (complete ∷ []) → false ≡ true
+a_row_answers_true done = done.0
+
+changes_nothing : Stays connection connection (other ∷ complete ∷ []) (other ∷ complete ∷ [])
+changes_nothing = (refl, refl)
+
+-- ---- plans
+
+plans_an_expiry : IsPlanned inputs.Expiry
+plans_an_expiry = tt
+
+plans_a_drain_expiry : IsPlanned inputs.DrainExpiry
+plans_a_drain_expiry = tt
+
+plans_a_station : IsPlanned (inputs.StationDown 2)
+plans_a_station = tt
+
+plans_the_switch : IsPlanned inputs.SwitchDown
+plans_the_switch = tt
+
+plans_no_clear : IsPlanned inputs.ClearCommand → ⊥
+plans_no_clear planned = planned
+
+plans_no_report : IsPlanned inputs.Move → ⊥
+plans_no_report planned = planned
+
+ends_removed : EndsIn (Some Removed) (Some released) connection
+ends_removed = refl
+
+ends_where_no_row_fits : EndsIn (Some Removed) None connection → ⊥
+ends_where_no_row_fits ends = ends
+
+stays_where_a_row_fits : EndsIn None (Some released) connection → ⊥
+stays_where_a_row_fits ends = ends
+
+frames_of_a_row : outs_in (Some released) 7 ≡ complete ∷ []
+unfolding out_of
+frames_of_a_row = refl
+
+no_frames : outs_in None 7 ≡ []
+no_frames = refl
+
+closes : Closes (Some (Closed Complete)) connection (emptied (Closed Complete) connection)
+closes = refl
+
+closes_not : Closes None connection connection
+closes_not = refl
+
+finishes : Finishes (Some Removed) (complete ∷ []) true connection (emptied Removed connection) (other ∷ []) (other ∷ complete ∷ [])
+finishes = (refl, refl, refl)
+
+finishes_nothing : Finishes None [] false connection connection (other ∷ []) (other ∷ [])
+finishes_nothing = (refl, refl, refl)
+
+commits_nothing : Commits None connection connection []
+commits_nothing = (refl, refl)
+
+-- ---- conditions: 1 to 251 octets, or no message
+
+no_initial_message : IsInitial None
+no_initial_message = tt
+
+empty_initial_message : IsInitial (Some []) → ⊥
+empty_initial_message initial = omega (arith, initial.0)
+
+one_octet : IsInitial (Some (0x05 ∷ []))
+one_octet = (omega arith, omega arith)
+
+-- ---- what is held of several tenures, the oldest first
+
+abbrev tenures : List Tenure
+tenures = record { zero = (0x03 ∷ 0x45 ∷ []) ∷ []; three = [] }
+    ∷ record { zero = (0x05 ∷ 0x24 ∷ []) ∷ (0x03 ∷ 0x8f ∷ []) ∷ []; three = (0x09 ∷ 0x01 ∷ []) ∷ [] }
+    ∷ []
+
+joined_of_sapi_zero : joined Zero tenures ≡ (0x03 ∷ 0x45 ∷ []) ∷ (0x05 ∷ 0x24 ∷ []) ∷ (0x03 ∷ 0x8f ∷ []) ∷ []
+joined_of_sapi_zero = refl
+
+joined_of_sapi_three : joined Three tenures ≡ (0x09 ∷ 0x01 ∷ []) ∷ []
+joined_of_sapi_three = refl
+
+-- ---- old channels leave
+
+abbrev drains : List Bool → List Drain
+drains [] = []
+drains (done ∷ rest) = record { channel = channel 0x49; is_done = done } ∷ drains rest
+
+-- only the oldest ones, and only as long as they are done
+counts : map (λ done. leaving (drains done)) (
+    [] ∷ (false ∷ []) ∷ (true ∷ []) ∷ (false ∷ true ∷ []) ∷ (true ∷ false ∷ true ∷ []) ∷ (true ∷ true ∷ true ∷ []) ∷ [])
+    ≡ 0 ∷ 0 ∷ 1 ∷ 0 ∷ 1 ∷ 3 ∷ []
+counts = refl
+
+-- two old channels drain, and something is held of the second and of the serving one
+abbrev draining : Connection
+draining = record connection {
+  draining = record { channel = channel 0x49; is_done = true } ∷ record { channel = channel 0x0a; is_done = false } ∷ [];
+  up = record { limit = 16; tenures = record { zero = []; three = [] } ∷ tenures };
+  drained = 1500;
+}
+
+the_oldest_left : oldest_left draining ≡ record connection {
+  draining = record { channel = channel 0x0a; is_done = false } ∷ [];
+  up = record { limit = 16; tenures = record { zero = []; three = [] } ∷ record { zero = (0x05 ∷ 0x24 ∷ []) ∷ (0x03 ∷ 0x8f ∷ []) ∷ []; three = (0x09 ∷ 0x01 ∷ []) ∷ [] } ∷ [] };
+  drained = 0;
+}
+the_oldest_left = refl
+
+none_left : left 0 draining ≡ draining
+none_left = refl
+
+one_left : left 1 draining ≡ oldest_left draining
+one_left = refl
+
+-- what is held of channel 0A is relayed, then, with two, what is held of channel 41, SAPI 0 first
+relayed_by_one : map (λ message. (out_of 7 message).frame.body) (left_outs 0x800001 1 draining)
+    ≡ (0x06 ∷ 0x80 ∷ 0x00 ∷ 0x01 ∷ 0x00 ∷ 0x01 ∷ 0x05 ∷ 0x01 ∷ 0x00 ∷ 0x02 ∷ 0x03 ∷ 0x45 ∷ []) ∷ []
+unfolding out_of
+relayed_by_one = refl
+
+relayed_by_two : map (λ message. (out_of 7 message).frame.body) (left_outs 0x800001 2 draining)
+    ≡ (0x06 ∷ 0x80 ∷ 0x00 ∷ 0x01 ∷ 0x00 ∷ 0x01 ∷ 0x05 ∷ 0x01 ∷ 0x00 ∷ 0x02 ∷ 0x03 ∷ 0x45 ∷ [])
+    ∷ (0x06 ∷ 0x80 ∷ 0x00 ∷ 0x01 ∷ 0x00 ∷ 0x01 ∷ 0x05 ∷ 0x01 ∷ 0x00 ∷ 0x02 ∷ 0x05 ∷ 0x24 ∷ [])
+    ∷ (0x06 ∷ 0x80 ∷ 0x00 ∷ 0x01 ∷ 0x00 ∷ 0x01 ∷ 0x05 ∷ 0x01 ∷ 0x00 ∷ 0x02 ∷ 0x03 ∷ 0x8f ∷ [])
+    ∷ (0x06 ∷ 0x80 ∷ 0x00 ∷ 0x01 ∷ 0x00 ∷ 0x01 ∷ 0x05 ∷ 0x01 ∷ 0x83 ∷ 0x02 ∷ 0x09 ∷ 0x01 ∷ [])
+    ∷ []
+unfolding out_of
+relayed_by_two = refl
