@@ -16,6 +16,7 @@ use crate::identifiers::{
 use crate::{Bssap, Bssmap, InterfaceFault, RrCause, layer3};
 use octets::element::{Format, append};
 use octets::front::put_counted;
+use octets::text::{TEXT_ROOM, hand_over};
 use octets::{LENGTH_LIMIT, Memory, Octets};
 use std::alloc::Global;
 
@@ -29,9 +30,7 @@ pub fn write_bssap(alloc: Global, message: &Bssap, text: &mut Vec<u8>) -> Result
     if let Some(fault) = refusal(message) {
         return Err(fault);
     }
-    let whole = text_of(alloc, message)?;
-    text.extend_from_slice(whole.as_slice())
-        .map_err(Memory::from)?;
+    hand_over(text_of(alloc, message)?, text)?;
     Ok(())
 }
 
@@ -105,7 +104,7 @@ fn text_of(alloc: Global, message: &Bssap) -> Result<Vec<u8>, Memory>
     requires { bssap_write_fault message.now ≡ None }
     ensures { IfOk result (λ text. text.items ≡ bssap_text message.now) }
 {
-    let mut text = Vec::new(alloc);
+    let mut text = Vec::with_capacity(alloc, TEXT_ROOM)?;
     match message {
         Bssap::Management(message) => {
             let body = management_text(alloc, message)?;
@@ -126,7 +125,7 @@ fn management_text(alloc: Global, message: &Bssmap) -> Result<Vec<u8>, Memory>
     requires { bssmap_size message.now ≤ LENGTH_LIMIT }
     ensures { IfOk result (λ text. text.items ≡ bssmap_text message.now) }
 {
-    let mut text = Vec::new(alloc);
+    let mut text = Vec::with_capacity(alloc, TEXT_ROOM)?;
     text.push(message.kind().octet())?;
     put_fields(&mut text, message)?;
     Ok(text)

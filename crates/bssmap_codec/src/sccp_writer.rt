@@ -13,6 +13,7 @@ use crate::sccp_parameters::{
 };
 use crate::{InterfaceFault, Reference, Sccp};
 use octets::front::put_counted;
+use octets::text::{TEXT_ROOM, hand_over};
 use octets::{LENGTH_LIMIT, Memory, Octets};
 use std::alloc::Global;
 
@@ -26,9 +27,7 @@ pub fn write_sccp(alloc: Global, message: &Sccp, text: &mut Vec<u8>) -> Result<(
     if let Some(fault) = refusal(message) {
         return Err(fault);
     }
-    let whole = text_of(alloc, message)?;
-    text.extend_from_slice(whole.as_slice())
-        .map_err(Memory::from)?;
+    hand_over(text_of(alloc, message)?, text)?;
     Ok(())
 }
 
@@ -51,7 +50,7 @@ fn text_of(alloc: Global, message: &Sccp) -> Result<Vec<u8>, Memory>
     requires { sccp_write_fault message.now ≡ None }
     ensures { IfOk result (λ text. text.items ≡ sccp_text message.now) }
 {
-    let mut text = Vec::new(alloc);
+    let mut text = Vec::with_capacity(alloc, TEXT_ROOM)?;
     text.push(message.kind().octet())?;
     put_content(&mut text, message)?;
     Ok(text)

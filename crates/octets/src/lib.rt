@@ -10,3 +10,4 @@ pub mod front;
 mod limits;
 mod memory;
 mod octets;
+pub mod text;

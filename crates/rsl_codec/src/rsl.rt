@@ -18,6 +18,7 @@ use crate::{
     Establishment, Failure, ImmediateAssignment, Link, MeasurementResult, Release, RslFault,
     RslType,
 };
+use octets::text::{TEXT_ROOM, hand_over};
 use octets::{LENGTH_LIMIT, MESSAGE_LIMIT, Memory, Octets};
 use std::alloc::Global;
 
@@ -219,6 +220,18 @@ impl Rsl {
         }
     }
 
+    /// The written text of the message.
+    fn text(&self, alloc: Global) -> Result<Vec<u8>, Memory>
+        requires { rsl_write_fault self.now ≡ None }
+        ensures { IfOk result (λ text. text.items ≡ rsl_text self.now) }
+    {
+        let kind = self.kind();
+        let mut text = Vec::with_capacity(alloc, TEXT_ROOM)?;
+        text.extend_from_slice(&[kind.discriminator(), kind.octet()])?;
+        self.put(&mut text)?;
+        Ok(text)
+    }
+
     /// Appends the written text of the message. An empty L3 information is refused as `Short`, then what is too long,
     /// then want of memory; a refusal appends nothing.
     pub fn write(&self, alloc: Global, out: &mut Vec<u8>) -> Result<(), RslFault>
@@ -229,13 +242,7 @@ impl Rsl {
         if let Some(fault) = self.refusal() {
             return Err(fault);
         }
-        let kind = self.kind();
-        let mut text = Vec::from_slice(alloc, &[kind.discriminator(), kind.octet()]).map_err(
-            Memory::from,
-        )?;
-        self.put(&mut text)?;
-        out.extend_from_slice(text.as_slice())
-            .map_err(Memory::from)?;
+        hand_over(self.text(alloc)?, out)?;
         Ok(())
     }
 }
