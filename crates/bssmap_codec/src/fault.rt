@@ -11,7 +11,7 @@ pub enum InterfaceFault {
     #[error("unknown type of message")]
     UnknownType,
     /// The message lacks the element with this identifier.
-    #[error("element {0} is missing")]
+    #[error("element {0:02x} is missing")]
     MissingElement(u8),
     /// A pointer leads out of the message.
     #[error("pointer out of the message")]

@@ -6,6 +6,8 @@ mod bssmap;
 #[cfg(test)]
 mod dtap;
 #[cfg(test)]
+mod faults;
+#[cfg(test)]
 mod framing;
 #[cfg(test)]
 mod rsl;
