@@ -8,9 +8,10 @@ ghost use Rattle.conn_table.specs.declared.limits.TheConstants.{DRAIN_LIMIT};
 ghost use Rattle.conn_table.specs.declared.state.Stage.TheVariants.{Changing, Preparing};
 ghost use Rattle.conn_table.specs.declared.state.State.TheVariants.{Live, WaitActivation};
 ghost use Rattle.conn_table.specs.Standing.{Stands};
-ghost use Rattle.conn_table.specs.Steps.{after_begin, after_waiting, ask_for_held, begin, begin_outs, may_begin, moved, request_for, resting, resting_stage, waiting_outs};
+ghost use Rattle.conn_table.specs.Steps.{after_begin, after_waiting, ask_for_held, begin, begin_outs, hand_held, may_begin, moved, request_for, resting, resting_stage, waiting_outs};
 ghost use Rattle.conn_table.specs.Table.{complete, failure, on_activation_ack, on_activation_nack, on_complete, on_failure, on_move, on_assignment_request, assign_immediately, command_to, refuse};
 ghost use Rattle.hold_queue.specs.HoldState.{messages};
+ghost use Rattle.dtap_codec.specs.declared.sapi.Sapi.TheVariants.{Zero};
 ghost use Rattle.conn_fsm.specs.Doing.{Does, Stays, Steps};
 
 use crate::machine::Machine;
@@ -177,6 +178,37 @@ impl Machine {
         if self.down.get(Sapi::Three, 0).is_some() {
             self.link = ShortMessageLink::Asked;
         }
+    }
+
+    // ---- after a change what was held goes on
+
+    // The held messages of SAPI 0 are handed on a channel, SAPI 3 is asked for where messages are held for it, and the
+    // request that waits comes last.
+    fn put_resuming(
+        &self,
+        channel: &Channel,
+        begins: bool,
+        reference: Reference,
+        offer: Option<Channel>,
+        put: &mut Messages,
+    ) -> Result<(), Memory>
+        requires layer3 { AllByRecursion IsLayer3 self.now.down.zero }
+        requires few { length self.now.down.zero ≤ DOWN_LIMIT }
+        ensures { OnOk result (put.new ≡ put.old ++ (map (handing_word channel.now Zero) self.now.down.zero ++ (request_for self.now.down.three channel.now ++ waiting_outs begins reference offer))) }
+    {
+        self.put_held(channel, Sapi::Zero, put)?;
+        self.put_request_for(channel, put)?;
+        self.put_waiting(begins, reference, offer, put)
+    }
+
+    // No message is held for SAPI 0, the link of SAPI 3 was asked for where messages are held for it, and the request
+    // that waited begins.
+    fn resume(&mut self, begins: bool, reference: Reference, offer: Option<Channel>)
+        ensures { self.new ≡ after_waiting begins reference offer (ask_for_held (hand_held Zero self.old).next).next }
+    {
+        self.down.clear_sapi(Sapi::Zero);
+        self.ask_for_held();
+        self.begin_waiting(begins, reference, offer);
     }
 
     // ---- where a change ends
@@ -410,15 +442,11 @@ impl Machine {
             ReportedCause(cause.0),
         )?)?;
         put.push(rf_channel_release(&self.serving))?;
-        self.put_held(&channel, Sapi::Zero, &mut put)?;
-        self.put_request_for(&channel, &mut put)?;
         let begins = self.waits && self.draining.len() + 1 < DRAIN_LIMIT;
-        self.put_waiting(begins, reference, offer, &mut put)?;
+        self.put_resuming(&channel, begins, reference, offer, &mut put)?;
         self.put(&put, outputs)?;
         self.move_to(reference, channel);
-        self.down.clear_sapi(Sapi::Zero);
-        self.ask_for_held();
-        self.begin_waiting(begins, reference, offer);
+        self.resume(begins, reference, offer);
         Ok(())
     }
 
@@ -472,15 +500,11 @@ impl Machine {
             )?)?;
         }
         put.push(rf_channel_release(&channel))?;
-        self.put_held(&self.serving, Sapi::Zero, &mut put)?;
-        self.put_request_for(&self.serving, &mut put)?;
         let begins = self.waits && self.may_begin(self.resting_stage());
-        self.put_waiting(begins, reference, offer, &mut put)?;
+        self.put_resuming(&self.serving, begins, reference, offer, &mut put)?;
         self.put(&put, outputs)?;
         self.rest(reference);
-        self.down.clear_sapi(Sapi::Zero);
-        self.ask_for_held();
-        self.begin_waiting(begins, reference, offer);
+        self.resume(begins, reference, offer);
         Ok(())
     }
 
