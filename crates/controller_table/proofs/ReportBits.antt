@@ -1,13 +1,14 @@
 -- A report in 16 octets is read field by field.
 use Rattle.std.proofs.Common.{◌≡◌, ℕ, zero, ◌+◌, ◌*◌, ◌/◌, ◌%◌, ◌^◌, ◌<◌, List, [], ◌∷◌, length, take, refl, sym, ap, ◌∙◌, subst, arith}
 use Rattle.std.specs.Int.{from_be_bytes, w128}
-use Rattle.std.proofs.Math.Nat.{mul_assoc, mul_comm, add-mul, mod-lt, mod-one, mod-eq_of_lt}
+use Rattle.std.proofs.Math.Nat.{mul_comm, mod-lt, mod-one, mod-eq_of_lt}
 use Rattle.std.proofs.lemmas.Nat.{pow-add, pow_pos, mul-add-lt, mod-mul-add, div-add-mod'}
 use Rattle.dtap_codec.specs.declared.report.Report.{Report}
 use Rattle.dtap_codec.specs.declared.report.TheConstants.{REPORT_LENGTH}
 use Rattle.dtap_codec.specs.Bits.{Field, field, width_of, number_of, Fit}
 use Rattle.dtap_codec.specs.declared.report.Neighbour.{Neighbour}
 use Rattle.dtap_codec.specs.Report.{IsReport, Writes, entries_fields, report_fields}
+use Rattle.dtap_codec.proofs.Fields.{number_of-below, together}
 use Rattle.dtap_codec.proofs.Reports.{bit-is_one, bit-is_zero, same_report}
 use Rattle.controller_table.specs.Reports.{bits, report_in, report_reading}
 
@@ -31,9 +32,6 @@ Fit-cut : (ws : List ℕ) (n : ℕ) → Fit (cut ws n)
 unfolding cut
 Fit-cut [] n = tt
 Fit-cut (w ∷ ws) n = (mod-lt (n / 2 ^ total ws) (pow_pos w), Fit-cut ws n)
-
-together : (a b c d e : ℕ) → a * (b * c) + (d * c + e) ≡ (a * b + d) * c + e
-together a b c d e = omega (arith, mul_assoc a b c, add-mul (a * b) d c)
 
 low : (n a b : ℕ) → zero < a → zero < b → (n / a % b) * a + n % a ≡ n % (b * a)
 low n a b some_a some_b =
@@ -62,13 +60,6 @@ fields_are : (n : ℕ) → report_fields (bits 1 119 n) (bits 1 111 n) (report_i
 unfolding cut total
 fields_are n =
     rw (sym (bit-is_one (bits 1 126 n) (mod-lt (n / 2 ^ 126) (pow_pos 1))), sym (bit-is_zero (bits 1 118 n) (mod-lt (n / 2 ^ 118) (pow_pos 1)))) refl
-
-number_of-below : (fs : List Field) → Fit fs → number_of fs < 2 ^ width_of fs
-number_of-below [] h = omega arith
-number_of-below (f ∷ fs) h =
-    let P : ℕ → Type 0 = λ n. f.value * 2 ^ width_of fs + number_of fs < n in
-    subst P (mul_comm (2 ^ width_of fs) (2 ^ f.width) ∙ sym (pow-add 2 f.width (width_of fs)))
-    (mul-add-lt f.value (2 ^ width_of fs) (number_of fs) (2 ^ f.width) h.0 (number_of-below fs h.1))
 
 writes : (n : ℕ) → n < 2 ^ 128 → Writes n (report_in n)
 unfolding total

@@ -5,7 +5,7 @@ use Rattle.std.proofs.lemmas.Nat.{pow-add, same_from_place, mul-add-lt}
 use Rattle.dtap_codec.specs.Bits.{Field, field, width_of, number_of, Fit, Begin}
 
 -- two steps of reading, joined
-together : (a b c d e : ℕ) → a * (b * c) + (d * c + e) ≡ (a * b + d) * c + e
+pub together : (a b c d e : ℕ) → a * (b * c) + (d * c + e) ≡ (a * b + d) * c + e
 together a b c d e = omega (arith, mul_assoc a b c, add-mul (a * b) d c)
 
 width_of-append : (fs gs : List Field) → width_of (fs ++ gs) ≡ width_of fs + width_of gs
@@ -62,7 +62,7 @@ Begin-end fs many number left rest h none fits =
     }
 
 -- the number is below what the bits can write
-number_of-below : (fs : List Field) → Fit fs → number_of fs < 2 ^ width_of fs
+pub number_of-below : (fs : List Field) → Fit fs → number_of fs < 2 ^ width_of fs
 number_of-below [] h = omega arith
 number_of-below (f ∷ fs) h =
     let P : ℕ → Type 0 = λ n. f.value * 2 ^ width_of fs + number_of fs < n in
