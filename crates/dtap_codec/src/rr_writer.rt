@@ -11,6 +11,7 @@ use crate::rr::{
 };
 use crate::rr_type::{IMMEDIATE_ASSIGNMENT, PSEUDO_LENGTH, RrType};
 use octets::Memory;
+use octets::text::{TEXT_ROOM, hand_over};
 use std::alloc::Global;
 
 impl RrMessage {
@@ -20,8 +21,7 @@ impl RrMessage {
         ensures err { OnErr result (text.new.items ≡ text.old.items) }
     {
         let written = text_of(alloc, self)?;
-        text.extend_from_slice(written.as_slice())?;
-        Ok(())
+        hand_over(written, text)
     }
 }
 
@@ -29,7 +29,7 @@ impl RrMessage {
 fn text_of(alloc: Global, message: &RrMessage) -> Result<Vec<u8>, Memory>
     ensures { IfOk result (λ text. text.items ≡ rr_text message.now) }
 {
-    let mut text = Vec::new(alloc);
+    let mut text = Vec::with_capacity(alloc, TEXT_ROOM)?;
     put_front(&mut text, message.kind())?;
     put_content(&mut text, message)?;
     Ok(text)
