@@ -1,7 +1,7 @@
 -- Reading a message as a function of its octets, with the fault that stands first.
 use Rattle.std.specs.Prelude.{ℕ, ◌+◌, ◌*◌, Bool, List, [], ◌∷◌, length, Option, Some, None, option_map, Result, Ok, Err, nat_lt, if◌then◌else◌}
 use Rattle.octets.specs.Answer.{◌>>=◌, result_map}
-use Rattle.octets.specs.Element.{Element}
+use Rattle.octets.specs.Element.{Element, element}
 use Rattle.octets.specs.Walk.{walk, first_of}
 use Rattle.rsl_codec.specs.declared.fault.RslFault.{RslFault}
 use Rattle.rsl_codec.specs.declared.fault.RslFault.TheVariants as faults
@@ -178,6 +178,10 @@ measurement_result_at es = do
     l1 = option_map (λ v. record { 0 = number_of v }) (first_of L1_INFORMATION es);
     l3 = l3;
   })
+
+-- the elements of DATA REQUEST and DATA INDICATION, in written order
+abbrev pub data_elements : ℕ → ℕ → List ℕ → List Element
+data_elements channel link l3 = element CHANNEL_NUMBER (channel ∷ []) ∷ element LINK_IDENTIFIER (link ∷ []) ∷ element L3_INFORMATION l3 ∷ []
 
 -- ---- any message
 

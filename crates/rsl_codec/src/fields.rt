@@ -1,23 +1,42 @@
-ghost use Rattle.std.specs.Prelude.{◌≡◌, ◌++◌, ◌≤◌, length, option_map, OnOk};
+ghost use Rattle.std.specs.Prelude.{◌≡◌, ◌++◌, ◌≤◌, false, length, option_map, IfSome, OnOk};
 ghost use Rattle.std.specs.Option.{ForSome};
 ghost use Rattle.octets.specs.Answer.{Gives, result_map};
-ghost use Rattle.octets.specs.Walk.{first_of};
+ghost use Rattle.octets.specs.Walk.{finding, first_of, walk};
 ghost use Rattle.octets.specs.declared.limits.TheConstants.{LENGTH_LIMIT};
+ghost use Rattle.rsl_codec.specs.declared.identifiers.TheConstants.{ELEMENTS};
 ghost use Rattle.rsl_codec.specs.Fields.{octet_value, number_value, reference_value};
-ghost use Rattle.rsl_codec.specs.RslReading.{breaks_off, channel_at, elements_of, l3_at, needed_value as needed_value_of, number_of, octet_of, optional_l3_at, reference_of};
+ghost use Rattle.rsl_codec.specs.RslReading.{breaks_off, channel_at, data_elements, elements_of, l3_at, needed_value as needed_value_of, number_of, octet_of, optional_l3_at, reference_of};
 ghost use Rattle.rsl_codec.specs.RslText.{rsl_element_text, rsl_field_text};
 
-use crate::identifiers::ELEMENTS;
+use crate::identifiers::{CHANNEL_NUMBER, ELEMENTS, L3_INFORMATION, LINK_IDENTIFIER};
 use crate::{ChanNo, RequestReference, RslFault};
 use octets::{MESSAGE_LIMIT, Memory, Octets, element};
 use std::alloc::Global;
+
+/// The octets of the channel number and the link identifier, and the L3 information, of a body that is these three
+/// elements in written order. Nearly all messages have such a body, and it needs no walk.
+pub(crate) fn data_values(body: &[u8]) -> Option<(u8, u8, &[u8])>
+    ensures { IfSome result (λ v. walk ELEMENTS body.now ≡ finding (data_elements v.0 v.1 v.2.now) false) }
+{
+    let [first, channel, second, link, third, high, low, l3 @ ..] = body else {
+        return None;
+    };
+    if *first != CHANNEL_NUMBER
+        || *second != LINK_IDENTIFIER
+        || *third != L3_INFORMATION
+        || l3.len() != usize::from(u16::from_be_bytes([*high, *low]))
+    {
+        return None;
+    }
+    Some((*channel, *link, l3))
+}
 
 /// Whether the elements behind a message's type end within one of them.
 #[tactic(auto, unfolding(crate::specs::RslReading::breaks_off))]
 pub(crate) fn is_cut(body: &[u8]) -> bool
     ensures { result ≡ breaks_off body.now }
 {
-    element::is_cut(&ELEMENTS, body)
+    data_values(body).is_none() && element::is_cut(&ELEMENTS, body)
 }
 
 /// The value of the first element with this identifier.

@@ -3,10 +3,12 @@ ghost use Rattle.std.specs.Option.{ForSome};
 ghost use Rattle.octets.specs.Answer.{Gives};
 ghost use Rattle.octets.specs.declared.limits.TheConstants.{LENGTH_LIMIT};
 ghost use Rattle.rsl_codec.specs.Fields.{data_fields, link_fields, error_fields, establishment_fields, release_fields};
-ghost use Rattle.rsl_codec.specs.RslReading.{elements_of, data_at, link_at, error_at, establishment_at, release_at};
+ghost use Rattle.rsl_codec.specs.RslReading.{elements_of, data_at, data_elements, link_at, error_at, establishment_at, release_at};
 ghost use Rattle.rsl_codec.specs.RslText.{rsl_fields_text};
 
-use crate::fields::{channel_number, l3, needed_value, octet, optional_l3, put, put_octets, value};
+use crate::fields::{
+    channel_number, data_values, l3, needed_value, octet, optional_l3, put, put_octets, value,
+};
 use crate::identifiers::{
     CHANNEL_NUMBER, L3_INFORMATION, LINK_IDENTIFIER, RELEASE_MODE, RLM_CAUSE,
 };
@@ -57,8 +59,30 @@ pub struct Release {
 }
 
 impl Data {
-    #[tactic(auto, unfolding(crate::specs::RslReading::data_at))]
+    #[tactic(auto, unfolding(crate::specs::RslReading::elements_of))]
     pub(crate) fn read(alloc: Global, body: &[u8]) -> Result<Data, RslFault>
+        ensures { Gives RslFault.Memory (λ m. m) result (data_at (elements_of body.now)) }
+    {
+        match data_values(body) {
+            Some((channel, link, text)) => Data::of(alloc, channel, link, text),
+            None => Data::read_any(alloc, body),
+        }
+    }
+
+    // From these elements.
+    #[tactic(auto, unfolding(crate::specs::RslReading::data_at))]
+    fn of(alloc: Global, channel: u8, link: u8, text: &[u8]) -> Result<Data, RslFault>
+        ensures { Gives RslFault.Memory (λ m. m) result (data_at (data_elements channel link text.now)) }
+    {
+        let channel = ChanNo::read(channel)?;
+        let l3 = l3(alloc, text)?;
+        let link = LinkId::read(link);
+        Ok(Data { channel, link, l3 })
+    }
+
+    // From elements in any order.
+    #[tactic(auto, unfolding(crate::specs::RslReading::data_at))]
+    fn read_any(alloc: Global, body: &[u8]) -> Result<Data, RslFault>
         ensures { Gives RslFault.Memory (λ m. m) result (data_at (elements_of body.now)) }
     {
         let number = needed_value(body, CHANNEL_NUMBER)?;
