@@ -12,8 +12,9 @@ use Rattle.ruled_relay.specs.declared.outbox.Line.{Line}
 use Rattle.ruled_relay.specs.declared.outbox.Line.TheVariants as lines
 use Rattle.ruled_relay.specs.declared.inbox.PutFault.TheVariants as faults
 use Rattle.ruled_relay.specs.Rule.{putting, taking, left_over, Fits, Relayed}
-use Rattle.ruled_relay.specs.Ends.{EndView}
-use Rattle.ruled_relay.specs.Outbox.{PutterView, PutsLine, greater, one_more, refusing}
+use Rattle.ruled_relay.specs.Ends.{EndView, WasFull}
+use Rattle.ruled_relay.specs.Outbox.{PutterView, PutsLine, refusing}
+use Rattle.ruled_relay.specs.Refusals.{Fate, accepted, refused, Meets, refused_first, most_refused, lines_put}
 use Rattle.ruled_relay.specs.Row.{Row}
 use Rattle.ruled_relay.specs.Inbox.{GivesItem, IsAllGiven, PassView, PutsItem, TakesItem}
 
@@ -56,7 +57,7 @@ line : ℕ → Line
 line octet = lines.Frame (frame octet)
 
 putter : TableId → List Line → ℕ → ℕ → PutterView
-putter q put refused refusals = record { queue = q; capacity = 1; put = put; refused = refused; refusals = refusals }
+putter q put in_a_row most = record { queue = q; capacity = 1; put = put; refused = in_a_row; refusals = most }
 
 a_frame_is_put : (q : TableId) → PutsLine (putter q [] 0 0) (line 8) (Ok tt) (putter q (line 8 ∷ []) 0 0)
 unfolding putter
@@ -86,14 +87,49 @@ more_than_before : (q : TableId) → refusing (line 9) (putter q [] 5 5) ≡ put
 unfolding putter line
 more_than_before q = refl
 
-last_count : one_more 4294967294 ≡ 4294967295
-last_count = refl
+the_last_count : (q : TableId) → refusing (line 9) (putter q [] 4294967294 4294967294) ≡ putter q [] 4294967295 4294967295
+unfolding putter line
+the_last_count q = refl
 
-no_more_counts : one_more 4294967295 ≡ 4294967295
-no_more_counts = refl
+no_more_counts : (q : TableId) → refusing (line 9) (putter q [] 4294967295 4294967295) ≡ putter q [] 4294967295 4294967295
+unfolding putter line
+no_more_counts q = refl
 
-greater_of_two : (greater 2 3 ≡ 3) × (greater 3 2 ≡ 3) × (greater 3 3 ≡ 3)
-greater_of_two = (refl, refl, refl)
+-- ---- frames that are refused with no line put between them
+
+some_fates : List Fate
+some_fates = refused (line 1) ∷ accepted (line 1) ∷ refused (line 2) ∷ refused lines.End ∷ refused (line 2) ∷ accepted (line 2) ∷ accepted lines.End ∷ refused (line 3) ∷ []
+
+-- two of the frame 2, between which the mark came back too
+most_of_some : most_refused some_fates ≡ 2
+unfolding some_fates line
+most_of_some = refl
+
+put_of_some : lines_put some_fates ≡ line 1 ∷ line 2 ∷ lines.End ∷ []
+unfolding some_fates line
+put_of_some = refl
+
+first_of_some : refused_first some_fates ≡ 1
+unfolding some_fates line
+first_of_some = refl
+
+-- so many as there are in a row, from the first line or to the last one
+most_at_the_ends :
+    (most_refused [] ≡ 0) × (most_refused (refused (line 1) ∷ refused (line 1) ∷ []) ≡ 2) × (most_refused (accepted (line 1) ∷ refused (line 2) ∷ []) ≡ 1)
+    × (most_refused (refused (line 1) ∷ refused (line 1) ∷ accepted (line 1) ∷ []) ≡ 2) × (most_refused (refused lines.End ∷ []) ≡ 0)
+unfolding line
+most_at_the_ends = (refl, refl, refl, refl, refl)
+
+-- a frame is put, another comes back twice, and the mark once
+so_it_goes : (q : TableId)
+    → Meets (putter q [] 0 0) (accepted (line 8) ∷ refused (line 9) ∷ refused (line 9) ∷ refused lines.End ∷ []) (putter q (line 8 ∷ []) 2 2)
+unfolding putter line
+so_it_goes q =
+    let full : WasFull 1 (putting (line 8 ∷ [])) = (line 8 ∷ [], refl, ([], refl)) in (
+      putter q (line 8 ∷ []) 0 0,
+      refl,
+      (putter q (line 8 ∷ []) 1 1, (refl, full, refl), (putter q (line 8 ∷ []) 2 2, (refl, full, refl), (putter q (line 8 ∷ []) 2 2, (refl, full, refl), refl))),
+    )
 
 -- ---- an inbox
 

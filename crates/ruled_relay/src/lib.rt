@@ -5,7 +5,7 @@
 #![tactic(auto)]
 
 pub use inbox::{Desk, Inbox, Left, PutFault, SourcePass};
-pub use outbox::{Full, Line, Outbox, Putter, Taker, Unsent};
+pub use outbox::{Full, Line, Outbox, Putter, Taker, Unsent, refusals_are_those_of_all_puts};
 pub use relay_items::{Item, What};
 
 mod bell;
