@@ -5,6 +5,8 @@
 #[cfg(test)]
 mod bells;
 #[cfg(test)]
+mod frames;
+#[cfg(test)]
 mod inbox;
 #[cfg(test)]
 mod outbox;

@@ -1,5 +1,5 @@
-use ipa_framing::Frame;
-use octets::{Memory, Octets};
+use crate::frames::{frame, is_frame};
+use octets::Memory;
 use relay_items::{Item, What};
 use ruled_relay::{Desk, Full, Inbox, Line, Outbox, PutFault, Putter, SourcePass};
 use std::alloc::Global;
@@ -33,8 +33,7 @@ fn feed<R: Wait>(
     mut pass: SourcePass,
 ) -> Result<SourcePass, Memory> {
     for octet in 0..FRAMES {
-        let body = Octets::copy(alloc, &[octet])?;
-        let what = What::Frame(Frame { stream: 0, body });
+        let what = What::Frame(frame(alloc, octet)?);
         put_when_room(rt, &mut pass, Item { source, what });
     }
     put_when_room(
@@ -67,7 +66,7 @@ fn take_all<R: Wait>(rt: &R, desk: &mut Desk) -> bool {
         };
         match item.what {
             What::Frame(frame) => {
-                in_order = in_order && frame.body.as_slice() == [*expected].as_slice();
+                in_order = in_order && is_frame(&frame, *expected);
                 *expected = expected.saturating_add(1);
             }
             What::Down => up = up.saturating_sub(1),
@@ -110,8 +109,7 @@ fn put_line_when_room<R: Wait>(rt: &R, putter: &mut Putter, mut line: Line) {
 /// Puts the frames 0, 1 and so on, and the mark behind them.
 fn feed_outbox<R: Wait>(rt: &R, alloc: Global, putter: &mut Putter) -> Result<(), Memory> {
     for octet in 0..FRAMES {
-        let body = Octets::copy(alloc, &[octet])?;
-        put_line_when_room(rt, putter, Line::Frame(Frame { stream: 0, body }));
+        put_line_when_room(rt, putter, Line::Frame(frame(alloc, octet)?));
     }
     put_line_when_room(rt, putter, Line::End);
     Ok(())
@@ -126,7 +124,7 @@ fn a_thread_gets_all_lines_of_an_outbox(rt: HostRuntime) -> Result<(), Fail> {
     for _ in rt.forever() {
         match taker.take(&rt) {
             Some(Line::Frame(frame)) => {
-                assert!(rt; frame.body.as_slice() == [next].as_slice());
+                assert!(rt; is_frame(&frame, next));
                 next = next.saturating_add(1);
             }
             Some(Line::End) => break,

@@ -16,6 +16,7 @@ use Rattle.ruled_relay.specs.Ends.{EndView, WasFull}
 use Rattle.ruled_relay.specs.Outbox.{AreNewOutbox, GivesLine, PutterView, PutsLine, TakesLine, refusing}
 use Rattle.ruled_relay.specs.Refusals.{Fate, accepted, refused, Meets, refused_first, most_refused, lines_put}
 use Rattle.ruled_relay.specs.Row.{EachAt, Row}
+use Rattle.ruled_relay.specs.Left.{GivesAll, items_of, left_from, left_of}
 use Rattle.ruled_relay.specs.Inbox.{AreJoined, AreNewInbox, GivesItem, IsAllGiven, IsJoined, PassView, PutsItem, TakesItem, queues_of}
 
 -- ---- the rule of a queue
@@ -266,3 +267,27 @@ taken_last q = refl
 
 given_next : GivesLine (record { put = line 8 ∷ line 9 ∷ lines.End ∷ []; taken = line 8 ∷ [] }) (line 9) (record { put = line 8 ∷ line 9 ∷ lines.End ∷ []; taken = line 8 ∷ line 9 ∷ [] })
 given_next = (refl, (lines.End ∷ [], refl))
+
+-- ---- what is left
+
+of_one_queue : (r : TableId) → left_of (joined r (what 7 ∷ what 9 ∷ whats.Down ∷ []) (what 7 ∷ [])) ≡ what 9 ∷ whats.Down ∷ []
+unfolding joined what
+of_one_queue r = refl
+
+with_its_source : items_of 3 (what 8 ∷ whats.Down ∷ []) ≡ item 3 (what 8) ∷ item 3 whats.Down ∷ []
+unfolding item what
+with_its_source = refl
+
+source_after_source : (q r : TableId)
+    → left_from 0 (joined q (what 8 ∷ what 9 ∷ what 6 ∷ []) (what 8 ∷ []) ∷ joined r (what 7 ∷ []) [] ∷ []) ≡ item 0 (what 9) ∷ item 0 (what 6) ∷ item 1 (what 7) ∷ []
+unfolding joined item what
+source_after_source q r = refl
+
+nothing_left : (q : TableId) → left_from 0 (joined q (what 8 ∷ []) (what 8 ∷ []) ∷ []) ≡ []
+unfolding joined what
+nothing_left q = refl
+
+given_until_none : (q : TableId) → GivesAll (joined q (what 8 ∷ []) [] ∷ []) (item 0 (what 8) ∷ [])
+unfolding joined item what
+given_until_none q =
+    (joined q (what 8 ∷ []) (what 8 ∷ []) ∷ [], (joined q (what 8 ∷ []) [], refl, refl, ([], refl), λ at d small e. absurd (omega arith)), all_given q)
