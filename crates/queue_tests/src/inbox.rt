@@ -1,7 +1,7 @@
 ghost use Rattle.std.specs.Prelude.{◌≡◌, ◌<◌, map, vec_len};
 
-use ipa_framing::Frame;
-use octets::Octets;
+use crate::frames::{frame, is_frame};
+use octets::Memory;
 use relay_items::{Item, What};
 use ruled_relay::{Inbox, PutFault, SourcePass};
 use std::alloc::Global;
@@ -9,9 +9,8 @@ use std::sync::Wait;
 use std::test::Fail;
 
 /// A frame of one octet, of a source.
-fn item(alloc: Global, source: u16, octet: u8) -> Result<Item, Fail> {
-    let body = Octets::copy(alloc, &[octet])?;
-    let what = What::Frame(Frame { stream: 0, body });
+fn item(alloc: Global, source: u16, octet: u8) -> Result<Item, Memory> {
+    let what = What::Frame(frame(alloc, octet)?);
     Ok(Item { source, what })
 }
 
@@ -23,7 +22,7 @@ fn is_item(item: Option<&Item>, source: u16, octet: u8) -> bool {
                 source: of,
                 what: What::Frame(frame),
             },
-        ) => *of == source && frame.body.as_slice() == [octet].as_slice(),
+        ) => *of == source && is_frame(frame, octet),
         _ => false,
     }
 }

@@ -3,6 +3,10 @@
 #![tactic(auto)]
 
 #[cfg(test)]
+mod bells;
+#[cfg(test)]
+mod frames;
+#[cfg(test)]
 mod inbox;
 #[cfg(test)]
 mod outbox;

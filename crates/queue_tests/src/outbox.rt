@@ -1,22 +1,20 @@
 ghost use Rattle.std.specs.Prelude.{◌≡◌};
 
-use ipa_framing::Frame;
-use octets::Octets;
+use crate::frames::{frame, is_frame};
 use ruled_relay::{Full, Line, Outbox, Putter};
 use std::alloc::Global;
 use std::sync::Wait;
 use std::test::Fail;
 
-/// A frame of one octet.
-fn frame(alloc: Global, octet: u8) -> Result<Line, Fail> {
-    let body = Octets::copy(alloc, &[octet])?;
-    Ok(Line::Frame(Frame { stream: 0, body }))
+/// A line of a frame of one octet.
+fn line(alloc: Global, octet: u8) -> Result<Line, Fail> {
+    Ok(Line::Frame(frame(alloc, octet)?))
 }
 
-/// Whether this is the frame of one octet.
-fn is_frame(line: Option<&Line>, octet: u8) -> bool {
+/// Whether it is the line of this frame.
+fn is_line(line: Option<&Line>, octet: u8) -> bool {
     match line {
-        Some(Line::Frame(frame)) => frame.body.as_slice() == [octet].as_slice(),
+        Some(Line::Frame(frame)) => is_frame(frame, octet),
         Some(Line::End) | None => false,
     }
 }
@@ -25,8 +23,8 @@ fn is_frame(line: Option<&Line>, octet: u8) -> bool {
 fn is_refused<R: Wait>(rt: &R, alloc: Global, putter: &mut Putter, octet: u8) -> Result<bool, Fail>
     ensures { putter.new.queue ≡ putter.old.queue }
 {
-    match putter.put(rt, frame(alloc, octet)?) {
-        Err(Full(back)) => Ok(is_frame(Some(&back), octet)),
+    match putter.put(rt, line(alloc, octet)?) {
+        Err(Full(back)) => Ok(is_line(Some(&back), octet)),
         Ok(()) => Ok(false),
     }
 }
@@ -35,12 +33,12 @@ fn is_refused<R: Wait>(rt: &R, alloc: Global, putter: &mut Putter, octet: u8) ->
 fn an_outbox_of_one_line(rt: HostRuntime) -> Result<(), Fail> {
     let alloc = rt.alloc();
     let (mut putter, mut taker) = Outbox::new(alloc, 1)?;
-    assert!(rt; putter.put(&rt, frame(alloc, 8)?).is_ok());
+    assert!(rt; putter.put(&rt, line(alloc, 8)?).is_ok());
     assert!(rt; is_refused(&rt, alloc, &mut putter, 9)?);
     assert!(rt; putter.refusals() == 1);
     assert!(rt; matches!(putter.put(&rt, Line::End), Err(Full(Line::End))));
     assert!(rt; putter.refusals() == 1);
-    assert!(rt; is_frame(taker.take(&rt).as_ref(), 8));
+    assert!(rt; is_line(taker.take(&rt).as_ref(), 8));
     assert!(rt; putter.put(&rt, Line::End).is_ok());
     assert!(rt; matches!(taker.take(&rt), Some(Line::End)));
     assert!(rt; taker.take(&rt).is_none());

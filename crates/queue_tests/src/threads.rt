@@ -1,7 +1,7 @@
-use ipa_framing::Frame;
-use octets::{Memory, Octets};
+use crate::frames::{frame, is_frame};
+use octets::Memory;
 use relay_items::{Item, What};
-use ruled_relay::{Desk, Inbox, PutFault, SourcePass};
+use ruled_relay::{Desk, Full, Inbox, Line, Outbox, PutFault, Putter, SourcePass};
 use std::alloc::Global;
 use std::sync::Wait;
 use std::test::Fail;
@@ -33,8 +33,7 @@ fn feed<R: Wait>(
     mut pass: SourcePass,
 ) -> Result<SourcePass, Memory> {
     for octet in 0..FRAMES {
-        let body = Octets::copy(alloc, &[octet])?;
-        let what = What::Frame(Frame { stream: 0, body });
+        let what = What::Frame(frame(alloc, octet)?);
         put_when_room(rt, &mut pass, Item { source, what });
     }
     put_when_room(
@@ -67,7 +66,7 @@ fn take_all<R: Wait>(rt: &R, desk: &mut Desk) -> bool {
         };
         match item.what {
             What::Frame(frame) => {
-                in_order = in_order && frame.body.as_slice() == [*expected].as_slice();
+                in_order = in_order && is_frame(&frame, *expected);
                 *expected = expected.saturating_add(1);
             }
             What::Down => up = up.saturating_sub(1),
@@ -92,5 +91,47 @@ fn everything_comes_in_order_from_each_of_many_threads(rt: HostRuntime) -> Resul
         passes.push(thread.join(&rt)?)?;
     }
     assert!(rt; desk.take(&rt).is_none());
+    Ok(())
+}
+
+/// Puts a line once there is room for it.
+fn put_line_when_room<R: Wait>(rt: &R, putter: &mut Putter, mut line: Line) {
+    for _ in rt.forever() {
+        match putter.put(rt, line) {
+            Ok(()) => break,
+            Err(Full(back)) => line = back,
+        }
+        thread::yield_now();
+    }
+    putter.ring();
+}
+
+/// Puts the frames 0, 1 and so on, and the mark behind them.
+fn feed_outbox<R: Wait>(rt: &R, alloc: Global, putter: &mut Putter) -> Result<(), Memory> {
+    for octet in 0..FRAMES {
+        put_line_when_room(rt, putter, Line::Frame(frame(alloc, octet)?));
+    }
+    put_line_when_room(rt, putter, Line::End);
+    Ok(())
+}
+
+#[test]
+fn a_thread_gets_all_lines_of_an_outbox(rt: HostRuntime) -> Result<(), Fail> {
+    let alloc = rt.alloc();
+    let (mut putter, mut taker) = Outbox::new(alloc, 4)?;
+    let thread = thread::spawn(&rt, move || feed_outbox(&rt, alloc, &mut putter))?;
+    let mut next = 0u8;
+    for _ in rt.forever() {
+        match taker.take(&rt) {
+            Some(Line::Frame(frame)) => {
+                assert!(rt; is_frame(&frame, next));
+                next = next.saturating_add(1);
+            }
+            Some(Line::End) => break,
+            None => taker.wait(&rt, Duration::from_millis(100)),
+        }
+    }
+    assert!(rt; next == FRAMES);
+    thread.join(&rt)?;
     Ok(())
 }

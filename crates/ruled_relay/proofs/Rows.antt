@@ -1,5 +1,5 @@
 -- The definitions at literal values.
-use Rattle.std.proofs.Common.{◌≡◌, ℕ, zero, suc, true≢false, List, [], ◌∷◌, ◌++◌, length, slice_index_or, Ok, Err, refl, sym, ap, ◌∙◌, subst, arith, length-append}
+use Rattle.std.proofs.Common.{◌≡◌, ℕ, ◌<◌, zero, suc, Bool, true, false, true≢false, List, [], ◌∷◌, ◌++◌, length, slice_index_or, Ok, Err, refl, sym, ap, ◌∙◌, subst, arith, length-append}
 use mathlib.Core.Option.{some, some-injective, some-ne-none}
 use lib.ListN.{get_elem?}
 use Rattle.atomic_table.specs.Seated.{TableId}
@@ -12,10 +12,12 @@ use Rattle.ruled_relay.specs.declared.outbox.Line.{Line}
 use Rattle.ruled_relay.specs.declared.outbox.Line.TheVariants as lines
 use Rattle.ruled_relay.specs.declared.inbox.PutFault.TheVariants as faults
 use Rattle.ruled_relay.specs.Rule.{putting, taking, left_over, Fits, Relayed}
-use Rattle.ruled_relay.specs.Ends.{EndView}
-use Rattle.ruled_relay.specs.Outbox.{PutterView, PutsLine, greater, one_more, refusing}
-use Rattle.ruled_relay.specs.Row.{Row}
-use Rattle.ruled_relay.specs.Inbox.{GivesItem, IsAllGiven, PassView, PutsItem, TakesItem}
+use Rattle.ruled_relay.specs.Ends.{EndView, WasFull}
+use Rattle.ruled_relay.specs.Outbox.{AreNewOutbox, GivesLine, PutterView, PutsLine, TakesLine, refusing}
+use Rattle.ruled_relay.specs.Refusals.{Fate, accepted, refused, Meets, refused_first, most_refused, lines_put}
+use Rattle.ruled_relay.specs.Row.{EachAt, Row}
+use Rattle.ruled_relay.specs.Left.{GivesAll, items_of, left_from, left_of}
+use Rattle.ruled_relay.specs.Inbox.{AreJoined, AreNewInbox, GivesItem, IsAllGiven, IsJoined, PassView, PutsItem, TakesItem, queues_of}
 
 -- ---- the rule of a queue
 
@@ -56,7 +58,7 @@ line : ℕ → Line
 line octet = lines.Frame (frame octet)
 
 putter : TableId → List Line → ℕ → ℕ → PutterView
-putter q put refused refusals = record { queue = q; capacity = 1; put = put; refused = refused; refusals = refusals }
+putter q put in_a_row most = record { queue = q; capacity = 1; put = put; refused = in_a_row; refusals = most }
 
 a_frame_is_put : (q : TableId) → PutsLine (putter q [] 0 0) (line 8) (Ok tt) (putter q (line 8 ∷ []) 0 0)
 unfolding putter
@@ -86,14 +88,49 @@ more_than_before : (q : TableId) → refusing (line 9) (putter q [] 5 5) ≡ put
 unfolding putter line
 more_than_before q = refl
 
-last_count : one_more 4294967294 ≡ 4294967295
-last_count = refl
+the_last_count : (q : TableId) → refusing (line 9) (putter q [] 4294967294 4294967294) ≡ putter q [] 4294967295 4294967295
+unfolding putter line
+the_last_count q = refl
 
-no_more_counts : one_more 4294967295 ≡ 4294967295
-no_more_counts = refl
+no_more_counts : (q : TableId) → refusing (line 9) (putter q [] 4294967295 4294967295) ≡ putter q [] 4294967295 4294967295
+unfolding putter line
+no_more_counts q = refl
 
-greater_of_two : (greater 2 3 ≡ 3) × (greater 3 2 ≡ 3) × (greater 3 3 ≡ 3)
-greater_of_two = (refl, refl, refl)
+-- ---- frames that are refused with no line put between them
+
+some_fates : List Fate
+some_fates = refused (line 1) ∷ accepted (line 1) ∷ refused (line 2) ∷ refused lines.End ∷ refused (line 2) ∷ accepted (line 2) ∷ accepted lines.End ∷ refused (line 3) ∷ []
+
+-- two of the frame 2, between which the mark came back too
+most_of_some : most_refused some_fates ≡ 2
+unfolding some_fates line
+most_of_some = refl
+
+put_of_some : lines_put some_fates ≡ line 1 ∷ line 2 ∷ lines.End ∷ []
+unfolding some_fates line
+put_of_some = refl
+
+first_of_some : refused_first some_fates ≡ 1
+unfolding some_fates line
+first_of_some = refl
+
+-- so many as there are in a row, from the first line or to the last one
+most_at_the_ends :
+    (most_refused [] ≡ 0) × (most_refused (refused (line 1) ∷ refused (line 1) ∷ []) ≡ 2) × (most_refused (accepted (line 1) ∷ refused (line 2) ∷ []) ≡ 1)
+    × (most_refused (refused (line 1) ∷ refused (line 1) ∷ accepted (line 1) ∷ []) ≡ 2) × (most_refused (refused lines.End ∷ []) ≡ 0)
+unfolding line
+most_at_the_ends = (refl, refl, refl, refl, refl)
+
+-- a frame is put, another comes back twice, and the mark once
+so_it_goes : (q : TableId)
+    → Meets (putter q [] 0 0) (accepted (line 8) ∷ refused (line 9) ∷ refused (line 9) ∷ refused lines.End ∷ []) (putter q (line 8 ∷ []) 2 2)
+unfolding putter line
+so_it_goes q =
+    let full : WasFull 1 (putting (line 8 ∷ [])) = (line 8 ∷ [], refl, ([], refl)) in (
+      putter q (line 8 ∷ []) 0 0,
+      refl,
+      (putter q (line 8 ∷ []) 1 1, (refl, full, refl), (putter q (line 8 ∷ []) 2 2, (refl, full, refl), (putter q (line 8 ∷ []) 2 2, (refl, full, refl), refl))),
+    )
 
 -- ---- an inbox
 
@@ -140,3 +177,117 @@ first_all_of_the_first q r new h = let l = ap length (h.4 0 (joined q (what 8 �
 not_all_given : (q : TableId) → IsAllGiven (joined q (what 8 ∷ []) [] ∷ []) → ⊥
 unfolding joined
 not_all_given q h = let l = ap length (h 0 (joined q (what 8 ∷ []) []) refl) in absurd (omega arith)
+
+-- all of the first queue was given, and one of the second
+two_left : TableId → TableId → List What → Row
+two_left q r given = joined q (what 8 ∷ []) (what 8 ∷ []) ∷ joined r (what 7 ∷ what 9 ∷ whats.Down ∷ []) given ∷ []
+
+given_before : (q r : TableId) (at : ℕ) (d : EndView What) → at < 1 → get_elem? (two_left q r (what 7 ∷ [])) at ≡ some d → d.seen.put ≡ d.seen.taken
+unfolding two_left joined what
+given_before q r zero d small e = subst (λ (y : EndView What). y.seen.put ≡ y.seen.taken) (some-injective _ _ e) refl
+given_before q r (suc at) d small e = absurd (omega arith)
+
+given_in_order : (q r : TableId) → GivesItem (two_left q r (what 7 ∷ [])) (item 1 (what 9)) (two_left q r (what 7 ∷ what 9 ∷ []))
+unfolding two_left joined item what
+given_in_order q r = (joined r (what 7 ∷ what 9 ∷ whats.Down ∷ []) (what 7 ∷ []), refl, refl, (whats.Down ∷ [], refl), given_before q r)
+
+is_down_first : List What → Bool
+is_down_first (whats.Down ∷ others) = true
+is_down_first _ = false
+
+not_the_second_before_the_first : (q : TableId) (new : Row) → GivesItem (joined q (what 8 ∷ whats.Down ∷ []) [] ∷ []) (item 0 whats.Down) new → ⊥
+unfolding joined item what is_down_first
+not_the_second_before_the_first q new h =
+    let next = subst (λ (y : EndView What). y.seen.put ≡ y.seen.taken ++ whats.Down ∷ h.3.0) (sym (some-injective _ _ h.1)) h.3.1 in
+    absurd (true≢false (sym (ap is_down_first next)))
+
+all_given : (q : TableId) → IsAllGiven (joined q (what 8 ∷ []) (what 8 ∷ []) ∷ [])
+unfolding joined
+all_given q zero e here = subst (λ (y : EndView What). y.seen.put ≡ y.seen.taken) (some-injective _ _ here) refl
+all_given q (suc at) e here = absurd (some-ne-none e (sym here))
+
+-- ---- new ends, and ends that come together
+
+pass_of : TableId → ℕ → List What → PassView
+pass_of q source put = record { queue = q; capacity = 4; source = source; put = put }
+
+end_of : TableId → List What → EndView What
+end_of q taken = record { queue = q; capacity = 4; seen = taking taken }
+
+IsNewPair : ℕ → EndView What → PassView → Type 0
+IsNewPair at e p =
+    (e ≡ record { queue = p.queue; capacity = 4; seen = taking [] }) × (p ≡ record { queue = p.queue; capacity = 4; source = at; put = [] })
+
+new_pair : (q : TableId) (at : ℕ) (e : EndView What) (p : PassView) → end_of q [] ≡ e → pass_of q at [] ≡ p → IsNewPair at e p
+unfolding IsNewPair pass_of end_of
+new_pair q at e p is_end is_pass =
+    subst (λ (y : PassView). IsNewPair at e y) is_pass (subst (λ (y : EndView What). IsNewPair at y (pass_of q at [])) is_end (refl, refl))
+
+a_new_inbox : (q r : TableId) → AreNewInbox 4 (end_of q [] ∷ end_of r [] ∷ []) (pass_of q 0 [] ∷ pass_of r 1 [] ∷ [])
+unfolding IsNewPair
+a_new_inbox q r zero e p here there = new_pair q 0 e p (some-injective _ _ here) (some-injective _ _ there)
+a_new_inbox q r (suc zero) e p here there = new_pair r 1 e p (some-injective _ _ here) (some-injective _ _ there)
+a_new_inbox q r (suc (suc at)) e p here there = absurd (some-ne-none e (sym here))
+
+the_place_is_the_source : (q : TableId) → AreNewInbox 4 (end_of q [] ∷ []) (pass_of q 1 [] ∷ []) → ⊥
+unfolding pass_of end_of
+the_place_is_the_source q h = let l = ap (λ (p : PassView). p.source) (h 0 (end_of q []) (pass_of q 1 []) refl refl).1 in absurd (omega arith)
+
+queues_in_order : (q r : TableId) → queues_of (end_of q [] ∷ end_of r [] ∷ []) ≡ q ∷ r ∷ []
+unfolding end_of
+queues_in_order q r = refl
+
+-- of the first source one is left, and of the second all
+both_of : TableId → List What → List What → EndView What
+both_of q put taken = record { queue = q; capacity = 4; seen = left_over put taken }
+
+joined_at : (q r : TableId)
+    → EachAt (both_of q (what 8 ∷ what 9 ∷ []) (what 8 ∷ []) ∷ both_of r (whats.Down ∷ []) [] ∷ [])
+    (IsJoined (end_of q (what 8 ∷ []) ∷ end_of r [] ∷ []) (pass_of q 0 (what 8 ∷ what 9 ∷ []) ∷ pass_of r 1 (whats.Down ∷ []) ∷ []))
+unfolding both_of end_of pass_of what
+joined_at q r zero e here =
+    subst (IsJoined (end_of q (what 8 ∷ []) ∷ end_of r [] ∷ []) (pass_of q 0 (what 8 ∷ what 9 ∷ []) ∷ pass_of r 1 (whats.Down ∷ []) ∷ []) 0) (some-injective _ _ here)
+    (end_of q (what 8 ∷ []), pass_of q 0 (what 8 ∷ what 9 ∷ []), refl, refl, refl, (what 9 ∷ [], refl))
+joined_at q r (suc zero) e here =
+    subst (IsJoined (end_of q (what 8 ∷ []) ∷ end_of r [] ∷ []) (pass_of q 0 (what 8 ∷ what 9 ∷ []) ∷ pass_of r 1 (whats.Down ∷ []) ∷ []) 1) (some-injective _ _ here)
+    (end_of r [], pass_of r 1 (whats.Down ∷ []), refl, refl, refl, (whats.Down ∷ [], refl))
+joined_at q r (suc (suc at)) e here = absurd (some-ne-none e (sym here))
+
+come_together : (q r : TableId)
+    → AreJoined (end_of q (what 8 ∷ []) ∷ end_of r [] ∷ []) (pass_of q 0 (what 8 ∷ what 9 ∷ []) ∷ pass_of r 1 (whats.Down ∷ []) ∷ [])
+    (both_of q (what 8 ∷ what 9 ∷ []) (what 8 ∷ []) ∷ both_of r (whats.Down ∷ []) [] ∷ [])
+come_together q r = (refl, joined_at q r)
+
+a_new_outbox : (q : TableId) → AreNewOutbox 1 (putter q [] 0 0) (record { queue = q; capacity = 1; taken = [] })
+unfolding putter
+a_new_outbox q = (refl, refl)
+
+taken_last : (q : TableId) → TakesLine (record { queue = q; capacity = 1; taken = line 8 ∷ [] }) lines.End (record { queue = q; capacity = 1; taken = line 8 ∷ lines.End ∷ [] })
+taken_last q = refl
+
+given_next : GivesLine (record { put = line 8 ∷ line 9 ∷ lines.End ∷ []; taken = line 8 ∷ [] }) (line 9) (record { put = line 8 ∷ line 9 ∷ lines.End ∷ []; taken = line 8 ∷ line 9 ∷ [] })
+given_next = (refl, (lines.End ∷ [], refl))
+
+-- ---- what is left
+
+of_one_queue : (r : TableId) → left_of (joined r (what 7 ∷ what 9 ∷ whats.Down ∷ []) (what 7 ∷ [])) ≡ what 9 ∷ whats.Down ∷ []
+unfolding joined what
+of_one_queue r = refl
+
+with_its_source : items_of 3 (what 8 ∷ whats.Down ∷ []) ≡ item 3 (what 8) ∷ item 3 whats.Down ∷ []
+unfolding item what
+with_its_source = refl
+
+source_after_source : (q r : TableId)
+    → left_from 0 (joined q (what 8 ∷ what 9 ∷ what 6 ∷ []) (what 8 ∷ []) ∷ joined r (what 7 ∷ []) [] ∷ []) ≡ item 0 (what 9) ∷ item 0 (what 6) ∷ item 1 (what 7) ∷ []
+unfolding joined item what
+source_after_source q r = refl
+
+nothing_left : (q : TableId) → left_from 0 (joined q (what 8 ∷ []) (what 8 ∷ []) ∷ []) ≡ []
+unfolding joined what
+nothing_left q = refl
+
+given_until_none : (q : TableId) → GivesAll (joined q (what 8 ∷ []) [] ∷ []) (item 0 (what 8) ∷ [])
+unfolding joined item what
+given_until_none q =
+    (joined q (what 8 ∷ []) (what 8 ∷ []) ∷ [], (joined q (what 8 ∷ []) [], refl, refl, ([], refl), λ at d small e. absurd (omega arith)), all_given q)

@@ -1,5 +1,5 @@
 -- What the two ends of an outbox show, and what their calls do.
-use Rattle.std.specs.Prelude.{◌≡◌, ℕ, ◌+◌, List, [], ◌∷◌, ◌++◌, Result, Ok, Err, if◌then◌else◌, nat_lt}
+use Rattle.std.specs.Prelude.{◌≡◌, ℕ, ◌+◌, List, [], ◌∷◌, ◌++◌, Result, Ok, Err, min, max}
 use Rattle.atomic_table.specs.Seated.{TableId}
 use Rattle.ruled_relay.specs.declared.outbox.Line.{Line}
 use Rattle.ruled_relay.specs.declared.outbox.Line.TheVariants.{Frame, End}
@@ -32,17 +32,9 @@ abbrev pub AreNewOutbox : ℕ → PutterView → TakerView → Type 0
 AreNewOutbox capacity putter taker =
     (putter ≡ record { queue = taker.queue; capacity = capacity; put = []; refused = 0; refusals = 0 }) × (taker ≡ record { queue = taker.queue; capacity = capacity; taken = [] })
 
--- one more refusal, in a count of at most 2^32 - 1
-abbrev pub one_more : ℕ → ℕ
-one_more n = if nat_lt n 4294967295 then n + 1 else 4294967295
-
--- the greater of two counts
-abbrev pub greater : ℕ → ℕ → ℕ
-greater a b = if nat_lt a b then b else a
-
--- a refusal is counted, of a frame alone
+-- a refusal is counted, of a frame alone, in counts of at most 2^32 - 1
 abbrev pub refusing : Line → PutterView → PutterView
-refusing (Frame _) p = let n = one_more p.refused in record { queue = p.queue; capacity = p.capacity; put = p.put; refused = n; refusals = greater p.refusals n }
+refusing (Frame _) p = let n = min (p.refused + 1) 4294967295 in record { queue = p.queue; capacity = p.capacity; put = p.put; refused = n; refusals = max p.refusals n }
 refusing End p = p
 
 -- The line is put last, and the count of refusals begins anew. Or the outbox was full, with the last of what was put:

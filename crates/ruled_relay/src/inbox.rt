@@ -1,4 +1,6 @@
-ghost use Rattle.std.specs.Prelude.{◌≡◌, ◌<◌, length, IfOk, MatchOption, map, vec_len};
+ghost use Rattle.std.specs.Prelude.{◌≡◌, ◌<◌, length, List, IfOk, MatchOption, map, vec_len};
+ghost use Rattle.ruled_relay.specs.Row.{Row};
+ghost use Rattle.ruled_relay.specs.Left.{GivesAll, left_from};
 ghost use Rattle.ruled_relay.specs.Inbox.{AreJoined, AreNewInbox, GivesItem, IsAllGiven, PutsItem, TakesItem, queues_of};
 
 use crate::bell::Bell;
@@ -185,3 +187,9 @@ impl Left {
         take_among(rt, &mut self.ends, 0, self.sources)
     }
 }
+
+/// Law: what `next` gives, one call after the other until there is none, is all that was put and not taken: of source 0 in
+/// order, then of source 1, and so on. It does nothing.
+pub fn all_that_is_left_is_given()
+    ensures { (left : Row) (items : List Item) → GivesAll left items → items ≡ left_from 0 left }
+{}

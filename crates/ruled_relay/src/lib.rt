@@ -4,8 +4,8 @@
 //! The rule of each queue: what was put is what was taken, followed by what the queue holds.
 #![tactic(auto)]
 
-pub use inbox::{Desk, Inbox, Left, PutFault, SourcePass};
-pub use outbox::{Full, Line, Outbox, Putter, Taker, Unsent};
+pub use inbox::{Desk, Inbox, Left, PutFault, SourcePass, all_that_is_left_is_given};
+pub use outbox::{Full, Line, Outbox, Putter, Taker, Unsent, refusals_are_those_of_all_puts};
 pub use relay_items::{Item, What};
 
 mod bell;

@@ -1,5 +1,6 @@
-ghost use Rattle.std.specs.Prelude.{◌≡◌, ◌<◌, [], ◌∷◌, ◌++◌, List, IfOk, MatchOption, IfNone};
-ghost use Rattle.ruled_relay.specs.Outbox.{AreNewOutbox, PutsLine, TakesLine, GivesLine};
+ghost use Rattle.std.specs.Prelude.{◌≡◌, ℕ, ◌<◌, ◌++◌, List, IfOk, MatchOption, IfNone, min};
+ghost use Rattle.ruled_relay.specs.Outbox.{AreNewOutbox, PutsLine, PutterView, TakerView, TakesLine, GivesLine};
+ghost use Rattle.ruled_relay.specs.Refusals.{Fate, Meets, lines_put, most_refused};
 
 use crate::bell::Bell;
 use crate::end::{End, ends};
@@ -177,3 +178,12 @@ impl Unsent {
         self.both.take(rt)
     }
 }
+
+/// Law: over any calls of `put`, from the first on, `refusals` is the greatest number of frames that came back with no line
+/// put between them, at most 2^32 - 1, and what was put are the lines that didn't come back, in order. It does nothing.
+pub fn refusals_are_those_of_all_puts()
+    ensures refusals { (capacity : ℕ) (putter now : PutterView) (taker : TakerView) (fates : List Fate) →
+        AreNewOutbox capacity putter taker → Meets putter fates now → now.refusals ≡ min (most_refused fates) 4294967295 }
+    ensures lines { (capacity : ℕ) (putter now : PutterView) (taker : TakerView) (fates : List Fate) →
+        AreNewOutbox capacity putter taker → Meets putter fates now → now.put ≡ lines_put fates }
+{}

@@ -1,0 +1,69 @@
+/* Preloaded before a program: refuses the call of malloc, realloc or their kin whose number, from 1, is REFUSE, and writes
+   how many blocks were not given back to the file LIVE, if one is named, as the program ends. */
+#define _GNU_SOURCE
+#include <dlfcn.h>
+#include <errno.h>
+#include <stddef.h>
+#include <stdio.h>
+#include <stdlib.h>
+
+static long calls;
+static long live;
+static long refused;
+
+static int refuses(void) {
+  if (refused == 0) {
+    const char *text = getenv("REFUSE");
+    refused = text ? atol(text) : -1;
+  }
+  if (__atomic_add_fetch(&calls, 1, __ATOMIC_SEQ_CST) != refused) return 0;
+  errno = ENOMEM;
+  return 1;
+}
+static void *given(void *block) {
+  if (block) __atomic_add_fetch(&live, 1, __ATOMIC_SEQ_CST);
+  return block;
+}
+void *malloc(size_t size) {
+  static void *(*real)(size_t);
+  if (!real) real = dlsym(RTLD_NEXT, "malloc");
+  return refuses() ? NULL : given(real(size));
+}
+void *realloc(void *old, size_t size) {
+  static void *(*real)(void *, size_t);
+  if (!real) real = dlsym(RTLD_NEXT, "realloc");
+  if (refuses()) return NULL;
+  void *block = real(old, size);
+  return old ? block : given(block);
+}
+void *aligned_alloc(size_t align, size_t size) {
+  static void *(*real)(size_t, size_t);
+  if (!real) real = dlsym(RTLD_NEXT, "aligned_alloc");
+  return refuses() ? NULL : given(real(align, size));
+}
+int posix_memalign(void **at, size_t align, size_t size) {
+  static int (*real)(void **, size_t, size_t);
+  if (!real) real = dlsym(RTLD_NEXT, "posix_memalign");
+  if (refuses()) return ENOMEM;
+  int failed = real(at, align, size);
+  if (!failed) given(*at);
+  return failed;
+}
+void free(void *block) {
+  static void (*real)(void *);
+  if (!real) real = dlsym(RTLD_NEXT, "free");
+  if (block) __atomic_sub_fetch(&live, 1, __ATOMIC_SEQ_CST);
+  real(block);
+}
+void _exit(int status) {
+  static void (*real)(int) __attribute__((noreturn));
+  const char *name = getenv("LIVE");
+  long left = live;
+  FILE *file = name ? fopen(name, "w") : NULL;
+  if (file) {
+    fprintf(file, "%ld\n", left);
+    fclose(file);
+  }
+  real = dlsym(RTLD_NEXT, "_exit");
+  real(status);
+}
