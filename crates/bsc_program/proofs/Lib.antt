@@ -1,5 +1,6 @@
 pub mod Ends
-pub mod Pieces
+pub mod Putting
+pub mod Feeding
 pub mod Decoding
 pub mod Reporting
 pub mod Scripts

@@ -7,14 +7,23 @@ use Rattle.std.specs.List.{AllByRecursion}
 use Rattle.std.specs.Prelude.{IfSome}
 use Rattle.std.specs.Io.KnownBytes.{Consumes, IsAtEnd}
 use Rattle.std.proofs.KnownBytes.{Consumes-nil, Consumes-trans, Consumes-whole}
-use Rattle.std.proofs.lemmas.Grind.{flat_map-append}
 use Rattle.memchr.specs.Find.{IsFirstByte, is_byte}
 use Rattle.world.specs.declared.event.Event.{Event}
 use Rattle.world.specs.Script.{IsLine}
 use Rattle.world.specs.declared.line_fault.LineFault.{LineFault}
 use Rattle.world.specs.declared.line_fault.LineFault.TheVariants.{BadEvent, Memory}
+use Rattle.std.specs.IoError.{error_kind}
+use Rattle.std.specs.declared.io.ErrorKind.{ErrorKind}
+use Rattle.std.specs.declared.io.ErrorKind.TheVariants as kinds
+use Rattle.bsc_program.specs.declared.failure.Failure.{Failure}
+use Rattle.bsc_program.specs.declared.failure.Failure.TheVariants as failures
+use Rattle.bsc_program.specs.declared.input.Unread.{Unread}
+use Rattle.bsc_program.specs.declared.input.Unread.TheVariants.{Endless, Device, Refused}
+use Rattle.bsc_program.specs.Input.{ReadsInput}
+use Rattle.bsc_program.specs.Status.{failure_of, failure_unread}
 use Rattle.bsc_program.specs.declared.script.Script.{Script}
-use Rattle.bsc_program.proofs.Pieces.{all_both}
+use Rattle.bsc_program.specs.Pieces.{all_both}
+use Rattle.bsc_program.specs.ScriptLaws.{lines_both, texts_both}
 use Rattle.bsc_program.specs.Script.{AddsLine, AreTexts, Finishes, HasNoFeed, IsBadLine, IsBadScript, IsScript, Reads, RefusesAt, RefusesLine, line_count, lines_text}
 
 -- of the block all but the rest was read
@@ -24,12 +33,6 @@ pub record ReadsSome (old new : Script) (block rest : List ℕ) : Type 0 where
   pub reads : Reads old new read
 
 -- ---- lists
-
-texts_both : (cells : ℕ) (es fs : List Event) (ls ms : List (List ℕ)) → AreTexts cells es ls → AreTexts cells fs ms → AreTexts cells (es ++ fs) (ls ++ ms)
-texts_both cells [] fs [] ms first second = second
-texts_both cells [] fs (l ∷ ls) ms first second = absurd first
-texts_both cells (e ∷ es) fs [] ms first second = absurd first
-texts_both cells (e ∷ es) fs (l ∷ ls) ms first second = (first.0, texts_both cells es fs ls ms first.1 second)
 
 no_feed_by : (xs : List ℕ) → ((k : ℕ) → k < length xs → get_or xs k 0 ≢ 10) → HasNoFeed xs
 no_feed_by [] none = tt
@@ -186,9 +189,6 @@ script_none cells start script is events started lines = record {
   count = lines;
 }
 
-lines_both : (ls ms : List (List ℕ)) → lines_text (ls ++ ms) ≡ lines_text ls ++ lines_text ms
-lines_both ls ms = flat_map-append (λ (l : List ℕ). l ++ codes "\n") ls ms
-
 pub script_more : (cells : ℕ) (start now later : Option (List ℕ)) (old new : Script) (piece : List ℕ) → ReadsScript cells start now old → Consumes now later piece → Reads old new piece → ReadsScript cells start later new
 script_more cells start now later old new piece some read reads =
     let first : List ℕ = lines_text some.lines in
@@ -226,12 +226,10 @@ script_is cells start now script events some (inr last) =
       ended = inr (append_assoc (lines_text some.lines) line (codes "\n") ∙ sym (line_text some.lines line));
     }
 
-pub script_all : (cells : ℕ) (start now end : Option (List ℕ)) (script : Script) (events : List Event) → ReadsScript cells start now script → Consumes now end [] → IsAtEnd end
+pub script_all : (cells : ℕ) (start end : Option (List ℕ)) (script : Script) (events : List Event) → ReadsScript cells start end script → IsAtEnd end
     → Finishes script events → IfSome start (λ octets. IsScript cells octets events)
-script_all cells start now end script events some read at_end finishes =
-    let octets : List ℕ = lines_text some.lines ++ script.started.items in
-    Consumes-whole start end octets (λ octets. IsScript cells octets events)
-    (subst (Consumes start end) (append-nil octets) (Consumes-trans start now end octets [] some.read read)) at_end (script_is cells start now script events some finishes)
+script_all cells start end script events some at_end finishes =
+    Consumes-whole start end (lines_text some.lines ++ script.started.items) (λ octets. IsScript cells octets events) some.read at_end (script_is cells start end script events some finishes)
 
 -- the last line, which has no line feed, is bad
 bad_last : (cells : ℕ) (start now : Option (List ℕ)) (script : Script) (number : ℕ) (some : ReadsScript cells start now script) → script.started.items ≢ [] → RefusesLine script script.started.items number
@@ -248,12 +246,10 @@ bad_last cells start now script number some begun refuses = record {
   is = refuses.1 ∙ ap (λ (m : ℕ). line_count (m + 1)) some.count ∙ counted_more (length some.lines);
 }
 
-pub script_bad_last : (cells : ℕ) (start now end : Option (List ℕ)) (script : Script) (number : ℕ) → ReadsScript cells start now script → Consumes now end [] → IsAtEnd end
+pub script_bad_last : (cells : ℕ) (start end : Option (List ℕ)) (script : Script) (number : ℕ) → ReadsScript cells start end script → IsAtEnd end
     → (script.started.items ≢ []) × RefusesLine script script.started.items number → IfSome start (λ octets. IsBadScript cells octets number)
-script_bad_last cells start now end script number some read at_end refuses =
-    let octets : List ℕ = lines_text some.lines ++ script.started.items in
-    Consumes-whole start end octets (λ octets. IsBadScript cells octets number)
-    (subst (Consumes start end) (append-nil octets) (Consumes-trans start now end octets [] some.read read)) at_end (bad_last cells start now script number some refuses.0 refuses.1)
+script_bad_last cells start end script number some at_end refuses =
+    Consumes-whole start end (lines_text some.lines ++ script.started.items) (λ octets. IsBadScript cells octets number) some.read at_end (bad_last cells start end script number some refuses.0 refuses.1)
 
 -- a line of the piece that was read is bad
 bad_at : (cells : ℕ) (start now : Option (List ℕ)) (script : Script) (piece later : List ℕ) (number : ℕ) (some : ReadsScript cells start now script) → RefusesAt script piece number
@@ -291,6 +287,18 @@ pub script_bad_at : (cells : ℕ) (start now later : Option (List ℕ)) (script 
 script_bad_at cells start now later script piece number some read refuses =
     let octets : List ℕ = lines_text some.lines ++ script.started.items in
     bad_by cells start later (octets ++ piece) number (Consumes-trans start now later octets piece some.read read) (λ rest. bad_at cells start now script piece rest number some refuses)
+
+no_bad_event : (kind : ErrorKind) (number : ℕ) → failure_of kind ≡ failures.BadEvent number → ⊥
+no_bad_event kinds.OutOfMemory number is = absurd cc
+no_bad_event _ number is = absurd cc
+
+-- an input that wasn't read to its end for a bad line was read up to it
+pub refuses_unread : (most : ℕ) (start end : Option (List ℕ)) (old new : Script) (unread : Unread Failure) (number : ℕ)
+    → ReadsInput (λ old octets new. Reads old new octets) (λ old octets new failure. ((n : ℕ) → failure ≡ failures.BadEvent n → RefusesAt old octets n) × (failure ≢ failures.Unsupported)) most start end old new (Err unread)
+    → failure_unread unread ≡ failures.BadEvent number → (octets : List ℕ) × Consumes start end octets × RefusesAt old octets number
+refuses_unread most start end old new (Endless reads) number reading is = absurd cc
+refuses_unread most start end old new (Device error) number reading is = absurd (no_bad_event (error_kind error) number is)
+refuses_unread most start end old new (Refused failure) number reading is = (reading.0, reading.1, reading.2.0 number is)
 
 -- ---- a line
 

@@ -1,7 +1,11 @@
 pub mod Status
-pub mod Block
+pub mod Input
+pub mod Output
 pub mod Names
 pub mod Decoded
 pub mod Report
 pub mod Script
 pub mod Replayed
+pub mod Pieces
+pub mod ScriptLaws
+pub mod NamingLaws

@@ -4,9 +4,13 @@ use Rattle.std.specs.declared.io.ErrorKind.{ErrorKind}
 use Rattle.std.specs.declared.io.ErrorKind.TheVariants.{OutOfMemory}
 use Rattle.ipa_framing.specs.declared.fault.FrameFault.{FrameFault}
 use Rattle.ipa_framing.specs.declared.fault.FrameFault.TheVariants as faults
+use Rattle.std.specs.IoError.{error_kind}
 use Rattle.bsc_program.specs.declared.decode_command.Stop.{Stop}
 use Rattle.bsc_program.specs.declared.decode_command.Stop.TheVariants.{TooLong, Failed}
 use Rattle.bsc_program.specs.declared.failure.Failure.{Failure}
+use Rattle.bsc_program.specs.declared.input.Unread.{Unread}
+use Rattle.bsc_program.specs.declared.input.Unread.TheVariants as unread
+use Rattle.bsc_program.specs.declared.input.Unread.TheVariants.{Endless, Refused}
 use Rattle.bsc_program.specs.declared.failure.Failure.TheVariants.{Unsupported, BadEvent, Memory, Device}
 
 -- 2 for what was asked for, 3 for memory or a device
@@ -20,6 +24,17 @@ status_of Device = 3
 abbrev pub failure_of : ErrorKind → Failure
 failure_of OutOfMemory = Memory
 failure_of _ = Device
+
+-- an input that wasn't read to its end: one that has none counts as a device that fails
+abbrev pub failure_unread : Unread Failure → Failure
+failure_unread (Endless reads) = Device
+failure_unread (unread.Device error) = failure_of (error_kind error)
+failure_unread (Refused failure) = failure
+
+abbrev pub stop_unread : Unread Stop → Stop
+stop_unread (Endless reads) = Failed Device
+stop_unread (unread.Device error) = Failed (failure_of (error_kind error))
+stop_unread (Refused stop) = stop
 
 -- why a fault of the framer stops `decode`
 abbrev pub stop_of : FrameFault → Stop

@@ -1,8 +1,9 @@
 ghost use Rattle.std.specs.Prelude.{◌≡◌};
-ghost use Rattle.bsc_program.specs.Status.{failure_of, status_of};
+ghost use Rattle.bsc_program.specs.Status.{failure_of, failure_unread, status_of};
 ghost use Rattle.std.specs.IoError.{error_kind};
 ghost use Rattle.bsc_program.specs.declared.failure.Failure.TheVariants.{Memory as OutOfMemory};
 
+use crate::input::Unread;
 use octets::Memory;
 use std::io::{self, ErrorKind};
 use thiserror::Error;
@@ -51,5 +52,17 @@ impl From<Memory> for Failure {
 
     fn from(_memory: Memory) -> Failure {
         Failure::Memory
+    }
+}
+
+impl From<Unread<Failure>> for Failure {
+    ghost from_gives = { λ unread failure. failure ≡ failure_unread unread };
+
+    fn from(unread: Unread<Failure>) -> Failure {
+        match unread {
+            Unread::Endless(_) => Failure::Device,
+            Unread::Device(error) => Failure::from(error),
+            Unread::Refused(failure) => failure,
+        }
     }
 }

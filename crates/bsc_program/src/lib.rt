@@ -5,10 +5,12 @@ pub use decode_command::decode;
 pub use failure::Failure;
 pub use replay_command::replay;
 
-mod block;
 mod decode_command;
 mod failure;
+mod input;
 mod names;
+mod output;
+mod read_count;
 mod replay_command;
 mod report;
 mod script;

@@ -1,10 +1,10 @@
 ghost use Rattle.std.specs.Prelude.{◌≡◌, ◌≢◌, ℕ, ◌++◌, [], Err, IfOk, IfSome, OnOk};
 ghost use Rattle.std.specs.Io.KnownBytes.{IsAtEnd};
-ghost use Rattle.bsc_program.specs.Script.{AddsLine, Finishes, IsBadScript, IsScript, Reads, RefusesAt, RefusesLine};
+ghost use Rattle.bsc_program.specs.Script.{AddsLine, Finishes, IsBadScript, IsScript, RefusesLine};
 ghost use Rattle.bsc_program.specs.declared.failure.Failure.TheVariants.{BadEvent, Unsupported};
 
-use crate::block::{MOST_READS, next_block, room_for};
 use crate::failure::Failure;
+use crate::input::{Sink, read_all, room_for};
 use memchr::memchr;
 use octets::Memory;
 use std::alloc::Global;
@@ -41,21 +41,6 @@ impl Script {
             started: Vec::new(alloc),
             lines: 0,
         }
-    }
-
-    /// Reads the lines that end in this block, and keeps what is left of it.
-    fn feed(&mut self, block: &[u8]) -> Result<(), Failure>
-        ensures ok { OnOk result (Reads self.old self.new block.now) }
-        ensures bad { (n : ℕ) → result ≡ Err (BadEvent n) → RefusesAt self.old block.now n }
-        ensures supported { result ≢ Err Unsupported }
-    {
-        let mut rest = block;
-        while let Some(end) = memchr(b'\n', rest) {
-            self.end_line(&rest[..end])?;
-            rest = &rest[end + 1..];
-        }
-        self.started.extend_from_slice(rest).map_err(Memory::from)?;
-        Ok(())
     }
 
     /// Reads the line that ends with these octets.
@@ -109,6 +94,38 @@ impl Script {
     }
 }
 
+impl Sink for Script {
+    ghost use Rattle.std.specs.Prelude.{◌≡◌, ◌≢◌, ℕ};
+    ghost use Rattle.bsc_program.specs.Script.{Reads, RefusesAt};
+    ghost use Rattle.bsc_program.specs.declared.failure.Failure.TheVariants.{BadEvent, Unsupported};
+    ghost use Rattle.bsc_program.specs.ScriptLaws.{reads_nothing, reads_both, refuses_behind};
+
+    type Fault = Failure;
+
+    ghost takes = { λ old octets new. Reads old new octets };
+
+    ghost refuses = { λ old octets new failure.
+        ((n : ℕ) → failure ≡ BadEvent n → RefusesAt old octets n) × (failure ≢ Unsupported) };
+
+    ghost takes_none = { reads_nothing };
+
+    ghost takes_both = { reads_both };
+
+    ghost refuses_later = { λ old mid new first second failure some refuses.
+        ((λ n is. refuses_behind old mid first second n some (refuses.0 n is)), refuses.1) };
+
+    /// Reads the lines that end in this piece, and keeps what is left of it.
+    fn take(&mut self, piece: &[u8]) -> Result<(), Failure> {
+        let mut rest = piece;
+        while let Some(end) = memchr(b'\n', rest) {
+            self.end_line(&rest[..end])?;
+            rest = &rest[end + 1..];
+        }
+        self.started.extend_from_slice(rest).map_err(Memory::from)?;
+        Ok(())
+    }
+}
+
 /// Reads a script up to its end or its first bad line.
 pub(crate) fn read_script<R: Read>(
     alloc: Global,
@@ -122,10 +139,6 @@ pub(crate) fn read_script<R: Read>(
 {
     let mut script = Script::new(alloc, cells);
     let mut room = room_for(alloc, BLOCK)?;
-    let block = room.as_mut_slice();
-    let mut reads_left = MOST_READS;
-    while let Some(count) = next_block(input, block, &mut reads_left)? {
-        script.feed(&block[..count])?;
-    }
+    read_all(input, room.as_mut_slice(), &mut script)?;
     script.finish()
 }

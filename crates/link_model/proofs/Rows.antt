@@ -42,9 +42,10 @@ reached_ones = refl
 acks : map after_ack airs ≡ Empty ∷ Given (0x0a ∷ []) ∷ Empty ∷ []
 acks = refl
 
--- ---- links: SAPI 3 takes the SACCH of a TCH, whose numbers end before 20
+-- ---- links: SAPI 3 takes the SACCH of a TCH, 08 to 1F, and the main link of an SDCCH, 20 to 7F
 
-links : map (λ channel. link_on channel Three) (0x08 ∷ 0x1f ∷ 0x20 ∷ 0x7f ∷ []) ≡ 0x43 ∷ 0x43 ∷ 0x03 ∷ 0x03 ∷ []
+links : map (λ channel. link_on channel Three) (0x08 ∷ 0x0f ∷ 0x10 ∷ 0x1f ∷ 0x20 ∷ 0x27 ∷ 0x3a ∷ 0x3f ∷ 0x40 ∷ 0x7f ∷ []) ≡
+    0x43 ∷ 0x43 ∷ 0x43 ∷ 0x43 ∷ 0x03 ∷ 0x03 ∷ 0x03 ∷ 0x03 ∷ 0x03 ∷ 0x03 ∷ []
 links = refl
 
 main_links : map (λ channel. link_on channel Zero) (0x1f ∷ 0x20 ∷ []) ≡ 0x00 ∷ 0x00 ∷ []

@@ -5,3 +5,4 @@ pub mod Slices
 pub mod Lives
 pub mod GoingOn
 pub mod GoingOnByCalls
+pub mod OnSapiThree

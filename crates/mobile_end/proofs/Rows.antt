@@ -13,7 +13,7 @@ use Rattle.mobile_end.specs.DataLink.{waits, lent_message, after_lending, after_
 use Rattle.mobile_end.specs.Lawful.{is_initial, is_sendable}
 use Rattle.mobile_end.specs.MobileState.{MobileState}
 use Rattle.mobile_end.specs.Mobile.{new_mobile, idle_link, after_connect, refusal_of_connect, after_queue, refusal_of_send, frame_answer, after_frame, is_acknowledged, after_acked, after_leave, after_arrival}
-use Rattle.mobile_end.specs.Calls.{Call, after_calls, taken_by_calls, establishments}
+use Rattle.mobile_end.specs.Calls.{Call, after_calls, taken_by_calls, taken_on_three_by_calls, establishments}
 use Rattle.mobile_end.specs.Calls.Call.{connects, sends, frames, acknowledges, leaves, arrives, gives_up}
 use Rattle.mobile_end.specs.OneRepeat.{OneRepeat}
 use Rattle.mobile_end.specs.OneRepeat.OneRepeat.{over as ended, goes_on, repeats}
@@ -314,6 +314,18 @@ taken_behind_service_request = refl
 taken_behind_paging_response : taken_by_calls (new_mobile 4) (connects (Some (0x06 ∷ 0x27 ∷ 0x71 ∷ [])) ∷ sends Zero (0x03 ∷ 0x05 ∷ []) ∷ frames Zero ∷ acknowledges Zero ∷ frames Zero ∷ []) ≡
     (0x06 ∷ 0x27 ∷ 0x71 ∷ []) ∷ (0x03 ∷ 0x05 ∷ []) ∷ []
 taken_behind_paging_response = refl
+
+-- a short message is taken on SAPI 3, also again on another channel, and the rest on SAPI 0
+abbrev life_on_both : List Call
+life_on_both =
+    connects None ∷ sends Three (0x09 ∷ 0x01 ∷ []) ∷ sends Zero (0x03 ∷ 0x05 ∷ []) ∷ sends Three (0x03 ∷ 0x0f ∷ []) ∷ frames Three ∷ frames Zero ∷ leaves
+    ∷ acknowledges Three ∷ arrives (0x06 ∷ 0x29 ∷ 0x00 ∷ []) ∷ frames Three ∷ frames Zero ∷ acknowledges Three ∷ frames Three ∷ []
+
+taken_on_three : taken_on_three_by_calls (new_mobile 4) life_on_both ≡ (0x09 ∷ 0x01 ∷ []) ∷ (0x09 ∷ 0x01 ∷ []) ∷ []
+taken_on_three = refl
+
+taken_on_zero : taken_by_calls (new_mobile 4) life_on_both ≡ (0x03 ∷ 0x05 ∷ []) ∷ (0x06 ∷ 0x29 ∷ 0x00 ∷ []) ∷ []
+taken_on_zero = refl
 
 numbers_go_round : (after_calls (new_mobile 4) (connects None ∷ replicate 6 (sends Zero (0x03 ∷ 0x01 ∷ [])))).zero.waiting ≡
     (0x03 ∷ 0x01 ∷ []) ∷ (0x03 ∷ 0x41 ∷ []) ∷ (0x03 ∷ 0x81 ∷ []) ∷ (0x03 ∷ 0xc1 ∷ []) ∷ (0x03 ∷ 0x01 ∷ []) ∷ (0x03 ∷ 0x41 ∷ []) ∷ []

@@ -1,7 +1,7 @@
 -- A life of a mobile: any list of calls, in any order.
 use Rattle.std.specs.Prelude.{ℕ, Bool, false, ◌&&◌, not, Option, Some, None, Result, Ok, Err, List, [], ◌∷◌, ◌++◌, option_to_list, if◌then◌else◌}
 use Rattle.dtap_codec.specs.declared.sapi.Sapi.{Sapi}
-use Rattle.dtap_codec.specs.declared.sapi.Sapi.TheVariants.{Zero}
+use Rattle.dtap_codec.specs.declared.sapi.Sapi.TheVariants.{Zero, Three}
 use Rattle.mobile_end.specs.declared.fault.MobileFault.{MobileFault}
 use Rattle.mobile_end.specs.declared.mobile_end.Stage.{Stage}
 use Rattle.mobile_end.specs.declared.mobile_end.Stage.TheVariants.{New, Connected}
@@ -60,6 +60,16 @@ taken_by_call mobile _ = []
 abbrev pub taken_by_calls : MobileState → List Call → List (List ℕ)
 taken_by_calls mobile [] = []
 taken_by_calls mobile (call ∷ calls) = taken_by_call mobile call ++ taken_by_calls (after_call mobile call) calls
+
+-- what a call lends to the station on SAPI 3
+abbrev pub taken_on_three_by_call : MobileState → Call → List (List ℕ)
+taken_on_three_by_call mobile (frames Three) = frame_lent (frame_answer mobile Three)
+taken_on_three_by_call mobile _ = []
+
+-- what all these calls lend to the station on SAPI 3, in order
+abbrev pub taken_on_three_by_calls : MobileState → List Call → List (List ℕ)
+taken_on_three_by_calls mobile [] = []
+taken_on_three_by_calls mobile (call ∷ calls) = taken_on_three_by_call mobile call ++ taken_on_three_by_calls (after_call mobile call) calls
 
 -- whether a call begins an establishment: the mobile has layer 2 up on a channel from there on
 abbrev pub begins : MobileState → Call → Bool

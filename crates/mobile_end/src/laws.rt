@@ -1,9 +1,9 @@
-ghost use Rattle.std.specs.Prelude.{ℕ, List, [], filter};
+ghost use Rattle.std.specs.Prelude.{◌≡◌, ℕ, List, [], filter};
 ghost use Rattle.dtap_codec.specs.Message.{is_flow_message};
 ghost use Rattle.dtap_codec.specs.Places.{Rise};
 ghost use Rattle.mobile_end.specs.GoesOn.{GoesOn};
 ghost use Rattle.mobile_end.specs.Mobile.{new_mobile};
-ghost use Rattle.mobile_end.specs.Calls.{Call, after_calls, taken_by_calls, establishments};
+ghost use Rattle.mobile_end.specs.Calls.{Call, after_calls, taken_by_calls, taken_on_three_by_calls, establishments};
 ghost use Rattle.mobile_end.specs.OneRepeat.{OneRepeat};
 
 /// The one-repeat rule: whatever is called and in whatever order, in each establishment a station takes a slice of the sent
@@ -22,4 +22,9 @@ pub fn numbers_run_on()
 /// once the mobile sends again on another channel. It does nothing.
 pub fn link_goes_on()
     ensures { (m : ℕ) (calls : List Call) → GoesOn m (after_calls (new_mobile m) calls).sent (filter is_flow_message (taken_by_calls (new_mobile m) calls)) (after_calls (new_mobile m) calls).zero }
+{}
+
+/// And no message of the flow is taken on SAPI 3, so that the laws on places speak of SAPI 0 alone. It does nothing.
+pub fn flow_takes_sapi_zero()
+    ensures { (m : ℕ) (calls : List Call) → filter is_flow_message (taken_on_three_by_calls (new_mobile m) calls) ≡ [] }
 {}

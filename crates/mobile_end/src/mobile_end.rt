@@ -112,14 +112,24 @@ impl MobileEnd {
         ensures refused { RefusesBy MobileFault.Memory result (refusal_of_send self.old sapi message.items) }
         ensures err { OnErr result (self.new ≡ self.old) }
     {
-        if self.stage == Stage::New {
-            return Err(MobileFault::NotConnected);
-        }
-        if !is_sendable(sapi, &message) {
-            return Err(MobileFault::BadMessage);
+        if let Some(fault) = self.refusal(sapi, &message) {
+            return Err(fault);
         }
         self.queue(sapi, message)?;
         Ok(())
+    }
+
+    /// Why `send` refuses this message, where it doesn't for want of memory; none where it takes it.
+    pub fn refusal(&self, sapi: Sapi, message: &[u8]) -> Option<MobileFault>
+        ensures { result ≡ refusal_of_send self.now sapi message.now }
+    {
+        if self.stage == Stage::New {
+            return Some(MobileFault::NotConnected);
+        }
+        if !is_sendable(sapi, message) {
+            return Some(MobileFault::BadMessage);
+        }
+        None
     }
 
     /// Lets a message wait on the data link of this SAPI, one of the flow with its number on that of SAPI 0.

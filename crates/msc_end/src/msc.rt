@@ -139,6 +139,7 @@ impl MscEnd {
         requires some { 1 ≤ length message.now }
         requires few { length message.now ≤ MESSAGE_LIMIT }
         ensures ok { OnOk result (out.new.items ≡ out.old.items ++ data_forms_on (connection_of self.now.connections conn) (Bssap.Transfer (dlci_for sapi) message.now)) }
+        ensures sent { OnOk result (length out.new.items ≡ length out.old.items + 1) }
         ensures err { OnErr result (out.new.items ≡ out.old.items) }
         ensures refused { RefusesBy OutOfMemory result (send_fault (connection_of self.now.connections conn)) }
     {
@@ -154,6 +155,7 @@ impl MscEnd {
     /// Asks for a speech channel for a connection. An `Err` changes nothing: `NoConnection`, then `Closed`, then `Memory`.
     pub fn assign(&self, conn: u32, out: &mut Vec<Sccp>) -> Result<(), MscFault>
         ensures ok { OnOk result (out.new.items ≡ out.old.items ++ data_forms_on (connection_of self.now.connections conn) assignment_request) }
+        ensures sent { OnOk result (length out.new.items ≡ length out.old.items + 1) }
         ensures err { OnErr result (out.new.items ≡ out.old.items) }
         ensures refused { RefusesBy OutOfMemory result (send_fault (connection_of self.now.connections conn)) }
     {
@@ -167,6 +169,7 @@ impl MscEnd {
     /// Sends CLEAR COMMAND, cause call control, on a connection. An `Err` changes nothing: `NoConnection`, then `Closed`, then `Memory`.
     pub fn clear(&mut self, conn: u32, out: &mut Vec<Sccp>) -> Result<(), MscFault>
         ensures ok { OnOk result (out.new.items ≡ out.old.items ++ data_forms_on (connection_of self.old.connections conn) clear_command) }
+        ensures sent { OnOk result (length out.new.items ≡ length out.old.items + 1) }
         ensures state { OnOk result (self.new ≡ after_clear self.old conn) }
         ensures err { OnErr result (out.new.items ≡ out.old.items) }
         ensures unchanged { OnErr result (self.new ≡ self.old) }

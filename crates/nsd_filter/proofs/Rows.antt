@@ -97,6 +97,10 @@ progress_of_taken = refl
 unnumbered_of_taken : not_of_the_flow taken ≡ (0x06 ∷ 0x27 ∷ 0x71 ∷ []) ∷ []
 unnumbered_of_taken = refl
 
+-- one octet has no number, whatever its protocol, and neither has none
+unnumbered_of_one_octet : not_of_the_flow ((0x08 ∷ []) ∷ (0x03 ∷ []) ∷ [] ∷ (0x05 ∷ 0x24 ∷ []) ∷ (0x09 ∷ 0x01 ∷ 0x02 ∷ []) ∷ []) ≡ (0x08 ∷ []) ∷ (0x03 ∷ []) ∷ [] ∷ (0x09 ∷ 0x01 ∷ 0x02 ∷ []) ∷ []
+unnumbered_of_one_octet = refl
+
 -- number 2 where 1 is due: nothing more is accepted, neither it nor what comes then
 abbrev with_gap : List (List ℕ)
 with_gap = (0x05 ∷ 0x24 ∷ 0x71 ∷ []) ∷ (0x03 ∷ 0x85 ∷ []) ∷ (0x03 ∷ 0x45 ∷ []) ∷ []

@@ -9,6 +9,8 @@ mod connection;
 #[cfg(test)]
 mod decision;
 #[cfg(test)]
+mod fault_texts;
+#[cfg(test)]
 mod fixed_world;
 #[cfg(test)]
 mod hold;

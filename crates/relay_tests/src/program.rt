@@ -55,6 +55,43 @@ impl Read for Pieces<'_> {
     }
 }
 
+/// A reader of which every second read is interrupted.
+#[derive(Drop)]
+struct Interrupted<'a> {
+    pieces: Pieces<'a>,
+    next: bool,
+}
+
+impl Read for Interrupted<'_> {
+    fn read(&mut self, buf: &mut [u8]) -> io::Result<usize> {
+        self.next = !self.next;
+        if self.next {
+            return Err(io::Error::from(ErrorKind::Interrupted));
+        }
+        self.pieces.read(buf)
+    }
+}
+
+/// A writer that counts how often it was flushed, and the octets that came behind the last time.
+#[derive(Drop)]
+struct Flushed {
+    times: usize,
+    waiting: usize,
+}
+
+impl Write for Flushed {
+    fn write(&mut self, buf: &[u8]) -> io::Result<usize> {
+        self.waiting = self.waiting.saturating_add(buf.len());
+        Ok(buf.len())
+    }
+
+    fn flush(&mut self) -> io::Result<()> {
+        self.times = self.times.saturating_add(1);
+        self.waiting = 0;
+        Ok(())
+    }
+}
+
 /// A writer that takes some octets, and then fails or takes none.
 #[derive(Drop)]
 struct Full {
@@ -174,4 +211,61 @@ fn a_device_that_fails_in_mid_stream_is_told(rt: HostRuntime) {
         let status = decode(rt.alloc(), &mut &*FRAMES, &mut full, &mut errors);
         assert!(rt; status == 3 && errors.as_slice() == failed.as_bytes());
     }
+}
+
+#[test]
+fn an_interrupted_read_is_tried_again(rt: HostRuntime) {
+    for (octets, replays, text) in [
+        (THREE_MESSAGES, true, THREE_REPORTED),
+        (FRAMES, false, FRAMES_NAMED),
+    ] {
+        let pieces = Pieces {
+            octets,
+            size: 7,
+            fails: false,
+        };
+        let mut input = Interrupted {
+            pieces,
+            next: false,
+        };
+        let mut output = Vec::new(rt.alloc());
+        let mut errors = Vec::new(rt.alloc());
+        let status = if replays {
+            replay(rt.alloc(), None, None, &mut input, &mut output, &mut errors)
+        } else {
+            decode(rt.alloc(), &mut input, &mut output, &mut errors)
+        };
+        assert!(rt; status == 0 && errors.is_empty());
+        assert!(rt; output.as_slice() == text.as_bytes());
+    }
+}
+
+#[test]
+fn output_is_flushed_at_the_end_and_by_decode_after_each_read(rt: HostRuntime) {
+    let mut errors = Vec::new(rt.alloc());
+    let mut reported = Flushed {
+        times: 0,
+        waiting: 0,
+    };
+    let mut input = &*THREE_MESSAGES;
+    let status = replay(
+        rt.alloc(),
+        None,
+        None,
+        &mut input,
+        &mut reported,
+        &mut errors,
+    );
+    assert!(rt; status == 0 && reported.times > 0 && reported.waiting == 0);
+    let mut named = Flushed {
+        times: 0,
+        waiting: 0,
+    };
+    let mut input = Pieces {
+        octets: FRAMES,
+        size: 1,
+        fails: false,
+    };
+    let status = decode(rt.alloc(), &mut input, &mut named, &mut errors);
+    assert!(rt; status == 0 && named.times >= FRAMES.len() && named.waiting == 0);
 }

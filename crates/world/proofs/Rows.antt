@@ -10,6 +10,9 @@ use Rattle.world.specs.declared.event.Event.{Event}
 use Rattle.world.specs.declared.event.Event.TheVariants.{Upper, Connect, AirUp, AirAck, AirDown, AirDownLost, Move, Touch, Arrive, Return, BaseTakes, BasePush, Handle, SwitchTakes, SwitchDoes, Tick, BaseDown, Report}
 use Rattle.world.specs.declared.event.SwitchAction.TheVariants.{Assign, Clear, Dtap}
 use Rattle.world.specs.declared.fixed.TheConstants.{FIXED_CONNECTION, FIXED_MOBILE}
+use Rattle.mobile_end.specs.MobileState.{MobileState}
+use Rattle.world.specs.declared.world.Scene.{Scene}
+use Rattle.world.specs.declared.world.Scene.TheVariants.{Fixed}
 use Rattle.world.specs.WordsLeft.{is_space}
 use Rattle.world.specs.Words.{mobile_in, station_in, source_in, any_number_in, sapi_in, answer_in, octets_in}
 use Rattle.world.specs.ScriptReading.{action_in, connect_at, dtap_at, event_at, kind_in, line_at, report_at, switch_does_at, upper_at}
@@ -196,3 +199,24 @@ untaken =
 
 not_taken : untaken.not_taken ≡ 22
 not_taken = refl
+
+-- a short message is taken on SAPI 3, where it waits, and none on SAPI 0; and the other way round
+abbrev on_both_links : WorldState
+on_both_links =
+    after_all (fixed_world 4)
+    (Upper 1 Three (0x09 ∷ 0x01 ∷ []) ∷ Upper 1 Zero (0x03 ∷ 0x05 ∷ []) ∷ Upper 1 Zero (0x09 ∷ 0x01 ∷ []) ∷ Upper 1 Three (0x03 ∷ 0x05 ∷ []) ∷ [])
+
+abbrev mobile_of : Scene → MobileState
+mobile_of (Fixed world) = world.mobile
+
+waits_on_three : (mobile_of on_both_links.scene).three.waiting ≡ (0x09 ∷ 0x01 ∷ []) ∷ []
+waits_on_three = refl
+
+waits_on_zero : (mobile_of on_both_links.scene).zero.waiting ≡ (0x03 ∷ 0x05 ∷ []) ∷ []
+waits_on_zero = refl
+
+short_message_is_not_sent : sent_list on_both_links.scene 1 ≡ Some ((0x03 ∷ 0x05 ∷ []) ∷ [])
+short_message_is_not_sent = refl
+
+two_not_taken : on_both_links.not_taken ≡ 2
+two_not_taken = refl

@@ -1,4 +1,4 @@
-ghost use Rattle.std.specs.Prelude.{◌≡◌, IfOk};
+ghost use Rattle.std.specs.Prelude.{◌≡◌, IfOk, IsSome, OnErr};
 ghost use Rattle.dtap_codec.specs.Number.{count_of};
 ghost use Rattle.nsd_filter.specs.AcceptedList.{accepted_list, not_of_the_flow};
 ghost use Rattle.world.specs.Takes.{Takes};
@@ -54,7 +54,9 @@ impl FixedWorld {
 
     /// Lets the event's actor act, and says whether it could.
     pub(crate) fn take(&mut self, event: &Event) -> Result<bool, Memory>
-        ensures { IfOk result (λ taken. Takes self.old (fixed_after self.old event.now) taken self.new) }
+        ensures ok { IfOk result (λ taken. Takes self.old (fixed_after self.old event.now) taken self.new) }
+        // Memory is wanted only for what the actor can take.
+        ensures memory { OnErr result (IsSome (fixed_after self.old event.now)) }
     {
         match event {
             Event::Upper {
@@ -77,8 +79,12 @@ impl FixedWorld {
 
     /// The upper layers send a message, which the mobile may refuse.
     fn upper(&mut self, sapi: Sapi, message: &Octets) -> Result<bool, Memory>
-        ensures { IfOk result (λ taken. Takes self.old (after_upper self.old sapi message.now) taken self.new) }
+        ensures ok { IfOk result (λ taken. Takes self.old (after_upper self.old sapi message.now) taken self.new) }
+        ensures memory { OnErr result (IsSome (after_upper self.old sapi message.now)) }
     {
+        if self.mobile.refusal(sapi, message.as_slice()).is_some() {
+            return Ok(false);
+        }
         let copy = Octets::copy(self.alloc, message.as_slice())?;
         match self.mobile.send(sapi, copy.into_vec()) {
             Ok(()) => Ok(true),
@@ -90,7 +96,8 @@ impl FixedWorld {
 
     /// The station takes the frame in the air, and it goes into the switch's outbox.
     fn air_up(&mut self) -> Result<bool, Memory>
-        ensures { IfOk result (λ taken. Takes self.old (after_air_up self.old) taken self.new) }
+        ensures ok { IfOk result (λ taken. Takes self.old (after_air_up self.old) taken self.new) }
+        ensures memory { OnErr result (IsSome (after_air_up self.old)) }
     {
         match self.mobile.frame(Sapi::Zero) {
             Ok(Some(frame)) => {
@@ -112,7 +119,8 @@ impl FixedWorld {
 
     /// The switch takes the first message of its outbox.
     fn switch_takes(&mut self) -> Result<bool, Memory>
-        ensures { IfOk result (λ taken. Takes self.old (after_switch_takes self.old) taken self.new) }
+        ensures ok { IfOk result (λ taken. Takes self.old (after_switch_takes self.old) taken self.new) }
+        ensures memory { OnErr result (IsSome (after_switch_takes self.old)) }
     {
         match self.outbox.pop_front() {
             Some(message) => {

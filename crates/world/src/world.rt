@@ -1,4 +1,4 @@
-ghost use Rattle.std.specs.Prelude.{◌≡◌, ℕ, ◌++◌, List, false, true, IfOk, OnOk, OnErr, is_some, option_map};
+ghost use Rattle.std.specs.Prelude.{IsSome, ◌≡◌, ℕ, ◌++◌, List, false, true, IfOk, OnOk, OnErr, is_some, option_map};
 ghost use Rattle.dtap_codec.specs.Number.{count_of};
 ghost use Rattle.world.specs.declared.event.Event.{Event as WorldEvent};
 ghost use Rattle.world.specs.Takes.{Takes};
@@ -53,12 +53,14 @@ impl World {
     }
 
     /// Lets the event's actor act, and says whether it could. An event that its actor can't take is counted, and changes
-    /// nothing else. Once a call has wanted memory, the world has failed, and every later event is refused so.
+    /// nothing else, and memory is wanted only for one that it can take. Once a call has wanted memory, the world has failed,
+    /// and every later event is refused so.
     pub fn step(&mut self, event: Event) -> Result<bool, Memory>
         ensures ok { OnOk result (self.new ≡ after self.old event) }
         ensures taken { IfOk result (λ taken. taken ≡ is_some (scene_after self.old.scene event)) }
         ensures stands { OnOk result (self.old.failed ≡ false) }
         ensures failed { OnErr result (self.new.failed ≡ true) }
+        ensures memory { OnErr result (self.old.failed ≡ false → IsSome (scene_after self.old.scene event)) }
     {
         self.act(&event)
     }
@@ -88,6 +90,7 @@ impl World {
         ensures taken { IfOk result (λ taken. taken ≡ is_some (scene_after self.old.scene event.now)) }
         ensures stands { OnOk result (self.old.failed ≡ false) }
         ensures failed { OnErr result (self.new.failed ≡ true) }
+        ensures memory { OnErr result (self.old.failed ≡ false → IsSome (scene_after self.old.scene event.now)) }
     {
         if self.failed {
             return Err(Memory);
@@ -167,7 +170,8 @@ impl World {
 
 impl Scene {
     fn take(&mut self, event: &Event) -> Result<bool, Memory>
-        ensures { IfOk result (λ taken. Takes self.old (scene_after self.old event.now) taken self.new) }
+        ensures ok { IfOk result (λ taken. Takes self.old (scene_after self.old event.now) taken self.new) }
+        ensures memory { OnErr result (IsSome (scene_after self.old event.now)) }
     {
         match self {
             Scene::Fixed(fixed) => fixed.take(event),

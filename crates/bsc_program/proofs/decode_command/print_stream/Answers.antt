@@ -1,31 +1,67 @@
-use Rattle.std.proofs.Common.{rules, subst}
+use Rattle.std.proofs.Common.{◌≡◌, [], rules, sym}
+use Rattle.bsc_program.specs.Decoded.{Begins, Decodes, RefusesWith}
+use Rattle.bsc_program.proofs.Decoding.{begins_among, begins_rest, decodes_all, names_stop, reads_keep, refused_among, stops_first, stops_unread}
+use Rattle.bsc_program.specs.NamingLaws.{begins_all}
 use Rattle.bsc_program.proofs.Ends.{error_as}
-use Rattle.bsc_program.proofs.Decoding.{decodes_all, decodes_long, decodes_more, decodes_none}
-use Rattle.bsc_program.specs.Block.{ReadsBlock}
 use Rattle.bsc_program.specs.declared.decode_command.Stop.TheVariants.{TooLong}
+use Rattle.bsc_program.specs.contracts.decode_command.NamerSink.TheImpl as namer
 use Rattle.bsc_program.proofs.decode_command.print_stream.Goals as goal
 
-pub loop-room-init : goal.loop-room-init
-loop-room-init g c = (search rules, decodes_none (g.R.Read.remaining c.args.input.now) (g.W.Write.contents c.args.output.now) c.new-framer.result c.new-framer.ensures)
+pub returns-in_err-read-clause-long : goal.returns-in_err-read-clause-long
+returns-in_err-read-clause-long g c = λ is.
+    let old = g.W.Write.contents c.new-namer.result.output.now in
+    let new = g.W.Write.contents c.read_all-read.new.sink.output.now in
+    let sink = namer.ghosts g.row.W g.W.Write g.W.Write-dict in
+    let name : c.read_all-read.new.sink.output.ghost_name ≡ _ =
+    reads_keep sink.takes sink.refuses _ _ _ c.new-namer.result c.read_all-read.new.sink _ _ c.read_all-read.ensures (λ octets takes. takes.0) (λ octets stop refuses. refuses.0) in
+    let some = stops_unread sink.takes sink.refuses _ _ _ c.new-namer.result c.read_all-read.new.sink old new c.in_err-read.field-0.0 c.in_err-read.ensures
+    (λ octets failure takes. names_stop c.new-namer.result.framer _ octets failure old new c.new-namer.ensures.framer takes.1)
+    (λ octets stop refuses. stops_first c.new-namer.result.framer octets stop old new c.new-namer.ensures.framer refuses.1)
+    in
+    let stop = error_as c.from_residual-in_err-read.result _ TooLong c.from_residual-in_err-read.ensures.1 is in
+    let refuses : RefusesWith [] (g.R.Read.remaining c.args.input.now) old new = refused_among _ _ some.0 _ old new some.1 some.2 (sym stop) in
+    let same = c.new-namer.ensures.output in search rules
 
-pub loop-room-preserved : goal.loop-room-preserved
-loop-room-preserved g c =
-    let read = subst (λ found. ReadsBlock found (g.R.Read.remaining c.loop-room.input) (g.R.Read.remaining c.next_block.new.input) c.next_block.new.block) c.in-Some.is c.in_ok-count.ensures.read in (
-      search rules,
-      decodes_more (g.R.Read.remaining c.args.input.now) (g.R.Read.remaining c.loop-room.input) (g.R.Read.remaining c.next_block.new.input)
-          (g.W.Write.contents c.args.output.now) (g.W.Write.contents c.loop-room.output) (g.W.Write.contents c.print_frames.new.output) (g.W.Write.contents c.flush.new.self)
-          c.loop-room.framer c.feed.new.self c.print_frames.new.framer _ c.loop-room.invariant.1 read.1 c.in_ok-feed.ensures c.in_ok-print_frames.ensures.ok c.in_ok-flush.ensures.bytes,
-    )
+pub returns-in_err-read-clause-begun : goal.returns-in_err-read-clause-begun
+returns-in_err-read-clause-begun g c =
+    let old = g.W.Write.contents c.new-namer.result.output.now in
+    let new = g.W.Write.contents c.read_all-read.new.sink.output.now in
+    let sink = namer.ghosts g.row.W g.W.Write g.W.Write-dict in
+    let name : c.read_all-read.new.sink.output.ghost_name ≡ _ =
+    reads_keep sink.takes sink.refuses _ _ _ c.new-namer.result c.read_all-read.new.sink _ _ c.read_all-read.ensures (λ octets takes. takes.0) (λ octets stop refuses. refuses.0) in
+    let some = stops_unread sink.takes sink.refuses _ _ _ c.new-namer.result c.read_all-read.new.sink old new c.in_err-read.field-0.0 c.in_err-read.ensures
+    (λ octets failure takes. names_stop c.new-namer.result.framer _ octets failure old new c.new-namer.ensures.framer takes.1)
+    (λ octets stop refuses. stops_first c.new-namer.result.framer octets stop old new c.new-namer.ensures.framer refuses.1)
+    in
+    let begun : Begins [] (g.R.Read.remaining c.args.input.now) old new = begins_among [] _ _ some.0 _ old new some.1 some.2 in
+    let same = c.new-namer.ensures.output in search rules
+
+pub returns-in_err-print_rest-clause-begun : goal.returns-in_err-print_rest-clause-begun
+returns-in_err-print_rest-clause-begun g c =
+    let old = g.W.Write.contents c.new-namer.result.output.now in
+    let new = g.W.Write.contents c.print_rest.new.output in
+    let some = c.in_ok-read.ensures in
+    let name = some.2.0 in
+    let begun : Begins [] (g.R.Read.remaining c.args.input.now) old new =
+    begins_rest [] _ _ some.0 c.new-namer.result.framer _ old _ new c.new-namer.ensures.framer some.1 some.3 some.2.1 c.in_err-print_rest.ensures in
+    let same = c.new-namer.ensures.output in search rules
 
 pub returns-clause-printed : goal.returns-clause-printed
 returns-clause-printed g c =
-    let end = subst (λ found. ReadsBlock found (g.R.Read.remaining c.loop-room.input) (g.R.Read.remaining c.next_block.new.input) c.next_block.new.block) c.in_default.is c.in_ok-count.ensures.read in
-    decodes_all (g.R.Read.remaining c.args.input.now) (g.R.Read.remaining c.loop-room.input) (g.R.Read.remaining c.next_block.new.input) (g.W.Write.contents c.args.output.now) (g.W.Write.contents c.loop-room.output) (g.W.Write.contents c.print_rest.new.output)
-    c.loop-room.framer c.loop-room.invariant.1 end.0 end.1 c.in_ok-print_rest.ensures
+    let old = g.W.Write.contents c.new-namer.result.output.now in
+    let new = g.W.Write.contents c.print_rest.new.output in
+    let some = c.in_ok-read.ensures in
+    let name = some.2.0 in
+    let decodes : Decodes (g.R.Read.remaining c.args.input.now) old new =
+    decodes_all _ _ some.0 c.new-namer.result.framer _ old _ new c.new-namer.ensures.framer some.1 some.3 some.2.1 c.in_ok-print_rest.ensures in
+    let same = c.new-namer.ensures.output in search rules
 
-pub returns-in_err-print_frames-clause-long : goal.returns-in_err-print_frames-clause-long
-returns-in_err-print_frames-clause-long g c = λ long.
-    let read = subst (λ found. ReadsBlock found (g.R.Read.remaining c.loop-room.input) (g.R.Read.remaining c.next_block.new.input) c.next_block.new.block) c.in-Some.is c.in_ok-count.ensures.read in
-    let same = error_as c.from_residual-in_err-print_frames.result _ TooLong c.from_residual-in_err-print_frames.ensures.1 long in
-    decodes_long (g.R.Read.remaining c.args.input.now) (g.R.Read.remaining c.loop-room.input) (g.R.Read.remaining c.next_block.new.input) (g.W.Write.contents c.args.output.now) (g.W.Write.contents c.loop-room.output) (g.W.Write.contents c.print_frames.new.output)
-    c.loop-room.framer c.feed.new.self c.print_frames.new.framer _ c.loop-room.invariant.1 read.1 c.in_ok-feed.ensures (c.in_err-print_frames.ensures.long (cc same))
+pub returns-clause-begun : goal.returns-clause-begun
+returns-clause-begun g c =
+    let old = g.W.Write.contents c.new-namer.result.output.now in
+    let new = g.W.Write.contents c.print_rest.new.output in
+    let some = c.in_ok-read.ensures in
+    let name = some.2.0 in
+    let begun : Begins [] (g.R.Read.remaining c.args.input.now) old new =
+    begins_rest [] _ _ some.0 c.new-namer.result.framer _ old _ new c.new-namer.ensures.framer some.1 some.3 some.2.1 (begins_all _ new _ c.in_ok-print_rest.ensures) in
+    let same = c.new-namer.ensures.output in search rules

@@ -1,4 +1,4 @@
--- What the loops over the blocks of an input share.
+-- What holds of the lists of two pieces holds of both together.
 use Rattle.std.proofs.Common.{List, [], ◌∷◌, ◌++◌}
 use Rattle.std.specs.List.{AllByRecursion}
 

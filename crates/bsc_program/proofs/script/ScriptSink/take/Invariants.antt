@@ -1,9 +1,9 @@
 use Rattle.std.proofs.Common.{length}
 use Rattle.bsc_program.proofs.Scripts.{ReadsSome}
-use Rattle.bsc_program.proofs.script.Script.feed.Given as goal
+use Rattle.bsc_program.proofs.script.ScriptSink.take.Given as goal
 
 abbrev pub invariant-loop-end : goal.invariant-loop-end
-invariant-loop-end l = ReadsSome l.initial.self l.self l.block l.rest
+invariant-loop-end l = ReadsSome l.initial.self l.self l.piece l.rest
 
 abbrev pub decreases-loop-end : goal.decreases-loop-end
 decreases-loop-end l = length l.rest
