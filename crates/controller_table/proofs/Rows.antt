@@ -1,7 +1,8 @@
 -- Channels of cells, and their identifiers.
 use Rattle.std.proofs.Common.{◌≡◌, ℕ, true, false, List, [], ◌∷◌, map, Some, None, option_map, codes, refl}
-use Rattle.controller_table.specs.Controller.{Controller, new_controller, place_at}
-use Rattle.controller_table.proofs.Lives.{put, from_switch, from_station, down, played, after, usual_settings}
+use Rattle.controller_table.specs.declared.channel_state.ChannelState.TheVariants.{Free, InUse, Releasing}
+use Rattle.controller_table.specs.Controller.{Controller, new_controller}
+use Rattle.controller_table.proofs.Lives.{put, from_switch, from_station, down, played, after, usual_settings, usual_channels}
 use Rattle.controller_table.proofs.OnLiterals.{on_literals}
 use Rattle.controller_table.proofs.ChangeRows.{active_1, handing_over}
 use Rattle.controller_table.specs.Channels.{cell_identifier, is_sdcch, is_tch, is_alike, first_free}
@@ -125,14 +126,14 @@ releases_both_without_the_switch = refl
 
 -- a station whose link broke has no channel that isn't free, and none is given
 
-keeps_no_channel : (after handing_over (down 1 ∷ [])).uses ≡ record { at = place_at 2 0x41; number = 1; is_releasing = true } ∷ []
+keeps_no_channel : usual_channels (after handing_over (down 1 ∷ [])) ≡ Free ∷ Free ∷ Free ∷ Releasing 1 ∷ Free ∷ []
 unfolding on_literals
 keeps_no_channel = refl
 
-has_two_channels : handing_over.uses ≡ record { at = place_at 1 0x41; number = 1; is_releasing = false } ∷ record { at = place_at 2 0x41; number = 1; is_releasing = false } ∷ []
+has_two_channels : usual_channels handing_over ≡ InUse 1 ∷ Free ∷ Free ∷ InUse 1 ∷ Free ∷ []
 unfolding on_literals
 has_two_channels = refl
 
-has_one_releasing : (after handing_over (from_station 2 (0x03 ∷ 0x02 ∷ 0x01 ∷ 0x41 ∷ 0x02 ∷ 0x00 ∷ 0x0b ∷ 0x00 ∷ 0x03 ∷ 0x06 ∷ 0x2c ∷ 0x00 ∷ []) ∷ [])).uses ≡ record { at = place_at 1 0x41; number = 1; is_releasing = true } ∷ record { at = place_at 2 0x41; number = 1; is_releasing = false } ∷ []
+has_one_releasing : usual_channels (after handing_over (from_station 2 (0x03 ∷ 0x02 ∷ 0x01 ∷ 0x41 ∷ 0x02 ∷ 0x00 ∷ 0x0b ∷ 0x00 ∷ 0x03 ∷ 0x06 ∷ 0x2c ∷ 0x00 ∷ []) ∷ [])) ≡ Releasing 1 ∷ Free ∷ Free ∷ InUse 1 ∷ Free ∷ []
 unfolding on_literals
 has_one_releasing = refl
