@@ -1,5 +1,5 @@
 -- Access and establishment, octet by octet.
-use Rattle.std.proofs.Common.{◌≡◌, true, [], ◌∷◌, map, replicate, Some, None, refl}
+use Rattle.std.proofs.Common.{◌≡◌, [], ◌∷◌, map, replicate, Some, None, refl}
 use Rattle.conn_table.specs.declared.state.Stage.TheVariants.{Active}
 use Rattle.conn_table.specs.declared.state.State.TheVariants.{Live}
 use Rattle.controller_table.specs.declared.step.Step.TheVariants.{Tick}

@@ -108,15 +108,11 @@ abbrev pub place_of : Channel → Place
 place_of channel = place_at channel.station channel.number
 
 -- a channel that no cell has is free
+abbrev pub state_in : List (List ChannelState) → Place → ChannelState
+state_in channels at = slice_index_or (slice_index_or channels at.station []) at.number Free
+
 abbrev pub channel_state : Controller → Place → ChannelState
-channel_state c at = slice_index_or (slice_index_or c.channels at.station []) at.number Free
-
-abbrev pub is_unused : ChannelState → Bool
-is_unused Free = true
-is_unused state = false
-
-abbrev pub is_free : Controller → Place → Bool
-is_free c at = is_unused (channel_state c at)
+channel_state c at = state_in c.channels at
 
 -- the connection that has a channel, or had it until RF CHANNEL RELEASE was put
 abbrev pub holder : ChannelState → Option ℕ

@@ -33,7 +33,6 @@ use Rattle.rsl_codec.specs.declared.fault.RslFault.{RslFault}
 use Rattle.rsl_codec.specs.declared.link_identifier.TheConstants.{MAIN_LINK_SAPI_0}
 use Rattle.rsl_codec.specs.declared.rsl.Rsl.{Rsl}
 use Rattle.rsl_codec.specs.declared.rsl.Rsl.TheVariants as rsl
-use Rattle.rsl_codec.specs.declared.values.RequestReference.{RequestReference}
 use Rattle.rsl_codec.specs.RslReading.{rsl_reading}
 
 -- ---- a station's

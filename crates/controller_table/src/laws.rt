@@ -1,4 +1,4 @@
-ghost use Rattle.std.specs.Prelude.{◌≡◌, ◌≢◌, ℕ, List, Option, Some, take};
+ghost use Rattle.std.specs.Prelude.{◌≡◌, ◌≢◌, ℕ, List, Option, Some, None, option_map, take};
 ghost use Rattle.conn_messages.specs.declared.channel.Channel.{Channel};
 ghost use Rattle.conn_table.specs.declared.input.Input.{Input};
 ghost use Rattle.conn_table.specs.Connection.{Connection};
