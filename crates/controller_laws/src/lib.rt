@@ -1,0 +1,3 @@
+//! Laws of the controller's whole life: what it does with the messages of a connection, whatever comes. They stand on the
+//! definitions alone.
+#![tactic(auto)]
