@@ -64,7 +64,7 @@ pub record Does (number : ℕ) (brought : Option Input) (before : Option Connect
 
 -- nothing
 pub does_nothing : (number : ℕ) (brought : Option Input) (before : Option Connection) (t : Turn) → outs_for number t.outs ≡ [] → connection_of t.next number ≡ before → FitsNone brought before → Does number brought before t
-does_nothing number brought before t silent same none = record { put = []; outs = silent; acts = rests brought before [] (connection_of t.next number) refl same none }
+does_nothing number brought before t silent same none = record { put = []; outs = silent; acts = rests refl same none }
 
 -- a row of its connection
 pub kept_entry : (e : Entry) → option_map (λ (x : Entry). x.connection) (entry_kept e.connection.state e) ≡ kept e.connection
@@ -95,7 +95,7 @@ row_does number brought c e x input offer r rising there fits by before own othe
           record {
             put = r.outs;
             outs = subst (λ (n : ℕ). outs_for n (outs_of e.connection.number r.outs) ≡ outs_of n r.outs) (sym same) (outs_own e.connection.number r.outs);
-            acts = goes brought before r.outs (connection_of (by_row e r c).next number) e.connection input offer r (own same) (by same) fits refl (subst (λ (n : ℕ). connection_of (by_row e r c).next n ≡ kept r.next) (sym same) (row_found c e x r rising keeps there));
+            acts = goes e.connection e.connection input offer r (own same) ([], refl) (by same) fits refl (subst (λ (n : ℕ). connection_of (by_row e r c).next n ≡ kept r.next) (sym same) (row_found c e x r rising keeps there));
           }
       | inr miss ↦
           let differ : number ≢ e.connection.number = λ same. absurd (true≢false (sym (eq-eqb number e.connection.number same) ∙ miss)) in

@@ -1,2 +1,4 @@
 pub mod Entries
 pub mod Acting
+pub mod Words
+pub mod Turns

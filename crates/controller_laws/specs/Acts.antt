@@ -1,5 +1,5 @@
 -- What a step does to one connection.
-use Rattle.std.specs.Prelude.{◌≡◌, ℕ, ◌==◌, if◌then◌else◌, List, [], ◌∷◌, ◌++◌, Option, Some, None}
+use Rattle.std.specs.Prelude.{◌≡◌, fold, ℕ, ◌==◌, if◌then◌else◌, List, [], ◌∷◌, ◌++◌, Option, Some, None}
 use Rattle.conn_messages.specs.declared.channel.Channel.{Channel}
 use Rattle.conn_messages.specs.declared.message.Message.{Message}
 use Rattle.conn_messages.specs.StationMessage.{access_activation}
@@ -70,14 +70,20 @@ kept_in _ s = Some s
 abbrev pub kept : Connection → Option Connection
 kept s = kept_in s.state s
 
-pub data Acts (number : ℕ) : Option Input → Option Connection → List Message → Option Connection → Type 0 where
-  -- it stays as it is
-  rests : (brought : Option Input) (before : Option Connection) (put : List Message) (after : Option Connection) → put ≡ [] → after ≡ before → FitsNone brought before → Acts number brought before put after
+-- after these times, in milliseconds
+abbrev pub passed : Connection → ℕ → Connection
+passed s ms = after_pass ms s
+
+abbrev pub IsAged : Connection → Connection → Type 0
+IsAged old s = (times : List ℕ) × (s ≡ fold passed old times)
+
+-- One row at most.
+pub data Acts (number : ℕ) (brought : Option Input) (before : Option Connection) (put : List Message) (after : Option Connection) : Type 0 where
+  -- it isn't there, or stays as it is
+  rests : put ≡ [] → after ≡ before → FitsNone brought before → Acts number brought before put after
   -- time passes
-  ages : (brought : Option Input) (before : Option Connection) (put : List Message) (after : Option Connection) → (ms : ℕ) (s : Connection) → brought ≡ None → before ≡ Some s → put ≡ [] → after ≡ Some (after_pass ms s) → Acts number brought before put after
+  ages : (old s : Connection) → brought ≡ None → before ≡ Some old → IsAged old s → put ≡ [] → after ≡ Some s → Acts number brought before put after
   -- it begins
-  opens : (brought : Option Input) (before : Option Connection) (put : List Message) (after : Option Connection) → (channel : Channel) (request : RequestReference) (delay : ℕ) → brought ≡ None → before ≡ None → put ≡ access_activation channel ∷ [] → after ≡ Some (new_connection number channel request delay) → Acts number brought before put after
-  -- a row of the table
-  goes : (brought : Option Input) (before : Option Connection) (put : List Message) (after : Option Connection) → (s : Connection) (input : Input) (offer : Option Channel) (r : Row) → before ≡ Some s → IsBrought brought input → row_of s input offer ≡ Some r → put ≡ r.outs → after ≡ kept r.next → Acts number brought before put after
-  -- one after the other, of what the step doesn't bring
-  both : (brought : Option Input) (before mid : Option Connection) (first rest put : List Message) (after : Option Connection) → brought ≡ None → Acts number None before first mid → Acts number None mid rest after → put ≡ first ++ rest → Acts number brought before put after
+  opens : (channel : Channel) (request : RequestReference) (delay : ℕ) → brought ≡ None → before ≡ None → put ≡ access_activation channel ∷ [] → after ≡ Some (new_connection number channel request delay) → Acts number brought before put after
+  -- a row of the table, perhaps after time passed
+  goes : (old s : Connection) (input : Input) (offer : Option Channel) (r : Row) → before ≡ Some old → IsAged old s → IsBrought brought input → row_of s input offer ≡ Some r → put ≡ r.outs → after ≡ kept r.next → Acts number brought before put after
