@@ -2,3 +2,4 @@ pub mod Entries
 pub mod Acting
 pub mod Words
 pub mod Turns
+pub mod Readings
