@@ -12,7 +12,7 @@ use Rattle.conn_table.specs.declared.state.State.TheVariants.{WaitActivation, Wa
 use Rattle.conn_table.specs.Connection.{Connection}
 use Rattle.conn_table.specs.Steps.{Row}
 use Rattle.conn_table.specs.Table.{row_of}
-use Rattle.controller_laws.specs.Acts.{Acts, IsBrought, FitsNone, kept, kept_in}
+use Rattle.controller_laws.specs.Acts.{Acts, Brought, IsBrought, FitsNone, kept, kept_in}
 use Rattle.controller_laws.specs.Acts.Acts.{rests, goes}
 use Rattle.controller_laws.specs.History.{is_for, outs_for, connection_of}
 use Rattle.controller_laws.specs.Numbers.{AreRising}
@@ -57,13 +57,13 @@ outs_of_append number (x ∷ xs) ys = ap (λ (outs : List Out). out_of number x 
 -- ---- a turn
 
 -- it does this to a connection
-pub record Does (number next : ℕ) (brought : Option Input) (before : Option Connection) (t : Turn) : Type 0 where
+pub record Does (number next : ℕ) (brought : Brought) (before : Option Connection) (t : Turn) : Type 0 where
   pub put : List Message
   pub outs : outs_for number t.outs ≡ outs_of number put
   pub acts : Acts number next brought before put (connection_of t.next number)
 
 -- nothing
-pub does_nothing : (number next : ℕ) (brought : Option Input) (before : Option Connection) (t : Turn) → outs_for number t.outs ≡ [] → connection_of t.next number ≡ before → FitsNone brought before → Does number next brought before t
+pub does_nothing : (number next : ℕ) (brought : Brought) (before : Option Connection) (t : Turn) → outs_for number t.outs ≡ [] → connection_of t.next number ≡ before → FitsNone brought before → Does number next brought before t
 does_nothing number next brought before t silent same none = record { put = []; outs = silent; acts = rests refl same none }
 
 -- a row of its connection
@@ -84,7 +84,7 @@ row_found c e x r rising same there =
     subst (λ (n : ℕ). option_map (λ (y : Entry). y.connection) (find (has_number n) (by_row e r c).next.entries) ≡ kept r.next) same
     (ap (option_map (λ (y : Entry). y.connection)) (back_found put x c.entries rising (ap (λ (n : ℕ). find (has_number n) c.entries) same ∙ there)) ∙ kept_entry put)
 
-pub row_does : (number next : ℕ) (brought : Option Input) (c : Controller) (e x : Entry) (input : Input) (offer : Option Channel) (r : Row) → AreRising c.entries → entry_of c e.connection.number ≡ Some x → row_of e.connection input offer ≡ Some r →
+pub row_does : (number next : ℕ) (brought : Brought) (c : Controller) (e x : Entry) (input : Input) (offer : Option Channel) (r : Row) → AreRising c.entries → entry_of c e.connection.number ≡ Some x → row_of e.connection input offer ≡ Some r →
     (number ≡ e.connection.number → IsBrought brought input) → (before : Option Connection) → (number ≡ e.connection.number → before ≡ Some e.connection) →
     (number ≢ e.connection.number → (connection_of c number ≡ before) × FitsNone brought before) → Does number next brought before (by_row e r c)
 row_does number next brought c e x input offer r rising there fits by before own others =

@@ -11,8 +11,9 @@ use Rattle.conn_table.specs.declared.state.State.TheVariants.{WaitActivation, Wa
 use Rattle.conn_table.specs.Connection.{Connection, is_at}
 use Rattle.conn_table.specs.Steps.{Row}
 use Rattle.conn_table.specs.Table.{row_of}
-use Rattle.controller_laws.specs.Acts.{Acts, IsBrought, FitsNone, if_held, input_for}
+use Rattle.controller_laws.specs.Acts.{Acts, Brought, IsBrought, FitsNone, if_held, brought_by}
 use Rattle.controller_laws.specs.Acts.Acts.{opens}
+use Rattle.controller_laws.specs.Acts.Brought.{nothing, comes, reports, breaks, passes}
 use Rattle.controller_laws.specs.History.{outs_for, connection_of}
 use Rattle.controller_laws.specs.Numbers.{IsNumbered, AreRising}
 use Rattle.controller_laws.proofs.Acting.{Does, does_nothing, row_does, outs_own, outs_other}
@@ -35,18 +36,21 @@ connection_at c number o is = ap (option_map (λ (e : Entry). e.connection)) is
 
 -- ---- whose an input is
 
-held_own : (number m : ℕ) (input : Input) → number ≡ m → if_held number (Some m) input ≡ Some input
+held_own : (number m : ℕ) (input : Input) → number ≡ m → if_held number (Some m) input ≡ comes input
 held_own number m input same = cond-true _ _ _ (eq-eqb m number (sym same))
 
-held_other : (number m : ℕ) (input : Input) → number ≢ m → if_held number (Some m) input ≡ None
+held_other : (number m : ℕ) (input : Input) → number ≢ m → if_held number (Some m) input ≡ nothing
 held_other number m input differ = cond-false _ _ _ (ne_eqb m number (λ same. differ (sym same)))
 
-none_fits_none : (brought : Option Input) → FitsNone brought None
-none_fits_none None = tt
-none_fits_none (Some input) = tt
+pub none_fits_none : (brought : Brought) → FitsNone brought None
+none_fits_none nothing = tt
+none_fits_none (comes input) = tt
+none_fits_none reports = tt
+none_fits_none (breaks input) = tt
+none_fits_none passes = tt
 
 none_for_other : (number m : ℕ) (input : Input) (o : Option Connection) → number ≢ m → FitsNone (if_held number (Some m) input) o
-none_for_other number m input o differ = subst (λ (b : Option Input). FitsNone b o) (sym (held_other number m input differ)) tt
+none_for_other number m input o differ = subst (λ (b : Brought). FitsNone b o) (sym (held_other number m input differ)) tt
 
 pub decide_same : (number m : ℕ) → (P : Type 0) → (number ≡ m → P) → (number ≢ m → P) → P
 decide_same number m P own other = elim (cases_Bool (number == m)) [
@@ -56,7 +60,7 @@ decide_same number m P own other = elim (cases_Bool (number == m)) [
 
 -- ---- the row that fits, or none
 
-pub fitting_does : (number next : ℕ) (brought : Option Input) (c : Controller) (otherwise : Turn) (e : Entry) (input : Input) (offer : Option Channel) (o : Option Row) → row_of e.connection input offer ≡ o → AreRising c.entries → entry_of c e.connection.number ≡ Some e →
+pub fitting_does : (number next : ℕ) (brought : Brought) (c : Controller) (otherwise : Turn) (e : Entry) (input : Input) (offer : Option Channel) (o : Option Row) → row_of e.connection input offer ≡ o → AreRising c.entries → entry_of c e.connection.number ≡ Some e →
     outs_for number otherwise.outs ≡ [] → connection_of otherwise.next number ≡ connection_of c number →
     (number ≡ e.connection.number → IsBrought brought input) → (number ≡ e.connection.number → row_of e.connection input offer ≡ None → FitsNone brought (Some e.connection)) →
     (number ≢ e.connection.number → FitsNone brought (connection_of c number)) → Does number next brought (connection_of c number) (by_fitting otherwise e o c)
@@ -77,8 +81,8 @@ concerning_by : (number next m : ℕ) (c : Controller) (otherwise : Turn) (e : E
 concerning_by number next m c otherwise e input offer rising there silent same =
     let is : e.connection.number ≡ m = found_number m c.entries e there in
     fitting_does number next (if_held number (Some m) input) c otherwise e input offer (row_of e.connection input offer) refl rising (subst (λ (n : ℕ). entry_of c n ≡ Some e) (sym is) there) silent same
-    (λ here. subst (λ (b : Option Input). IsBrought b input) (sym (held_own number m input (here ∙ is))) refl)
-    (λ here misses. subst (λ (b : Option Input). FitsNone b (Some e.connection)) (sym (held_own number m input (here ∙ is))) (offer, misses))
+    (λ here. subst (λ (b : Brought). IsBrought b input) (sym (held_own number m input (here ∙ is))) refl)
+    (λ here misses. subst (λ (b : Brought). FitsNone b (Some e.connection)) (sym (held_own number m input (here ∙ is))) (offer, misses))
     (λ differ. none_for_other number m input (connection_of c number) (λ same. differ (same ∙ sym is)))
 
 -- nobody has that number
@@ -102,9 +106,9 @@ freed_does : (number next m : ℕ) (b : Bool) (at : Place) (c : Controller) (inp
 freed_does number next m true at c input o rising is = concerning_too_does number next m (freed at c) input o rising is
 freed_does number next m false at c input o rising is = concerning_does number next m c input o rising is
 
-free_does : (number next : ℕ) (b : Bool) (at : Place) (c : Controller) (input : Input) → Does number next None (connection_of c number) (on_freed b at input c None)
-free_does number next true at c input = does_nothing number next None (connection_of c number) (turn [] (freed at c)) refl refl tt
-free_does number next false at c input = does_nothing number next None (connection_of c number) (ignoring c) refl refl tt
+free_does : (number next : ℕ) (b : Bool) (at : Place) (c : Controller) (input : Input) → Does number next nothing (connection_of c number) (on_freed b at input c None)
+free_does number next true at c input = does_nothing number next nothing (connection_of c number) (turn [] (freed at c)) refl refl tt
+free_does number next false at c input = does_nothing number next nothing (connection_of c number) (ignoring c) refl refl tt
 
 channel_does : (number next : ℕ) (at : Place) (c : Controller) (input : Input) (state : ChannelState) → AreRising c.entries → Does number next (if_held number (holder state) input) (connection_of c number) (on_state state at input c (entry_at c state))
 channel_does number next at c input Free rising = free_does number next (frees Free None input) at c input
@@ -113,26 +117,26 @@ channel_does number next at c input (Releasing m) rising = freed_does number nex
 
 -- ---- a connection begins
 
-given_does : (number : ℕ) (c : Controller) (request : RequestReference) (delay : ℕ) (o : Option Channel) → IsNumbered c → Does number c.next_number None (connection_of c number) (given c request delay o)
-given_does number c request delay None numbered = does_nothing number c.next_number None (connection_of c number) (ignoring c) refl refl tt
+given_does : (number : ℕ) (c : Controller) (request : RequestReference) (delay : ℕ) (o : Option Channel) → IsNumbered c → Does number c.next_number nothing (connection_of c number) (given c request delay o)
+given_does number c request delay None numbered = does_nothing number c.next_number nothing (connection_of c number) (ignoring c) refl refl tt
 given_does number c request delay (Some channel) numbered =
     let e : Entry = new_entry c channel request delay in
     let t : Turn = with_connection c channel request delay in
     let none : entry_of c c.next_number ≡ None = find_below c.next_number c.entries numbered.below in
-    decide_same number c.next_number (Does number c.next_number None (connection_of c number) t)
-    (λ same. subst (λ (n : ℕ). Does n c.next_number None (connection_of c n) t) (sym same)
+    decide_same number c.next_number (Does number c.next_number nothing (connection_of c number) t)
+    (λ same. subst (λ (n : ℕ). Does n c.next_number nothing (connection_of c n) t) (sym same)
         (record {
           put = access_activation channel ∷ [];
           outs = outs_own c.next_number (access_activation channel ∷ []);
           acts = opens refl channel request delay refl (connection_at c c.next_number None none) refl
               (ap (option_map (λ (x : Entry). x.connection)) (behind_found e c.entries none));
         }))
-    (λ differ. does_nothing number c.next_number None (connection_of c number) t (outs_other number c.next_number (access_activation channel ∷ []) differ)
+    (λ differ. does_nothing number c.next_number nothing (connection_of c number) t (outs_other number c.next_number (access_activation channel ∷ []) differ)
         (ap (option_map (λ (x : Entry). x.connection)) (behind_over number e c.entries differ)) tt)
 
-asked_does : (number next : ℕ) (b : Bool) (c : Controller) (t : Turn) → Does number next None (connection_of c number) t → Does number next None (connection_of c number) (if b then t else ignoring c)
+asked_does : (number next : ℕ) (b : Bool) (c : Controller) (t : Turn) → Does number next nothing (connection_of c number) t → Does number next nothing (connection_of c number) (if b then t else ignoring c)
 asked_does number next true c t does = does
-asked_does number next false c t does = does_nothing number next None (connection_of c number) (ignoring c) refl refl tt
+asked_does number next false c t does = does_nothing number next nothing (connection_of c number) (ignoring c) refl refl tt
 
 -- ---- a report
 
@@ -144,12 +148,12 @@ measured_stays WaitEstablish e is = absurd (true≢false (sym is))
 measured_stays (Closed clearing) e is = absurd (true≢false (sym is))
 measured_stays Removed e is = absurd (true≢false (sym is))
 
-decision_does : (number next : ℕ) (d : Decision) (c : Controller) (e : Entry) → AreRising c.entries → entry_of c e.connection.number ≡ Some e → Does number next None (connection_of c number) (on_decision d c e)
-decision_does number next Stay c e rising there = does_nothing number next None (connection_of c number) (turn [] c) refl refl tt
+decision_does : (number next : ℕ) (d : Decision) (c : Controller) (e : Entry) → AreRising c.entries → entry_of c e.connection.number ≡ Some e → Does number next reports (connection_of c number) (on_decision d c e)
+decision_does number next Stay c e rising there = does_nothing number next reports (connection_of c number) (turn [] c) refl refl tt
 decision_does number next (Move cell) c e rising there =
-    fitting_does number next None c (turn [] c) e inputs.Move (handover_offer c e.connection.serving cell) _ refl rising there refl refl (λ here. tt) (λ here misses. tt) (λ differ. tt)
+    fitting_does number next reports c (turn [] c) e inputs.Move (handover_offer c e.connection.serving cell) _ refl rising there refl refl (λ here. refl) (λ here misses. tt) (λ differ. tt)
 
-measured_does : (number next of : ℕ) (report : Report) (c : Controller) (e : Entry) → AreRising c.entries → entry_of c e.connection.number ≡ Some e → is_measured e.connection.state ≡ true → Does number next None (connection_of c number) (measured of report c e)
+measured_does : (number next of : ℕ) (report : Report) (c : Controller) (e : Entry) → AreRising c.entries → entry_of c e.connection.number ≡ Some e → is_measured e.connection.state ≡ true → Does number next reports (connection_of c number) (measured of report c e)
 measured_does number next of report c e rising there is =
     let put : Entry = with_report of report e in
     let c' : Controller = with_entry put c in
@@ -158,30 +162,30 @@ measured_does number next of report c e rising there is =
     decide_same number e.connection.number (connection_of c' number ≡ connection_of c number)
     (λ here. subst (λ (n : ℕ). connection_of c' n ≡ connection_of c n) (sym here) (connection_at c' e.connection.number (Some put) found ∙ sym (connection_at c e.connection.number (Some e) there)))
     (λ differ. ap (option_map (λ (x : Entry). x.connection)) (back_over number put c.entries differ)) in
-    subst (λ (before : Option Connection). Does number next None before (measured of report c e)) same
+    subst (λ (before : Option Connection). Does number next reports before (measured of report c e)) same
     (decision_does number next (decision_over put.averages.settings put.averages.reports of) c' put (back_rising put c.entries rising) found)
 
-if_measures : (number next : ℕ) (b : Bool) (of : ℕ) (report : Report) (c : Controller) (e : Entry) → (b ≡ true → Does number next None (connection_of c number) (measured of report c e)) → Does number next None (connection_of c number) (if b then measured of report c e else ignoring c)
+if_measures : (number next : ℕ) (b : Bool) (of : ℕ) (report : Report) (c : Controller) (e : Entry) → (b ≡ true → Does number next reports (connection_of c number) (measured of report c e)) → Does number next reports (connection_of c number) (if b then measured of report c e else ignoring c)
 if_measures number next true of report c e does = does refl
-if_measures number next false of report c e does = does_nothing number next None (connection_of c number) (ignoring c) refl refl tt
+if_measures number next false of report c e does = does_nothing number next reports (connection_of c number) (ignoring c) refl refl tt
 
-report_does : (number next : ℕ) (at : Place) (of : ℕ) (report : Report) (c : Controller) (m : ℕ) (o : Option Entry) → AreRising c.entries → entry_of c m ≡ o → Does number next None (connection_of c number) (on_report at of report c o)
-report_does number next at of report c m None rising there = does_nothing number next None (connection_of c number) (ignoring c) refl refl tt
+report_does : (number next : ℕ) (at : Place) (of : ℕ) (report : Report) (c : Controller) (m : ℕ) (o : Option Entry) → AreRising c.entries → entry_of c m ≡ o → Does number next reports (connection_of c number) (on_report at of report c o)
+report_does number next at of report c m None rising there = does_nothing number next reports (connection_of c number) (ignoring c) refl refl tt
 report_does number next at of report c m (Some e) rising there =
     let is : e.connection.number ≡ m = found_number m c.entries e there in
     if_measures number next (measures at e) of report c e
     (λ measured. measured_does number next of report c e rising (subst (λ (n : ℕ). entry_of c n ≡ Some e) (sym is) there) (and_parts (is_at at e.connection.serving) (is_measured e.connection.state) measured).1)
 
-report_on_does : (number next : ℕ) (at : Place) (of : ℕ) (report : Report) (c : Controller) (state : ChannelState) → AreRising c.entries → Does number next None (connection_of c number) (on_report at of report c (entry_at c state))
-report_on_does number next at of report c Free rising = does_nothing number next None (connection_of c number) (ignoring c) refl refl tt
+report_on_does : (number next : ℕ) (at : Place) (of : ℕ) (report : Report) (c : Controller) (state : ChannelState) → AreRising c.entries → Does number next reports (connection_of c number) (on_report at of report c (entry_at c state))
+report_on_does number next at of report c Free rising = does_nothing number next reports (connection_of c number) (ignoring c) refl refl tt
 report_on_does number next at of report c (InUse m) rising = report_does number next at of report c m (entry_of c m) rising refl
 report_on_does number next at of report c (Releasing m) rising = report_does number next at of report c m (entry_of c m) rising refl
 
 -- ---- a frame
 
-pub word_does : (number source : ℕ) (word : Word) (c : Controller) → 1 ≤ number → IsNumbered c → Does number c.next_number (input_for c number word) (connection_of c number) (on_word source word c)
-word_does number source Nothing c from_one numbered = does_nothing number c.next_number None (connection_of c number) (ignoring c) refl refl tt
-word_does number source Ping c from_one numbered = does_nothing number c.next_number None (connection_of c number) (turn (pong source ∷ []) c) (cond-false _ _ _ (ne_eqb 0 number (λ same. absurd (omega arith)))) refl tt
+pub word_does : (number source : ℕ) (word : Word) (c : Controller) → 1 ≤ number → IsNumbered c → Does number c.next_number (brought_by c number word) (connection_of c number) (on_word source word c)
+word_does number source Nothing c from_one numbered = does_nothing number c.next_number nothing (connection_of c number) (ignoring c) refl refl tt
+word_does number source Ping c from_one numbered = does_nothing number c.next_number nothing (connection_of c number) (turn (pong source ∷ []) c) (cond-false _ _ _ (ne_eqb 0 number (λ same. absurd (omega arith)))) refl tt
 word_does number source (Asks request delay) c from_one numbered =
     asked_does number c.next_number (may_open c) c (given c request delay (access_channel c source)) (given_does number c request delay (access_channel c source) numbered)
 word_does number source (OnChannel at input) c from_one numbered = channel_does number c.next_number at c input (channel_state c at) numbered.rising

@@ -14,53 +14,71 @@ use Rattle.conn_table.specs.Timers.{after_pass}
 use Rattle.controller_table.specs.declared.step.Step.{Step}
 use Rattle.controller_table.specs.declared.step.Step.TheVariants.{Take, Tick}
 use Rattle.controller_table.specs.declared.word.Word.{Word}
-use Rattle.controller_table.specs.declared.word.Word.TheVariants.{OnChannel, OnConnection}
+use Rattle.controller_table.specs.declared.word.Word.TheVariants.{OnChannel, Reports, OnConnection}
 use Rattle.controller_table.specs.Controller.{Controller, is_up, channel_state, holder}
+use Rattle.controller_table.specs.Life.{break_of}
 use Rattle.controller_table.specs.Reading.{word_of}
 use Rattle.relay_items.specs.declared.What.{What}
 use Rattle.relay_items.specs.declared.What.TheVariants as whats
 use Rattle.rsl_codec.specs.declared.values.RequestReference.{RequestReference}
 
--- ---- the input that a step brings to a connection
+-- ---- what a step brings to a connection
 
-abbrev pub if_held : ℕ → Option ℕ → Input → Option Input
-if_held number None input = None
-if_held number (Some holder) input = if holder == number then Some input else None
+pub data Brought : Type 0 where
+  -- no input
+  nothing : Brought
+  -- that of a frame
+  comes : Input → Brought
+  -- a report on its channel, which may begin a handover
+  reports : Brought
+  -- that of a link that breaks
+  breaks : Input → Brought
+  -- time, and with it timers
+  passes : Brought
+
+abbrev pub if_held : ℕ → Option ℕ → Input → Brought
+if_held number None input = nothing
+if_held number (Some holder) input = if holder == number then comes input else nothing
 
 -- what comes on a channel is for the connection that has it
-abbrev pub input_for : Controller → ℕ → Word → Option Input
-input_for c number (OnChannel at input) = if_held number (holder (channel_state c at)) input
-input_for c number (OnConnection destination input) = if_held number (Some destination) input
-input_for c number _ = None
+abbrev pub brought_by : Controller → ℕ → Word → Brought
+brought_by c number (OnChannel at input) = if_held number (holder (channel_state c at)) input
+brought_by c number (OnConnection destination input) = if_held number (Some destination) input
+brought_by c number (Reports at of report) = reports
+brought_by c number _ = nothing
 
-abbrev pub input_by : Controller → ℕ → ℕ → What → Option Input
-input_by c number source (whats.Frame frame) = input_for c number (word_of source frame)
-input_by c number source whats.Down = None
+abbrev pub brought_with : Controller → ℕ → ℕ → What → Brought
+brought_with c number source (whats.Frame frame) = brought_by c number (word_of source frame)
+brought_with c number source whats.Down = breaks (break_of source)
 
-abbrev pub input_in : Controller → ℕ → Step → Option Input
-input_in c number (Take item) = if is_up c item.source then input_by c number item.source item.what else None
-input_in c number (Tick ms) = None
+abbrev pub brought_in : Controller → ℕ → Step → Brought
+brought_in c number (Take item) = if is_up c item.source then brought_with c number item.source item.what else nothing
+brought_in c number (Tick ms) = passes
 
 -- ---- what it does
 
--- those of the controller itself
-abbrev pub IsOwn : Input → Type 0
-IsOwn inputs.Move = Unit {0}
-IsOwn inputs.Expiry = Unit {0}
-IsOwn inputs.DrainExpiry = Unit {0}
-IsOwn (inputs.StationDown station) = Unit {0}
-IsOwn inputs.SwitchDown = Unit {0}
-IsOwn _ = ⊥
+abbrev pub IsTimer : Input → Type 0
+IsTimer inputs.Expiry = Unit {0}
+IsTimer inputs.DrainExpiry = Unit {0}
+IsTimer _ = ⊥
 
--- the one that the step brings, or where it brings none, one of the controller's own
-abbrev pub IsBrought : Option Input → Input → Type 0
-IsBrought (Some brought) input = input ≡ brought
-IsBrought None input = IsOwn input
+-- the input that a row is by
+abbrev pub IsBrought : Brought → Input → Type 0
+IsBrought nothing input = ⊥
+IsBrought (comes brought) input = input ≡ brought
+IsBrought reports input = input ≡ inputs.Move
+IsBrought (breaks brought) input = input ≡ brought
+IsBrought passes input = IsTimer input
 
--- no row fits
-abbrev pub FitsNone : Option Input → Option Connection → Type 0
-FitsNone (Some input) (Some s) = (offer : Option Channel) × (row_of s input offer ≡ None)
-FitsNone _ _ = Unit {0}
+-- no row fits what a frame or a break brings
+abbrev pub MissesOf : Input → Option Connection → Type 0
+MissesOf input None = Unit {0}
+MissesOf input (Some s) = (offer : Option Channel) × (row_of s input offer ≡ None)
+
+abbrev pub FitsNone : Brought → Option Connection → Type 0
+FitsNone (comes input) before = MissesOf input before
+FitsNone (breaks input) before = MissesOf input before
+FitsNone _ before = Unit {0}
 
 -- a connection that is removed goes
 abbrev pub kept_in : State → Connection → Option Connection
@@ -78,12 +96,12 @@ abbrev pub IsAged : Connection → Connection → Type 0
 IsAged old s = (times : List ℕ) × (s ≡ fold passed old times)
 
 -- One row at most.
-pub data Acts (number next : ℕ) (brought : Option Input) (before : Option Connection) (put : List Message) (after : Option Connection) : Type 0 where
+pub data Acts (number next : ℕ) (brought : Brought) (before : Option Connection) (put : List Message) (after : Option Connection) : Type 0 where
   -- it isn't there, or stays as it is
   rests : put ≡ [] → after ≡ before → FitsNone brought before → Acts number next brought before put after
   -- time passes
-  ages : (old s : Connection) → brought ≡ None → before ≡ Some old → IsAged old s → put ≡ [] → after ≡ Some s → Acts number next brought before put after
+  ages : (old s : Connection) → brought ≡ passes → before ≡ Some old → IsAged old s → put ≡ [] → after ≡ Some s → Acts number next brought before put after
   -- it begins, as the next one
-  opens : number ≡ next → (channel : Channel) (request : RequestReference) (delay : ℕ) → brought ≡ None → before ≡ None → put ≡ access_activation channel ∷ [] → after ≡ Some (new_connection number channel request delay) → Acts number next brought before put after
+  opens : number ≡ next → (channel : Channel) (request : RequestReference) (delay : ℕ) → brought ≡ nothing → before ≡ None → put ≡ access_activation channel ∷ [] → after ≡ Some (new_connection number channel request delay) → Acts number next brought before put after
   -- a row of the table, perhaps after time passed
   goes : (old s : Connection) (input : Input) (offer : Option Channel) (r : Row) → before ≡ Some old → IsAged old s → IsBrought brought input → row_of s input offer ≡ Some r → put ≡ r.outs → after ≡ kept r.next → Acts number next brought before put after
