@@ -3,3 +3,4 @@ pub mod Acting
 pub mod Words
 pub mod Turns
 pub mod Readings
+pub mod Beside
