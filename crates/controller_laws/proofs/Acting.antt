@@ -1,5 +1,5 @@
 -- Each step does one thing to a connection, or in a break and as time passes one after the other.
-use Rattle.std.proofs.Common.{◌≡◌, ◌≢◌, ℕ, ◌==◌, List, [], ◌∷◌, ◌++◌, find, Option, Some, option_map, refl, sym, subst, ap, ◌∙◌, inl, inr, true≢false}
+use Rattle.std.proofs.Common.{◌≡◌, Bool, ◌≢◌, ℕ, ◌==◌, List, [], ◌∷◌, ◌++◌, find, Option, Some, option_map, refl, sym, subst, ap, ◌∙◌, inl, inr, true≢false}
 use Rattle.std.proofs.lemmas.Bool.{cases_Bool, cond-true, cond-false, eqb-true, eq-eqb, ne_eqb}
 use Rattle.conn_messages.specs.declared.channel.Channel.{Channel}
 use Rattle.conn_messages.specs.declared.message.Message.{Message}
@@ -57,14 +57,14 @@ outs_of_append number (x ∷ xs) ys = ap (λ (outs : List Out). out_of number x 
 -- ---- a turn
 
 -- it does this to a connection
-pub record Does (number next : ℕ) (brought : Brought) (before : Option Connection) (t : Turn) : Type 0 where
+pub record Does (number next : ℕ) (up : Bool) (brought : Brought) (before : Option Connection) (t : Turn) : Type 0 where
   pub put : List Message
   pub outs : outs_for number t.outs ≡ outs_of number put
-  pub acts : Acts number next brought before put (connection_of t.next number)
+  pub acts : Acts number next up brought before put (connection_of t.next number)
 
 -- nothing
-pub does_nothing : (number next : ℕ) (brought : Brought) (before : Option Connection) (t : Turn) → outs_for number t.outs ≡ [] → connection_of t.next number ≡ before → FitsNone brought before → Does number next brought before t
-does_nothing number next brought before t silent same none = record { put = []; outs = silent; acts = rests refl same none }
+pub does_nothing : (number next : ℕ) (up : Bool) (brought : Brought) (before : Option Connection) (t : Turn) → outs_for number t.outs ≡ [] → connection_of t.next number ≡ before → FitsNone brought before → Does number next up brought before t
+does_nothing number next up brought before t silent same none = record { put = []; outs = silent; acts = rests refl same none }
 
 -- a row of its connection
 pub kept_entry : (e : Entry) → option_map (λ (x : Entry). x.connection) (entry_kept e.connection.state e) ≡ kept e.connection
@@ -84,10 +84,10 @@ row_found c e x r rising same there =
     subst (λ (n : ℕ). option_map (λ (y : Entry). y.connection) (find (has_number n) (by_row e r c).next.entries) ≡ kept r.next) same
     (ap (option_map (λ (y : Entry). y.connection)) (back_found put x c.entries rising (ap (λ (n : ℕ). find (has_number n) c.entries) same ∙ there)) ∙ kept_entry put)
 
-pub row_does : (number next : ℕ) (brought : Brought) (c : Controller) (e x : Entry) (input : Input) (offer : Option Channel) (r : Row) → AreRising c.entries → entry_of c e.connection.number ≡ Some x → row_of e.connection input offer ≡ Some r →
+pub row_does : (number next : ℕ) (up : Bool) (brought : Brought) (c : Controller) (e x : Entry) (input : Input) (offer : Option Channel) (r : Row) → AreRising c.entries → entry_of c e.connection.number ≡ Some x → row_of e.connection input offer ≡ Some r →
     (number ≡ e.connection.number → IsBrought brought input) → (before : Option Connection) → (number ≡ e.connection.number → before ≡ Some e.connection) →
-    (number ≢ e.connection.number → (connection_of c number ≡ before) × FitsNone brought before) → Does number next brought before (by_row e r c)
-row_does number next brought c e x input offer r rising there fits by before own others =
+    (number ≢ e.connection.number → (connection_of c number ≡ before) × FitsNone brought before) → Does number next up brought before (by_row e r c)
+row_does number next up brought c e x input offer r rising there fits by before own others =
     let keeps : r.next.number ≡ e.connection.number = subst (λ (o : Option Row). OfRow (λ (q : Row). q.next.number ≡ e.connection.number) o) fits (keeps_number e.connection input offer) in
     elim (cases_Bool (number == e.connection.number)) [
       | inl hit ↦
@@ -100,6 +100,6 @@ row_does number next brought c e x input offer r rising there fits by before own
       | inr miss ↦
           let differ : number ≢ e.connection.number = λ same. absurd (true≢false (sym (eq-eqb number e.connection.number same) ∙ miss)) in
           let rest = others differ in
-          does_nothing number next brought before (by_row e r c) (outs_other number e.connection.number r.outs differ)
+          does_nothing number next up brought before (by_row e r c) (outs_other number e.connection.number r.outs differ)
               (ap (option_map (λ (y : Entry). y.connection)) (back_over number (entry_after c.settings e r) c.entries (λ same. differ (same ∙ keeps))) ∙ rest.0) rest.1
     ]

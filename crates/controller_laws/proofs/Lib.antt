@@ -4,3 +4,4 @@ pub mod Words
 pub mod Turns
 pub mod Readings
 pub mod Beside
+pub mod Fitting

@@ -44,9 +44,9 @@ use Rattle.rsl_codec.specs.declared.values.RequestReference.{RequestReference}
 
 -- ---- an input of the controller's own
 
-told_does : (number next : ℕ) (brought : Brought) (input : Input) (c : Controller) (e : Entry) → IsBrought brought input → ((s : Connection) (offer : Option Channel) → row_of s input offer ≡ None → FitsNone brought (Some s)) → (number ≢ e.connection.number → FitsNone brought (connection_of c number)) → AreRising c.entries → entry_of c e.connection.number ≡ Some e → Does number next brought (connection_of c number) (told input c e)
-told_does number next brought input c e own misses others rising there =
-    fitting_does number next brought c (turn [] c) e input (request_offer c e.connection input) (row_in c e.connection input) refl rising there refl refl (λ here. own) (λ here none. misses e.connection (request_offer c e.connection input) none) others
+told_does : (number next : ℕ) (up : Bool) (brought : Brought) (input : Input) (c : Controller) (e : Entry) → IsBrought brought input → ((s : Connection) (offer : Option Channel) → row_of s input offer ≡ None → FitsNone brought (Some s)) → (number ≢ e.connection.number → FitsNone brought (connection_of c number)) → AreRising c.entries → entry_of c e.connection.number ≡ Some e → Does number next up brought (connection_of c number) (told input c e)
+told_does number next up brought input c e own misses others rising there =
+    fitting_does number next up brought c (turn [] c) e input (request_offer c e.connection input) (row_in c e.connection input) refl rising there refl refl (λ here. own) (λ here none. misses e.connection (request_offer c e.connection input) none) others
 
 fitting_rising : (c : Controller) (otherwise : Turn) (e : Entry) (o : Option Row) → AreRising c.entries → AreRising otherwise.next.entries → AreRising (by_fitting otherwise e o c).next.entries
 fitting_rising c otherwise e None rising same = same
@@ -63,9 +63,9 @@ expiry_own true d = tt
 expiry_own false true = tt
 expiry_own false false = tt
 
-expiry_does : (number next : ℕ) (o : Option Input) (c : Controller) (e : Entry) → IsDue o → AreRising c.entries → entry_of c e.connection.number ≡ Some e → Does number next passes (connection_of c number) (on_expiry o c e)
-expiry_does number next None c e own rising there = does_nothing number next passes (connection_of c number) (turn [] c) refl refl tt
-expiry_does number next (Some input) c e own rising there = told_does number next passes input c e own (λ s offer none. tt) (λ differ. tt) rising there
+expiry_does : (number next : ℕ) (up : Bool) (o : Option Input) (c : Controller) (e : Entry) → IsDue o → AreRising c.entries → entry_of c e.connection.number ≡ Some e → Does number next up passes (connection_of c number) (on_expiry o c e)
+expiry_does number next up None c e own rising there = does_nothing number next up passes (connection_of c number) (turn [] c) refl refl tt
+expiry_does number next up (Some input) c e own rising there = told_does number next up passes input c e own (λ s offer none. tt) (λ differ. tt) rising there
 
 expiry_rising : (o : Option Input) (c : Controller) (e : Entry) → AreRising c.entries → AreRising (on_expiry o c e).next.entries
 expiry_rising None c e rising = rising
@@ -88,43 +88,43 @@ all_found (x ∷ xs) rising = (
   )
 
 -- what such a step does to the connection itself, and that it leaves all others
-pub record IsTame (number next : ℕ) (brought : Brought) (f : Controller → Entry → Turn) : Type 0 where
-  pub does : (c : Controller) (e : Entry) → number ≡ e.connection.number → AreRising c.entries → entry_of c e.connection.number ≡ Some e → Does number next brought (connection_of c number) (f c e)
+pub record IsTame (number next : ℕ) (up : Bool) (brought : Brought) (f : Controller → Entry → Turn) : Type 0 where
+  pub does : (c : Controller) (e : Entry) → number ≡ e.connection.number → AreRising c.entries → entry_of c e.connection.number ≡ Some e → Does number next up brought (connection_of c number) (f c e)
   pub silent : (c : Controller) (e : Entry) → number ≢ e.connection.number → outs_for number (f c e).outs ≡ []
   pub rising : (c : Controller) (e : Entry) → AreRising c.entries → AreRising (f c e).next.entries
   pub leaves : (m : ℕ) (c : Controller) (e : Entry) → m ≢ e.connection.number → entry_of (f c e).next m ≡ entry_of c m
 
 -- others are told, and this one is as it was
-each_other : (number next : ℕ) (brought : Brought) (f : Controller → Entry → Turn) → IsTame number next brought f → (c : Controller) (xs : List Entry) → AllByRecursion (IsAbove number) xs → (outs_for number (each f c xs).outs ≡ []) × (connection_of (each f c xs).next number ≡ connection_of c number)
-each_other number next brought f tame c [] above = (refl, refl)
-each_other number next brought f tame c (x ∷ xs) above =
+each_other : (number next : ℕ) (up : Bool) (brought : Brought) (f : Controller → Entry → Turn) → IsTame number next up brought f → (c : Controller) (xs : List Entry) → AllByRecursion (IsAbove number) xs → (outs_for number (each f c xs).outs ≡ []) × (connection_of (each f c xs).next number ≡ connection_of c number)
+each_other number next up brought f tame c [] above = (refl, refl)
+each_other number next up brought f tame c (x ∷ xs) above =
     let differ : number ≢ x.connection.number = λ same. absurd (omega arith) in
-    let others = each_other number next brought f tame (f c x).next xs above.1 in
+    let others = each_other number next up brought f tame (f c x).next xs above.1 in
     (
       outs_append number (f c x).outs (each f (f c x).next xs).outs ∙ ap (λ (outs : List Out). outs ++ outs_for number (each f (f c x).next xs).outs) (tame.silent c x differ) ∙ others.0,
       others.1 ∙ ap (option_map (λ (e : Entry). e.connection)) (tame.leaves number c x differ),
     )
 
-pub each_does : (number next : ℕ) (brought : Brought) (f : Controller → Entry → Turn) → IsTame number next brought f → (c : Controller) (xs : List Entry) → AreRising c.entries → AreRising xs → AllByRecursion (λ (x : Entry). entry_of c x.connection.number ≡ Some x) xs → entry_of c number ≡ find (has_number number) xs → Does number next brought (connection_of c number) (each f c xs)
-each_does number next brought f tame c [] rising order there is = does_nothing number next brought (connection_of c number) (turn [] c) refl refl (subst (FitsNone brought) (sym (ap (option_map (λ (e : Entry). e.connection)) is)) (none_fits_none brought))
-each_does number next brought f tame c (x ∷ xs) rising order there is =
-    decide_same number x.connection.number (Does number next brought (connection_of c number) (each f c (x ∷ xs)))
+pub each_does : (number next : ℕ) (up : Bool) (brought : Brought) (f : Controller → Entry → Turn) → IsTame number next up brought f → (c : Controller) (xs : List Entry) → AreRising c.entries → AreRising xs → AllByRecursion (λ (x : Entry). entry_of c x.connection.number ≡ Some x) xs → entry_of c number ≡ find (has_number number) xs → Does number next up brought (connection_of c number) (each f c xs)
+each_does number next up brought f tame c [] rising order there is = does_nothing number next up brought (connection_of c number) (turn [] c) refl refl (subst (FitsNone brought) (sym (ap (option_map (λ (e : Entry). e.connection)) is)) (none_fits_none brought))
+each_does number next up brought f tame c (x ∷ xs) rising order there is =
+    decide_same number x.connection.number (Does number next up brought (connection_of c number) (each f c (x ∷ xs)))
     (λ same.
         let own = tame.does c x same rising there.0 in
-        let others = each_other number next brought f tame (f c x).next xs (subst (λ (n : ℕ). AllByRecursion (IsAbove n) xs) (sym same) order.0) in
+        let others = each_other number next up brought f tame (f c x).next xs (subst (λ (n : ℕ). AllByRecursion (IsAbove n) xs) (sym same) order.0) in
         record {
           put = own.put;
           outs = outs_append number (f c x).outs (each f (f c x).next xs).outs ∙ ap (λ (outs : List Out). outs_for number (f c x).outs ++ outs) others.0 ∙ append-nil (outs_for number (f c x).outs) ∙ own.outs;
-          acts = subst (λ (after : Option Connection). Acts number next brought (connection_of c number) own.put after) (sym others.1) own.acts;
+          acts = subst (λ (after : Option Connection). Acts number next up brought (connection_of c number) own.put after) (sym others.1) own.acts;
         })
     (λ differ.
-        let rest = each_does number next brought f tame (f c x).next xs (tame.rising c x rising) order.1
+        let rest = each_does number next up brought f tame (f c x).next xs (tame.rising c x rising) order.1
             (all_two (IsAbove x.connection.number) (λ (y : Entry). entry_of c y.connection.number ≡ Some y) (λ (y : Entry). entry_of (f c x).next y.connection.number ≡ Some y) xs
             (λ y above found. tame.leaves y.connection.number c x (λ same. absurd (omega arith)) ∙ found) order.0 there.1) (tame.leaves number c x differ ∙ is ∙ find_behind number x xs differ) in
         record {
           put = rest.put;
           outs = outs_append number (f c x).outs (each f (f c x).next xs).outs ∙ ap (λ (outs : List Out). outs ++ outs_for number (each f (f c x).next xs).outs) (tame.silent c x differ) ∙ rest.outs;
-          acts = subst (λ (before : Option Connection). Acts number next brought before rest.put (connection_of (each f (f c x).next xs).next number)) (ap (option_map (λ (e : Entry). e.connection)) (tame.leaves number c x differ)) rest.acts;
+          acts = subst (λ (before : Option Connection). Acts number next up brought before rest.put (connection_of (each f (f c x).next xs).next number)) (ap (option_map (λ (e : Entry). e.connection)) (tame.leaves number c x differ)) rest.acts;
         })
 
 fitting_silent : (number : ℕ) (c : Controller) (e : Entry) (o : Option Row) → number ≢ e.connection.number → outs_for number (by_fitting (turn [] c) e o c).outs ≡ []
@@ -135,17 +135,17 @@ expiry_silent : (number : ℕ) (o : Option Input) (c : Controller) (e : Entry) �
 expiry_silent number None c e differ = refl
 expiry_silent number (Some input) c e differ = fitting_silent number c e (row_in c e.connection input) differ
 
-told_tame : (number next : ℕ) (input : Input) → IsTame number next (breaks input) (told input)
-told_tame number next input = record {
-  does = λ c e same rising there. told_does number next (breaks input) input c e refl (λ s offer none. (offer, none)) (λ differ. absurd (differ same)) rising there;
+told_tame : (number next : ℕ) (up : Bool) (input : Input) → IsTame number next up (breaks input) (told input)
+told_tame number next up input = record {
+  does = λ c e same rising there. told_does number next up (breaks input) input c e refl (λ s offer none. (offer, none)) (λ differ. absurd (differ same)) rising there;
   silent = λ c e differ. fitting_silent number c e (row_in c e.connection input) differ;
   rising = λ c e rising. fitting_rising c (turn [] c) e (row_in c e.connection input) rising rising;
   leaves = λ m c e differ. told_leaves m input c e differ;
 }
 
-timed_tame : (number next : ℕ) → IsTame number next passes timed
-timed_tame number next = record {
-  does = λ c e same rising there. expiry_does number next (expiry c.settings.timers e.connection) c e (expiry_own _ _) rising there;
+timed_tame : (number next : ℕ) (up : Bool) → IsTame number next up passes timed
+timed_tame number next up = record {
+  does = λ c e same rising there. expiry_does number next up (expiry c.settings.timers e.connection) c e (expiry_own _ _) rising there;
   silent = λ c e differ. expiry_silent number (expiry c.settings.timers e.connection) c e differ;
   rising = λ c e rising. expiry_rising (expiry c.settings.timers e.connection) c e rising;
   leaves = λ m c e differ. timed_leaves m c e differ;
@@ -153,20 +153,20 @@ timed_tame number next = record {
 
 -- ---- a break
 
-without_does : (number next : ℕ) (brought : Brought) (b : Bool) (source : ℕ) (before : Option Connection) (t : Turn) → Does number next brought before t → Does number next brought before (turn t.outs (if b then t.next else freed_station source t.next))
-without_does number next brought true source before t does = record { put = does.put; outs = does.outs; acts = does.acts }
-without_does number next brought false source before t does = record { put = does.put; outs = does.outs; acts = does.acts }
+without_does : (number next : ℕ) (up : Bool) (brought : Brought) (b : Bool) (source : ℕ) (before : Option Connection) (t : Turn) → Does number next up brought before t → Does number next up brought before (turn t.outs (if b then t.next else freed_station source t.next))
+without_does number next up brought true source before t does = record { put = does.put; outs = does.outs; acts = does.acts }
+without_does number next up brought false source before t does = record { put = does.put; outs = does.outs; acts = does.acts }
 
-break_does : (number next source : ℕ) (c : Controller) → AreRising c.entries → Does number next (breaks (break_of source)) (connection_of c number) (on_break source c)
-break_does number next source c rising =
+break_does : (number next : ℕ) (up : Bool) (source : ℕ) (c : Controller) → AreRising c.entries → Does number next up (breaks (break_of source)) (connection_of c number) (on_break source c)
+break_does number next up source c rising =
     let down : Controller = with_down source c in
-    without_does number next (breaks (break_of source)) (source == SWITCH_LINK) source (connection_of c number) (each (told (break_of source)) down c.entries)
-    (each_does number next (breaks (break_of source)) (told (break_of source)) (told_tame number next (break_of source)) down c.entries rising rising (all_found c.entries rising) refl)
+    without_does number next up (breaks (break_of source)) (source == SWITCH_LINK) source (connection_of c number) (each (told (break_of source)) down c.entries)
+    (each_does number next up (breaks (break_of source)) (told (break_of source)) (told_tame number next up (break_of source)) down c.entries rising rising (all_found c.entries rising) refl)
 
-what_does : (number : ℕ) (up : Bool) (source : ℕ) (what : What) (c : Controller) → 1 ≤ number → IsNumbered c → Does number c.next_number (if up then brought_with c number source what else nothing) (connection_of c number) (on_what up source what c)
+what_does : (number : ℕ) (up : Bool) (source : ℕ) (what : What) (c : Controller) → 1 ≤ number → IsNumbered c → Does number c.next_number (is_up c SWITCH_LINK) (if up then brought_with c number source what else nothing) (connection_of c number) (on_what up source what c)
 what_does number true source (whats.Frame frame) c from_one numbered = word_does number source (word_of source frame) c from_one numbered
-what_does number true source whats.Down c from_one numbered = break_does number c.next_number source c numbered.rising
-what_does number false source what c from_one numbered = does_nothing number c.next_number nothing (connection_of c number) (ignoring c) refl refl tt
+what_does number true source whats.Down c from_one numbered = break_does number c.next_number (is_up c SWITCH_LINK) source c numbered.rising
+what_does number false source what c from_one numbered = does_nothing number c.next_number (is_up c SWITCH_LINK) nothing (connection_of c number) (ignoring c) refl refl tt
 
 -- ---- a tick
 
@@ -193,35 +193,35 @@ some_is s t is = cc
 aged_first : (ms : ℕ) (s old now : Connection) → old ≡ after_pass ms s → IsAged old now → IsAged s now
 aged_first ms s old now is aged = (ms ∷ aged.0, aged.1 ∙ ap (λ (c : Connection). fold passed c aged.0) is)
 
-aged_acts : (number next ms : ℕ) (o : Option Connection) (put : List Message) (after : Option Connection) → Acts number next passes (option_map (after_pass ms) o) put after → Acts number next passes o put after
-aged_acts number next ms None put after (rests silent same none) = rests silent same tt
-aged_acts number next ms None put after (ages old s brought is aged silent same) = absurd cc
-aged_acts number next ms None put after (opens begins channel request delay brought is put_is same) = absurd cc
-aged_acts number next ms None put after (goes old s input offer r is aged by fits put_is same) = absurd cc
-aged_acts number next ms (Some s) put after (rests silent same none) = ages s (after_pass ms s) refl refl (ms ∷ [], refl) silent same
-aged_acts number next ms (Some s) put after (ages old now brought is aged silent same) = ages s now refl refl (aged_first ms s old now (some_is (after_pass ms s) old is) aged) silent same
-aged_acts number next ms (Some s) put after (opens begins channel request delay brought is put_is same) = absurd cc
-aged_acts number next ms (Some s) put after (goes old now input offer r is aged by fits put_is same) = goes s now input offer r refl (aged_first ms s old now (some_is (after_pass ms s) old is) aged) by fits put_is same
+aged_acts : (number next : ℕ) (up : Bool) (ms : ℕ) (o : Option Connection) (put : List Message) (after : Option Connection) → Acts number next up passes (option_map (after_pass ms) o) put after → Acts number next up passes o put after
+aged_acts number next up ms None put after (rests silent same none) = rests silent same tt
+aged_acts number next up ms None put after (ages old s brought is aged silent same) = absurd cc
+aged_acts number next up ms None put after (opens begins linked_up channel request delay brought is put_is same) = absurd cc
+aged_acts number next up ms None put after (goes old s input offer r is aged by fits put_is same) = absurd cc
+aged_acts number next up ms (Some s) put after (rests silent same none) = ages s (after_pass ms s) refl refl (ms ∷ [], refl) silent same
+aged_acts number next up ms (Some s) put after (ages old now brought is aged silent same) = ages s now refl refl (aged_first ms s old now (some_is (after_pass ms s) old is) aged) silent same
+aged_acts number next up ms (Some s) put after (opens begins linked_up channel request delay brought is put_is same) = absurd cc
+aged_acts number next up ms (Some s) put after (goes old now input offer r is aged by fits put_is same) = goes s now input offer r refl (aged_first ms s old now (some_is (after_pass ms s) old is) aged) by fits put_is same
 
-tick_does : (number next ms : ℕ) (c : Controller) → AreRising c.entries → Does number next passes (connection_of c number) (tick ms c)
+tick_does : (number next : ℕ) (up : Bool) (ms : ℕ) (c : Controller) → AreRising c.entries → Does number next up passes (connection_of c number) (tick ms c)
 unfolding tick
-tick_does number next ms c rising =
+tick_does number next up ms c rising =
     let old : Controller = all_aged ms c in
     let order = aged_rising ms c.entries rising in
     let after : connection_of old number ≡ option_map (after_pass ms) (connection_of c number) = ap (option_map (λ (e : Entry). e.connection)) (all_age number ms c) ∙ aged_connection ms (entry_of c number) in
-    let does = each_does number next passes timed (timed_tame number next) old old.entries order order (all_found old.entries order) refl in
+    let does = each_does number next up passes timed (timed_tame number next up) old old.entries order order (all_found old.entries order) refl in
     record {
       put = does.put;
       outs = does.outs;
-      acts = aged_acts number next ms (connection_of c number) does.put (connection_of (each timed old old.entries).next number) (subst (λ (before : Option Connection). Acts number next passes before does.put (connection_of (each timed old old.entries).next number)) after does.acts);
+      acts = aged_acts number next up ms (connection_of c number) does.put (connection_of (each timed old old.entries).next number) (subst (λ (before : Option Connection). Acts number next up passes before does.put (connection_of (each timed old old.entries).next number)) after does.acts);
     }
 
 -- ---- a step
 
-pub step_does : (number : ℕ) (c : Controller) (s : Step) → 1 ≤ number → IsNumbered c → Does number c.next_number (brought_in c number s) (connection_of c number) (step c s)
+pub step_does : (number : ℕ) (c : Controller) (s : Step) → 1 ≤ number → IsNumbered c → Does number c.next_number (is_up c SWITCH_LINK) (brought_in c number s) (connection_of c number) (step c s)
 unfolding take
 step_does number c (Take item) from_one numbered = what_does number (is_up c item.source) item.source item.what c from_one numbered
-step_does number c (Tick ms) from_one numbered = tick_does number c.next_number ms c numbered.rising
+step_does number c (Tick ms) from_one numbered = tick_does number c.next_number (is_up c SWITCH_LINK) ms c numbered.rising
 
 -- ---- the numbers stay in order
 

@@ -1,5 +1,5 @@
 -- What a step does to one connection.
-use Rattle.std.specs.Prelude.{◌≡◌, fold, ℕ, ◌==◌, if◌then◌else◌, List, [], ◌∷◌, ◌++◌, Option, Some, None}
+use Rattle.std.specs.Prelude.{◌≡◌, Bool, true, fold, ℕ, ◌==◌, if◌then◌else◌, List, [], ◌∷◌, ◌++◌, Option, Some, None}
 use Rattle.conn_messages.specs.declared.channel.Channel.{Channel}
 use Rattle.conn_messages.specs.declared.message.Message.{Message}
 use Rattle.conn_messages.specs.StationMessage.{access_activation}
@@ -96,12 +96,12 @@ abbrev pub IsAged : Connection → Connection → Type 0
 IsAged old s = (times : List ℕ) × (s ≡ fold passed old times)
 
 -- One row at most.
-pub data Acts (number next : ℕ) (brought : Brought) (before : Option Connection) (put : List Message) (after : Option Connection) : Type 0 where
+pub data Acts (number next : ℕ) (up : Bool) (brought : Brought) (before : Option Connection) (put : List Message) (after : Option Connection) : Type 0 where
   -- it isn't there, or stays as it is
-  rests : put ≡ [] → after ≡ before → FitsNone brought before → Acts number next brought before put after
+  rests : put ≡ [] → after ≡ before → FitsNone brought before → Acts number next up brought before put after
   -- time passes
-  ages : (old s : Connection) → brought ≡ passes → before ≡ Some old → IsAged old s → put ≡ [] → after ≡ Some s → Acts number next brought before put after
-  -- it begins, as the next one
-  opens : number ≡ next → (channel : Channel) (request : RequestReference) (delay : ℕ) → brought ≡ nothing → before ≡ None → put ≡ access_activation channel ∷ [] → after ≡ Some (new_connection number channel request delay) → Acts number next brought before put after
+  ages : (old s : Connection) → brought ≡ passes → before ≡ Some old → IsAged old s → put ≡ [] → after ≡ Some s → Acts number next up brought before put after
+  -- it begins, as the next one, while the link of the switch is up
+  opens : number ≡ next → up ≡ true → (channel : Channel) (request : RequestReference) (delay : ℕ) → brought ≡ nothing → before ≡ None → put ≡ access_activation channel ∷ [] → after ≡ Some (new_connection number channel request delay) → Acts number next up brought before put after
   -- a row of the table, perhaps after time passed
-  goes : (old s : Connection) (input : Input) (offer : Option Channel) (r : Row) → before ≡ Some old → IsAged old s → IsBrought brought input → row_of s input offer ≡ Some r → put ≡ r.outs → after ≡ kept r.next → Acts number next brought before put after
+  goes : (old s : Connection) (input : Input) (offer : Option Channel) (r : Row) → before ≡ Some old → IsAged old s → IsBrought brought input → row_of s input offer ≡ Some r → put ≡ r.outs → after ≡ kept r.next → Acts number next up brought before put after
