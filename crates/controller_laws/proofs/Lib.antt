@@ -5,3 +5,5 @@ pub mod Turns
 pub mod Readings
 pub mod Beside
 pub mod Fitting
+pub mod Silence
+pub mod Lives

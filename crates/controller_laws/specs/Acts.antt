@@ -16,7 +16,10 @@ use Rattle.controller_table.specs.declared.step.Step.TheVariants.{Take, Tick}
 use Rattle.controller_table.specs.declared.word.Word.{Word}
 use Rattle.controller_table.specs.declared.word.Word.TheVariants.{OnChannel, Reports, OnConnection}
 use Rattle.controller_table.specs.Controller.{Controller, is_up, channel_state, holder}
-use Rattle.controller_table.specs.Life.{break_of}
+use Rattle.conn_messages.specs.declared.parameters.TheConstants.{SWITCH_LINK}
+use Rattle.conn_messages.specs.Out.{outs_of}
+use Rattle.controller_laws.specs.History.{connection_of, outs_for}
+use Rattle.controller_table.specs.Life.{break_of, step}
 use Rattle.controller_table.specs.Reading.{word_of}
 use Rattle.relay_items.specs.declared.What.{What}
 use Rattle.relay_items.specs.declared.What.TheVariants as whats
@@ -105,3 +108,9 @@ pub data Acts (number next : ℕ) (up : Bool) (brought : Brought) (before : Opti
   opens : number ≡ next → up ≡ true → (channel : Channel) (request : RequestReference) (delay : ℕ) → brought ≡ nothing → before ≡ None → put ≡ access_activation channel ∷ [] → after ≡ Some (new_connection number channel request delay) → Acts number next up brought before put after
   -- a row of the table, perhaps after time passed
   goes : (old s : Connection) (input : Input) (offer : Option Channel) (r : Row) → before ≡ Some old → IsAged old s → IsBrought brought input → row_of s input offer ≡ Some r → put ≡ r.outs → after ≡ kept r.next → Acts number next up brought before put after
+
+-- What a step puts for a connection, and what it makes of it.
+pub record ActsOn (number : ℕ) (c : Controller) (s : Step) : Type 0 where
+  pub put : List Message
+  pub outs : outs_for number (step c s).outs ≡ outs_of number put
+  pub acts : Acts number c.next_number (is_up c SWITCH_LINK) (brought_in c number s) (connection_of c number) put (connection_of (step c s).next number)
