@@ -7,3 +7,4 @@ pub mod Beside
 pub mod Fitting
 pub mod Silence
 pub mod Lives
+pub mod Progress
