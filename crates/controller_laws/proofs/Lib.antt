@@ -8,3 +8,5 @@ pub mod Fitting
 pub mod Silence
 pub mod Lives
 pub mod Progress
+pub mod Sources
+pub mod Switched
