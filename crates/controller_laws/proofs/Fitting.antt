@@ -104,15 +104,25 @@ timer_carried inputs.Expiry timer = tt
 timer_carried inputs.DrainExpiry timer = tt
 timer_carried _ timer = absurd timer
 
-own_carried : (source : ℕ) → IsCarried (break_of source)
+abbrev pub IsLinkBreak : Input → Type 0
+IsLinkBreak inputs.SwitchDown = Unit {0}
+IsLinkBreak (inputs.StationDown station) = Unit {0}
+IsLinkBreak _ = ⊥
+
+break_carried : (input : Input) → IsLinkBreak input → IsCarried input
+break_carried inputs.SwitchDown is = tt
+break_carried (inputs.StationDown station) is = tt
+break_carried _ is = absurd is
+
+own_carried : (source : ℕ) → IsLinkBreak (break_of source)
 own_carried source = elim (cases_Bool (source == SWITCH_LINK)) [
-  | inl switch ↦ subst IsCarried (sym (cond-true _ inputs.SwitchDown (inputs.StationDown source) switch)) tt
-  | inr station ↦ subst IsCarried (sym (cond-false _ inputs.SwitchDown (inputs.StationDown source) station)) tt
+  | inl switch ↦ subst IsLinkBreak (sym (cond-true _ inputs.SwitchDown (inputs.StationDown source) switch)) tt
+  | inr station ↦ subst IsLinkBreak (sym (cond-false _ inputs.SwitchDown (inputs.StationDown source) station)) tt
 ]
 
 -- a break is one of a link
-pub IsBreak : Brought → Type 0
-IsBreak (breaks input) = IsCarried input
+unfoldable pub IsBreak : Brought → Type 0
+IsBreak (breaks input) = IsLinkBreak input
 IsBreak _ = Unit {0}
 
 with_break : (up : Bool) (c : Controller) (number source : ℕ) (what : What) → IsBreak (if up then brought_with c number source what else nothing)
@@ -145,16 +155,16 @@ unfolding IsCarriedIn IsBreak
 brought_carried nothing input carried own is = absurd is
 brought_carried (comes came) input carried own is = subst IsCarried (sym is) carried
 brought_carried reports input carried own is = subst IsCarried (sym is) tt
-brought_carried (breaks came) input carried own is = subst IsCarried (sym is) own
+brought_carried (breaks came) input carried own is = subst IsCarried (sym is) (break_carried came own)
 brought_carried passes input carried own is = timer_carried input is
 
 -- ---- a connection that is there
 
-pub IsPresent : State → Type 0
+unfoldable pub IsPresent : State → Type 0
 IsPresent Removed = ⊥
 IsPresent _ = Unit {0}
 
-pub IsFine : Option Connection → Type 0
+unfoldable pub IsFine : Option Connection → Type 0
 IsFine None = Unit {0}
 IsFine (Some s) = IsPresent s.state × Stands s
 
@@ -221,7 +231,7 @@ gone_after number next up before after put (goes old s input offer r is aged by 
     same ∙ ap (λ (state : State). kept_in state r.next) gone
 
 -- a connection is there only while the link of the switch is up
-pub IsLinked : Bool → Option Connection → Type 0
+unfoldable pub IsLinked : Bool → Option Connection → Type 0
 IsLinked up None = Unit {0}
 IsLinked up (Some s) = up ≡ true
 
