@@ -10,3 +10,4 @@ pub mod Lives
 pub mod Progress
 pub mod Sources
 pub mod Switched
+pub mod DownlinkLife

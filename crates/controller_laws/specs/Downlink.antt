@@ -8,7 +8,11 @@ use Rattle.conn_table.specs.Connection.{Connection}
 use Rattle.conn_table.specs.Streams.{IsOpen, handed, is_dtap, received_by, rejects}
 use Rattle.controller_table.specs.declared.word.Word.{Word}
 use Rattle.controller_table.specs.declared.word.Word.TheVariants.{OnConnection}
-use Rattle.controller_laws.specs.History.{Moment, word_in}
+use Rattle.controller_laws.specs.History.{IsHistory, Moment, connection_of, word_in}
+use Rattle.controller_table.specs.declared.step.Step.{Step}
+use Rattle.controller_table.specs.Controller.{new_controller}
+use Rattle.controller_table.specs.Life.{life}
+use Rattle.settings.specs.Parameters.{Parameters}
 use Rattle.dtap_codec.specs.declared.sapi.Sapi.{Sapi}
 use Rattle.dtap_codec.specs.declared.sapi.Sapi.TheVariants.{Zero, Three}
 use Rattle.hold_queue.specs.HoldState.{messages}
@@ -73,3 +77,10 @@ switched number sapi moments = fold (with_moment number sapi) nothing_switched m
 abbrev pub ConservesDownlink : Switched → Sapi → Option Connection → Type 0
 ConservesDownlink a sapi None = Unit {0}
 ConservesDownlink a sapi (Some s) = IsOpen s.state → a.handed ++ filter is_dtap (messages s.down sapi) ≡ a.received
+
+-- There are messages, step by step, of which the connection's frames are, and over them, per SAPI, what was handed, then what
+-- is held, is what came and wasn't rejected.
+pub record DownlinkIsConserved (number : ℕ) (p : Parameters) (steps : List Step) : Type 0 where
+  pub moments : List Moment
+  pub history : IsHistory number (new_controller p) steps moments
+  pub downlink : (sapi : Sapi) → ConservesDownlink (switched number sapi moments) sapi (connection_of (life p steps).next number)

@@ -1,5 +1,6 @@
 ghost use Rattle.std.specs.Prelude.{ℕ, ◌≤◌, ◌<◌, List};
 ghost use Rattle.controller_laws.specs.Acts.{ActsOn};
+ghost use Rattle.controller_laws.specs.Downlink.{DownlinkIsConserved};
 ghost use Rattle.controller_laws.specs.End.{IsThere, KeepsSilence, StaysSilent};
 ghost use Rattle.controller_laws.specs.History.{connection_of};
 ghost use Rattle.controller_laws.specs.Numbers.{IsNumbered};
@@ -26,4 +27,10 @@ pub fn silence_is_kept()
     ensures steps { (p : Parameters) (steps : List Step) (s : Step) (number : ℕ) → 1 ≤ number → KeepsSilence number (life p steps).next s }
     ensures end { (p : Parameters) (steps rest : List Step) (number : ℕ) → 1 ≤ number → number < (life p steps).next.next_number
         → (IsThere (connection_of (life p steps).next number) → ⊥) → StaysSilent number (life p steps).next rest }
+{}
+
+/// Of each SAPI, what was handed to the mobile of a connection, then what is held for it, is what the switch sent from CC on,
+/// without what was rejected and without messages of radio resource management, as long as the connection is open.
+pub fn downlink_is_conserved()
+    ensures { (p : Parameters) (steps : List Step) (number : ℕ) → 1 ≤ number → DownlinkIsConserved number p steps }
 {}
