@@ -11,3 +11,4 @@ pub mod Progress
 pub mod Sources
 pub mod Switched
 pub mod DownlinkLife
+pub mod Places
