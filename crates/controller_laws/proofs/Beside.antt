@@ -7,6 +7,7 @@ use Rattle.conn_messages.specs.declared.channel.Place.{Place}
 use Rattle.conn_messages.specs.declared.parameters.TheConstants.{SWITCH_LINK}
 use Rattle.conn_table.specs.declared.input.Input.{Input}
 use Rattle.conn_table.specs.Steps.{Row}
+use Rattle.controller_laws.specs.Owning.{is_link_up}
 use Rattle.controller_table.specs.declared.step.Step.{Step}
 use Rattle.controller_table.specs.declared.step.Step.TheVariants.{Take, Tick}
 use Rattle.controller_table.specs.declared.word.Word.{Word}
@@ -132,9 +133,6 @@ step_goes c (Tick ms) =
     record { settings = all.settings; links_are = all.links; numbers = all.numbers }
 
 -- ---- links
-
-abbrev pub is_link_up : List Bool → ℕ → Bool
-is_link_up links source = unwrap_or (slice_get links source) false
 
 pub other_link : (links : List Bool) (source link : ℕ) → link ≢ source → is_link_up (set links source false) link ≡ is_link_up links link
 other_link links source link differ =

@@ -24,7 +24,8 @@ use Rattle.controller_laws.specs.Acts.Brought.{nothing, comes, reports, breaks, 
 use Rattle.controller_laws.specs.History.{connection_of}
 use Rattle.controller_laws.specs.Numbers.{IsNumbered}
 use Rattle.controller_laws.proofs.Acting.{Does}
-use Rattle.controller_laws.proofs.Beside.{Goes, step_goes, links_with, links_after, is_link_up, other_link}
+use Rattle.controller_laws.proofs.Beside.{Goes, step_goes, links_with, links_after, other_link}
+use Rattle.controller_laws.specs.Owning.{is_link_up}
 use Rattle.controller_laws.proofs.Readings.{IsCarriedBy, word_carried}
 use Rattle.controller_laws.proofs.Turns.{step_does, step_numbered}
 use Rattle.controller_table.specs.declared.step.Step.{Step}

@@ -12,3 +12,4 @@ pub mod Sources
 pub mod Switched
 pub mod DownlinkLife
 pub mod Places
+pub mod Owning

@@ -8,6 +8,7 @@ use Rattle.conn_messages.specs.declared.channel.Place.{Place}
 use Rattle.conn_messages.specs.declared.message.Message.{Message}
 use Rattle.conn_messages.specs.declared.message.Message.TheVariants.{Station, Request, Data, ReleaseComplete}
 use Rattle.conn_table.specs.Roles.{is_order, orders}
+use Rattle.controller_laws.specs.Owning.{AreIn}
 use Rattle.controller_table.specs.declared.channel_state.ChannelState.{ChannelState}
 use Rattle.controller_table.specs.declared.channel_state.ChannelState.TheVariants.{Free, InUse, Releasing}
 use Rattle.controller_table.specs.Controller.{channels_after, place_at, place_of, state_in, with_state}
@@ -84,9 +85,6 @@ is_there channels at used =
     }
 
 -- ---- channels in a state
-
-abbrev pub AreIn : List (List ChannelState) → ChannelState → List Channel → Type 0
-AreIn channels state cs = AllByRecursion (λ c. state_in channels (place_of c) ≡ state) cs
 
 pub still_in : (channels : List (List ChannelState)) (at : Place) (state was : ChannelState) (cs : List Channel) → state_in channels at ≢ was → AreIn channels was cs → AreIn (with_state at state channels) was cs
 still_in channels at state was [] other all = tt

@@ -3,4 +3,5 @@ pub mod Downlink
 pub mod End
 pub mod History
 pub mod Numbers
+pub mod Owning
 pub mod Uplink
