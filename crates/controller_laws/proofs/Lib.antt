@@ -13,3 +13,4 @@ pub mod Switched
 pub mod DownlinkLife
 pub mod Places
 pub mod Owning
+pub mod OwningRows

@@ -75,6 +75,39 @@ state_else channels at other state differ = elim (differ_by at other differ) [
       (row_else channels at state other.number number.1)
 ]
 
+row_length : (channels : List (List ChannelState)) (at : Place) (station : ℕ) (state : ChannelState) → length (slice_index_or (with_state at state channels) station []) ≡ length (slice_index_or channels station [])
+row_length channels at station state = elim (cases_Bool (station == at.station)) [
+  | inl hit ↦
+      subst (λ (n : ℕ). length (slice_index_or (with_state at state channels) n []) ≡ length (slice_index_or channels n [])) (sym (eqb-true station at.station hit))
+      (elim (set_cases channels at.station (set (slice_index_or channels at.station []) at.number state) []) [
+        | inl is ↦ ap length is ∙ length_set (slice_index_or channels at.station []) at.number state
+        | inr same ↦ ap (λ (all : List (List ChannelState)). length (slice_index_or all at.station [])) same
+      ])
+  | inr miss ↦ ap length (get_or-set_other channels at.station station (set (slice_index_or channels at.station []) at.number state) [] (λ same. absurd (true≢false (sym (eq-eqb station at.station same) ∙ miss))))
+]
+
+pub set_or_not : (channels : List (List ChannelState)) (at other : Place) (state : ChannelState) → (state_in (with_state at state channels) other ≡ state) ⊎ (state_in (with_state at state channels) other ≡ state_in channels other)
+set_or_not channels at other state = elim (cases_Bool ((other.station == at.station) && (other.number == at.number))) [
+  | inl hit ↦
+      let parts = and_parts (other.station == at.station) (other.number == at.number) hit in
+      let same : other ≡ at = ap (λ (n : ℕ). record other { station = n }) (eqb-true other.station at.station parts.0) ∙ ap (λ (n : ℕ). record at { number = n }) (eqb-true other.number at.number parts.1) in
+      subst (λ (p : Place). (state_in (with_state at state channels) p ≡ state) ⊎ (state_in (with_state at state channels) p ≡ state_in channels p)) (sym same) (here (set_cases (slice_index_or channels at.station []) at.number state Free) (set_cases channels at.station (set (slice_index_or channels at.station []) at.number state) []))
+  | inr miss ↦ inr (state_else channels at other state (λ same. absurd (true≢false (sym (ap (λ (b : Bool). b && (other.number == at.number)) (eq-eqb other.station at.station (ap (λ (p : Place). p.station) same)) ∙ eq-eqb other.number at.number (ap (λ (p : Place). p.number) same)) ∙ miss))))
+]
+  where
+    here : (slice_index_or (set (slice_index_or channels at.station []) at.number state) at.number Free ≡ state) ⊎ (set (slice_index_or channels at.station []) at.number state ≡ slice_index_or channels at.station []) →
+        (slice_index_or (set channels at.station (set (slice_index_or channels at.station []) at.number state)) at.station [] ≡ set (slice_index_or channels at.station []) at.number state) ⊎ (set channels at.station (set (slice_index_or channels at.station []) at.number state) ≡ channels) →
+        (state_in (with_state at state channels) at ≡ state) ⊎ (state_in (with_state at state channels) at ≡ state_in channels at)
+    here (inl number) (inl station) = inl (ap (λ (xs : List ChannelState). slice_index_or xs at.number Free) station ∙ number)
+    here (inr number) (inl station) = inr (ap (λ (xs : List ChannelState). slice_index_or xs at.number Free) (station ∙ number))
+    here number (inr same) = inr (ap (λ (all : List (List ChannelState)). slice_index_or (slice_index_or all at.station []) at.number Free) same)
+
+pub still_there : (channels : List (List ChannelState)) (at other : Place) (state : ChannelState) → IsIn channels other → IsIn (with_state at state channels) other
+still_there channels at other state is_in = record {
+  station = subst (λ (n : ℕ). other.station < n) (sym (length_set channels at.station (set (slice_index_or channels at.station []) at.number state))) is_in.station;
+  number = subst (λ (n : ℕ). other.number < n) (sym (row_length channels at other.station state)) is_in.number;
+}
+
 -- a channel that isn't free is there
 pub is_there : (channels : List (List ChannelState)) (at : Place) → state_in channels at ≢ Free → IsIn channels at
 is_there channels at used =
