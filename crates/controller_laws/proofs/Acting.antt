@@ -78,7 +78,7 @@ kept_entry e = by e.connection.state
     by (Live reference stage) = refl
     by (Closed clearing) = refl
 
-row_found : (c : Controller) (e x : Entry) (r : Row) → AreRising c.entries → r.next.number ≡ e.connection.number → entry_of c e.connection.number ≡ Some x → connection_of (by_row e r c).next e.connection.number ≡ kept r.next
+pub row_found : (c : Controller) (e x : Entry) (r : Row) → AreRising c.entries → r.next.number ≡ e.connection.number → entry_of c e.connection.number ≡ Some x → connection_of (by_row e r c).next e.connection.number ≡ kept r.next
 row_found c e x r rising same there =
     let put : Entry = entry_after c.settings e r in
     subst (λ (n : ℕ). option_map (λ (y : Entry). y.connection) (find (has_number n) (by_row e r c).next.entries) ≡ kept r.next) same

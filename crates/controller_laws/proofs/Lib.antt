@@ -14,3 +14,4 @@ pub mod DownlinkLife
 pub mod Places
 pub mod Owning
 pub mod OwningRows
+pub mod OwningSteps

@@ -176,7 +176,7 @@ back_owns channels links n roles t true owns =
 back_owns channels links n roles t false owns = with_states channels channels links n goes_back (record roles { target = Some t }) owns (owns.using.0, tt) owns.releasing
 
 -- the target that completes is there
-pub HasTarget : RoleStep → Option TargetRole → Type 0
+unfoldable pub HasTarget : RoleStep → Option TargetRole → Type 0
 HasTarget completes None = ⊥
 HasTarget _ _ = Unit {0}
 

@@ -77,7 +77,7 @@ order_after m channels at state (Request message) now was = tt
 order_after m channels at state (Data destination message) now was = tt
 order_after m channels at state (ReleaseComplete destination) now was = tt
 
-orders_after : (m : ℕ) (channels : States) (at : Place) (state : ChannelState) (ms : List Message) → IsMine m state → AllByRecursion (IsMineOrder m channels) ms → AllByRecursion (IsMineOrder m (with_state at state channels)) ms
+pub orders_after : (m : ℕ) (channels : States) (at : Place) (state : ChannelState) (ms : List Message) → IsMine m state → AllByRecursion (IsMineOrder m channels) ms → AllByRecursion (IsMineOrder m (with_state at state channels)) ms
 orders_after m channels at state [] now all = tt
 orders_after m channels at state (message ∷ ms) now all = (order_after m channels at state message now all.0, orders_after m channels at state ms now all.1)
 
@@ -244,14 +244,14 @@ row_owns m channels links s input offer r on steps offers =
 
 -- others keep theirs
 pub row_others : (m n : ℕ) (channels : States) (links : List Bool) (s : Connection) (input : Input) (offer : Option Channel) (r : Row) (roles : Roles) → n ≢ m → ChangesRoles s input offer r → (IsOpen s.state → IsOpen r.next.state → StepOwns m channels links (step_by input (roles_of s)) (roles_of s)) →
-    (IsOpen s.state → (IsOpen r.next.state → ⊥) → ((end : RoleEnd) → Ends (roles_of s) input r → AllByRecursion (IsMineOrder m channels) (end_messages end (roles_of s)) ⊎ (end ≡ refused))) → ((c : Channel) → offer ≡ Some c → IsOffered channels links c) → Owns channels links n roles →
+    (IsOpen s.state → (IsOpen r.next.state → ⊥) → ((end : RoleEnd) → Ends (roles_of s) input r → AllByRecursion (IsMineOrder m channels) (end_messages end (roles_of s)) ⊎ (end ≡ refused))) → (IsOpen r.next.state → (c : Channel) → offer ≡ Some c → IsOffered channels links c) → Owns channels links n roles →
     Owns (fold (channels_after m) channels r.outs) links n roles
 row_others m n channels links s input offer r roles differ (goes_on was_open is_open on) steps shut offers owns =
     let by = steps was_open is_open in
     subst (λ (now : States). Owns now links n roles) (sym (fold_orders m channels r.outs))
     (others_fold m n links roles channels (orders r.outs) differ
         (subst (AllByRecursion (IsMineOrder m channels)) (sym on.ordered) (all_both (IsMineOrder m channels) (step_orders (step_by input (roles_of s)) (roles_of s)) (begin_orders on.begun) by.mine
-        (mine_begin m channels links on.begun (λ t is. offers t.channel (begun_offer on.begun input offer (after_step (step_by input (roles_of s)) (roles_of s)) t on.may is))))) owns)
+        (mine_begin m channels links on.begun (λ t is. offers is_open t.channel (begun_offer on.begun input offer (after_step (step_by input (roles_of s)) (roles_of s)) t on.may is))))) owns)
 row_others m n channels links s input offer r roles differ (ends was_open is_shut over) steps shut offers owns =
     let mine : AllByRecursion (IsMineOrder m channels) (end_messages over.end (roles_of s)) = elim (shut was_open is_shut over.end over) [
       | inl mine ↦ mine
