@@ -15,3 +15,4 @@ pub mod Places
 pub mod Owning
 pub mod OwningRows
 pub mod OwningSteps
+pub mod OwningWords

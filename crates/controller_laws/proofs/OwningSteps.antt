@@ -61,7 +61,7 @@ pub record IsShaped (p : Parameters) (channels : States) : Type 0 where
   pub rows : AllByRecursion IsRow channels
   pub numbers : AllByRecursion HasNumbers p.cells
 
-shaped_set : (p : Parameters) (channels : States) (at : Place) (state : ChannelState) → IsShaped p channels → IsShaped p (with_state at state channels)
+pub shaped_set : (p : Parameters) (channels : States) (at : Place) (state : ChannelState) → IsShaped p channels → IsShaped p (with_state at state channels)
 shaped_set p channels at state shaped = record {
   links = length_set channels at.station (set (slice_index_or channels at.station []) at.number state) ∙ shaped.links;
   rows = all_set IsRow (λ row. set row at.number state) channels at.station [] (λ row is. length_set row at.number state ∙ is) shaped.rows;

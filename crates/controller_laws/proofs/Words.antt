@@ -142,7 +142,7 @@ asked_does number false c t does = does_nothing number c.next_number (is_up c SW
 
 -- ---- a report
 
-measured_stays : (state : State) (e : Entry) → is_measured state ≡ true → entry_kept state e ≡ Some e
+pub measured_stays : (state : State) (e : Entry) → is_measured state ≡ true → entry_kept state e ≡ Some e
 measured_stays WaitConfirm e is = refl
 measured_stays (Live reference stage) e is = refl
 measured_stays WaitActivation e is = absurd (true≢false (sym is))
