@@ -236,3 +236,116 @@ refused_holds : (at : Place) (c : Controller) (k : ℕ) (o : Option Entry) → h
 refused_holds at c k None held there fitting rising stands holds = absurd (true≢false (sym fitting))
 refused_holds at c k (Some e) held there fitting rising stands holds = refused_by at c k e (row_in (freed at c) e.connection (inputs.ActivationNack at)) refl held there fitting rising (stands e refl) holds
 
+
+-- ---- what comes on a channel
+
+-- one that is free already
+freed_free : (at : Place) (c : Controller) → channel_state c at ≡ Free → Holds c.links c → Holds c.links (freed at c)
+freed_free at c is holds = record { shaped = freed_shaped at c holds.shaped; each = λ n. by n (connection_of c n) (holds.each n) }
+  where
+    by : (n : ℕ) (o : Option Connection) → OwnsOpen c.channels c.links n o → OwnsOpen (with_state at Free c.channels) c.links n o
+    by n None owns = tt
+    by n (Some s) owns = λ is_open. other_set c.channels c.links n (roles_of s) at Free (λ same. (let both : Free ≡ InUse n = sym is ∙ same in absurd cc)) (λ same. (let both : Free ≡ Releasing n = sym is ∙ same in absurd cc)) (owns is_open)
+
+free_holds : (b : Bool) (at : Place) (input : Input) (c : Controller) → channel_state c at ≡ Free → Holds c.links c → Holds c.links (on_freed b at input c None).next
+free_holds true at input c is holds = freed_free at c is holds
+free_holds false at input c is holds = ignoring_holds c.links c holds
+
+nack_holds : (b : Bool) (at : Place) (c : Controller) (k : ℕ) (o : Option Entry) → fits o (inputs.ActivationNack at) ≡ b → holder (channel_state c at) ≡ Some k → entry_of c k ≡ o → AreRising c.entries → ((e : Entry) → o ≡ Some e → Stands e.connection) → Holds c.links c → Holds c.links (on_freed b at (inputs.ActivationNack at) c o).next
+nack_holds true at c k o fitting held there rising stands holds = refused_holds at c k o held there fitting rising stands holds
+nack_holds false at c k o fitting held there rising stands holds = concerning_holds c (inputs.ActivationNack at) k o there rising stands holds
+
+using_holds : (at : Place) (input : Input) (c : Controller) (k : ℕ) (o : Option Entry) → IsAtPlace at input → channel_state c at ≡ InUse k → entry_of c k ≡ o → AreRising c.entries → ((e : Entry) → o ≡ Some e → Stands e.connection) → Holds c.links c → Holds c.links (on_state (InUse k) at input c o).next
+using_holds at (inputs.ActivationNack place) c k o is state there rising stands holds =
+    subst (λ (p : Place). Holds c.links (on_state (InUse k) at (inputs.ActivationNack p) c o).next) (sym is)
+    (nack_holds (fits o (inputs.ActivationNack at)) at c k o refl (ap holder state) there rising stands holds)
+using_holds at input c k o is state there rising stands holds = concerning_holds c input k o there rising stands holds
+
+releasing_holds : (at : Place) (input : Input) (c : Controller) (k : ℕ) (o : Option Entry) → IsAtPlace at input → channel_state c at ≡ Releasing k → entry_of c k ≡ o → AreRising c.entries → ((e : Entry) → o ≡ Some e → Stands e.connection) → Holds c.links c → Holds c.links (on_state (Releasing k) at input c o).next
+releasing_holds at (inputs.ReleaseAck place) c k o is state there rising stands holds =
+    subst (λ (p : Place). Holds c.links (on_state (Releasing k) at (inputs.ReleaseAck p) c o).next) (sym is) (acknowledged_holds at c k o state there rising stands holds)
+releasing_holds at (inputs.ActivationNack place) c k o is state there rising stands holds =
+    subst (λ (p : Place). Holds c.links (on_state (Releasing k) at (inputs.ActivationNack p) c o).next) (sym is)
+    (nack_holds (fits o (inputs.ActivationNack at)) at c k o refl (ap holder state) there rising stands holds)
+releasing_holds at input c k o is state there rising stands holds = concerning_holds c input k o there rising stands holds
+
+-- all connections stand
+unfoldable pub AllStand : Controller → Type 0
+AllStand c = (m : ℕ) (e : Entry) → entry_of c m ≡ Some e → Stands e.connection
+
+channel_holds : (at : Place) (input : Input) (c : Controller) (state : ChannelState) → IsAtPlace at input → channel_state c at ≡ state → AreRising c.entries → AllStand c → Holds c.links c → Holds c.links (on_state state at input c (entry_at c state)).next
+unfolding AllStand
+channel_holds at input c Free is state rising stand holds = free_holds (frees Free None input) at input c state holds
+channel_holds at input c (InUse k) is state rising stand holds = using_holds at input c k (entry_of c k) is state refl rising (λ e there. stand k e there) holds
+channel_holds at input c (Releasing k) is state rising stand holds = releasing_holds at input c k (entry_of c k) is state refl rising (λ e there. stand k e there) holds
+
+-- ---- a connection begins
+
+given_holds : (c : Controller) (source : ℕ) (request : RequestReference) (delay : ℕ) (o : Option Channel) → access_channel c source ≡ o → IsNumbered c → Holds c.links c → Holds c.links (given c request delay o).next
+given_holds c source request delay None is numbered holds = ignoring_holds c.links c holds
+given_holds c source request delay (Some channel) is numbered holds =
+    let m : ℕ = c.next_number in
+    let e : Entry = new_entry c channel request delay in
+    let offered = offered_free c c.links source 0 Sdcch channel refl holds.shaped is in
+    let after : List (List ChannelState) = with_state (place_of channel) (InUse m) c.channels in
+    record {
+      shaped = shaped_set c.settings c.channels (place_of channel) (InUse m) holds.shaped;
+      each = λ n. decide_same n m (OwnsOpen after c.links n (connection_of (with_connection c channel request delay).next n))
+          (λ same. subst (λ (k : ℕ). OwnsOpen after c.links k (connection_of (with_connection c channel request delay).next k)) (sym same)
+            (subst (OwnsOpen after c.links m) (sym (ap (option_map (λ (x : Entry). x.connection)) (behind_found e c.entries (find_below m c.entries numbered.below))))
+            (λ is_open. record { using = (state_here c.channels (place_of channel) (InUse m) offered.is_in, tt); releasing = tt; apart = (tt, tt); linked = (offered.is_up, tt) })))
+          (λ differ. subst (OwnsOpen after c.links n) (sym (ap (option_map (λ (x : Entry). x.connection)) (behind_over n e c.entries differ)))
+            (by n channel offered (connection_of c n) (holds.each n)));
+    }
+  where
+    by : (n : ℕ) (channel : Channel) → IsOffered c.channels c.links channel → (o : Option Connection) → OwnsOpen c.channels c.links n o → OwnsOpen (with_state (place_of channel) (InUse c.next_number) c.channels) c.links n o
+    by n channel offered None owns = tt
+    by n channel offered (Some s) owns = λ is_open. other_set c.channels c.links n (roles_of s) (place_of channel) (InUse c.next_number) (λ same. (let both : Free ≡ InUse n = sym offered.is_free ∙ same in absurd cc)) (λ same. (let both : Free ≡ Releasing n = sym offered.is_free ∙ same in absurd cc)) (owns is_open)
+
+if_holds : (b : Bool) (c : Controller) (t : Turn) → Holds c.links c → (b ≡ true → Holds c.links t.next) → Holds c.links (if b then t else ignoring c).next
+if_holds true c t holds after = after refl
+if_holds false c t holds after = ignoring_holds c.links c holds
+
+-- ---- a report
+
+decision_holds : (d : Decision) (c : Controller) (e : Entry) → AreRising c.entries → entry_of c e.connection.number ≡ Some e → Stands e.connection → Holds c.links c → Holds c.links (on_decision d c e).next
+decision_holds Stay c e rising there stands holds = holds
+decision_holds (Move cell) c e rising there stands holds =
+    fitting_holds c.links c (turn [] c) e inputs.Move (handover_offer c e.connection.serving cell) (row_of e.connection inputs.Move (handover_offer c e.connection.serving cell)) refl rising there stands holds
+    (λ r is is_open channel offered. offered_free c c.links cell c.handovers (kind_of e.connection.serving.number) channel refl holds.shaped offered) holds
+
+report_holds : (at : Place) (of : ℕ) (report : Report) (c : Controller) (m : ℕ) (o : Option Entry) → entry_of c m ≡ o → AreRising c.entries → ((e : Entry) → o ≡ Some e → Stands e.connection) → Holds c.links c → Holds c.links (on_report at of report c o).next
+report_holds at of report c m None there rising stands holds = ignoring_holds c.links c holds
+report_holds at of report c m (Some e) there rising stands holds =
+    if_holds (measures at e) c (measured of report c e) holds
+    (λ measuring.
+        let put : Entry = with_report of report e in
+        let c' : Controller = with_entry put c in
+        let own = at_number c m e there in
+        let found : entry_of c' e.connection.number ≡ Some put = back_found put e c.entries rising own ∙ measured_stays e.connection.state put (and_parts (is_at at e.connection.serving) (is_measured e.connection.state) measuring).1 in
+        decision_holds (decision_over put.averages.settings put.averages.reports of) c' put (back_rising put c.entries rising) found (stands e refl)
+        (record {
+          shaped = holds.shaped;
+          each = λ n. decide_same n e.connection.number (OwnsOpen c.channels c.links n (connection_of c' n))
+              (λ same. subst (λ (k : ℕ). OwnsOpen c.channels c.links k (connection_of c' k)) (sym same)
+                (subst (OwnsOpen c.channels c.links e.connection.number) (ap (option_map (λ (x : Entry). x.connection)) own ∙ sym (ap (option_map (λ (x : Entry). x.connection)) found)) (holds.each e.connection.number)))
+              (λ differ. subst (OwnsOpen c.channels c.links n) (sym (ap (option_map (λ (x : Entry). x.connection)) (back_over n put c.entries differ))) (holds.each n));
+        }))
+
+report_on_holds : (at : Place) (of : ℕ) (report : Report) (c : Controller) (state : ChannelState) → AreRising c.entries → AllStand c → Holds c.links c → Holds c.links (on_report at of report c (entry_at c state)).next
+unfolding AllStand
+report_on_holds at of report c Free rising stand holds = ignoring_holds c.links c holds
+report_on_holds at of report c (InUse k) rising stand holds = report_holds at of report c k (entry_of c k) refl rising (λ e there. stand k e there) holds
+report_on_holds at of report c (Releasing k) rising stand holds = report_holds at of report c k (entry_of c k) refl rising (λ e there. stand k e there) holds
+
+-- ---- a frame
+
+pub word_holds : (source : ℕ) (word : Word) (c : Controller) → IsFrom source word → IsNumbered c → AllStand c → Holds c.links c → Holds c.links (on_word source word c).next
+unfolding AllStand
+word_holds source Nothing c from numbered stand holds = ignoring_holds c.links c holds
+word_holds source Ping c from numbered stand holds = holds
+word_holds source (Asks request delay) c from numbered stand holds =
+    if_holds (may_open c) c (given c request delay (access_channel c source)) holds (λ may. given_holds c source request delay (access_channel c source) refl numbered holds)
+word_holds source (OnChannel at input) c from numbered stand holds = channel_holds at input c (channel_state c at) from.1 refl numbered.rising stand holds
+word_holds source (Reports at of report) c from numbered stand holds = report_on_holds at of report c (channel_state c at) numbered.rising stand holds
+word_holds source (OnConnection m input) c from numbered stand holds = concerning_holds c input m (entry_of c m) refl numbered.rising (λ e there. stand m e there) holds
