@@ -45,7 +45,7 @@ drain_time : (ms : ℕ) (draining : List Drain) (drained : ℕ) → DrainTime dr
 drain_time ms [] drained time = time
 drain_time ms (d ∷ ds) drained time = tt
 
-pass_stands : (ms : ℕ) (s : Connection) → Stands s → Stands (after_pass ms s)
+pub pass_stands : (ms : ℕ) (s : Connection) → Stands s → Stands (after_pass ms s)
 pass_stands ms s stands = record {
   state = stands.state;
   down_limit = stands.down_limit;
@@ -115,7 +115,7 @@ break_carried inputs.SwitchDown is = tt
 break_carried (inputs.StationDown station) is = tt
 break_carried _ is = absurd is
 
-own_carried : (source : ℕ) → IsLinkBreak (break_of source)
+pub own_carried : (source : ℕ) → IsLinkBreak (break_of source)
 own_carried source = elim (cases_Bool (source == SWITCH_LINK)) [
   | inl switch ↦ subst IsLinkBreak (sym (cond-true _ inputs.SwitchDown (inputs.StationDown source) switch)) tt
   | inr station ↦ subst IsLinkBreak (sym (cond-false _ inputs.SwitchDown (inputs.StationDown source) station)) tt
@@ -212,7 +212,7 @@ removed_by (Live reference stage) s r is = ap (λ (q : Row). q.next.state) (sym 
 removed_by (Closed clearing) s r is = ap (λ (q : Row). q.next.state) (sym (row_is _ r is))
 removed_by Removed s r is = absurd cc
 
-never_none : (state : State) (s : Connection) → IsPresent state → on_switch_down state s ≡ None → ⊥
+pub never_none : (state : State) (s : Connection) → IsPresent state → on_switch_down state s ≡ None → ⊥
 unfolding IsPresent
 never_none WaitActivation s there is = absurd cc
 never_none WaitEstablish s there is = absurd cc

@@ -16,3 +16,4 @@ pub mod Owning
 pub mod OwningRows
 pub mod OwningSteps
 pub mod OwningWords
+pub mod OwningLife

@@ -176,7 +176,7 @@ has_target _ roles = by roles.target
 
 -- ---- a row in the controller
 
-owns_kept : (channels : States) (links : List Bool) (n : ℕ) (state : State) (s : Connection) → (IsOpen s.state → Owns channels links n (roles_of s)) → OwnsOpen channels links n (kept_in state s)
+pub owns_kept : (channels : States) (links : List Bool) (n : ℕ) (state : State) (s : Connection) → (IsOpen s.state → Owns channels links n (roles_of s)) → OwnsOpen channels links n (kept_in state s)
 owns_kept channels links n Removed s owns = tt
 owns_kept channels links n WaitActivation s owns = owns
 owns_kept channels links n WaitEstablish s owns = owns

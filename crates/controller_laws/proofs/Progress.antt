@@ -67,7 +67,7 @@ live_from s reference stage is = subst IsLive (sym is) tt
 
 -- ---- steps
 
-failing_shut : (state : State) (s : Connection) (cause : ℕ) → IsOpen (failing state s cause).next.state → ⊥
+pub failing_shut : (state : State) (s : Connection) (cause : ℕ) → IsOpen (failing state s cause).next.state → ⊥
 failing_shut WaitActivation s cause = λ there. there
 failing_shut WaitEstablish s cause = λ there. there
 failing_shut WaitConfirm s cause = λ there. there

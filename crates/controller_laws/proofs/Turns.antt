@@ -54,11 +54,11 @@ fitting_rising c otherwise e (Some r) rising same = back_rising (entry_after c.s
 
 -- ---- time passes
 
-abbrev IsDue : Option Input → Type 0
+abbrev pub IsDue : Option Input → Type 0
 IsDue None = Unit {0}
 IsDue (Some input) = IsTimer input
 
-expiry_own : (b d : Bool) → IsDue (if b then Some inputs.Expiry else if d then Some inputs.DrainExpiry else None)
+pub expiry_own : (b d : Bool) → IsDue (if b then Some inputs.Expiry else if d then Some inputs.DrainExpiry else None)
 expiry_own true d = tt
 expiry_own false true = tt
 expiry_own false false = tt
@@ -73,7 +73,7 @@ expiry_rising (Some input) c e rising = fitting_rising c (turn [] c) e (row_in c
 
 -- ---- one connection after the other
 
-all_two : (P Q R : Entry → Type 0) (xs : List Entry) → ((x : Entry) → P x → Q x → R x) → AllByRecursion P xs → AllByRecursion Q xs → AllByRecursion R xs
+pub all_two : (P Q R : Entry → Type 0) (xs : List Entry) → ((x : Entry) → P x → Q x → R x) → AllByRecursion P xs → AllByRecursion Q xs → AllByRecursion R xs
 all_two P Q R [] f ps qs = tt
 all_two P Q R (x ∷ xs) f ps qs = (f x ps.0 qs.0, all_two P Q R xs f ps.1 qs.1)
 
@@ -135,7 +135,7 @@ expiry_silent : (number : ℕ) (o : Option Input) (c : Controller) (e : Entry) �
 expiry_silent number None c e differ = refl
 expiry_silent number (Some input) c e differ = fitting_silent number c e (row_in c e.connection input) differ
 
-told_tame : (number next : ℕ) (up : Bool) (input : Input) → IsTame number next up (breaks input) (told input)
+pub told_tame : (number next : ℕ) (up : Bool) (input : Input) → IsTame number next up (breaks input) (told input)
 told_tame number next up input = record {
   does = λ c e same rising there. told_does number next up (breaks input) input c e refl (λ s offer none. (offer, none)) (λ differ. absurd (differ same)) rising there;
   silent = λ c e differ. fitting_silent number c e (row_in c e.connection input) differ;
@@ -143,7 +143,7 @@ told_tame number next up input = record {
   leaves = λ m c e differ. told_leaves m input c e differ;
 }
 
-timed_tame : (number next : ℕ) (up : Bool) → IsTame number next up passes timed
+pub timed_tame : (number next : ℕ) (up : Bool) → IsTame number next up passes timed
 timed_tame number next up = record {
   does = λ c e same rising there. expiry_does number next up (expiry c.settings.timers e.connection) c e (expiry_own _ _) rising there;
   silent = λ c e differ. expiry_silent number (expiry c.settings.timers e.connection) c e differ;
@@ -157,7 +157,7 @@ without_does : (number next : ℕ) (up : Bool) (brought : Brought) (b : Bool) (s
 without_does number next up brought true source before t does = record { put = does.put; outs = does.outs; acts = does.acts }
 without_does number next up brought false source before t does = record { put = does.put; outs = does.outs; acts = does.acts }
 
-break_does : (number next : ℕ) (up : Bool) (source : ℕ) (c : Controller) → AreRising c.entries → Does number next up (breaks (break_of source)) (connection_of c number) (on_break source c)
+pub break_does : (number next : ℕ) (up : Bool) (source : ℕ) (c : Controller) → AreRising c.entries → Does number next up (breaks (break_of source)) (connection_of c number) (on_break source c)
 break_does number next up source c rising =
     let down : Controller = with_down source c in
     without_does number next up (breaks (break_of source)) (source == SWITCH_LINK) source (connection_of c number) (each (told (break_of source)) down c.entries)
@@ -178,7 +178,7 @@ aged_below : (ms high : ℕ) (xs : List Entry) → AllByRecursion (IsBelow high)
 aged_below ms high [] all = tt
 aged_below ms high (x ∷ xs) all = (all.0, aged_below ms high xs all.1)
 
-aged_rising : (ms : ℕ) (xs : List Entry) → AreRising xs → AreRising (map (aged ms) xs)
+pub aged_rising : (ms : ℕ) (xs : List Entry) → AreRising xs → AreRising (map (aged ms) xs)
 aged_rising ms [] rising = tt
 aged_rising ms (x ∷ xs) rising = (aged_above ms x.connection.number xs rising.0, aged_rising ms xs rising.1)
 
