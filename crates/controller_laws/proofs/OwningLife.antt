@@ -1,11 +1,12 @@
 -- Whose channels are after each step, and so in every life.
 use Rattle.std.proofs.Common.{◌≡◌, ◌≢◌, ℕ, zero, suc, ◌+◌, ◌==◌, ◌≤◌, ◌<◌, ◌&&◌, ◌||◌, Bool, true, false, not, if◌then◌else◌, List, [], ◌∷◌, ◌++◌, length, find, map, replicate, set, slice_index_or, Option, Some, None, option_map, refl, sym, subst, ap, ◌∙◌, inl, inr, arith, true≢false}
 use Rattle.std.proofs.lemmas.Bool.{cases_Bool, cond-true, cond-false, eqb-true, eq-eqb}
-use Rattle.std.proofs.lemmas.List.{get_or-set_other}
+use Rattle.std.proofs.lemmas.List.{get_or-set_other, length-replicate}
 use Rattle.std.specs.List.{AllByRecursion}
 use Rattle.conn_messages.specs.declared.channel.Channel.{Channel}
 use Rattle.conn_messages.specs.declared.message.Message.{Message}
 use Rattle.conn_messages.specs.declared.parameters.TheConstants.{SWITCH_LINK}
+use Rattle.conn_table.proofs.StandingSteps.{by_state}
 use Rattle.conn_table.specs.declared.input.Input.{Input}
 use Rattle.conn_table.specs.declared.input.Input.TheVariants as inputs
 use Rattle.conn_table.specs.declared.state.Drain.{Drain}
@@ -28,7 +29,7 @@ use Rattle.controller_laws.specs.Numbers.{IsNumbered, AreRising, IsAbove}
 use Rattle.controller_laws.specs.Owning.{AreIn, Owns, OwnsOpen, is_link_up, used_in}
 use Rattle.controller_laws.proofs.Beside.{Goes, links_after, links_with, other_link, step_goes}
 use Rattle.controller_laws.proofs.Entries.{find_above}
-use Rattle.controller_laws.proofs.Fitting.{Fits, IsFine, IsLinkBreak, never_none, own_carried, pass_stands, row_is}
+use Rattle.controller_laws.proofs.Fitting.{Fits, IsFine, IsLinkBreak, IsPresent, never_none, own_carried, pass_stands, row_is}
 use Rattle.controller_laws.proofs.OwningSteps.{IsRow, IsShaped, owns_kept}
 use Rattle.controller_laws.proofs.OwningWords.{AllStand, Holds, fitting_holds, word_holds}
 use Rattle.controller_laws.proofs.Places.{all_set, length_set}
@@ -132,7 +133,7 @@ all_stand c (x ∷ xs) stand there = (stand x.connection.number x there.0, all_s
 
 -- ---- a break
 
-pub IsAwayFrom : ℕ → Channel → Type 0
+abbrev pub IsAwayFrom : ℕ → Channel → Type 0
 IsAwayFrom station c = c.station ≢ station
 
 or_false : (a b : Bool) → (a || b) ≡ false → (a ≡ false) × (b ≡ false)
@@ -140,7 +141,6 @@ or_false true b is = absurd (true≢false is)
 or_false false b is = (refl, is)
 
 away_from : (station : ℕ) (c : Channel) → (c.station == station) ≡ false → IsAwayFrom station c
-unfolding IsAwayFrom
 away_from station c miss = λ same. true≢false (sym (eq-eqb c.station station same) ∙ miss)
 
 none_if : (b : Bool) (q : Row) → row_if b q ≡ None → b ≡ false
@@ -179,4 +179,167 @@ live_away s station reference stage miss =
     all_join (IsAwayFrom station) (undone s.draining) (s.serving ∷ target_channels (target_role (Live reference stage))) (drains_away station s.draining one.1)
     (away_from station s.serving other.0, target_away station reference stage other.1)
 
--- before the switch confirmed it has no old channel and no target
+-- before the switch confirmed there is no old channel and no target
+early_away : (s : Connection) (station : ℕ) (q : Row) → s.draining ≡ [] → target_channels (target_role s.state) ≡ [] → row_if (s.serving.station == station) q ≡ None → AllByRecursion (IsAwayFrom station) (used_in (roles_of s))
+early_away s station q none alone is =
+    subst (λ (ds : List Drain). AllByRecursion (IsAwayFrom station) (undone ds ++ s.serving ∷ target_channels (target_role s.state))) (sym none)
+    (away_from station s.serving (none_if (s.serving.station == station) q is), subst (AllByRecursion (IsAwayFrom station)) (sym alone) tt)
+
+down_away : (state : State) (s : Connection) (station : ℕ) → s.state ≡ state → Stands s → IsOpen state → on_station_down state s station ≡ None → AllByRecursion (IsAwayFrom station) (used_in (roles_of s))
+down_away WaitActivation s station is stands is_open none =
+    early_away s station _ (by_state WaitActivation s is stands).0.none_drains (ap (λ (state : State). target_channels (target_role state)) is) none
+down_away WaitEstablish s station is stands is_open none =
+    early_away s station _ (by_state WaitEstablish s is stands).0.none_drains (ap (λ (state : State). target_channels (target_role state)) is) none
+down_away WaitConfirm s station is stands is_open none =
+    early_away s station _ (by_state WaitConfirm s is stands).none_drains (ap (λ (state : State). target_channels (target_role state)) is) none
+down_away (Live reference stage) s station is stands is_open none =
+    subst (λ (state : State). AllByRecursion (IsAwayFrom station) (undone s.draining ++ s.serving ∷ target_channels (target_role state))) (sym is)
+    (live_away s station reference stage (none_if (s.serving.station == station || targets station stage || drains_at station s.draining) _ none))
+down_away (Closed clearing) s station is stands is_open none = absurd is_open
+down_away Removed s station is stands is_open none = absurd is_open
+
+-- the channels of another station stay
+down_in : (channels : States) (station : ℕ) (row : List ChannelState) (state : ChannelState) (cs : List Channel) → AllByRecursion (IsAwayFrom station) cs → AreIn channels state cs → AreIn (set channels station row) state cs
+down_in channels station row state [] away all = tt
+down_in channels station row state (c ∷ cs) away all = (
+    ap (λ (these : List ChannelState). slice_index_or these c.number Free) (get_or-set_other channels station c.station row [] away.0) ∙ all.0,
+    down_in channels station row state cs away.1 all.1,
+  )
+
+down_linked : (links : List Bool) (station : ℕ) (cs : List Channel) → AllByRecursion (IsAwayFrom station) cs → AllByRecursion (λ c. is_link_up links c.station ≡ true) cs → AllByRecursion (λ c. is_link_up (set links station false) c.station ≡ true) cs
+down_linked links station [] away all = tt
+down_linked links station (c ∷ cs) away all = (other_link links station c.station away.0 ∙ all.0, down_linked links station cs away.1 all.1)
+
+front : (P : Channel → Type 0) (xs ys : List Channel) → AllByRecursion P (xs ++ ys) → AllByRecursion P xs
+front P [] ys all = tt
+front P (x ∷ xs) ys all = (all.0, front P xs ys all.1)
+
+behind : (P : Channel → Type 0) (xs ys : List Channel) → AllByRecursion P (xs ++ ys) → AllByRecursion P ys
+behind P [] ys all = all
+behind P (x ∷ xs) ys all = behind P xs ys all.1
+
+down_owns : (channels : States) (links : List Bool) (n station : ℕ) (row : List ChannelState) (roles : Roles) → AllByRecursion (IsAwayFrom station) (used_in roles) → Owns channels links n roles → Owns (set channels station row) (set links station false) n roles
+down_owns channels links n station row roles away owns = record {
+  using = down_in channels station row (InUse n) (roles.serving ∷ target_channels roles.target) (behind (IsAwayFrom station) (undone roles.draining) (roles.serving ∷ target_channels roles.target) away) owns.using;
+  releasing = down_in channels station row (Releasing n) (undone roles.draining) (front (IsAwayFrom station) (undone roles.draining) (roles.serving ∷ target_channels roles.target) away) owns.releasing;
+  apart = owns.apart;
+  linked = down_linked links station (used_in roles) away owns.linked;
+}
+
+open_present : (state : State) → IsOpen state → IsPresent state
+unfolding IsPresent
+open_present WaitActivation is_open = tt
+open_present WaitEstablish is_open = tt
+open_present WaitConfirm is_open = tt
+open_present (Live reference stage) is_open = tt
+open_present (Closed clearing) is_open = absurd is_open
+open_present Removed is_open = absurd is_open
+
+-- no row fits a break: it is that of a station, and none of its channels are there
+break_away : (source : ℕ) (s : Connection) (offer : Option Channel) → Stands s → IsOpen s.state → row_of s (break_of source) offer ≡ None → ((source == SWITCH_LINK) ≡ false) × AllByRecursion (IsAwayFrom source) (used_in (roles_of s))
+unfolding row_of
+break_away source s offer stands is_open none = elim (cases_Bool (source == SWITCH_LINK)) [
+  | inl switch ↦
+      let is : break_of source ≡ inputs.SwitchDown = cond-true _ inputs.SwitchDown (inputs.StationDown source) switch in
+      absurd (never_none s.state s (open_present s.state is_open) (subst (λ (i : Input). row_of s i offer ≡ None) is none))
+  | inr station ↦
+      let is : break_of source ≡ inputs.StationDown source = cond-false _ inputs.SwitchDown (inputs.StationDown source) station in
+      (station, down_away s.state s source refl stands is_open (subst (λ (i : Input). row_of s i offer ≡ None) is none))
+]
+
+-- after the break of a link
+break_owns : (b : Bool) (number next source : ℕ) (up : Bool) (channels : States) (links : List Bool) (row : List ChannelState) (before after : Option Connection) (put : List Message) → (source == SWITCH_LINK) ≡ b → Acts number next up (breaks (break_of source)) before put after → IsFine before → OwnsOpen channels links number after →
+    OwnsOpen (if b then channels else set channels source row) (set links source false) number after
+unfolding IsFine
+break_owns b number next source up channels links row before after put is (ages old s is_time was aged silent same) fine owns = absurd cc
+break_owns b number next source up channels links row before after put is (opens begins linked channel request delay is_nothing none put_is same) fine owns = absurd cc
+break_owns b number next source up channels links row before after put is (goes old s input offer r was aged by fits put_is same) fine owns =
+    subst (OwnsOpen (if b then channels else set channels source row) (set links source false) number) (sym same)
+    (owns_kept (if b then channels else set channels source row) (set links source false) number r.next.state r.next (λ is_open. absurd (break_shut (break_of source) (own_carried source) s offer r (subst (λ (i : Input). row_of s i offer ≡ Some r) by fits) is_open)))
+break_owns b number next source up channels links row None after put is (rests silent same none) fine owns = subst (OwnsOpen (if b then channels else set channels source row) (set links source false) number) (sym same) tt
+break_owns b number next source up channels links row (Some s) after put is (rests silent same none) fine owns =
+    subst (OwnsOpen (if b then channels else set channels source row) (set links source false) number) (sym same)
+    (λ is_open.
+        let away = break_away source s none.0 fine.1 is_open none.1 in
+        subst (λ (d : Bool). Owns (if d then channels else set channels source row) (set links source false) number (roles_of s)) (sym away.0 ∙ is)
+        (down_owns channels links number source row (roles_of s) away.1 (subst (OwnsOpen channels links number) same owns is_open)))
+
+-- ---- a step
+
+pub AllFine : Controller → Type 0
+AllFine c = (n : ℕ) → IsFine (connection_of c n)
+
+fine_stand : (c : Controller) → AllFine c → AllStand c
+unfolding AllFine AllStand IsFine
+fine_stand c fine m e there = (subst IsFine (ap (option_map (λ (x : Entry). x.connection)) there) (fine m)).1
+
+row_free : IsRow free_channels
+row_free = length-replicate CHANNEL_NUMBERS Free
+
+shaped_down : (p : Parameters) (channels : States) (station : ℕ) → IsShaped p channels → IsShaped p (set channels station free_channels)
+shaped_down p channels station shaped = record {
+  links = length_set channels station free_channels ∙ shaped.links;
+  rows = all_set IsRow (λ row. free_channels) channels station [] (λ row is. row_free) shaped.rows;
+  numbers = shaped.numbers;
+}
+
+broken : (b : Bool) (source : ℕ) (c : Controller) → Controller
+broken b source c = if b then c else freed_station source c
+
+broken_holds : (b : Bool) (source : ℕ) (links : List Bool) (c : Controller) → Holds links c → ((n : ℕ) → OwnsOpen (if b then c.channels else set c.channels source free_channels) (set links source false) n (connection_of c n)) → Holds (set links source false) (if b then c else freed_station source c)
+broken_holds true source links c holds owns = record { shaped = holds.shaped; each = owns }
+broken_holds false source links c holds owns = record { shaped = shaped_down c.settings c.channels source holds.shaped; each = owns }
+
+same_connection : (b : Bool) (source : ℕ) (c : Controller) (n : ℕ) → connection_of (if b then c else freed_station source c) n ≡ connection_of c n
+same_connection true source c n = refl
+same_connection false source c n = refl
+
+break_holds : (source : ℕ) (c : Controller) → IsNumbered c → AllFine c → Holds c.links c → Holds (set c.links source false) (on_break source c).next
+unfolding AllFine
+break_holds source c numbered fine holds =
+    let down : Controller = with_down source c in
+    let f : Controller → Entry → Turn = told (break_of source) in
+    let tame = told_tame 1 1 true (break_of source) in
+    let there = all_found c.entries numbered.rising in
+    let last : Controller = (each f down c.entries).next in
+    let told_all : Holds c.links last = each_holds c.links f tame.rising tame.leaves (λ d e rising found stands owns. told_holds c.links d e (break_of source) (break_shut (break_of source) (own_carried source)) rising found stands owns) down c.entries numbered.rising numbered.rising there
+        (all_stand c c.entries (fine_stand c fine) there) (record { shaped = holds.shaped; each = holds.each }) in
+    broken_holds (source == SWITCH_LINK) source c.links last told_all
+    (λ n.
+        let does = break_does n c.next_number true source c numbered.rising in
+        break_owns (source == SWITCH_LINK) n c.next_number source true last.channels c.links free_channels (connection_of c n) (connection_of last n) does.put refl
+        (subst (λ (after : Option Connection). Acts n c.next_number true (breaks (break_of source)) (connection_of c n) does.put after) (same_connection (source == SWITCH_LINK) source last n) does.acts) (fine n) (told_all.each n))
+
+what_holds : (up : Bool) (source : ℕ) (what : What) (c : Controller) → IsNumbered c → AllFine c → Holds c.links c → Holds (links_with up source what c) (on_what up source what c).next
+what_holds true source (whats.Frame frame) c numbered fine holds = word_holds source (word_of source frame) c (word_from source frame) numbered (fine_stand c fine) holds
+what_holds true source whats.Down c numbered fine holds = break_holds source c numbered fine holds
+what_holds false source (whats.Frame frame) c numbered fine holds = record { shaped = holds.shaped; each = holds.each }
+what_holds false source whats.Down c numbered fine holds = record { shaped = holds.shaped; each = holds.each }
+
+expiry_holds : (links : List Bool) (o : Option Input) (c : Controller) (e : Entry) → IsDue o → AreRising c.entries → entry_of c e.connection.number ≡ Some e → Stands e.connection → Holds links c → Holds links (expires o c e).next
+expiry_holds links None c e due rising there stands holds = holds
+expiry_holds links (Some input) c e due rising there stands holds = told_holds links c e input (timer_shut input due) rising there stands holds
+
+aged_stand : (ms : ℕ) (xs : List Entry) → AllByRecursion (λ (x : Entry). Stands x.connection) xs → AllByRecursion (λ (x : Entry). Stands x.connection) (map (aged ms) xs)
+aged_stand ms [] all = tt
+aged_stand ms (x ∷ xs) all = (pass_stands ms x.connection all.0, aged_stand ms xs all.1)
+
+aged_owns : (channels : States) (links : List Bool) (n ms : ℕ) (o : Option Entry) → OwnsOpen channels links n (option_map (λ (e : Entry). e.connection) o) → OwnsOpen channels links n (option_map (λ (e : Entry). e.connection) (option_map (aged ms) o))
+aged_owns channels links n ms None owns = tt
+aged_owns channels links n ms (Some e) owns = owns
+
+tick_holds : (ms : ℕ) (c : Controller) → IsNumbered c → AllFine c → Holds c.links c → Holds c.links (tick ms c).next
+unfolding tick
+tick_holds ms c numbered fine holds =
+    let old : Controller = all_aged ms c in
+    let order = aged_rising ms c.entries numbered.rising in
+    let tame = timed_tame 1 1 true in
+    each_holds c.links timed tame.rising tame.leaves (λ d e rising found stands owns. expiry_holds c.links (expiry d.settings.timers e.connection) d e (expiry_own _ _) rising found stands owns) old old.entries order order (all_found old.entries order)
+    (aged_stand ms c.entries (all_stand c c.entries (fine_stand c fine) (all_found c.entries numbered.rising)))
+    (record { shaped = holds.shaped; each = λ n. subst (OwnsOpen c.channels c.links n) (sym (ap (option_map (λ (e : Entry). e.connection)) (all_age n ms c))) (aged_owns c.channels c.links n ms (entry_of c n) (holds.each n)) })
+
+pub step_holds : (c : Controller) (s : Step) → IsNumbered c → AllFine c → Holds c.links c → Holds (step c s).next.links (step c s).next
+unfolding take
+step_holds c (Take item) numbered fine holds =
+    subst (λ (links : List Bool). Holds links (take item c).next) (sym (step_goes c (Take item)).links_are) (what_holds (is_up c item.source) item.source item.what c numbered fine holds)
+step_holds c (Tick ms) numbered fine holds = subst (λ (links : List Bool). Holds links (tick ms c).next) (sym (step_goes c (Tick ms)).links_are) (tick_holds ms c numbered fine holds)
