@@ -29,8 +29,8 @@ use Rattle.controller_laws.specs.Numbers.{IsNumbered, AreRising, IsAbove}
 use Rattle.controller_laws.specs.Owning.{AreIn, Owns, OwnsOpen, is_link_up, used_in}
 use Rattle.controller_laws.proofs.Beside.{Goes, links_after, links_with, other_link, step_goes}
 use Rattle.controller_laws.proofs.Entries.{find_above}
-use Rattle.controller_laws.proofs.Fitting.{Fits, IsFine, IsLinkBreak, IsPresent, never_none, own_carried, pass_stands, row_is}
-use Rattle.controller_laws.proofs.OwningSteps.{IsRow, IsShaped, owns_kept}
+use Rattle.controller_laws.proofs.Fitting.{Fits, IsFine, IsLinkBreak, IsLinked, IsPresent, new_fits, step_fits, never_none, own_carried, pass_stands, row_is}
+use Rattle.controller_laws.proofs.OwningSteps.{HasNumbers, IsRow, IsShaped, owns_kept}
 use Rattle.controller_laws.proofs.OwningWords.{AllStand, Holds, fitting_holds, word_holds}
 use Rattle.controller_laws.proofs.Places.{all_set, length_set}
 use Rattle.controller_laws.proofs.Progress.{failing_shut}
@@ -48,7 +48,11 @@ use Rattle.controller_table.specs.Life.{aged, all_aged, break_of, expiry, on_bre
 use Rattle.controller_table.specs.Reading.{word_of}
 use Rattle.relay_items.specs.declared.What.{What}
 use Rattle.relay_items.specs.declared.What.TheVariants as whats
-use Rattle.settings.specs.Parameters.{Parameters}
+use Rattle.settings.specs.Parameters.{AreAllowed, CellParameters, IsCell, IsChannel, Parameters}
+use Rattle.std.proofs.lemmas.List.Elements.{recursion_from_All}
+use Rattle.controller_laws.specs.Owning.{LinkedOf}
+use Rattle.controller_laws.proofs.Lives.{life_fits}
+use Rattle.controller_table.specs.Life.{life}
 
 abbrev States : Type 0
 States = List (List ChannelState)
@@ -343,3 +347,51 @@ unfolding take
 step_holds c (Take item) numbered fine holds =
     subst (λ (links : List Bool). Holds links (take item c).next) (sym (step_goes c (Take item)).links_are) (what_holds (is_up c item.source) item.source item.what c numbered fine holds)
 step_holds c (Tick ms) numbered fine holds = subst (λ (links : List Bool). Holds links (tick ms c).next) (sym (step_goes c (Tick ms)).links_are) (tick_holds ms c numbered fine holds)
+
+-- ---- a life
+
+all_replicate : {A : Type 0} (P : A → Type 0) (n : ℕ) (x : A) → P x → AllByRecursion P (replicate n x)
+all_replicate P zero x here = tt
+all_replicate P (suc n) x here = (here, all_replicate P n x here)
+
+numbers_of : (channels : List ℕ) → AllByRecursion IsChannel channels → AllByRecursion (λ number. number < CHANNEL_NUMBERS) channels
+numbers_of [] all = tt
+numbers_of (n ∷ ns) all = (omega arith, numbers_of ns all.1)
+
+cells_of : (cells : List CellParameters) → AllByRecursion IsCell cells → AllByRecursion HasNumbers cells
+cells_of [] all = tt
+cells_of (cell ∷ cells) all = (numbers_of cell.channels (recursion_from_All IsChannel cell.channels all.0.channels.each), cells_of cells all.1)
+
+new_holds : (p : Parameters) → AreAllowed p → Holds (new_controller p).links (new_controller p)
+new_holds p allowed = record {
+  shaped = record {
+    links = length-replicate (length p.cells + 1) free_channels;
+    rows = all_replicate IsRow (length p.cells + 1) free_channels row_free;
+    numbers = cells_of p.cells (recursion_from_All IsCell p.cells allowed.cells.each);
+  };
+  each = λ n. tt;
+}
+
+fine_at : (c : Controller) → IsNumbered c → ((n : ℕ) → 1 ≤ n → IsFine (connection_of c n)) → (n : ℕ) → IsFine (connection_of c n)
+unfolding IsFine
+fine_at c numbered fine zero = subst IsFine (sym (ap (option_map (λ (e : Entry). e.connection)) (find_above 0 c.entries numbered.above))) tt
+fine_at c numbered fine (suc n) = fine (suc n) (omega arith)
+
+holds_run : (c : Controller) (steps : List Step) → ((n : ℕ) → 1 ≤ n → Fits n c) → Holds c.links c → Holds (each step c steps).next.links (each step c steps).next
+unfolding AllFine
+holds_run c [] fits holds = holds
+holds_run c (s ∷ ss) fits holds =
+    let numbered = (fits 1 (omega arith)).numbered in
+    holds_run (step c s).next ss (λ n from_one. step_fits n c s from_one (fits n from_one)) (step_holds c s numbered (fine_at c numbered (λ n from_one. (fits n from_one).fine)) holds)
+
+pub life_owns : (p : Parameters) (steps : List Step) (number : ℕ) → AreAllowed p → OwnsOpen (life p steps).next.channels (life p steps).next.links number (connection_of (life p steps).next number)
+unfolding life
+life_owns p steps number allowed = (holds_run (new_controller p) steps (λ n from_one. new_fits n p) (new_holds p allowed)).each number
+
+linked_there : (up : Bool) (o : Option Connection) → IsLinked up o → LinkedOf up o
+unfolding IsLinked
+linked_there up None linked = tt
+linked_there up (Some s) linked = linked
+
+pub life_linked : (p : Parameters) (steps : List Step) (number : ℕ) → 1 ≤ number → LinkedOf (is_up (life p steps).next SWITCH_LINK) (connection_of (life p steps).next number)
+life_linked p steps number from_one = linked_there (is_up (life p steps).next SWITCH_LINK) (connection_of (life p steps).next number) (life_fits p steps number from_one).linked

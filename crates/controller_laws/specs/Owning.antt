@@ -31,3 +31,8 @@ pub record Owns (channels : List (List ChannelState)) (links : List Bool) (numbe
 abbrev pub OwnsOpen : List (List ChannelState) → List Bool → ℕ → Option Connection → Type 0
 OwnsOpen channels links number None = Unit {0}
 OwnsOpen channels links number (Some s) = IsOpen s.state → Owns channels links number (roles_of s)
+
+-- a connection is there only while the switch's link is up
+abbrev pub LinkedOf : Bool → Option Connection → Type 0
+LinkedOf up None = Unit {0}
+LinkedOf up (Some s) = up ≡ true

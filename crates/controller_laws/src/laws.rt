@@ -3,10 +3,13 @@ ghost use Rattle.controller_laws.specs.Acts.{ActsOn};
 ghost use Rattle.controller_laws.specs.Downlink.{DownlinkIsConserved};
 ghost use Rattle.controller_laws.specs.End.{IsThere, KeepsSilence, StaysSilent};
 ghost use Rattle.controller_laws.specs.History.{connection_of};
+ghost use Rattle.controller_laws.specs.Owning.{LinkedOf, OwnsOpen};
+ghost use Rattle.controller_table.specs.Controller.{is_up};
+ghost use Rattle.conn_messages.specs.declared.parameters.TheConstants.{SWITCH_LINK};
 ghost use Rattle.controller_laws.specs.Numbers.{IsNumbered};
 ghost use Rattle.controller_table.specs.declared.step.Step.{Step};
 ghost use Rattle.controller_table.specs.Life.{life};
-ghost use Rattle.settings.specs.Parameters.{Parameters};
+ghost use Rattle.settings.specs.Parameters.{AreAllowed, Parameters};
 
 /// Whatever comes, the numbers of the connections rise from 1 and are below that of the next one. It is a law on the
 /// definitions: it does nothing, as all here.
@@ -33,4 +36,13 @@ pub fn silence_is_kept()
 /// without what was rejected and without messages of radio resource management, as long as the connection is open.
 pub fn downlink_is_conserved()
     ensures { (p : Parameters) (steps : List Step) (number : ℕ) → 1 ≤ number → DownlinkIsConserved number p steps }
+{}
+
+/// A connection that is open has its serving channel and its target in use, its old channels releasing, all different, and
+/// the links of their stations and of the switch up: so a channel is one connection's at most.
+pub fn channels_are_owned()
+    ensures channels { (p : Parameters) (steps : List Step) (number : ℕ) → AreAllowed p
+        → OwnsOpen (life p steps).next.channels (life p steps).next.links number (connection_of (life p steps).next number) }
+    ensures switch { (p : Parameters) (steps : List Step) (number : ℕ) → 1 ≤ number
+        → LinkedOf (is_up (life p steps).next SWITCH_LINK) (connection_of (life p steps).next number) }
 {}
