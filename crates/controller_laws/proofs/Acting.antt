@@ -101,5 +101,5 @@ row_does number next up brought c e x input offer r rising there fits by before 
           let differ : number ≢ e.connection.number = λ same. absurd (true≢false (sym (eq-eqb number e.connection.number same) ∙ miss)) in
           let rest = others differ in
           does_nothing number next up brought before (by_row e r c) (outs_other number e.connection.number r.outs differ)
-              (ap (option_map (λ (y : Entry). y.connection)) (back_over number (entry_after c.settings e r) c.entries (λ same. differ (same ∙ keeps))) ∙ rest.0) rest.1
+          (ap (option_map (λ (y : Entry). y.connection)) (back_over number (entry_after c.settings e r) c.entries (λ same. differ (same ∙ keeps))) ∙ rest.0) rest.1
     ]

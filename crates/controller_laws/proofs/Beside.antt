@@ -1,5 +1,5 @@
 -- What stands beside the connections: settings, links, and that numbers go on.
-use Rattle.std.proofs.Common.{◌≡◌, ◌≢◌, ℕ, ◌+◌, ◌==◌, ◌≤◌, Bool, true, false, cond, if◌then◌else◌, List, [], ◌∷◌, set, slice_get, unwrap_or, Option, Some, None, refl, sym, subst, ap, ◌∙◌, inl, inr, arith}
+use Rattle.std.proofs.Common.{◌≡◌, ◌≢◌, ℕ, ◌==◌, ◌≤◌, Bool, true, false, if◌then◌else◌, List, [], ◌∷◌, set, Option, Some, None, refl, sym, ◌∙◌, arith}
 use Rattle.std.proofs.lemmas.List.{get_or-set_other}
 use Rattle.std.proofs.lemmas.Option.{unwrap_or-slice_get}
 use Rattle.conn_messages.specs.declared.channel.Channel.{Channel}
@@ -14,7 +14,7 @@ use Rattle.controller_table.specs.declared.word.Word.{Word}
 use Rattle.controller_table.specs.declared.word.Word.TheVariants.{Nothing, Ping, Asks, OnChannel, Reports, OnConnection}
 use Rattle.controller_table.specs.Channels.{access_channel}
 use Rattle.controller_table.specs.Controller.{Controller, Entry, Turn, turn, each, ignoring, is_up, entry_of, with_entry, with_down, freed, freed_station, channel_state}
-use Rattle.controller_table.specs.Life.{by_row, by_fitting, row_in, concerning, concerning_too, given, asked, may_open, frees, entry_at, on_freed, measures, with_report, measured, on_decision, on_report, on_word, told, break_of, on_break, on_what, take, all_aged, expiry, on_expiry, timed, tick, step}
+use Rattle.controller_table.specs.Life.{by_row, by_fitting, row_in, concerning, concerning_too, given, may_open, frees, entry_at, on_freed, measures, with_report, measured, on_decision, on_report, on_word, told, break_of, on_what, take, all_aged, expiry, on_expiry, timed, tick, step}
 use Rattle.controller_table.specs.Reading.{word_of}
 use Rattle.controller_table.specs.Reports.{decision_over}
 use Rattle.dtap_codec.specs.declared.report.Report.{Report}
@@ -23,7 +23,6 @@ use Rattle.ho_decision.specs.declared.decision.Decision.TheVariants.{Stay, Move}
 use Rattle.relay_items.specs.declared.What.{What}
 use Rattle.relay_items.specs.declared.What.TheVariants as whats
 use Rattle.rsl_codec.specs.declared.values.RequestReference.{RequestReference}
-use Rattle.settings.specs.Parameters.{Parameters}
 
 -- the settings and the links are the same, and numbers go on
 pub record IsBeside (c next : Controller) : Type 0 where
@@ -75,7 +74,7 @@ of_report at of report c (Some e) =
     let put : Entry = with_report of report e in
     of_if (measures at e) c (measured of report c e)
     (after c (with_entry put c) (measured of report c e).next (same c (with_entry put c) refl refl refl)
-        (of_decision (decision_over put.averages.settings put.averages.reports of) (with_entry put c) put))
+    (of_decision (decision_over put.averages.settings put.averages.reports of) (with_entry put c) put))
 
 of_word : (source : ℕ) (word : Word) (c : Controller) → IsBeside c (on_word source word c).next
 of_word source Nothing c = same c (ignoring c).next refl refl refl

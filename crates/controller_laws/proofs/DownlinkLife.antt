@@ -1,5 +1,5 @@
 -- The switch's messages of a connection over a whole life.
-use Rattle.std.proofs.Common.{◌≡◌, ℕ, ◌+◌, ◌≤◌, ◌<◌, List, [], ◌∷◌, ◌++◌, find, fold, Option, Some, None, option_map, refl, sym, subst, ap, ◌∙◌, arith, inl, inr}
+use Rattle.std.proofs.Common.{ℕ, ◌≤◌, ◌<◌, List, [], ◌∷◌, find, fold, Option, Some, None, option_map, refl, sym, subst, inl, inr}
 use Rattle.std.proofs.lemmas.Bool.{cases_Bool, cond-true, cond-false, eqb-true}
 use Rattle.std.specs.List.{AllByRecursion}
 use Rattle.conn_messages.specs.declared.parameters.TheConstants.{SWITCH_LINK}
@@ -53,7 +53,7 @@ agree_run sapi number c from_one fits a (s ∷ ss) agrees =
     let does = step_does number c s from_one fits.numbered in
     agree_run sapi number (step c s).next from_one (step_fits number c s from_one fits) (with_moment number sapi a (record { taken = s; messages = does.put })) ss
     (acts_agree sapi number c.next_number (step c s).next.next_number (is_up c SWITCH_LINK) (brought_in c number s) (connection_of c number) (connection_of (step c s).next number) does.put a s does.acts (step_goes c s).numbers (begun_in number c fits.numbered) fits.fine fits.linked (in_break c number s)
-        (λ up. step_says c number s up) agrees)
+    (λ up. step_says c number s up) agrees)
 
 conserved : (sapi : Sapi) (number next : ℕ) (a : Switched) (o : Option Connection) → AgreesDown sapi number next a o → ConservesDownlink a sapi o
 unfolding AgreesDown

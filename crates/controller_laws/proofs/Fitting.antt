@@ -1,14 +1,12 @@
 -- What holds of a connection that the controller has.
-use Rattle.std.proofs.Common.{◌≡◌, ◌≢◌, ℕ, ◌==◌, ◌≤◌, Bool, true, false, cond, if◌then◌else◌, List, [], ◌∷◌, fold, Option, Some, None, refl, sym, subst, ap, ◌∙◌, inl, inr, arith, true≢false}
-use Rattle.std.proofs.lemmas.Bool.{cases_Bool, cond-true, cond-false, eqb-true, eq-eqb, ne_eqb}
-use Rattle.conn_messages.specs.declared.channel.Channel.{Channel}
+use Rattle.std.proofs.Common.{◌≡◌, ℕ, ◌==◌, ◌≤◌, Bool, true, false, if◌then◌else◌, List, [], ◌∷◌, fold, Option, Some, None, refl, sym, subst, ap, ◌∙◌, inl, inr, arith, true≢false}
+use Rattle.std.proofs.lemmas.Bool.{cases_Bool, cond-true, cond-false, eq-eqb}
 use Rattle.conn_messages.specs.declared.message.Message.{Message}
 use Rattle.conn_messages.specs.declared.parameters.TheConstants.{SWITCH_LINK}
 use Rattle.conn_table.proofs.StandingSteps.{Stands-new}
 use Rattle.conn_table.proofs.StandingTable.{Stands-row}
 use Rattle.conn_table.specs.declared.input.Input.{Input}
 use Rattle.conn_table.specs.declared.input.Input.TheVariants as inputs
-use Rattle.conn_table.specs.declared.state.Clearing.TheVariants.{Due, Asked as WasAsked, Complete}
 use Rattle.conn_table.specs.declared.state.Drain.{Drain}
 use Rattle.conn_table.specs.declared.state.State.{State}
 use Rattle.conn_table.specs.declared.state.State.TheVariants.{WaitActivation, WaitEstablish, WaitConfirm, Live, Closed, Removed}
@@ -18,13 +16,12 @@ use Rattle.conn_table.specs.Steps.{Row}
 use Rattle.conn_table.specs.Streams.{OfRow}
 use Rattle.conn_table.specs.Table.{row_of, on_switch_down}
 use Rattle.conn_table.specs.Timers.{after_pass, drained_after}
-use Rattle.controller_laws.specs.Acts.{Acts, IsAged, passed, Brought, IsBrought, IsTimer, if_held, brought_by, brought_with, brought_in, kept, kept_in}
+use Rattle.controller_laws.specs.Acts.{Acts, IsAged, passed, Brought, IsBrought, IsTimer, if_held, brought_by, brought_with, brought_in, kept_in}
 use Rattle.controller_laws.specs.Acts.Acts.{ages, rests, opens, goes}
 use Rattle.controller_laws.specs.Acts.Brought.{nothing, comes, reports, breaks, passes}
 use Rattle.controller_laws.specs.History.{connection_of}
 use Rattle.controller_laws.specs.Numbers.{IsNumbered}
-use Rattle.controller_laws.proofs.Acting.{Does}
-use Rattle.controller_laws.proofs.Beside.{Goes, step_goes, links_with, links_after, other_link}
+use Rattle.controller_laws.proofs.Beside.{step_goes, links_with, links_after, other_link}
 use Rattle.controller_laws.specs.Owning.{is_link_up}
 use Rattle.controller_laws.proofs.Readings.{IsCarriedBy, word_carried}
 use Rattle.controller_laws.proofs.Turns.{step_does, step_numbered}
@@ -136,6 +133,7 @@ with_break true c number source (whats.Frame frame) = by (word_of source frame)
       | inl hit ↦ subst IsBreak (sym (cond-true _ (comes input) nothing hit)) tt
       | inr miss ↦ subst IsBreak (sym (cond-false _ (comes input) nothing miss)) tt
     ]
+
     by : (word : Word) → IsBreak (brought_by c number word)
     by (OnChannel at input) = held (holder (channel_state c at)) input
     by (OnConnection destination input) = held (Some destination) input

@@ -17,3 +17,5 @@ pub mod OwningRows
 pub mod OwningSteps
 pub mod OwningWords
 pub mod OwningLife
+mod OnLiterals
+mod Rows

@@ -1,5 +1,5 @@
 -- What holds after every list of steps.
-use Rattle.std.proofs.Common.{◌≡◌, ℕ, ◌≤◌, List, [], ◌∷◌}
+use Rattle.std.proofs.Common.{ℕ, ◌≤◌, List, [], ◌∷◌}
 use Rattle.controller_laws.specs.Acts.{ActsOn}
 use Rattle.controller_laws.proofs.Fitting.{Fits, step_fits, new_fits}
 use Rattle.controller_laws.proofs.Turns.{step_does}

@@ -1,24 +1,20 @@
 -- Whose channels are after a row: its own connection's, and all others'.
-use Rattle.std.proofs.Common.{◌≡◌, ◌≢◌, ◌⊎◌, ℕ, zero, suc, ◌==◌, ◌&&◌, Bool, true, false, not, if◌then◌else◌, List, [], ◌∷◌, ◌++◌, fold, filter, Option, Some, None, option_map, refl, sym, subst, ap, ◌∙◌, inl, inr, true≢false}
+use Rattle.std.proofs.Common.{◌≡◌, ◌≢◌, ◌⊎◌, ℕ, zero, suc, ◌==◌, ◌&&◌, Bool, true, false, not, if◌then◌else◌, List, [], ◌∷◌, ◌++◌, fold, Option, Some, None, option_map, refl, sym, subst, ap, ◌∙◌, inl, inr, true≢false}
 use Rattle.std.proofs.lemmas.Bool.{cases_Bool, cond-true, cond-false, eqb-true, eq-eqb, and_parts}
 use Rattle.std.specs.List.{AllByRecursion}
-use Rattle.conn_messages.specs.declared.channel.Change.{Change}
-use Rattle.conn_messages.specs.declared.channel.Change.TheVariants.{Assignment, Handover}
 use Rattle.conn_messages.specs.declared.channel.Channel.{Channel}
 use Rattle.conn_messages.specs.declared.channel.Place.{Place}
-use Rattle.conn_messages.specs.declared.message.Message.{Message}
-use Rattle.conn_messages.specs.declared.message.Message.TheVariants.{Station}
-use Rattle.conn_messages.specs.StationMessage.{change_activation, rf_channel_release}
+use Rattle.conn_messages.specs.StationMessage.{rf_channel_release}
 use Rattle.conn_table.proofs.RolesAccount.{undone-still_draining}
 use Rattle.conn_table.proofs.RolesApart.{IsPart, IsPart-step, AreApart-begin}
 use Rattle.conn_table.proofs.Standing.{AllByRecursion-push}
-use Rattle.conn_table.proofs.UplinkPlaces.{DrainsAt, AreAway, all_away, all_behind, apart_first, apart_rest, drain_at-drains, drain-away, same_place}
+use Rattle.conn_table.proofs.UplinkPlaces.{DrainsAt, AreAway, all_away, apart_first, apart_rest, drain_at-drains, drain-away, same_place}
 use Rattle.conn_table.specs.declared.input.Input.{Input}
 use Rattle.conn_table.specs.declared.input.Input.TheVariants as inputs
 use Rattle.conn_table.specs.declared.state.Drain.{Drain}
 use Rattle.conn_table.specs.declared.state.Target.{Target}
 use Rattle.conn_table.specs.Connection.{is_at, drain_at}
-use Rattle.conn_table.specs.Roles.{TargetRole, Roles, RoleStep, after_step, step_by, step_orders, begin_orders, target_orders, target_channels, with_target, still_draining, leaves_at, MayBegin, IsNew}
+use Rattle.conn_table.specs.Roles.{TargetRole, Roles, RoleStep, after_step, step_by, step_orders, target_channels, with_target, leaves_at, MayBegin, IsNew}
 use Rattle.conn_table.specs.Roles.RoleStep.{stays, commands, completes, goes_back, leaves}
 use Rattle.conn_table.specs.Steps.{done_at}
 use Rattle.conn_table.specs.Streams.{AreApart, IsApart, undone}
@@ -106,6 +102,7 @@ none_there at c done rest none = elim (cases_Bool (is_at at c && not done)) [
         by : (b : Bool) → (b && true) ≡ false → b ≡ false
         by true is = is
         by false is = refl
+
     of : (o : Option ℕ) → option_map (λ place. suc place) o ≡ None → o ≡ None
     of None is = refl
     of (Some n) is = absurd cc
@@ -194,9 +191,9 @@ own_step channels links n completes roles (Some t) has owns =
     with_states channels next links n completes old owns
     (state_else channels (place_of roles.serving) (place_of t.target.channel) (Releasing n) (λ same. differ (sym same)) ∙ owns.using.1.0, tt)
     (subst (AreIn next (Releasing n)) (sym (undone_more roles.draining roles.serving))
-        (AllByRecursion-push (λ c. state_in next (place_of c) ≡ Releasing n) (undone roles.draining) roles.serving
-        (still_in channels (place_of roles.serving) (Releasing n) (Releasing n) (undone roles.draining) (λ is. use≢release n n (sym owns.using.0 ∙ is)) owns.releasing)
-        (state_here channels (place_of roles.serving) (Releasing n) (in_use channels (place_of roles.serving) n owns.using.0))))
+    (AllByRecursion-push (λ c. state_in next (place_of c) ≡ Releasing n) (undone roles.draining) roles.serving
+    (still_in channels (place_of roles.serving) (Releasing n) (Releasing n) (undone roles.draining) (λ is. use≢release n n (sym owns.using.0 ∙ is)) owns.releasing)
+    (state_here channels (place_of roles.serving) (Releasing n) (in_use channels (place_of roles.serving) n owns.using.0))))
 own_step channels links n goes_back roles None has owns = owns
 own_step channels links n goes_back roles (Some t) has owns = back_owns channels links n roles t t.is_commanded owns
 own_step channels links n (leaves place) roles target has owns =
@@ -209,9 +206,9 @@ own_step channels links n (leaves place) roles target has owns =
 new_places : (channels : States) (free : Channel) (was : ChannelState) (cs : List Channel) → was ≢ Free → state_in channels (place_of free) ≡ Free → AreIn channels was cs → AllByRecursion (λ other. IsApart other free) cs
 new_places channels free was [] used is_free all = tt
 new_places channels free was (c ∷ cs) used is_free all = (
-    elim (both_or c free) [ inl same ↦ absurd (used (sym all.0 ∙ ap (state_in channels) same ∙ is_free)) | inr apart ↦ apart ],
-    new_places channels free was cs used is_free all.1,
-  )
+  elim (both_or c free) [ inl same ↦ absurd (used (sym all.0 ∙ ap (state_in channels) same ∙ is_free)) | inr apart ↦ apart ],
+  new_places channels free was cs used is_free all.1,
+)
 
 all_join : (P : Channel → Type 0) (xs ys : List Channel) → AllByRecursion P xs → AllByRecursion P ys → AllByRecursion P (xs ++ ys)
 all_join P [] ys one other = other
@@ -247,6 +244,7 @@ begin_owns channels links n target input offer roles may offered owns =
     front : (xs ys : List Channel) → AllByRecursion (λ c. is_link_up links c.station ≡ true) (xs ++ ys) → AllByRecursion (λ c. is_link_up links c.station ≡ true) xs
     front [] ys all = tt
     front (x ∷ xs) ys all = (all.0, front xs ys all.1)
+
     behind : (xs ys : List Channel) → AllByRecursion (λ c. is_link_up links c.station ≡ true) (xs ++ ys) → AllByRecursion (λ c. is_link_up links c.station ≡ true) ys
     behind [] ys all = all
     behind (x ∷ xs) ys all = behind xs ys all.1
@@ -263,9 +261,9 @@ left_owns channels links n k at roles None none is owns =
 left_owns channels links n k at roles (Some place) some is owns =
     with_states channels (with_state at Free channels) links n (leaves place) roles owns (left_using channels links n k at roles is owns)
     (subst (AreIn (with_state at Free channels) (Releasing n)) (sym (undone-still_draining (done_at place roles.draining)))
-        (away_in channels at Free (Releasing n) (undone (done_at place roles.draining))
-        (away_done at place roles.draining (roles.serving ∷ target_channels roles.target) (drain_at-drains at roles.draining place some) owns.apart)
-        (all_done_at (λ c. state_in channels (place_of c) ≡ Releasing n) place roles.draining owns.releasing)))
+    (away_in channels at Free (Releasing n) (undone (done_at place roles.draining))
+    (away_done at place roles.draining (roles.serving ∷ target_channels roles.target) (drain_at-drains at roles.draining place some) owns.apart)
+    (all_done_at (λ c. state_in channels (place_of c) ≡ Releasing n) place roles.draining owns.releasing)))
 
 pub acknowledged_owns : (channels : States) (links : List Bool) (n k : ℕ) (at : Place) (roles : Roles) → state_in channels at ≡ Releasing k → Owns channels links n roles → Owns (with_state at Free channels) links n (after_step (step_by (inputs.ReleaseAck at) roles) roles)
 acknowledged_owns channels links n k at roles is owns = left_owns channels links n k at roles (drain_at at roles.draining) refl is owns

@@ -1,6 +1,6 @@
 -- Whose channels are after each step, and so in every life.
-use Rattle.std.proofs.Common.{◌≡◌, ◌≢◌, ℕ, zero, suc, ◌+◌, ◌==◌, ◌≤◌, ◌<◌, ◌&&◌, ◌||◌, Bool, true, false, not, if◌then◌else◌, List, [], ◌∷◌, ◌++◌, length, find, map, replicate, set, slice_index_or, Option, Some, None, option_map, refl, sym, subst, ap, ◌∙◌, inl, inr, arith, true≢false}
-use Rattle.std.proofs.lemmas.Bool.{cases_Bool, cond-true, cond-false, eqb-true, eq-eqb}
+use Rattle.std.proofs.Common.{◌≡◌, ◌≢◌, ℕ, zero, suc, ◌+◌, ◌==◌, ◌≤◌, ◌<◌, ◌&&◌, ◌||◌, Bool, true, false, not, if◌then◌else◌, List, [], ◌∷◌, ◌++◌, length, map, replicate, set, slice_index_or, Option, Some, None, option_map, refl, sym, subst, ap, ◌∙◌, inl, inr, arith, true≢false}
+use Rattle.std.proofs.lemmas.Bool.{cases_Bool, cond-true, cond-false, eq-eqb}
 use Rattle.std.proofs.lemmas.List.{get_or-set_other, length-replicate}
 use Rattle.std.specs.List.{AllByRecursion}
 use Rattle.conn_messages.specs.declared.channel.Channel.{Channel}
@@ -17,25 +17,23 @@ use Rattle.conn_table.specs.declared.state.State.TheVariants.{WaitActivation, Wa
 use Rattle.conn_table.specs.Connection.{Connection}
 use Rattle.conn_table.specs.Roles.{Roles, roles_of, target_channels, target_role}
 use Rattle.conn_table.specs.Standing.{Stands}
-use Rattle.conn_table.specs.Steps.{Row, dropping, failing, without_station}
+use Rattle.conn_table.specs.Steps.{Row}
 use Rattle.conn_table.specs.Streams.{IsOpen, undone}
 use Rattle.conn_table.specs.Table.{row_of, row_if, drains_at, targets, is_some_draining, on_drain_expiry, on_expiry, on_station_down, on_switch_down}
-use Rattle.conn_table.specs.Timers.{after_pass}
-use Rattle.controller_laws.specs.Acts.{Acts, IsTimer, kept_in}
+use Rattle.controller_laws.specs.Acts.{Acts, IsTimer}
 use Rattle.controller_laws.specs.Acts.Acts.{ages, goes, opens, rests}
 use Rattle.controller_laws.specs.Acts.Brought.{breaks}
 use Rattle.controller_laws.specs.History.{connection_of}
 use Rattle.controller_laws.specs.Numbers.{IsNumbered, AreRising, IsAbove}
 use Rattle.controller_laws.specs.Owning.{AreIn, Owns, OwnsOpen, is_link_up, used_in}
-use Rattle.controller_laws.proofs.Beside.{Goes, links_after, links_with, other_link, step_goes}
+use Rattle.controller_laws.proofs.Beside.{links_with, other_link, step_goes}
 use Rattle.controller_laws.proofs.Entries.{find_above}
 use Rattle.controller_laws.proofs.Fitting.{Fits, IsFine, IsLinkBreak, IsLinked, IsPresent, new_fits, step_fits, never_none, own_carried, pass_stands, row_is}
 use Rattle.controller_laws.proofs.OwningSteps.{HasNumbers, IsRow, IsShaped, owns_kept}
 use Rattle.controller_laws.proofs.OwningWords.{AllStand, Holds, fitting_holds, word_holds}
 use Rattle.controller_laws.proofs.Places.{all_set, length_set}
-use Rattle.controller_laws.proofs.Progress.{failing_shut}
 use Rattle.controller_laws.proofs.Sources.{word_from}
-use Rattle.controller_laws.proofs.Turns.{IsFound, IsTame, all_found, all_two, aged_rising, break_does, told_tame, timed_tame, expiry_own, IsDue}
+use Rattle.controller_laws.proofs.Turns.{all_found, all_two, aged_rising, break_does, told_tame, timed_tame, expiry_own, IsDue}
 use Rattle.controller_table.proofs.Others.{all_age}
 use Rattle.controller_table.specs.declared.channel_state.ChannelState.{ChannelState}
 use Rattle.controller_table.specs.declared.channel_state.ChannelState.TheVariants.{Free, InUse, Releasing}
@@ -43,7 +41,7 @@ use Rattle.controller_table.specs.declared.limits.TheConstants.{CHANNEL_NUMBERS}
 use Rattle.controller_table.specs.declared.step.Step.{Step}
 use Rattle.controller_table.specs.declared.step.Step.TheVariants.{Take, Tick}
 use Rattle.controller_table.specs.Channels.{request_offer}
-use Rattle.controller_table.specs.Controller.{Controller, Entry, Turn, turn, each, entry_of, free_channels, freed_station, has_number, ignoring, is_up, new_controller, place_of, state_in, with_down}
+use Rattle.controller_table.specs.Controller.{Controller, Entry, Turn, turn, each, entry_of, free_channels, freed_station, is_up, new_controller, with_down}
 use Rattle.controller_table.specs.Life.{aged, all_aged, break_of, expiry, on_break, on_expiry as expires, on_what, row_in, step, take, tick, timed, told}
 use Rattle.controller_table.specs.Reading.{word_of}
 use Rattle.relay_items.specs.declared.What.{What}
@@ -127,7 +125,7 @@ each_holds links f order leaves keeps c [] rising sorted there stand holds = hol
 each_holds links f order leaves keeps c (x ∷ xs) rising sorted there stand holds =
     each_holds links f order leaves keeps (f c x).next xs (order c x rising) sorted.1
     (all_two (IsAbove x.connection.number) (λ (y : Entry). entry_of c y.connection.number ≡ Some y) (λ (y : Entry). entry_of (f c x).next y.connection.number ≡ Some y) xs
-        (λ y above found. leaves y.connection.number c x (λ same. absurd (omega arith)) ∙ found) sorted.0 there.1)
+    (λ y above found. leaves y.connection.number c x (λ same. absurd (omega arith)) ∙ found) sorted.0 there.1)
     stand.1 (keeps c x rising there.0 stand.0 holds)
 
 all_stand : (c : Controller) (xs : List Entry) → AllStand c → AllByRecursion (λ (x : Entry). entry_of c x.connection.number ≡ Some x) xs → AllByRecursion (λ (x : Entry). Stands x.connection) xs
@@ -206,9 +204,9 @@ down_away Removed s station is stands is_open none = absurd is_open
 down_in : (channels : States) (station : ℕ) (row : List ChannelState) (state : ChannelState) (cs : List Channel) → AllByRecursion (IsAwayFrom station) cs → AreIn channels state cs → AreIn (set channels station row) state cs
 down_in channels station row state [] away all = tt
 down_in channels station row state (c ∷ cs) away all = (
-    ap (λ (these : List ChannelState). slice_index_or these c.number Free) (get_or-set_other channels station c.station row [] away.0) ∙ all.0,
-    down_in channels station row state cs away.1 all.1,
-  )
+  ap (λ (these : List ChannelState). slice_index_or these c.number Free) (get_or-set_other channels station c.station row [] away.0) ∙ all.0,
+  down_in channels station row state cs away.1 all.1,
+)
 
 down_linked : (links : List Bool) (station : ℕ) (cs : List Channel) → AllByRecursion (IsAwayFrom station) cs → AllByRecursion (λ c. is_link_up links c.station ≡ true) cs → AllByRecursion (λ c. is_link_up (set links station false) c.station ≡ true) cs
 down_linked links station [] away all = tt
@@ -264,9 +262,9 @@ break_owns b number next source up channels links row None after put is (rests s
 break_owns b number next source up channels links row (Some s) after put is (rests silent same none) fine owns =
     subst (OwnsOpen (if b then channels else set channels source row) (set links source false) number) (sym same)
     (λ is_open.
-        let away = break_away source s none.0 fine.1 is_open none.1 in
-        subst (λ (d : Bool). Owns (if d then channels else set channels source row) (set links source false) number (roles_of s)) (sym away.0 ∙ is)
-        (down_owns channels links number source row (roles_of s) away.1 (subst (OwnsOpen channels links number) same owns is_open)))
+    let away = break_away source s none.0 fine.1 is_open none.1 in
+    subst (λ (d : Bool). Owns (if d then channels else set channels source row) (set links source false) number (roles_of s)) (sym away.0 ∙ is)
+    (down_owns channels links number source row (roles_of s) away.1 (subst (OwnsOpen channels links number) same owns is_open)))
 
 -- ---- a step
 
@@ -307,12 +305,12 @@ break_holds source c numbered fine holds =
     let there = all_found c.entries numbered.rising in
     let last : Controller = (each f down c.entries).next in
     let told_all : Holds c.links last = each_holds c.links f tame.rising tame.leaves (λ d e rising found stands owns. told_holds c.links d e (break_of source) (break_shut (break_of source) (own_carried source)) rising found stands owns) down c.entries numbered.rising numbered.rising there
-        (all_stand c c.entries (fine_stand c fine) there) (record { shaped = holds.shaped; each = holds.each }) in
+    (all_stand c c.entries (fine_stand c fine) there) (record { shaped = holds.shaped; each = holds.each }) in
     broken_holds (source == SWITCH_LINK) source c.links last told_all
     (λ n.
-        let does = break_does n c.next_number true source c numbered.rising in
-        break_owns (source == SWITCH_LINK) n c.next_number source true last.channels c.links free_channels (connection_of c n) (connection_of last n) does.put refl
-        (subst (λ (after : Option Connection). Acts n c.next_number true (breaks (break_of source)) (connection_of c n) does.put after) (same_connection (source == SWITCH_LINK) source last n) does.acts) (fine n) (told_all.each n))
+    let does = break_does n c.next_number true source c numbered.rising in
+    break_owns (source == SWITCH_LINK) n c.next_number source true last.channels c.links free_channels (connection_of c n) (connection_of last n) does.put refl
+    (subst (λ (after : Option Connection). Acts n c.next_number true (breaks (break_of source)) (connection_of c n) does.put after) (same_connection (source == SWITCH_LINK) source last n) does.acts) (fine n) (told_all.each n))
 
 what_holds : (up : Bool) (source : ℕ) (what : What) (c : Controller) → IsNumbered c → AllFine c → Holds c.links c → Holds (links_with up source what c) (on_what up source what c).next
 what_holds true source (whats.Frame frame) c numbered fine holds = word_holds source (word_of source frame) c (word_from source frame) numbered (fine_stand c fine) holds

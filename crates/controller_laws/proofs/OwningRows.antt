@@ -1,6 +1,6 @@
 -- Whose channels are after a row of the table.
-use Rattle.std.proofs.Common.{◌≡◌, ◌≢◌, ◌⊎◌, ℕ, ◌==◌, ◌&&◌, Bool, true, false, not, if◌then◌else◌, List, [], ◌∷◌, ◌++◌, fold, filter, Option, Some, None, refl, sym, subst, ap, ◌∙◌, inl, inr, true≢false}
-use Rattle.std.proofs.lemmas.Bool.{cases_Bool, cond-true, cond-false, and_parts}
+use Rattle.std.proofs.Common.{◌≡◌, ◌≢◌, ◌⊎◌, ℕ, Bool, true, false, not, if◌then◌else◌, List, [], ◌∷◌, ◌++◌, fold, filter, Option, Some, None, refl, sym, subst, ap, ◌∙◌, inl, inr, true≢false}
+use Rattle.std.proofs.lemmas.Bool.{cases_Bool, cond-true, cond-false}
 use Rattle.std.proofs.lemmas.Grind.{fold-append}
 use Rattle.std.specs.List.{AllByRecursion}
 use Rattle.conn_messages.specs.declared.channel.Change.{Change}
@@ -13,20 +13,19 @@ use Rattle.conn_messages.specs.StationMessage.{change_activation, rf_channel_rel
 use Rattle.conn_table.specs.declared.input.Input.{Input}
 use Rattle.conn_table.specs.declared.input.Input.TheVariants as inputs
 use Rattle.conn_table.specs.declared.state.Target.{Target}
-use Rattle.conn_table.specs.Connection.{Connection, is_at, drain_at}
-use Rattle.conn_table.specs.Roles.{TargetRole, Roles, RoleStep, ChangesRoles, GoesOn, Ends, RoleEnd, roles_of, after_step, awaits_at, is_target_at, changes_by, step_by, step_orders, leaves_at, begin_orders, target_orders, target_channels, target_releases, with_target, end_messages, those_that_go, to_stations, is_to_station, is_order, orders, MayBegin}
+use Rattle.conn_table.specs.Connection.{Connection}
+use Rattle.conn_table.specs.Roles.{TargetRole, Roles, RoleStep, ChangesRoles, GoesOn, Ends, RoleEnd, roles_of, after_step, step_by, step_orders, begin_orders, with_target, end_messages, those_that_go, to_stations, is_to_station, is_order, orders, MayBegin}
 use Rattle.conn_table.specs.Roles.ChangesRoles.{goes_on, ends, had_ended}
 use Rattle.conn_table.specs.Roles.RoleEnd.{refused, drops, dismisses}
 use Rattle.conn_table.specs.Roles.RoleStep.{stays, commands, completes, goes_back, leaves}
 use Rattle.conn_table.specs.Steps.{Row, goes_to}
-use Rattle.conn_table.specs.Streams.{IsOpen, undone}
-use Rattle.controller_laws.specs.Owning.{AreIn, Owns}
+use Rattle.conn_table.specs.Streams.{IsOpen}
+use Rattle.controller_laws.specs.Owning.{Owns}
 use Rattle.controller_laws.proofs.Owning.{HasTarget, IsOffered, begin_owns, other_set, own_step}
 use Rattle.controller_laws.proofs.Places.{fold_orders, state_else, set_or_not, still_there}
 use Rattle.controller_table.specs.declared.channel_state.ChannelState.{ChannelState}
 use Rattle.controller_table.specs.declared.channel_state.ChannelState.TheVariants.{Free, InUse, Releasing}
 use Rattle.controller_table.specs.Controller.{channels_after, place_at, place_of, state_in, with_state}
-use Rattle.rsl_codec.specs.declared.rsl.Rsl.{Rsl}
 use Rattle.rsl_codec.specs.declared.rsl.Rsl.TheVariants as rsl
 
 abbrev States : Type 0
@@ -133,6 +132,7 @@ orders_to_stations (m ∷ ms) = elim (cases_Bool (is_to_station m)) [
     step : (b : Bool) → orders (to_stations ms) ≡ orders ms → (if b then m ∷ orders (to_stations ms) else orders (to_stations ms)) ≡ (if b then m ∷ orders ms else orders ms)
     step true is = ap (λ (xs : List Message). m ∷ xs) is
     step false is = is
+
     none : (b : Bool) → is_order m ≡ b → is_to_station m ≡ false → is_order m ≡ false
     none true is miss = absurd (true≢false (sym (order_station m is) ∙ miss))
     none false is miss = is
@@ -239,8 +239,8 @@ row_owns m channels links s input offer r on steps offers =
     fold_orders m channels r.outs ∙ ap (fold (channels_after m) channels) on.ordered ∙ fold-append (channels_after m) channels (step_orders step (roles_of s)) (begin_orders on.begun) in
     subst (λ (now : States). Owns now links m (roles_of r.next)) (sym all)
     (subst (Owns (fold (channels_after m) mid (begin_orders on.begun)) links m) (sym on.roles)
-        (begun_owns m mid links on.begun input offer (after_step step (roles_of s)) on.may
-        (λ t is. steps.offered t.channel (offers t.channel (begun_offer on.begun input offer (after_step step (roles_of s)) t on.may is))) steps.owns))
+    (begun_owns m mid links on.begun input offer (after_step step (roles_of s)) on.may
+    (λ t is. steps.offered t.channel (offers t.channel (begun_offer on.begun input offer (after_step step (roles_of s)) t on.may is))) steps.owns))
 
 -- others keep theirs
 pub row_others : (m n : ℕ) (channels : States) (links : List Bool) (s : Connection) (input : Input) (offer : Option Channel) (r : Row) (roles : Roles) → n ≢ m → ChangesRoles s input offer r → (IsOpen s.state → IsOpen r.next.state → StepOwns m channels links (step_by input (roles_of s)) (roles_of s)) →
@@ -250,8 +250,8 @@ row_others m n channels links s input offer r roles differ (goes_on was_open is_
     let by = steps was_open is_open in
     subst (λ (now : States). Owns now links n roles) (sym (fold_orders m channels r.outs))
     (others_fold m n links roles channels (orders r.outs) differ
-        (subst (AllByRecursion (IsMineOrder m channels)) (sym on.ordered) (all_both (IsMineOrder m channels) (step_orders (step_by input (roles_of s)) (roles_of s)) (begin_orders on.begun) by.mine
-        (mine_begin m channels links on.begun (λ t is. offers is_open t.channel (begun_offer on.begun input offer (after_step (step_by input (roles_of s)) (roles_of s)) t on.may is))))) owns)
+    (subst (AllByRecursion (IsMineOrder m channels)) (sym on.ordered) (all_both (IsMineOrder m channels) (step_orders (step_by input (roles_of s)) (roles_of s)) (begin_orders on.begun) by.mine
+    (mine_begin m channels links on.begun (λ t is. offers is_open t.channel (begun_offer on.begun input offer (after_step (step_by input (roles_of s)) (roles_of s)) t on.may is))))) owns)
 row_others m n channels links s input offer r roles differ (ends was_open is_shut over) steps shut offers owns =
     let mine : AllByRecursion (IsMineOrder m channels) (end_messages over.end (roles_of s)) = elim (shut was_open is_shut over.end over) [
       | inl mine ↦ mine
@@ -259,7 +259,7 @@ row_others m n channels links s input offer r roles differ (ends was_open is_shu
     ] in
     subst (λ (now : States). Owns now links n roles) (sym (fold_orders m channels r.outs ∙ ap (fold (channels_after m) channels) (sym (orders_to_stations r.outs))))
     (others_fold m n links roles channels (orders (to_stations r.outs)) differ
-        (all_filter (IsMineOrder m channels) is_order (to_stations r.outs) (subst (AllByRecursion (IsMineOrder m channels)) (sym over.ordered) (all_that_go (IsMineOrder m channels) input (end_messages over.end (roles_of s)) mine))) owns)
+    (all_filter (IsMineOrder m channels) is_order (to_stations r.outs) (subst (AllByRecursion (IsMineOrder m channels)) (sym over.ordered) (all_that_go (IsMineOrder m channels) input (end_messages over.end (roles_of s)) mine))) owns)
 row_others m n channels links s input offer r roles differ (had_ended was_shut is_shut nothing) steps shut offers owns =
     subst (λ (now : States). Owns now links n roles) (sym (fold_orders m channels r.outs ∙ ap (fold (channels_after m) channels) (sym (orders_to_stations r.outs) ∙ ap orders nothing))) owns
 

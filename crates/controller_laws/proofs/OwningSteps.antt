@@ -1,37 +1,31 @@
 -- Whose channels are after each step.
-use Rattle.std.proofs.Common.{◌≡◌, ◌≢◌, ◌⊎◌, ℕ, zero, suc, ◌+◌, ◌-◌, ◌==◌, ◌≤◌, ◌<◌, ◌&&◌, ◌||◌, Bool, true, false, not, if◌then◌else◌, List, [], ◌∷◌, ◌++◌, length, find, fold, map, set, slice_get, slice_index_or, Option, Some, None, option_map, refl, sym, subst, ap, ◌∙◌, inl, inr, arith, true≢false}
-use Rattle.std.proofs.lemmas.Bool.{cases_Bool, cond-true, cond-false, eqb-true, eq-eqb, and_parts}
+use Rattle.std.proofs.Common.{◌≡◌, ◌≢◌, ℕ, zero, suc, ◌+◌, ◌-◌, ◌<◌, ◌&&◌, Bool, true, false, if◌then◌else◌, List, [], ◌∷◌, length, find, fold, set, slice_get, slice_index_or, Option, Some, None, option_map, refl, sym, subst, ap, ◌∙◌, inl, inr, arith, true≢false}
+use Rattle.std.proofs.lemmas.Bool.{cases_Bool, cond-true, cond-false, and_parts}
 use Rattle.std.proofs.lemmas.Option.{option_and_then_some, slice_get_within}
 use Rattle.std.specs.List.{AllByRecursion}
-use Rattle.std.specs.Option.{is_some, option_and_then}
 use Rattle.conn_messages.specs.declared.channel.Channel.{Channel}
 use Rattle.conn_messages.specs.declared.channel.Place.{Place}
 use Rattle.conn_messages.specs.declared.message.Message.{Message}
 use Rattle.conn_messages.specs.declared.message.Message.TheVariants.{Station, Request, Data, ReleaseComplete}
-use Rattle.conn_table.proofs.RolesTable.{ChangesRoles-row}
 use Rattle.conn_table.specs.declared.input.Input.{Input}
 use Rattle.conn_table.specs.declared.input.Input.TheVariants as inputs
-use Rattle.conn_table.specs.declared.state.Drain.{Drain}
-use Rattle.conn_table.specs.declared.state.Stage.{Stage}
-use Rattle.conn_table.specs.declared.state.Stage.TheVariants.{Active, Preparing, Changing, Draining}
 use Rattle.conn_table.specs.declared.state.State.{State}
 use Rattle.conn_table.specs.declared.state.State.TheVariants.{WaitActivation, WaitEstablish, WaitConfirm, Live, Closed, Removed}
 use Rattle.conn_table.specs.Connection.{Connection, drain_at, is_at}
-use Rattle.conn_table.specs.Roles.{TargetRole, Roles, RoleEnd, RoleStep, ChangesRoles, ChangesRolesBy, end_messages, roles_of, target_role, after_step, awaits_at, is_target_at, changes_by, step_by, step_orders, leaves_at, target_channels}
+use Rattle.conn_table.specs.Roles.{TargetRole, Roles, RoleEnd, ChangesRoles, end_messages, roles_of, awaits_at, is_target_at, changes_by, step_by, leaves_at}
 use Rattle.conn_table.specs.Roles.ChangesRoles.{goes_on, ends, had_ended}
-use Rattle.conn_table.specs.Roles.RoleStep.{stays, commands, completes, goes_back, leaves}
-use Rattle.conn_table.specs.Standing.{Stands}
+use Rattle.conn_table.specs.Roles.RoleStep.{stays, commands, completes, goes_back}
 use Rattle.conn_table.specs.Steps.{Row}
-use Rattle.conn_table.specs.Streams.{IsOpen, OfRow, undone}
-use Rattle.conn_table.specs.Table.{row_of, row_if, on_activation_nack, on_drain_expiry, on_expiry, on_station_down, on_switch_down, drains_at, targets}
-use Rattle.controller_laws.specs.Acts.{kept, kept_in}
+use Rattle.conn_table.specs.Streams.{IsOpen, OfRow}
+use Rattle.conn_table.specs.Table.{row_of}
+use Rattle.controller_laws.specs.Acts.{kept_in}
 use Rattle.controller_laws.specs.History.{connection_of}
-use Rattle.controller_laws.specs.Numbers.{IsNumbered, AreRising, IsAbove}
-use Rattle.controller_laws.specs.Owning.{AreIn, Owns, OwnsOpen, is_link_up, used_in}
+use Rattle.controller_laws.specs.Numbers.{AreRising}
+use Rattle.controller_laws.specs.Owning.{Owns, OwnsOpen, is_link_up}
 use Rattle.controller_laws.proofs.Acting.{row_found}
-use Rattle.controller_laws.proofs.Entries.{back_over, found_number}
-use Rattle.controller_laws.proofs.Owning.{HasTarget, IsOffered, acknowledged_owns, other_set, refused_owns}
-use Rattle.controller_laws.proofs.OwningRows.{IsMineOrder, StepOwns, ends_mine, orders_after, row_others, row_owns, silent_owns, step_owns}
+use Rattle.controller_laws.proofs.Entries.{back_over}
+use Rattle.controller_laws.proofs.Owning.{HasTarget, IsOffered}
+use Rattle.controller_laws.proofs.OwningRows.{IsMineOrder, StepOwns, row_others, row_owns}
 use Rattle.controller_laws.proofs.Places.{IsIn, all_at, all_set, length_set}
 use Rattle.controller_laws.proofs.Words.{decide_same}
 use Rattle.controller_table.proofs.Numbers.{keeps_number}
@@ -40,7 +34,7 @@ use Rattle.controller_table.specs.declared.channel_state.ChannelState.{ChannelSt
 use Rattle.controller_table.specs.declared.channel_state.ChannelState.TheVariants.{Free, InUse, Releasing}
 use Rattle.controller_table.specs.declared.limits.TheConstants.{CHANNEL_NUMBERS}
 use Rattle.controller_table.specs.Channels.{channel_in, channel_of_kind, first_free, free_channel, free_in, is_alike, is_free, is_unused, kind_of}
-use Rattle.controller_table.specs.Controller.{Controller, Entry, Turn, channels_after, entry_of, has_number, place_at, place_of, state_in, with_state}
+use Rattle.controller_table.specs.Controller.{Controller, Entry, channels_after, entry_of, place_at, place_of, state_in, with_state}
 use Rattle.controller_table.specs.Life.{by_row, entry_after}
 use Rattle.rsl_codec.specs.declared.rsl.Rsl.TheVariants as rsl
 use Rattle.settings.specs.Parameters.{CellParameters, Parameters}
@@ -115,16 +109,16 @@ offered_free c links station reference kind offer same_links shaped is = elim (c
   | inr miss ↦ absurd (let none : None ≡ Some offer = sym (cond-false _ (free_channel c.settings c.channels station reference kind) None miss) ∙ is in cc)
   | inl hit ↦ option_and_then_some (channel_of_kind c.settings c.channels station reference kind) (slice_get c.settings.cells (station - 1)) offer (sym (cond-true _ (free_channel c.settings c.channels station reference kind) None hit) ∙ is)
       (λ cell there of.
-          let found = in_cell c.settings c.channels station reference kind cell (free_in c.channels station kind cell) offer of in
-          let one = found_one (λ number. is_alike kind (kind_of number) && is_free c.channels station number) (λ number. number < CHANNEL_NUMBERS) cell.channels found.0 (all_some HasNumbers c.settings.cells (station - 1) cell shaped.numbers there) found.1 in
-          let unused = (and_parts (is_alike kind (kind_of found.0)) (is_free c.channels station found.0) one.0).1 in
-          let within = slice_get_within c.settings.cells (station - 1) cell there in
-          let inside : station < length c.channels = (let links_are = shaped.links in omega arith) in
-          record {
-            is_free = ap (state_in c.channels) found.2 ∙ unused_free (state_in c.channels (place_at station found.0)) unused;
-            is_in = subst (IsIn c.channels) (sym found.2) (record { station = inside; number = subst (λ (n : ℕ). found.0 < n) (sym (all_at IsRow c.channels station [] inside shaped.rows)) one.1 });
-            is_up = ap (is_link_up links) found.3 ∙ ap (λ (l : List Bool). is_link_up l station) same_links ∙ hit;
-          })
+      let found = in_cell c.settings c.channels station reference kind cell (free_in c.channels station kind cell) offer of in
+      let one = found_one (λ number. is_alike kind (kind_of number) && is_free c.channels station number) (λ number. number < CHANNEL_NUMBERS) cell.channels found.0 (all_some HasNumbers c.settings.cells (station - 1) cell shaped.numbers there) found.1 in
+      let unused = (and_parts (is_alike kind (kind_of found.0)) (is_free c.channels station found.0) one.0).1 in
+      let within = slice_get_within c.settings.cells (station - 1) cell there in
+      let inside : station < length c.channels = (let links_are = shaped.links in omega arith) in
+      record {
+        is_free = ap (state_in c.channels) found.2 ∙ unused_free (state_in c.channels (place_at station found.0)) unused;
+        is_in = subst (IsIn c.channels) (sym found.2) (record { station = inside; number = subst (λ (n : ℕ). found.0 < n) (sym (all_at IsRow c.channels station [] inside shaped.rows)) one.1 });
+        is_up = ap (is_link_up links) found.3 ∙ ap (λ (l : List Bool). is_link_up l station) same_links ∙ hit;
+      })
 ]
 
 -- ---- the target that completes
@@ -205,10 +199,10 @@ by_row_owns links c e x input offer r rising there fits needs others n =
     let after : States = fold (channels_after m) c.channels r.outs in
     decide_same n m (OwnsOpen after links n (connection_of (by_row e r c).next n))
     (λ same. subst (λ (k : ℕ). OwnsOpen after links k (connection_of (by_row e r c).next k)) (sym same)
-        (subst (OwnsOpen after links m) (sym (row_found c e x r rising keeps there))
-        (owns_kept after links m r.next.state r.next (own_row m c.channels links e.connection input offer r needs.changes needs.steps needs.offers))))
+    (subst (OwnsOpen after links m) (sym (row_found c e x r rising keeps there))
+    (owns_kept after links m r.next.state r.next (own_row m c.channels links e.connection input offer r needs.changes needs.steps needs.offers))))
     (λ differ. subst (OwnsOpen after links n) (sym (ap (option_map (λ (y : Entry). y.connection)) (back_over n (entry_after c.settings e r) c.entries (λ same. differ (same ∙ keeps)))))
-        (else_owns (connection_of c n) differ (others n differ)))
+    (else_owns (connection_of c n) differ (others n differ)))
   where
     else_owns : (o : Option Connection) → n ≢ e.connection.number → OwnsOpen c.channels links n o → OwnsOpen (fold (channels_after e.connection.number) c.channels r.outs) links n o
     else_owns None differ owns = tt

@@ -1,21 +1,18 @@
 -- Whose channels are after a frame.
-use Rattle.std.proofs.Common.{◌≡◌, ◌≢◌, ◌⊎◌, ℕ, ◌==◌, ◌≤◌, ◌<◌, ◌&&◌, ◌||◌, nat_le, Bool, true, false, not, if◌then◌else◌, List, [], ◌∷◌, ◌++◌, find, fold, Option, Some, None, option_map, refl, sym, subst, ap, ◌∙◌, inl, inr, arith, true≢false}
-use Rattle.std.proofs.lemmas.Bool.{cases_Bool, cond-true, cond-false, eqb-true, eq-eqb, and_parts}
-use Rattle.std.specs.List.{AllByRecursion}
-use Rattle.std.specs.Option.{is_some, option_and_then}
+use Rattle.std.proofs.Common.{◌≡◌, ◌≢◌, ℕ, Bool, true, false, if◌then◌else◌, List, [], Option, Some, None, option_map, refl, sym, subst, ap, ◌∙◌, true≢false}
+use Rattle.std.proofs.lemmas.Bool.{cond-true, cond-false, and_parts}
+use Rattle.std.specs.Option.{is_some}
 use Rattle.conn_messages.specs.declared.channel.Channel.{Channel}
 use Rattle.conn_messages.specs.declared.channel.Place.{Place}
-use Rattle.conn_messages.specs.declared.message.Message.{Message}
 use Rattle.conn_table.proofs.RolesTable.{ChangesRoles-row}
 use Rattle.conn_table.specs.declared.input.Input.{Input}
 use Rattle.conn_table.specs.declared.input.Input.TheVariants as inputs
-use Rattle.conn_table.specs.declared.state.Stage.{Stage}
 use Rattle.conn_table.specs.declared.state.Stage.TheVariants.{Active, Preparing, Changing, Draining}
 use Rattle.conn_table.specs.declared.state.State.{State}
 use Rattle.conn_table.specs.declared.state.State.TheVariants.{WaitActivation, WaitEstablish, WaitConfirm, Live, Closed, Removed}
 use Rattle.conn_table.specs.Connection.{Connection, drain_at, emptied, is_at}
-use Rattle.conn_table.specs.Roles.{TargetRole, Roles, RoleEnd, RoleStep, ChangesRoles, ChangesRolesBy, roles_of, target_role, after_step, awaits_at, end_messages, step_by, step_orders, target_orders, leaves_at}
-use Rattle.conn_table.specs.Roles.RoleStep.{stays, commands, completes, goes_back, leaves}
+use Rattle.conn_table.specs.Roles.{TargetRole, Roles, RoleStep, ChangesRoles, ChangesRolesBy, roles_of, target_role, after_step, awaits_at, end_messages, step_by, step_orders, target_orders, leaves_at}
+use Rattle.conn_table.specs.Roles.RoleStep.{stays, goes_back}
 use Rattle.conn_table.specs.Standing.{Stands}
 use Rattle.conn_table.specs.Steps.{Row, row}
 use Rattle.conn_table.specs.Streams.{IsOpen}
@@ -25,25 +22,21 @@ use Rattle.controller_laws.specs.Numbers.{IsNumbered, AreRising}
 use Rattle.controller_laws.specs.Owning.{Owns, OwnsOpen}
 use Rattle.controller_laws.proofs.Entries.{back_over, back_found, back_rising, behind_found, behind_over, find_below, found_number}
 use Rattle.controller_laws.proofs.Owning.{IsOffered, acknowledged_owns, other_set, refused_owns}
-use Rattle.controller_laws.proofs.OwningRows.{IsMine, IsMineOrder, StepOwns, ends_mine, orders_after, silent_owns, step_owns}
+use Rattle.controller_laws.proofs.OwningRows.{StepOwns, ends_mine, orders_after, silent_owns, step_owns}
 use Rattle.controller_laws.proofs.OwningRows.IsMine.{free}
 use Rattle.controller_laws.proofs.OwningSteps.{IsShaped, RowOwns, by_row_owns, has_target, offered_free, shaped_fold, shaped_set}
-use Rattle.controller_laws.proofs.Places.{state_else, state_here}
+use Rattle.controller_laws.proofs.Places.{state_here}
 use Rattle.controller_laws.proofs.Sources.{IsAtPlace, IsFrom}
 use Rattle.controller_laws.proofs.Words.{decide_same, measured_stays}
 use Rattle.controller_table.specs.declared.channel_kind.ChannelKind.TheVariants.{Sdcch, Tch}
 use Rattle.controller_table.specs.declared.channel_state.ChannelState.{ChannelState}
 use Rattle.controller_table.specs.declared.channel_state.ChannelState.TheVariants.{Free, InUse, Releasing}
-use Rattle.controller_table.specs.declared.limits.TheConstants.{MAX_CONNECTION_NUMBER}
 use Rattle.controller_table.specs.declared.word.Word.{Word}
 use Rattle.controller_table.specs.declared.word.Word.TheVariants.{Nothing, Ping, Asks, OnChannel, Reports, OnConnection}
 use Rattle.controller_table.specs.Channels.{access_channel, assignment_offer, handover_offer, request_offer, serving_after, kind_of}
-use Rattle.controller_table.specs.Controller.{Controller, Entry, Turn, turn, ignoring, is_up, has_number, entry_of, with_entry, channel_state, channels_after, freed, holder, place_of, state_in, with_state}
-use Rattle.controller_table.specs.Life.{asked, by_fitting, by_row, concerning, concerning_too, entry_at, fits, frees, given, may_open, measured, measures, new_entry, on_decision, on_freed, on_report, on_state, on_word, row_in, told, with_connection, with_report, is_measured}
+use Rattle.controller_table.specs.Controller.{Controller, Entry, Turn, turn, ignoring, entry_of, with_entry, channel_state, freed, holder, place_of, with_state}
+use Rattle.controller_table.specs.Life.{by_fitting, concerning, concerning_too, entry_at, fits, frees, given, may_open, measured, measures, new_entry, on_decision, on_freed, on_report, on_state, on_word, row_in, with_connection, with_report, is_measured}
 use Rattle.controller_table.specs.Reports.{decision_over}
-use Rattle.conn_messages.specs.StationMessage.{access_activation}
-use Rattle.conn_messages.specs.declared.parameters.TheConstants.{SWITCH_LINK}
-use Rattle.conn_table.specs.Connection.{new_connection}
 use Rattle.dtap_codec.specs.declared.report.Report.{Report}
 use Rattle.ho_decision.specs.declared.decision.Decision.{Decision}
 use Rattle.ho_decision.specs.declared.decision.Decision.TheVariants.{Stay, Move}
@@ -108,6 +101,7 @@ freed_other c links at n k (Some s) differ held owns = λ is_open.
     not_use Free held same = absurd cc
     not_use (InUse m) held same = differ cc
     not_use (Releasing m) held same = absurd cc
+
     not_release : (state : ChannelState) → holder state ≡ Some k → state ≢ Releasing n
     not_release Free held same = absurd cc
     not_release (InUse m) held same = absurd cc
@@ -137,7 +131,7 @@ acknowledged_holds at c k None state there rising stands holds = record {
   shaped = freed_shaped at c holds.shaped;
   each = λ n. decide_same n k (OwnsOpen (with_state at Free c.channels) c.links n (connection_of c n))
       (λ same. subst (λ (m : ℕ). OwnsOpen (with_state at Free c.channels) c.links m (connection_of c m)) (sym same)
-        (subst (OwnsOpen (with_state at Free c.channels) c.links k) (sym (ap (option_map (λ (x : Entry). x.connection)) there)) tt))
+      (subst (OwnsOpen (with_state at Free c.channels) c.links k) (sym (ap (option_map (λ (x : Entry). x.connection)) there)) tt))
       (λ differ. freed_other c c.links at n k (connection_of c n) differ (ap holder state) (holds.each n));
 }
 acknowledged_holds at c k (Some e) state there rising stands holds = by (row_in (freed at c) e.connection (inputs.ReleaseAck at)) refl
@@ -147,21 +141,21 @@ acknowledged_holds at c k (Some e) state there rising stands holds = by (row_in 
       shaped = freed_shaped at c holds.shaped;
       each = λ n. decide_same n k (OwnsOpen (with_state at Free c.channels) c.links n (connection_of c n))
           (λ same. subst (λ (m : ℕ). OwnsOpen (with_state at Free c.channels) c.links m (connection_of c m)) (sym same ∙ sym refl)
-            (subst (OwnsOpen (with_state at Free c.channels) c.links k) (sym (ap (option_map (λ (x : Entry). x.connection)) there))
-            (λ is_open.
-                let own = subst (OwnsOpen c.channels c.links k) (ap (option_map (λ (x : Entry). x.connection)) there) (holds.each k) is_open in
-                let stay : step_by (inputs.ReleaseAck at) (roles_of e.connection) ≡ stays = subst (ChangesRolesBy e.connection (inputs.ReleaseAck at) (request_offer (freed at c) e.connection (inputs.ReleaseAck at))) none (ChangesRoles-row e.connection (inputs.ReleaseAck at) (request_offer (freed at c) e.connection (inputs.ReleaseAck at)) (stands e refl)) in
-                subst (λ (step : RoleStep). Owns (with_state at Free c.channels) c.links k (after_step step (roles_of e.connection))) stay
-                (acknowledged_owns c.channels c.links k k at (roles_of e.connection) state own))))
+          (subst (OwnsOpen (with_state at Free c.channels) c.links k) (sym (ap (option_map (λ (x : Entry). x.connection)) there))
+          (λ is_open.
+          let own = subst (OwnsOpen c.channels c.links k) (ap (option_map (λ (x : Entry). x.connection)) there) (holds.each k) is_open in
+          let stay : step_by (inputs.ReleaseAck at) (roles_of e.connection) ≡ stays = subst (ChangesRolesBy e.connection (inputs.ReleaseAck at) (request_offer (freed at c) e.connection (inputs.ReleaseAck at))) none (ChangesRoles-row e.connection (inputs.ReleaseAck at) (request_offer (freed at c) e.connection (inputs.ReleaseAck at)) (stands e refl)) in
+          subst (λ (step : RoleStep). Owns (with_state at Free c.channels) c.links k (after_step step (roles_of e.connection))) stay
+          (acknowledged_owns c.channels c.links k k at (roles_of e.connection) state own))))
           (λ differ. freed_other c c.links at n k (connection_of c n) differ (ap holder state) (holds.each n));
     }
     by (Some r) is = record {
       shaped = shaped_fold c.settings e.connection.number (with_state at Free c.channels) r.outs (freed_shaped at c holds.shaped);
       each = by_row_owns c.links (freed at c) e e (inputs.ReleaseAck at) (request_offer (freed at c) e.connection (inputs.ReleaseAck at)) r rising (at_number c k e there) is
           (freed_row c e at (inputs.ReleaseAck at) (request_offer (freed at c) e.connection (inputs.ReleaseAck at)) r (at_number c k e there) (stands e refl) holds is
-            (λ was_open is_open. silent_owns e.connection.number (with_state at Free c.channels) c.links (step_by (inputs.ReleaseAck at) (roles_of e.connection)) (roles_of e.connection) (leaves_silent (drain_at at e.connection.draining) (roles_of e.connection))
-                (acknowledged_owns c.channels c.links e.connection.number k at (roles_of e.connection) state (owns_entry c.links c e (at_number c k e there) holds was_open)))
-            (λ is_open channel offered. assignment_offers (freed at c) (serving_after e.connection (row_of e.connection (inputs.ReleaseAck at) None)) channel (freed_shaped at c holds.shaped) offered))
+          (λ was_open is_open. silent_owns e.connection.number (with_state at Free c.channels) c.links (step_by (inputs.ReleaseAck at) (roles_of e.connection)) (roles_of e.connection) (leaves_silent (drain_at at e.connection.draining) (roles_of e.connection))
+          (acknowledged_owns c.channels c.links e.connection.number k at (roles_of e.connection) state (owns_entry c.links c e (at_number c k e there) holds was_open)))
+          (λ is_open channel offered. assignment_offers (freed at c) (serving_after e.connection (row_of e.connection (inputs.ReleaseAck at) None)) channel (freed_shaped at c holds.shaped) offered))
           (λ n differ. freed_other c c.links at n k (connection_of c n) (λ same. differ (same ∙ sym (found_number k c.entries e there))) (ap holder state) (holds.each n));
     }
 
@@ -217,8 +211,8 @@ refused_steps c e at owns awaits =
     let silent : step_orders goes_back roles ≡ [] = ap target_orders awaits.1 ∙ cond-false _ _ _ awaits.2 in
     subst (λ (step : RoleStep). StepOwns e.connection.number (with_state at Free c.channels) c.links step roles) (sym is)
     (silent_owns e.connection.number (with_state at Free c.channels) c.links goes_back roles silent
-        (refused_owns c.channels c.links e.connection.number at roles awaits.0 awaits.3
-        (subst (λ (target : Option TargetRole). Owns c.channels c.links e.connection.number (record roles { target = target })) awaits.1 owns)))
+    (refused_owns c.channels c.links e.connection.number at roles awaits.0 awaits.3
+    (subst (λ (target : Option TargetRole). Owns c.channels c.links e.connection.number (record roles { target = target })) awaits.1 owns)))
 
 refused_by : (at : Place) (c : Controller) (k : ℕ) (e : Entry) (o : Option Row) → row_of e.connection (inputs.ActivationNack at) (request_offer (freed at c) e.connection (inputs.ActivationNack at)) ≡ o → holder (channel_state c at) ≡ Some k → entry_of c k ≡ Some e → fits (Some e) (inputs.ActivationNack at) ≡ true → AreRising c.entries → Stands e.connection → Holds c.links c → Holds c.links (by_fitting (turn [] (freed at c)) e o (freed at c)).next
 unfolding row_of
@@ -227,15 +221,14 @@ refused_by at c k e (Some r) is held there fitting rising stands holds = record 
   shaped = shaped_fold c.settings e.connection.number (with_state at Free c.channels) r.outs (freed_shaped at c holds.shaped);
   each = by_row_owns c.links (freed at c) e e (inputs.ActivationNack at) (request_offer (freed at c) e.connection (inputs.ActivationNack at)) r rising (at_number c k e there) is
       (freed_row c e at (inputs.ActivationNack at) (request_offer (freed at c) e.connection (inputs.ActivationNack at)) r (at_number c k e there) stands holds is
-        (λ was_open is_open. refused_steps c e at (owns_entry c.links c e (at_number c k e there) holds was_open) (nack_awaits e.connection.state e.connection at (request_offer (freed at c) e.connection (inputs.ActivationNack at)) r is is_open))
-        (λ is_open channel offered. assignment_offers (freed at c) (serving_after e.connection (row_of e.connection (inputs.ActivationNack at) None)) channel (freed_shaped at c holds.shaped) offered))
+      (λ was_open is_open. refused_steps c e at (owns_entry c.links c e (at_number c k e there) holds was_open) (nack_awaits e.connection.state e.connection at (request_offer (freed at c) e.connection (inputs.ActivationNack at)) r is is_open))
+      (λ is_open channel offered. assignment_offers (freed at c) (serving_after e.connection (row_of e.connection (inputs.ActivationNack at) None)) channel (freed_shaped at c holds.shaped) offered))
       (λ n differ. freed_other c c.links at n k (connection_of c n) (λ same. differ (same ∙ sym (found_number k c.entries e there))) held (holds.each n));
 }
 
 refused_holds : (at : Place) (c : Controller) (k : ℕ) (o : Option Entry) → holder (channel_state c at) ≡ Some k → entry_of c k ≡ o → fits o (inputs.ActivationNack at) ≡ true → AreRising c.entries → ((e : Entry) → o ≡ Some e → Stands e.connection) → Holds c.links c → Holds c.links (concerning_too (inputs.ActivationNack at) (freed at c) o).next
 refused_holds at c k None held there fitting rising stands holds = absurd (true≢false (sym fitting))
 refused_holds at c k (Some e) held there fitting rising stands holds = refused_by at c k e (row_in (freed at c) e.connection (inputs.ActivationNack at)) refl held there fitting rising (stands e refl) holds
-
 
 -- ---- what comes on a channel
 
@@ -292,10 +285,10 @@ given_holds c source request delay (Some channel) is numbered holds =
       shaped = shaped_set c.settings c.channels (place_of channel) (InUse m) holds.shaped;
       each = λ n. decide_same n m (OwnsOpen after c.links n (connection_of (with_connection c channel request delay).next n))
           (λ same. subst (λ (k : ℕ). OwnsOpen after c.links k (connection_of (with_connection c channel request delay).next k)) (sym same)
-            (subst (OwnsOpen after c.links m) (sym (ap (option_map (λ (x : Entry). x.connection)) (behind_found e c.entries (find_below m c.entries numbered.below))))
-            (λ is_open. record { using = (state_here c.channels (place_of channel) (InUse m) offered.is_in, tt); releasing = tt; apart = (tt, tt); linked = (offered.is_up, tt) })))
+          (subst (OwnsOpen after c.links m) (sym (ap (option_map (λ (x : Entry). x.connection)) (behind_found e c.entries (find_below m c.entries numbered.below))))
+          (λ is_open. record { using = (state_here c.channels (place_of channel) (InUse m) offered.is_in, tt); releasing = tt; apart = (tt, tt); linked = (offered.is_up, tt) })))
           (λ differ. subst (OwnsOpen after c.links n) (sym (ap (option_map (λ (x : Entry). x.connection)) (behind_over n e c.entries differ)))
-            (by n channel offered (connection_of c n) (holds.each n)));
+          (by n channel offered (connection_of c n) (holds.each n)));
     }
   where
     by : (n : ℕ) (channel : Channel) → IsOffered c.channels c.links channel → (o : Option Connection) → OwnsOpen c.channels c.links n o → OwnsOpen (with_state (place_of channel) (InUse c.next_number) c.channels) c.links n o
@@ -319,18 +312,18 @@ report_holds at of report c m None there rising stands holds = ignoring_holds c.
 report_holds at of report c m (Some e) there rising stands holds =
     if_holds (measures at e) c (measured of report c e) holds
     (λ measuring.
-        let put : Entry = with_report of report e in
-        let c' : Controller = with_entry put c in
-        let own = at_number c m e there in
-        let found : entry_of c' e.connection.number ≡ Some put = back_found put e c.entries rising own ∙ measured_stays e.connection.state put (and_parts (is_at at e.connection.serving) (is_measured e.connection.state) measuring).1 in
-        decision_holds (decision_over put.averages.settings put.averages.reports of) c' put (back_rising put c.entries rising) found (stands e refl)
-        (record {
-          shaped = holds.shaped;
-          each = λ n. decide_same n e.connection.number (OwnsOpen c.channels c.links n (connection_of c' n))
-              (λ same. subst (λ (k : ℕ). OwnsOpen c.channels c.links k (connection_of c' k)) (sym same)
-                (subst (OwnsOpen c.channels c.links e.connection.number) (ap (option_map (λ (x : Entry). x.connection)) own ∙ sym (ap (option_map (λ (x : Entry). x.connection)) found)) (holds.each e.connection.number)))
-              (λ differ. subst (OwnsOpen c.channels c.links n) (sym (ap (option_map (λ (x : Entry). x.connection)) (back_over n put c.entries differ))) (holds.each n));
-        }))
+    let put : Entry = with_report of report e in
+    let c' : Controller = with_entry put c in
+    let own = at_number c m e there in
+    let found : entry_of c' e.connection.number ≡ Some put = back_found put e c.entries rising own ∙ measured_stays e.connection.state put (and_parts (is_at at e.connection.serving) (is_measured e.connection.state) measuring).1 in
+    decision_holds (decision_over put.averages.settings put.averages.reports of) c' put (back_rising put c.entries rising) found (stands e refl)
+    (record {
+      shaped = holds.shaped;
+      each = λ n. decide_same n e.connection.number (OwnsOpen c.channels c.links n (connection_of c' n))
+          (λ same. subst (λ (k : ℕ). OwnsOpen c.channels c.links k (connection_of c' k)) (sym same)
+          (subst (OwnsOpen c.channels c.links e.connection.number) (ap (option_map (λ (x : Entry). x.connection)) own ∙ sym (ap (option_map (λ (x : Entry). x.connection)) found)) (holds.each e.connection.number)))
+          (λ differ. subst (OwnsOpen c.channels c.links n) (sym (ap (option_map (λ (x : Entry). x.connection)) (back_over n put c.entries differ))) (holds.each n));
+    }))
 
 report_on_holds : (at : Place) (of : ℕ) (report : Report) (c : Controller) (state : ChannelState) → AreRising c.entries → AllStand c → Holds c.links c → Holds c.links (on_report at of report c (entry_at c state)).next
 unfolding AllStand

@@ -1,5 +1,5 @@
 -- The states of channels, where one is set.
-use Rattle.std.proofs.Common.{◌≡◌, ◌≢◌, ◌⊎◌, ℕ, zero, suc, ◌+◌, ◌==◌, ◌≤◌, ◌<◌, ◌&&◌, Bool, true, false, List, [], ◌∷◌, ◌++◌, length, fold, filter, set, slice_index_or, Option, Some, None, refl, sym, subst, ap, ◌∙◌, inl, inr, arith, true≢false}
+use Rattle.std.proofs.Common.{◌≡◌, ◌≢◌, ◌⊎◌, ℕ, zero, suc, ◌==◌, ◌<◌, ◌&&◌, Bool, false, List, [], ◌∷◌, length, fold, set, slice_index_or, refl, sym, subst, ap, ◌∙◌, inl, inr, arith, true≢false}
 use Rattle.std.proofs.lemmas.Bool.{cases_Bool, cond-true, cond-false, eqb-true, eq-eqb, and_parts}
 use Rattle.std.proofs.lemmas.List.{get_or-set_same, get_or-set_other}
 use Rattle.std.specs.List.{AllByRecursion}
@@ -10,9 +10,8 @@ use Rattle.conn_messages.specs.declared.message.Message.TheVariants.{Station, Re
 use Rattle.conn_table.specs.Roles.{is_order, orders}
 use Rattle.controller_laws.specs.Owning.{AreIn}
 use Rattle.controller_table.specs.declared.channel_state.ChannelState.{ChannelState}
-use Rattle.controller_table.specs.declared.channel_state.ChannelState.TheVariants.{Free, InUse, Releasing}
-use Rattle.controller_table.specs.Controller.{channels_after, place_at, place_of, state_in, with_state}
-use Rattle.rsl_codec.specs.declared.rsl.Rsl.{Rsl}
+use Rattle.controller_table.specs.declared.channel_state.ChannelState.TheVariants.{Free}
+use Rattle.controller_table.specs.Controller.{channels_after, place_of, state_in, with_state}
 use Rattle.rsl_codec.specs.declared.rsl.Rsl.TheVariants as rsl
 
 -- ---- lists, where an element is set
@@ -122,9 +121,9 @@ is_there channels at used =
 pub still_in : (channels : List (List ChannelState)) (at : Place) (state was : ChannelState) (cs : List Channel) → state_in channels at ≢ was → AreIn channels was cs → AreIn (with_state at state channels) was cs
 still_in channels at state was [] other all = tt
 still_in channels at state was (c ∷ cs) other all = (
-    state_else channels at (place_of c) state (λ same. other (ap (state_in channels) (sym same) ∙ all.0)) ∙ all.0,
-    still_in channels at state was cs other all.1,
-  )
+  state_else channels at (place_of c) state (λ same. other (ap (state_in channels) (sym same) ∙ all.0)) ∙ all.0,
+  still_in channels at state was cs other all.1,
+)
 
 -- ---- the messages of a row, of which only orders count
 

@@ -1,5 +1,5 @@
 -- How far the switch knows a connection after a row: CR is put with the initial message, CC confirms it, and so it stays.
-use Rattle.std.proofs.Common.{◌≡◌, ◌⊎◌, ℕ, zero, suc, ◌==◌, ◌&&◌, ◌||◌, nat_le, Bool, true, false, if◌then◌else◌, List, [], ◌∷◌, ◌++◌, length, Option, Some, None, refl, sym, subst, ap, ◌∙◌, inl, inr}
+use Rattle.std.proofs.Common.{◌≡◌, ◌⊎◌, ℕ, zero, suc, ◌==◌, ◌&&◌, nat_le, Bool, true, false, if◌then◌else◌, List, [], ◌∷◌, length, Option, Some, None, refl, sym, subst, inl, inr}
 use Rattle.conn_messages.specs.declared.causes.TheConstants.{EQUIPMENT_FAILURE}
 use Rattle.conn_messages.specs.declared.channel.Change.{Change}
 use Rattle.conn_messages.specs.declared.channel.Change.TheVariants.{Assignment, Handover}
@@ -8,7 +8,7 @@ use Rattle.conn_messages.specs.declared.channel.Place.{Place}
 use Rattle.conn_messages.specs.declared.message.Message.{Message}
 use Rattle.conn_table.specs.declared.input.Input.{Input}
 use Rattle.conn_table.specs.declared.input.Input.TheVariants as inputs
-use Rattle.conn_table.specs.declared.state.Clearing.TheVariants.{Due, Asked as WasAsked, Complete}
+use Rattle.conn_table.specs.declared.state.Clearing.TheVariants.{Due, Asked as WasAsked}
 use Rattle.conn_table.specs.declared.state.Drain.{Drain}
 use Rattle.conn_table.specs.declared.state.ShortMessageLink.{ShortMessageLink}
 use Rattle.conn_table.specs.declared.state.ShortMessageLink.TheVariants.{Down, Asked, Up}
@@ -17,9 +17,9 @@ use Rattle.conn_table.specs.declared.state.Stage.TheVariants.{Active, Preparing,
 use Rattle.conn_table.specs.declared.state.State.{State}
 use Rattle.conn_table.specs.declared.state.State.TheVariants.{WaitActivation, WaitEstablish, WaitConfirm, Live, Closed, Removed}
 use Rattle.conn_table.specs.Connection.{Connection, enter, tenure_at, drain_at}
-use Rattle.conn_table.specs.Steps.{Row, row, dropping, failing, begin, begin_waiting, after_waiting, hold_down, hold_short_message, short_message, link_down, hold_up, relay_held, leave, shifted, settled, settled_stage, resting_stage, resting, moved, hand_held, ask_for_held, done_at, may_begin}
+use Rattle.conn_table.specs.Steps.{Row, row, dropping, failing, begin, begin_waiting, after_waiting, hold_down, short_message, link_down, hold_up, relay_held, leave, shifted, settled, settled_stage, resting_stage, resting, moved, hand_held, ask_for_held, done_at, may_begin}
 use Rattle.conn_table.specs.Streams.{OfRow, IsOpen, received_by}
-use Rattle.conn_table.specs.Table.{row_of, row_if, refuse, access, release, complete, failure, speech_request, release_in, dtap_in, dtap_on_target, on_activation_ack, on_activation_nack, on_establish_indication, on_establish_confirm, on_release_indication, on_error_indication, on_connection_failure, on_dtap, on_complete, on_failure, on_release_ack, on_move, on_confirm, on_refused, on_released, on_downlink, on_assignment_request, on_cipher_mode_command, on_clear_command, on_expiry, on_drain_expiry, on_station_down, on_switch_down}
+use Rattle.conn_table.specs.Table.{row_of, row_if, refuse, access, complete, failure, speech_request, release_in, dtap_in, dtap_on_target, on_activation_ack, on_activation_nack, on_establish_indication, on_establish_confirm, on_release_indication, on_error_indication, on_connection_failure, on_dtap, on_complete, on_failure, on_release_ack, on_move, on_confirm, on_refused, on_released, on_downlink, on_assignment_request, on_cipher_mode_command, on_clear_command, on_expiry, on_drain_expiry, on_station_down, on_switch_down}
 use Rattle.controller_laws.specs.Downlink.{requests, is_confirm}
 use Rattle.dtap_codec.specs.declared.sapi.Sapi.{Sapi}
 use Rattle.dtap_codec.specs.declared.sapi.Sapi.TheVariants.{Zero, Three}

@@ -1,7 +1,6 @@
 -- The layer 3 messages that frames bring have 1 to 251 octets.
-use Rattle.std.proofs.Common.{◌≡◌, ℕ, ◌≤◌, ◌==◌, ◌&&◌, ◌||◌, Bool, true, false, not, cond, if◌then◌else◌, List, [], ◌∷◌, length, take, Option, Some, None, Result, Ok, Err, refl, sym, ap, subst, ◌∙◌, inl, inr}
+use Rattle.std.proofs.Common.{◌≡◌, ℕ, ◌==◌, Bool, true, false, if◌then◌else◌, List, [], ◌∷◌, take, Option, Some, None, Result, Ok, Err, refl, subst}
 use Rattle.std.specs.Option.{ok_or}
-use Rattle.std.proofs.lemmas.Bool.{cases_Bool, cond-true, cond-false}
 use Rattle.bssmap_codec.proofs.Contents.{layer3_ok}
 use Rattle.bssmap_codec.specs.declared.bssap.Bssap.{Bssap}
 use Rattle.bssmap_codec.specs.declared.bssap.Bssap.TheVariants.{Management, Transfer}
@@ -23,9 +22,9 @@ use Rattle.conn_table.specs.declared.input.Input.TheVariants as inputs
 use Rattle.conn_table.specs.Standing.{IsCarried}
 use Rattle.conn_table.specs.Streams.{is_dtap}
 use Rattle.controller_table.specs.declared.word.Word.{Word}
-use Rattle.controller_table.specs.declared.word.Word.TheVariants.{Nothing, Ping, Asks, OnChannel, Reports, OnConnection}
+use Rattle.controller_table.specs.declared.word.Word.TheVariants.{Nothing, Ping, OnChannel, Reports, OnConnection}
 use Rattle.controller_table.specs.Controller.{place_at}
-use Rattle.controller_table.specs.Reading.{sapi_of, of_sapi, change_word, rr_word, data_word, valid_word, report_word, result_word, rsl_word, station_word, management_word, dlci_sapi, bssap_word, switch_word, management_of_link, Carried, carried, body_word, word_of}
+use Rattle.controller_table.specs.Reading.{sapi_of, of_sapi, change_word, rr_word, data_word, report_word, result_word, rsl_word, station_word, management_word, bssap_word, switch_word, management_of_link, Carried, carried, body_word, word_of}
 use Rattle.controller_table.specs.Reading.Carried.{radio_signalling, connection_control, link_management, other}
 use Rattle.controller_table.specs.Reports.{report_reading}
 use Rattle.dtap_codec.specs.declared.report.Report.{Report}
@@ -37,7 +36,6 @@ use Rattle.dtap_codec.specs.declared.sapi.Sapi.TheVariants.{Zero, Three}
 use Rattle.dtap_codec.specs.RrReading.{rr_reading}
 use Rattle.ipa_framing.specs.declared.frame.Frame.{Frame}
 use Rattle.ipa_framing.specs.declared.streams.TheConstants.{PING}
-use Rattle.octets.specs.Answer.{result_map}
 use Rattle.octets.specs.Element.{Element}
 use Rattle.octets.specs.Front.{octet_at, split_at}
 use Rattle.octets.specs.Walk.{first_of}

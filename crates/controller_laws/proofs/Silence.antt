@@ -1,5 +1,5 @@
 -- Nothing is handed while a channel changes, and nothing after the end.
-use Rattle.std.proofs.Common.{◌≡◌, Bool, ℕ, ◌≤◌, ◌<◌, List, [], ◌∷◌, ◌++◌, Option, Some, None, refl, sym, subst, ap, ◌∙◌, inl, inr, arith}
+use Rattle.std.proofs.Common.{◌≡◌, Bool, ℕ, ◌≤◌, ◌<◌, List, [], ◌∷◌, Option, Some, None, refl, sym, subst, ap, ◌∙◌, arith}
 use Rattle.std.specs.List.{AllByRecursion}
 use Rattle.conn_messages.specs.declared.message.Message.{Message}
 use Rattle.conn_messages.specs.declared.parameters.TheConstants.{SWITCH_LINK}
@@ -11,14 +11,13 @@ use Rattle.conn_table.specs.declared.state.State.TheVariants.{WaitActivation, Wa
 use Rattle.conn_table.specs.declared.state.Clearing.TheVariants.{Due, Asked as WasAsked, Complete}
 use Rattle.conn_table.specs.Connection.{Connection}
 use Rattle.conn_table.specs.Steps.{Row}
-use Rattle.conn_table.specs.Streams.{OfRow, IsOpen, IsChanging, IsSilent, IsFinal, OnlyReleases, KeepsDownlink, GoesTo, IsReleaseComplete, handed, relayed}
+use Rattle.conn_table.specs.Streams.{OfRow, IsOpen, IsChanging, IsSilent, IsFinal, OnlyReleases, KeepsDownlink, GoesTo, handed}
 use Rattle.conn_table.specs.Table.{row_of}
-use Rattle.conn_table.specs.Timers.{after_pass}
 use Rattle.controller_laws.specs.Acts.{Acts, Brought, IsAged, kept, kept_in}
 use Rattle.controller_laws.specs.Acts.Acts.{ages, rests, opens, goes}
 use Rattle.controller_laws.specs.Acts.{brought_in}
 use Rattle.controller_laws.specs.End.{IsThere, HasNoStream, IsAway, GoToServing, OnlyReleasesAfter, KeepsSilence, StaysSilent}
-use Rattle.controller_laws.specs.History.{Moment, connection_of}
+use Rattle.controller_laws.specs.History.{connection_of}
 use Rattle.controller_laws.proofs.Beside.{step_goes}
 use Rattle.controller_laws.proofs.Fitting.{IsFine, Fits, aged_holds, fine_old, step_fits}
 use Rattle.controller_laws.proofs.Turns.{step_does}

@@ -1,6 +1,6 @@
 -- What a frame says is of the link that it came on.
-use Rattle.std.proofs.Common.{◌≡◌, ◌≢◌, ℕ, ◌==◌, ◌&&◌, Bool, true, false, not, cond, if◌then◌else◌, List, [], ◌∷◌, Option, Some, None, Result, Ok, Err, refl, sym, ap, subst, ◌∙◌, inl, inr, true≢false}
-use Rattle.std.proofs.lemmas.Bool.{cases_Bool, cond-true, cond-false, eqb-true, and_parts}
+use Rattle.std.proofs.Common.{◌≡◌, ℕ, ◌==◌, ◌&&◌, Bool, true, false, not, if◌then◌else◌, List, [], ◌∷◌, Option, Some, None, Result, Ok, Err, refl}
+use Rattle.std.proofs.lemmas.Bool.{eqb-true, and_parts}
 use Rattle.bssmap_codec.specs.declared.bssap.Bssap.{Bssap}
 use Rattle.bssmap_codec.specs.declared.bssap.Bssap.TheVariants.{Management, Transfer}
 use Rattle.bssmap_codec.specs.declared.bssmap.Bssmap.{Bssmap}
@@ -16,9 +16,9 @@ use Rattle.conn_table.specs.declared.input.Input.{Input}
 use Rattle.conn_table.specs.declared.input.Input.TheVariants as inputs
 use Rattle.conn_table.specs.Streams.{is_dtap}
 use Rattle.controller_table.specs.declared.word.Word.{Word}
-use Rattle.controller_table.specs.declared.word.Word.TheVariants.{Nothing, Ping, Asks, OnChannel, Reports, OnConnection}
+use Rattle.controller_table.specs.declared.word.Word.TheVariants.{Nothing, Ping, OnChannel, Reports, OnConnection}
 use Rattle.controller_table.specs.Controller.{place_at}
-use Rattle.controller_table.specs.Reading.{sapi_of, of_sapi, change_word, rr_word, data_word, report_word, result_word, rsl_word, station_word, management_word, dlci_sapi, bssap_word, switch_word, management_of_link, Carried, carried, body_word, word_of}
+use Rattle.controller_table.specs.Reading.{sapi_of, of_sapi, change_word, rr_word, data_word, report_word, result_word, rsl_word, station_word, management_word, bssap_word, switch_word, management_of_link, Carried, carried, body_word, word_of}
 use Rattle.controller_table.specs.Reading.Carried.{radio_signalling, connection_control, link_management, other}
 use Rattle.controller_table.specs.Reports.{report_reading}
 use Rattle.dtap_codec.specs.declared.report.Report.{Report}
@@ -158,4 +158,4 @@ pub word_from : (source : ℕ) (frame : Frame) → IsFrom source (word_of source
 unfolding word_of
 word_from source frame = body_from (carried source frame.stream) source frame.body
     (λ is. eqb-true source SWITCH_LINK (and_parts (source == SWITCH_LINK) (frame.stream == SCCP_STREAM)
-        (control_by (frame.stream == CCM_STREAM) ((source == SWITCH_LINK) && (frame.stream == SCCP_STREAM)) (not (source == SWITCH_LINK) && (frame.stream == RSL_STREAM)) is)).0)
+    (control_by (frame.stream == CCM_STREAM) ((source == SWITCH_LINK) && (frame.stream == SCCP_STREAM)) (not (source == SWITCH_LINK) && (frame.stream == RSL_STREAM)) is)).0)

@@ -1,8 +1,6 @@
 -- The switch's messages of a connection are kept by each step.
-use Rattle.std.proofs.Common.{◌≡◌, ◌≢◌, ◌⊎◌, ℕ, ◌+◌, ◌==◌, ◌≤◌, ◌<◌, ◌&&◌, ◌||◌, Bool, true, false, cond, if◌then◌else◌, List, [], ◌∷◌, ◌++◌, filter, find, fold, Option, Some, None, option_map, refl, sym, subst, ap, ◌∙◌, inl, inr, arith, append_assoc, append-nil, true≢false}
-use Rattle.std.proofs.lemmas.Bool.{cases_Bool, cond-true, cond-false, eqb-true}
-use Rattle.std.proofs.lemmas.Grind.{fold-append}
-use Rattle.std.specs.List.{AllByRecursion}
+use Rattle.std.proofs.Common.{◌≡◌, ℕ, ◌==◌, ◌≤◌, ◌<◌, ◌&&◌, ◌||◌, Bool, true, false, if◌then◌else◌, List, [], ◌∷◌, ◌++◌, filter, Option, Some, None, refl, sym, subst, ap, ◌∙◌, inl, inr, arith, append_assoc, append-nil, true≢false}
+use Rattle.std.proofs.lemmas.Bool.{cases_Bool, cond-true, cond-false}
 use Rattle.conn_messages.specs.declared.channel.Channel.{Channel}
 use Rattle.conn_messages.specs.declared.message.Message.{Message}
 use Rattle.conn_messages.specs.declared.parameters.TheConstants.{SWITCH_LINK}
@@ -18,21 +16,20 @@ use Rattle.conn_table.specs.Standing.{Stands}
 use Rattle.conn_table.specs.Steps.{Row}
 use Rattle.conn_table.specs.Streams.{OfRow, IsFinal, IsOpen, KeepsDownlink, handed, is_dtap, received_by, rejects, without_rejected}
 use Rattle.conn_table.specs.Table.{row_of}
-use Rattle.controller_laws.specs.Acts.{Acts, Brought, IsAged, IsBrought, IsTimer, FitsNone, MissesOf, brought_by, brought_with, brought_in, if_held, kept, kept_in}
+use Rattle.controller_laws.specs.Acts.{Acts, Brought, IsAged, IsBrought, IsTimer, FitsNone, brought_by, brought_with, brought_in, if_held, kept_in}
 use Rattle.controller_laws.specs.Acts.Acts.{ages, rests, opens, goes}
 use Rattle.controller_laws.specs.Acts.Brought.{nothing, comes as comes_with, reports, breaks, passes}
-use Rattle.controller_laws.specs.Downlink.{Switched, comes, confirms, is_confirm, left_over, nothing_switched, requests, switched, with_moment}
-use Rattle.controller_laws.specs.History.{Moment, connection_of, word_by, word_in}
-use Rattle.controller_laws.proofs.Fitting.{Fits, IsFine, IsLinked, IsBreak, IsLinkBreak, aged_holds, fine_old}
+use Rattle.controller_laws.specs.Downlink.{Switched, comes, confirms, is_confirm, left_over, nothing_switched, requests, with_moment}
+use Rattle.controller_laws.specs.History.{word_by, word_in}
+use Rattle.controller_laws.proofs.Fitting.{IsFine, IsLinked, IsBreak, IsLinkBreak, aged_holds, fine_old}
 use Rattle.controller_laws.proofs.Progress.{Advances, IsLive, Next, NotDown, advances, confirm_fits, downlink_fits, received_none}
-use Rattle.controller_laws.proofs.Silence.{kept_there, same_state}
-use Rattle.controller_laws.proofs.Sources.{IsAtPlace, IsFrom, IsOfSwitch, word_from}
+use Rattle.controller_laws.proofs.Silence.{same_state}
+use Rattle.controller_laws.proofs.Sources.{IsAtPlace, IsFrom, word_from}
 use Rattle.controller_table.specs.declared.step.Step.{Step}
 use Rattle.controller_table.specs.declared.step.Step.TheVariants.{Take, Tick}
 use Rattle.controller_table.specs.declared.word.Word.{Word}
 use Rattle.controller_table.specs.declared.word.Word.TheVariants.{Nothing, Ping, Asks, OnChannel, Reports, OnConnection}
 use Rattle.controller_table.specs.Controller.{Controller, is_up, channel_state, holder}
-use Rattle.controller_table.specs.Life.{break_of, step}
 use Rattle.controller_table.specs.Reading.{word_of}
 use Rattle.dtap_codec.specs.declared.sapi.Sapi.{Sapi}
 use Rattle.dtap_codec.specs.declared.sapi.Sapi.TheVariants.{Zero, Three}
@@ -309,12 +306,11 @@ unfolding with_brought
 row_agrees s input offer r sapi brought a stands break by fits there flags held =
     let goes_on : Next s.state input r.next.state r.outs = subst (OfRow (Advances s.state input)) fits (advances s input offer) there in
     let keeps = (subst (OfRow (KeepsDownlink sapi s input)) fits (KeepsDownlink-row sapi s input offer stands)).stream there in
-    let counts = row_counts s.state r.next.state sapi brought input r.outs a (came_is_received sapi brought input break by) goes_on flags in
-    (
+    let counts = row_counts s.state r.next.state sapi brought input r.outs a (came_is_received sapi brought input break by) goes_on flags in (
       row_flags s.state r.next.state sapi brought input r.outs a (confirming_is brought input break by) goes_on flags,
       row_held sapi r.outs a.handed (handed sapi r.outs) (filter is_dtap (messages s.down sapi)) (filter is_dtap (messages r.next.down sapi)) (filter is_dtap (received_by sapi input)) a.received
           (keeps ∙ ap (without_rejected sapi r.outs) (filter_append (messages s.down sapi) (received_by sapi input))) held
-      ∙ ap (λ (xs : List (List ℕ)). left_over sapi r.outs (a.handed ++ handed sapi r.outs) (a.received ++ xs)) (sym counts),
+          ∙ ap (λ (xs : List (List ℕ)). left_over sapi r.outs (a.handed ++ handed sapi r.outs) (a.received ++ xs)) (sym counts),
     )
 
 -- ---- each step
@@ -391,10 +387,10 @@ acts_agree sapi number next later up brought before after put a s (ages old now 
     subst (AgreesDown sapi number later (with_moment number sapi a (record { taken = s; messages = put }))) (sym same)
     (subst (λ (ms : List Message). AgreesDown sapi number later (with_moment number sapi a (record { taken = s; messages = ms })) (Some now)) (sym silent)
     (λ there.
-        aged_agrees sapi (with_moment number sapi a (record { taken = s; messages = [] })) old now aged
-        (subst (AgreesDown sapi number later (with_moment number sapi a (record { taken = s; messages = [] }))) is
-        (rest_agrees sapi number next later up a before s brought more begins linked says (subst (λ (b : Brought). FitsNone b before) (sym is_time) tt) agrees)
-        (subst IsOpen (same_state old now aged) there))))
+    aged_agrees sapi (with_moment number sapi a (record { taken = s; messages = [] })) old now aged
+    (subst (AgreesDown sapi number later (with_moment number sapi a (record { taken = s; messages = [] }))) is
+    (rest_agrees sapi number next later up a before s brought more begins linked says (subst (λ (b : Brought). FitsNone b before) (sym is_time) tt) agrees)
+    (subst IsOpen (same_state old now aged) there))))
 acts_agree sapi number next later up brought before after put a s (opens begins_as linked_up channel request delay is_nothing none_before put_is same) more begins fine linked break says agrees =
     let fresh : a ≡ nothing_switched = subst (AgreesDown sapi number next a) none_before agrees (omega arith) in
     let moment : with_moment number sapi a (record { taken = s; messages = put }) ≡ nothing_switched =
@@ -410,6 +406,6 @@ acts_agree sapi number next later up brought before after put a s (goes old c in
     (subst (AgreesDown sapi number later (with_brought sapi brought r.outs a)) (sym same)
     (kept_agrees sapi number later (with_brought sapi brought r.outs a) r.next.state r.next refl (omega arith)
     (λ there.
-        let was_open : IsOpen c.state = was c input offer r fits there in
-        let holds = aged_agrees sapi a old c aged (some_agrees sapi number next a before old is agrees (subst IsOpen (same_state old c aged) was_open)) in
-        row_agrees c input offer r sapi brought a (fine_old before old c is aged fine).1 break by fits there holds.0 holds.1)))
+    let was_open : IsOpen c.state = was c input offer r fits there in
+    let holds = aged_agrees sapi a old c aged (some_agrees sapi number next a before old is agrees (subst IsOpen (same_state old c aged) was_open)) in
+    row_agrees c input offer r sapi brought a (fine_old before old c is aged fine).1 break by fits there holds.0 holds.1)))

@@ -1,11 +1,9 @@
 -- What a step does to a connection: a frame, a break of a link, and time that passes.
-use Rattle.std.proofs.Common.{◌≡◌, ◌≢◌, ℕ, ◌+◌, ◌==◌, ◌≤◌, ◌<◌, Bool, true, false, cond, if◌then◌else◌, List, [], ◌∷◌, ◌++◌, find, fold, map, Option, Some, None, option_map, refl, sym, subst, ap, ◌∙◌, inl, inr, arith, append-nil}
-use Rattle.std.proofs.lemmas.Bool.{cases_Bool, cond-true, cond-false, eqb-true}
+use Rattle.std.proofs.Common.{◌≡◌, ◌≢◌, ℕ, ◌+◌, ◌==◌, ◌≤◌, ◌<◌, Bool, true, false, if◌then◌else◌, List, [], ◌∷◌, ◌++◌, find, fold, map, Option, Some, None, option_map, refl, sym, subst, ap, ◌∙◌, arith, append-nil}
 use Rattle.std.specs.List.{AllByRecursion}
 use Rattle.conn_messages.specs.declared.message.Message.{Message}
 use Rattle.conn_messages.specs.declared.out.Out.{Out}
 use Rattle.conn_messages.specs.declared.parameters.TheConstants.{SWITCH_LINK}
-use Rattle.conn_messages.specs.Out.{outs_of}
 use Rattle.conn_table.specs.declared.input.Input.{Input}
 use Rattle.conn_table.specs.declared.input.Input.TheVariants as inputs
 use Rattle.conn_table.specs.Connection.{Connection}
@@ -13,7 +11,7 @@ use Rattle.conn_table.specs.Steps.{Row}
 use Rattle.conn_table.specs.Table.{row_of}
 use Rattle.conn_table.specs.Timers.{after_pass}
 use Rattle.controller_laws.specs.Acts.{Acts, IsAged, passed, Brought, IsBrought, IsTimer, FitsNone, brought_with, brought_in}
-use Rattle.controller_laws.specs.Acts.Brought.{nothing, comes, reports, breaks, passes}
+use Rattle.controller_laws.specs.Acts.Brought.{nothing, breaks, passes}
 use Rattle.controller_laws.specs.Acts.Acts.{ages, rests, opens, goes}
 use Rattle.controller_laws.specs.History.{outs_for, connection_of}
 use Rattle.controller_laws.specs.Numbers.{IsNumbered, AreRising, IsAbove, IsBelow}
@@ -23,13 +21,11 @@ use Rattle.controller_laws.proofs.Words.{fitting_does, word_does, decide_same, n
 use Rattle.controller_table.proofs.Others.{told_leaves, timed_leaves, all_age}
 use Rattle.controller_table.specs.declared.step.Step.{Step}
 use Rattle.controller_table.specs.declared.step.Step.TheVariants.{Take, Tick}
-use Rattle.controller_table.specs.declared.channel_state.ChannelState.{ChannelState}
-use Rattle.controller_table.specs.declared.channel_state.ChannelState.TheVariants.{Free, InUse, Releasing}
 use Rattle.controller_table.specs.declared.word.Word.{Word}
 use Rattle.controller_table.specs.declared.word.Word.TheVariants.{Nothing, Ping, Asks, OnChannel, Reports, OnConnection}
-use Rattle.controller_table.specs.Channels.{access_channel, handover_offer, request_offer}
+use Rattle.controller_table.specs.Channels.{access_channel, request_offer}
 use Rattle.controller_table.specs.Controller.{Controller, Entry, Turn, turn, each, ignoring, has_number, entry_of, put_back, with_entry, with_down, freed, freed_station, channel_state, is_up}
-use Rattle.controller_table.specs.Life.{by_row, by_fitting, row_in, concerning, concerning_too, given, asked, may_open, frees, entry_at, on_freed, on_state, measures, with_report, measured, on_decision, on_report, on_word, told, break_of, without_link, on_break, on_what, take, aged, all_aged, expiry, on_expiry, timed, tick, step, entry_after, new_entry}
+use Rattle.controller_table.specs.Life.{by_row, by_fitting, row_in, concerning, concerning_too, given, may_open, frees, entry_at, on_freed, measures, with_report, measured, on_decision, on_report, on_word, told, break_of, on_break, on_what, take, aged, all_aged, expiry, on_expiry, timed, tick, step, entry_after, new_entry}
 use Rattle.controller_table.specs.Reading.{word_of}
 use Rattle.controller_table.specs.Reports.{decision_over}
 use Rattle.conn_messages.specs.declared.channel.Channel.{Channel}
@@ -37,7 +33,6 @@ use Rattle.conn_messages.specs.declared.channel.Place.{Place}
 use Rattle.dtap_codec.specs.declared.report.Report.{Report}
 use Rattle.ho_decision.specs.declared.decision.Decision.{Decision}
 use Rattle.ho_decision.specs.declared.decision.Decision.TheVariants.{Stay, Move}
-use Rattle.relay_items.specs.declared.Item.{Item}
 use Rattle.relay_items.specs.declared.What.{What}
 use Rattle.relay_items.specs.declared.What.TheVariants as whats
 use Rattle.rsl_codec.specs.declared.values.RequestReference.{RequestReference}
@@ -83,9 +78,9 @@ IsFound es x = find (has_number x.connection.number) es ≡ Some x
 pub all_found : (xs : List Entry) → AreRising xs → AllByRecursion (IsFound xs) xs
 all_found [] rising = tt
 all_found (x ∷ xs) rising = (
-    find_here x.connection.number x xs refl,
-    all_two (IsAbove x.connection.number) (IsFound xs) (IsFound (x ∷ xs)) xs (λ y above found. find_behind y.connection.number x xs (λ same. absurd (omega arith)) ∙ found) rising.0 (all_found xs rising.1),
-  )
+  find_here x.connection.number x xs refl,
+  all_two (IsAbove x.connection.number) (IsFound xs) (IsFound (x ∷ xs)) xs (λ y above found. find_behind y.connection.number x xs (λ same. absurd (omega arith)) ∙ found) rising.0 (all_found xs rising.1),
+)
 
 -- what such a step does to the connection itself, and that it leaves all others
 pub record IsTame (number next : ℕ) (up : Bool) (brought : Brought) (f : Controller → Entry → Turn) : Type 0 where
@@ -99,8 +94,7 @@ each_other : (number next : ℕ) (up : Bool) (brought : Brought) (f : Controller
 each_other number next up brought f tame c [] above = (refl, refl)
 each_other number next up brought f tame c (x ∷ xs) above =
     let differ : number ≢ x.connection.number = λ same. absurd (omega arith) in
-    let others = each_other number next up brought f tame (f c x).next xs above.1 in
-    (
+    let others = each_other number next up brought f tame (f c x).next xs above.1 in (
       outs_append number (f c x).outs (each f (f c x).next xs).outs ∙ ap (λ (outs : List Out). outs ++ outs_for number (each f (f c x).next xs).outs) (tame.silent c x differ) ∙ others.0,
       others.1 ∙ ap (option_map (λ (e : Entry). e.connection)) (tame.leaves number c x differ),
     )
@@ -110,22 +104,22 @@ each_does number next up brought f tame c [] rising order there is = does_nothin
 each_does number next up brought f tame c (x ∷ xs) rising order there is =
     decide_same number x.connection.number (Does number next up brought (connection_of c number) (each f c (x ∷ xs)))
     (λ same.
-        let own = tame.does c x same rising there.0 in
-        let others = each_other number next up brought f tame (f c x).next xs (subst (λ (n : ℕ). AllByRecursion (IsAbove n) xs) (sym same) order.0) in
-        record {
-          put = own.put;
-          outs = outs_append number (f c x).outs (each f (f c x).next xs).outs ∙ ap (λ (outs : List Out). outs_for number (f c x).outs ++ outs) others.0 ∙ append-nil (outs_for number (f c x).outs) ∙ own.outs;
-          acts = subst (λ (after : Option Connection). Acts number next up brought (connection_of c number) own.put after) (sym others.1) own.acts;
-        })
+    let own = tame.does c x same rising there.0 in
+    let others = each_other number next up brought f tame (f c x).next xs (subst (λ (n : ℕ). AllByRecursion (IsAbove n) xs) (sym same) order.0) in
+    record {
+      put = own.put;
+      outs = outs_append number (f c x).outs (each f (f c x).next xs).outs ∙ ap (λ (outs : List Out). outs_for number (f c x).outs ++ outs) others.0 ∙ append-nil (outs_for number (f c x).outs) ∙ own.outs;
+      acts = subst (λ (after : Option Connection). Acts number next up brought (connection_of c number) own.put after) (sym others.1) own.acts;
+    })
     (λ differ.
-        let rest = each_does number next up brought f tame (f c x).next xs (tame.rising c x rising) order.1
-            (all_two (IsAbove x.connection.number) (λ (y : Entry). entry_of c y.connection.number ≡ Some y) (λ (y : Entry). entry_of (f c x).next y.connection.number ≡ Some y) xs
-            (λ y above found. tame.leaves y.connection.number c x (λ same. absurd (omega arith)) ∙ found) order.0 there.1) (tame.leaves number c x differ ∙ is ∙ find_behind number x xs differ) in
-        record {
-          put = rest.put;
-          outs = outs_append number (f c x).outs (each f (f c x).next xs).outs ∙ ap (λ (outs : List Out). outs ++ outs_for number (each f (f c x).next xs).outs) (tame.silent c x differ) ∙ rest.outs;
-          acts = subst (λ (before : Option Connection). Acts number next up brought before rest.put (connection_of (each f (f c x).next xs).next number)) (ap (option_map (λ (e : Entry). e.connection)) (tame.leaves number c x differ)) rest.acts;
-        })
+    let rest = each_does number next up brought f tame (f c x).next xs (tame.rising c x rising) order.1
+    (all_two (IsAbove x.connection.number) (λ (y : Entry). entry_of c y.connection.number ≡ Some y) (λ (y : Entry). entry_of (f c x).next y.connection.number ≡ Some y) xs
+    (λ y above found. tame.leaves y.connection.number c x (λ same. absurd (omega arith)) ∙ found) order.0 there.1) (tame.leaves number c x differ ∙ is ∙ find_behind number x xs differ) in
+    record {
+      put = rest.put;
+      outs = outs_append number (f c x).outs (each f (f c x).next xs).outs ∙ ap (λ (outs : List Out). outs ++ outs_for number (each f (f c x).next xs).outs) (tame.silent c x differ) ∙ rest.outs;
+      acts = subst (λ (before : Option Connection). Acts number next up brought before rest.put (connection_of (each f (f c x).next xs).next number)) (ap (option_map (λ (e : Entry). e.connection)) (tame.leaves number c x differ)) rest.acts;
+    })
 
 fitting_silent : (number : ℕ) (c : Controller) (e : Entry) (o : Option Row) → number ≢ e.connection.number → outs_for number (by_fitting (turn [] c) e o c).outs ≡ []
 fitting_silent number c e None differ = refl

@@ -1,5 +1,5 @@
 -- What a frame does to a connection.
-use Rattle.std.proofs.Common.{◌≡◌, ◌≢◌, ℕ, ◌==◌, ◌≤◌, ◌<◌, ◌&&◌, nat_le, Bool, true, false, cond, if◌then◌else◌, List, [], ◌∷◌, ◌++◌, find, Option, Some, None, option_map, refl, sym, subst, ap, ◌∙◌, inl, inr, arith, true≢false}
+use Rattle.std.proofs.Common.{◌≡◌, ◌≢◌, ℕ, ◌==◌, ◌≤◌, nat_le, Bool, true, false, if◌then◌else◌, [], ◌∷◌, Option, Some, None, option_map, refl, sym, subst, ap, ◌∙◌, inl, inr, arith, true≢false}
 use Rattle.std.proofs.lemmas.Bool.{cases_Bool, cond-true, cond-false, eqb-true, eq-eqb, ne_eqb, and_parts}
 use Rattle.conn_messages.specs.declared.channel.Channel.{Channel}
 use Rattle.conn_messages.specs.declared.channel.Place.{Place}
@@ -13,7 +13,7 @@ use Rattle.conn_table.specs.declared.state.State.TheVariants.{WaitActivation, Wa
 use Rattle.conn_table.specs.Connection.{Connection, is_at}
 use Rattle.conn_table.specs.Steps.{Row}
 use Rattle.conn_table.specs.Table.{row_of}
-use Rattle.controller_laws.specs.Acts.{Acts, Brought, IsBrought, FitsNone, if_held, brought_by}
+use Rattle.controller_laws.specs.Acts.{Brought, IsBrought, FitsNone, if_held, brought_by}
 use Rattle.controller_laws.specs.Acts.Acts.{opens}
 use Rattle.controller_laws.specs.Acts.Brought.{nothing, comes, reports, breaks, passes}
 use Rattle.controller_laws.specs.History.{outs_for, connection_of}
@@ -25,8 +25,8 @@ use Rattle.controller_table.specs.declared.channel_state.ChannelState.TheVariant
 use Rattle.controller_table.specs.declared.word.Word.{Word}
 use Rattle.controller_table.specs.declared.word.Word.TheVariants.{Nothing, Ping, Asks, OnChannel, Reports, OnConnection}
 use Rattle.controller_table.specs.Channels.{access_channel, handover_offer, request_offer}
-use Rattle.controller_table.specs.Controller.{Controller, Entry, Turn, turn, ignoring, is_up, has_number, entry_of, with_entry, channel_state, holder, freed}
-use Rattle.controller_table.specs.Life.{by_fitting, concerning, concerning_too, given, with_connection, new_entry, may_open, asked, frees, entry_at, on_freed, on_state, is_measured, measures, on_decision, with_report, measured, on_report, pong, on_word}
+use Rattle.controller_table.specs.Controller.{Controller, Entry, Turn, turn, ignoring, is_up, entry_of, with_entry, channel_state, holder, freed}
+use Rattle.controller_table.specs.Life.{by_fitting, concerning, concerning_too, given, with_connection, new_entry, may_open, frees, entry_at, on_freed, on_state, is_measured, measures, on_decision, with_report, measured, on_report, pong, on_word}
 use Rattle.controller_table.specs.Reports.{decision_over}
 use Rattle.dtap_codec.specs.declared.report.Report.{Report}
 use Rattle.ho_decision.specs.declared.decision.Decision.{Decision}
@@ -127,14 +127,14 @@ given_does number c request delay (Some channel) numbered up =
     let none : entry_of c c.next_number ≡ None = find_below c.next_number c.entries numbered.below in
     decide_same number c.next_number (Does number c.next_number (is_up c SWITCH_LINK) nothing (connection_of c number) t)
     (λ same. subst (λ (n : ℕ). Does n c.next_number (is_up c SWITCH_LINK) nothing (connection_of c n) t) (sym same)
-        (record {
-          put = access_activation channel ∷ [];
-          outs = outs_own c.next_number (access_activation channel ∷ []);
-          acts = opens refl up channel request delay refl (connection_at c c.next_number None none) refl
-              (ap (option_map (λ (x : Entry). x.connection)) (behind_found e c.entries none));
-        }))
+    (record {
+      put = access_activation channel ∷ [];
+      outs = outs_own c.next_number (access_activation channel ∷ []);
+      acts = opens refl up channel request delay refl (connection_at c c.next_number None none) refl
+          (ap (option_map (λ (x : Entry). x.connection)) (behind_found e c.entries none));
+    }))
     (λ differ. does_nothing number c.next_number (is_up c SWITCH_LINK) nothing (connection_of c number) t (outs_other number c.next_number (access_activation channel ∷ []) differ)
-        (ap (option_map (λ (x : Entry). x.connection)) (behind_over number e c.entries differ)) tt)
+    (ap (option_map (λ (x : Entry). x.connection)) (behind_over number e c.entries differ)) tt)
 
 asked_does : (number : ℕ) (b : Bool) (c : Controller) (t : Turn) → (b ≡ true → Does number c.next_number (is_up c SWITCH_LINK) nothing (connection_of c number) t) → Does number c.next_number (is_up c SWITCH_LINK) nothing (connection_of c number) (if b then t else ignoring c)
 asked_does number true c t does = does refl

@@ -2,6 +2,8 @@
 //! definitions alone.
 #![tactic(auto)]
 
-pub use laws::{channels_are_owned, downlink_is_conserved, numbers_rise, silence_is_kept, steps_are_rows};
+pub use laws::{
+    channels_are_owned, downlink_is_conserved, numbers_rise, silence_is_kept, steps_are_rows,
+};
 
 mod laws;
