@@ -4,4 +4,3 @@ pub mod End
 pub mod History
 pub mod Numbers
 pub mod Owning
-pub mod Uplink
