@@ -32,7 +32,7 @@ AreApart-push [] c apart others = (tt, tt)
 AreApart-push (x ∷ xs) c apart others = (AllByRecursion-push (IsApart x) xs c apart.0 others.0, AreApart-push xs c apart.1 others.1)
 
 -- a list of channels that keeps what holds of each, and that they are apart
-record IsPart (old new : List Channel) : Type 1 where
+pub record IsPart (old new : List Channel) : Type 1 where
   pub each : (P : Channel → Type 0) → AllByRecursion P old → AllByRecursion P new
   pub apart : AreApart old → AreApart new
 
@@ -74,18 +74,18 @@ undone-begins (d ∷ ds) serving = by d.is_done (undone-begins ds serving)
 
 -- ---- the channels of roles
 
-abbrev channels_of : Roles → List Channel
+abbrev pub channels_of : Roles → List Channel
 channels_of roles = undone roles.draining ++ roles.serving ∷ target_channels roles.target
 
-target_in-role : (state : State) → target_channels (target_role state) ≡ target_in state
+pub target_in-role : (state : State) → target_channels (target_role state) ≡ target_in state
 target_in-role (Live reference (Preparing target)) = refl
 target_in-role (Live reference (Changing target)) = refl
 target_in-role _ = refl
 
-channels_of-roles : (s : Connection) → channels_of (roles_of s) ≡ used_channels s
+pub channels_of-roles : (s : Connection) → channels_of (roles_of s) ≡ used_channels s
 channels_of-roles s = ap (λ (targets : List Channel). undone s.draining ++ s.serving ∷ targets) (target_in-role s.state)
 
-IsPart-step : (step : RoleStep) (roles : Roles) (target : Option TargetRole) → IsPart (undone roles.draining ++ roles.serving ∷ target_channels target) (channels_of (after_step step (record roles { target = target })))
+pub IsPart-step : (step : RoleStep) (roles : Roles) (target : Option TargetRole) → IsPart (undone roles.draining ++ roles.serving ∷ target_channels target) (channels_of (after_step step (record roles { target = target })))
 IsPart-step stays roles target = IsPart-same _ (undone roles.draining ++ roles.serving ∷ target_channels target) refl
 IsPart-step commands roles None = IsPart-same _ (undone roles.draining ++ roles.serving ∷ []) refl
 IsPart-step commands roles (Some t) = IsPart-same _ (undone roles.draining ++ roles.serving ∷ t.target.channel ∷ []) refl
@@ -100,7 +100,7 @@ IsPart-step (leaves place) roles target =
     subst (λ (cs : List Channel). IsPart (undone roles.draining ++ roles.serving ∷ target_channels target) (cs ++ roles.serving ∷ target_channels target)) (sym (undone-still_draining (done_at place roles.draining)))
     (IsPart-done_at place roles.draining (roles.serving ∷ target_channels target))
 
-AreApart-begin : (begun : Option Target) (input : Input) (offer : Option Channel) (roles : Roles) → MayBegin begun input offer roles → AreApart (channels_of roles) → IsNew offer (channels_of roles) → AreApart (channels_of (with_target begun roles))
+pub AreApart-begin : (begun : Option Target) (input : Input) (offer : Option Channel) (roles : Roles) → MayBegin begun input offer roles → AreApart (channels_of roles) → IsNew offer (channels_of roles) → AreApart (channels_of (with_target begun roles))
 AreApart-begin None input offer roles may apart new = apart
 AreApart-begin (Some target) input offer roles may apart new =
     let alone : channels_of roles ≡ undone roles.draining ++ roles.serving ∷ [] = ap (λ (role : Option TargetRole). undone roles.draining ++ roles.serving ∷ target_channels role) may.2 in

@@ -1,9 +1,10 @@
 -- Access and establishment, octet by octet.
-use Rattle.std.proofs.Common.{◌≡◌, true, [], ◌∷◌, map, replicate, Some, None, refl}
+use Rattle.std.proofs.Common.{◌≡◌, [], ◌∷◌, map, replicate, Some, None, refl}
 use Rattle.conn_table.specs.declared.state.Stage.TheVariants.{Active}
 use Rattle.conn_table.specs.declared.state.State.TheVariants.{Live}
 use Rattle.controller_table.specs.declared.step.Step.TheVariants.{Tick}
-use Rattle.controller_table.specs.Controller.{Controller, new_controller, use_of, place_at}
+use Rattle.controller_table.specs.declared.channel_state.ChannelState.TheVariants.{Releasing}
+use Rattle.controller_table.specs.Controller.{Controller, new_controller, channel_state, place_at}
 use Rattle.controller_table.specs.Life.{life}
 use Rattle.controller_table.proofs.Lives.{put, from_switch, from_station, down, played, after, usual_settings, state_of}
 use Rattle.controller_table.proofs.OnLiterals.{on_literals}
@@ -53,7 +54,7 @@ is_removed : state_of (releasing) 1 ≡ None
 unfolding on_literals
 is_removed = refl
 
-is_releasing : use_of releasing (place_at 1 0x41) ≡ Some (record { at = place_at 1 0x41; number = 1; is_releasing = true })
+is_releasing : channel_state releasing (place_at 1 0x41) ≡ Releasing 1
 unfolding on_literals
 is_releasing = refl
 

@@ -2,10 +2,11 @@
 use Rattle.std.proofs.Common.{ℕ, List, [], ◌∷◌, map, Option, codes, option_map, false}
 use Rattle.conn_messages.specs.declared.out.Out.{Out}
 use Rattle.conn_table.specs.declared.state.State.{State}
+use Rattle.controller_table.specs.declared.channel_state.ChannelState.{ChannelState}
 use Rattle.controller_table.specs.declared.step.Step.{Step}
 use Rattle.controller_table.specs.declared.step.Step.TheVariants.{Take}
 use Rattle.relay_items.specs.declared.What.TheVariants as whats
-use Rattle.controller_table.specs.Controller.{Controller, entry_of}
+use Rattle.controller_table.specs.Controller.{Controller, entry_of, channel_state, place_at}
 use Rattle.controller_table.specs.Life.{step}
 use Rattle.settings.specs.Parameters.{Parameters}
 
@@ -45,6 +46,10 @@ after c (s ∷ ss) = after (step c s).next ss
 
 abbrev pub state_of : Controller → ℕ → Option State
 state_of c number = option_map (λ e. e.connection.state) (entry_of c number)
+
+-- 41, 49 and 0A of cell 1, 41 and 0A of cell 2
+abbrev pub usual_channels : Controller → List ChannelState
+usual_channels c = map (channel_state c) (place_at 1 0x41 ∷ place_at 1 0x49 ∷ place_at 1 0x0a ∷ place_at 2 0x41 ∷ place_at 2 0x0a ∷ [])
 
 -- cell 1 has two SDCCH and a TCH, cell 2 one of each
 abbrev pub usual_settings : Parameters

@@ -1,6 +1,5 @@
 -- What concerns one connection leaves all others.
-use Rattle.std.proofs.Common.{◌≡◌, ◌≢◌, ℕ, Bool, true, false, cond, if◌then◌else◌, List, [], ◌∷◌, ◌++◌, find, Option, Some, None, option_map, refl, sym, subst, ap, ◌∙◌, inl, inr}
-use Rattle.std.specs.Option.{option_and_then}
+use Rattle.std.proofs.Common.{◌≡◌, ◌≢◌, ℕ, Bool, true, false, cond, if◌then◌else◌, List, [], ◌∷◌, ◌++◌, find, map, Option, Some, None, option_map, refl, sym, subst, ap, ◌∙◌, inl, inr}
 use Rattle.std.proofs.lemmas.Bool.{cases_Bool, eqb-true, ne_eqb}
 use Rattle.conn_messages.specs.declared.channel.Channel.{Channel}
 use Rattle.conn_messages.specs.declared.channel.Place.{Place}
@@ -10,11 +9,14 @@ use Rattle.conn_table.specs.declared.state.State.{State}
 use Rattle.conn_table.specs.declared.state.State.TheVariants.{WaitActivation, WaitEstablish, WaitConfirm, Live, Closed, Removed}
 use Rattle.conn_table.specs.Steps.{Row}
 use Rattle.conn_table.specs.Streams.{OfRow}
+use Rattle.controller_table.specs.declared.channel_state.ChannelState.{ChannelState}
+use Rattle.controller_table.specs.declared.channel_state.ChannelState.TheVariants.{Free, InUse, Releasing}
+use Rattle.controller_table.specs.declared.word.Word.{Word}
+use Rattle.controller_table.specs.declared.word.Word.TheVariants.{Nothing, Ping, Asks, OnChannel, Reports, OnConnection}
 use Rattle.controller_table.specs.Channels.{access_channel, handover_offer}
-use Rattle.controller_table.specs.Controller.{Controller, Entry, Turn, Use, turn, ignoring, has_number, entry_of, remaining, put_back, with_entry, use_of, freed}
-use Rattle.controller_table.specs.Life.{by_row, by_fitting, row_in, concerning, concerning_too, entry_after, given, may_open, new_entry, frees, on_use, on_channel_in_use, measures, on_decision, measured, with_report, on_report, on_word, told, aged, on_expiry, expiry, passed}
+use Rattle.controller_table.specs.Controller.{Controller, Entry, Turn, turn, ignoring, has_number, entry_of, remaining, put_back, with_entry, channel_state, holder, freed}
+use Rattle.controller_table.specs.Life.{by_row, by_fitting, row_in, concerning, concerning_too, entry_after, given, may_open, new_entry, frees, entry_at, on_freed, on_state, measures, on_decision, measured, with_report, on_report, on_word, told, aged, all_aged, on_expiry, expiry, timed}
 use Rattle.controller_table.specs.Ownership.{concerned, Leaves}
-use Rattle.controller_table.specs.Reading.{Word, nothing, ping, asks, on_channel, reports, on_connection}
 use Rattle.controller_table.specs.Reports.{decision_over}
 use Rattle.controller_table.proofs.Numbers.{Keeps, keeps_number}
 use Rattle.dtap_codec.specs.declared.report.Report.{Report}
@@ -71,7 +73,7 @@ behind_over m e (x ∷ xs) other = ap (λ o. cond (has_number m x) (Some x) o) (
 -- ---- rows
 
 row_leaves : (m : ℕ) (e : Entry) (r : Row) (c : Controller) → Keeps e.connection.number r → m ≢ e.connection.number → Leaves m c (by_row e r c).next
-row_leaves m e r c keeps other = back_over m (entry_after c e r) c.entries (λ is. other (is ∙ keeps))
+row_leaves m e r c keeps other = back_over m (entry_after c.settings e r) c.entries (λ is. other (is ∙ keeps))
 
 fitting_leaves : (m : ℕ) (otherwise : Turn) (e : Entry) (r : Option Row) (c : Controller) → Leaves m c otherwise.next → OfRow (Keeps e.connection.number) r → m ≢ e.connection.number → Leaves m c (by_fitting otherwise e r c).next
 fitting_leaves m otherwise e None c stays keeps other = stays
@@ -89,14 +91,24 @@ concerning_too_leaves m input c number (Some e) is other = fitting_leaves m (tur
 
 -- ---- frames
 
-on_use_leaves : (m : ℕ) (b : Bool) (input : Input) (c : Controller) (u : Use) (o : Option Entry) → IsOf u.number o → m ≢ u.number → Leaves m c (on_use b input c u o).next
-on_use_leaves m true input c u o is other = concerning_too_leaves m input (freed u.at c) u.number o is other
-on_use_leaves m false input c u o is other = concerning_leaves m input c u.number o is other
+freed_leaves : (m : ℕ) (b : Bool) (at : Place) (input : Input) (c : Controller) (n : ℕ) (o : Option Entry) → IsOf n o → m ≢ n → Leaves m c (on_freed b at input c o).next
+freed_leaves m true at input c n o is other = concerning_too_leaves m input (freed at c) n o is other
+freed_leaves m false at input c n o is other = concerning_leaves m input c n o is other
 
-channel_leaves : (m : ℕ) (input : Input) (c : Controller) (o : Option Use) → option_map (λ u. u.number) o ≢ Some m → Leaves m c (on_channel_in_use input c o).next
-channel_leaves m input c None other = refl
-channel_leaves m input c (Some u) other =
-    on_use_leaves m (frees u (entry_of c u.number) input) input c u (entry_of c u.number) (found_is_of u.number c.entries) (λ same. other (ap (λ n. Some n) (sym same)))
+-- a free channel concerns no connection
+freed_none_leaves : (m : ℕ) (b : Bool) (at : Place) (input : Input) (c : Controller) → Leaves m c (on_freed b at input c None).next
+freed_none_leaves m true at input c = refl
+freed_none_leaves m false at input c = refl
+
+is_other : (m n : ℕ) → Some n ≢ Some m → m ≢ n
+is_other m n other same = other (ap (λ k. Some k) (sym same))
+
+channel_leaves : (m : ℕ) (at : Place) (input : Input) (c : Controller) (state : ChannelState) → holder state ≢ Some m → Leaves m c (on_state state at input c (entry_at c state)).next
+channel_leaves m at input c Free other = freed_none_leaves m (frees Free None input) at input c
+channel_leaves m at input c (InUse n) other =
+    freed_leaves m (frees (InUse n) (entry_of c n) input) at input c n (entry_of c n) (found_is_of n c.entries) (is_other m n other)
+channel_leaves m at input c (Releasing n) other =
+    freed_leaves m (frees (Releasing n) (entry_of c n) input) at input c n (entry_of c n) (found_is_of n c.entries) (is_other m n other)
 
 given_leaves : (m : ℕ) (c : Controller) (request : RequestReference) (delay : ℕ) (o : Option Channel) → m ≢ c.next_number → Leaves m c (given c request delay o).next
 given_leaves m c request delay None other = refl
@@ -120,19 +132,19 @@ unfolding IsOf
 report_leaves m at number report c n None is other = refl
 report_leaves m at number report c n (Some e) is other = asked_leaves m (measures at e) c (measured number report c e) (measured_leaves m number report c e (λ same. other (same ∙ is)))
 
-report_on_leaves : (m : ℕ) (at : Place) (number : ℕ) (report : Report) (c : Controller) (o : Option Use) → option_map (λ u. u.number) o ≢ Some m → Leaves m c (on_report at number report c (option_and_then (λ u. entry_of c u.number) o)).next
-report_on_leaves m at number report c None other = refl
-report_on_leaves m at number report c (Some u) other =
-    report_leaves m at number report c u.number (entry_of c u.number) (found_is_of u.number c.entries) (λ same. other (ap (λ n. Some n) (sym same)))
+report_on_leaves : (m : ℕ) (at : Place) (number : ℕ) (report : Report) (c : Controller) (state : ChannelState) → holder state ≢ Some m → Leaves m c (on_report at number report c (entry_at c state)).next
+report_on_leaves m at number report c Free other = refl
+report_on_leaves m at number report c (InUse n) other = report_leaves m at number report c n (entry_of c n) (found_is_of n c.entries) (is_other m n other)
+report_on_leaves m at number report c (Releasing n) other = report_leaves m at number report c n (entry_of c n) (found_is_of n c.entries) (is_other m n other)
 
 pub word_leaves : (m source : ℕ) (word : Word) (c : Controller) → concerned c word ≢ Some m → Leaves m c (on_word source word c).next
-word_leaves m source nothing c other = refl
-word_leaves m source ping c other = refl
-word_leaves m source (asks request delay) c other =
+word_leaves m source Nothing c other = refl
+word_leaves m source Ping c other = refl
+word_leaves m source (Asks request delay) c other =
     asked_leaves m (may_open c) c (given c request delay (access_channel c source)) (given_leaves m c request delay (access_channel c source) (λ same. other (ap (λ n. Some n) (sym same))))
-word_leaves m source (on_channel at input) c other = channel_leaves m input c (use_of c at) other
-word_leaves m source (reports at number report) c other = report_on_leaves m at number report c (use_of c at) other
-word_leaves m source (on_connection number input) c other =
+word_leaves m source (OnChannel at input) c other = channel_leaves m at input c (channel_state c at) other
+word_leaves m source (Reports at number report) c other = report_on_leaves m at number report c (channel_state c at) other
+word_leaves m source (OnConnection number input) c other =
     concerning_leaves m input c number (entry_of c number) (found_is_of number c.entries) (λ same. other (ap (λ n. Some n) (sym same)))
 
 -- ---- breaks and time: one connection after the other
@@ -144,7 +156,19 @@ expiry_leaves : (m : ℕ) (o : Option Input) (c : Controller) (e : Entry) → m 
 expiry_leaves m None c e other = refl
 expiry_leaves m (Some input) c e other = told_leaves m input c e other
 
-pub passed_leaves : (m ms : ℕ) (c : Controller) (e : Entry) → m ≢ e.connection.number → Leaves m c (passed ms c e).next
-passed_leaves m ms c e other =
-    expiry_leaves m (expiry c.settings.timers (aged ms e).connection) (with_entry (aged ms e) c) (aged ms e) other
-    ∙ back_over m (aged ms e) c.entries other
+pub timed_leaves : (m : ℕ) (c : Controller) (e : Entry) → m ≢ e.connection.number → Leaves m c (timed c e).next
+timed_leaves m c e other = expiry_leaves m (expiry c.settings.timers e.connection) c e other
+
+aged_found : (m ms : ℕ) (xs : List Entry) → find (has_number m) (map (aged ms) xs) ≡ option_map (aged ms) (find (has_number m) xs)
+aged_found m ms [] = refl
+aged_found m ms (x ∷ xs) =
+    elim (cases_Bool (has_number m x)) [
+      | inl hit ↦ ap (λ b. cond b (Some (aged ms x)) (find (has_number m) (map (aged ms) xs))) hit ∙ sym (ap (λ b. option_map (aged ms) (cond b (Some x) (find (has_number m) xs))) hit)
+      | inr miss ↦
+          ap (λ b. cond b (Some (aged ms x)) (find (has_number m) (map (aged ms) xs))) miss
+          ∙ aged_found m ms xs
+          ∙ sym (ap (λ b. option_map (aged ms) (cond b (Some x) (find (has_number m) xs))) miss)
+    ]
+
+pub all_age : (m ms : ℕ) (c : Controller) → entry_of (all_aged ms c) m ≡ option_map (aged ms) (entry_of c m)
+all_age m ms c = aged_found m ms c.entries

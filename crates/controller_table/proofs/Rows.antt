@@ -1,10 +1,12 @@
 -- Channels of cells, and their identifiers.
-use Rattle.std.proofs.Common.{◌≡◌, ℕ, true, false, List, [], ◌∷◌, map, Some, None, option_map, codes, refl}
-use Rattle.controller_table.specs.Controller.{Controller, new_controller, place_at}
-use Rattle.controller_table.proofs.Lives.{put, from_switch, from_station, down, played, after, usual_settings}
+use Rattle.std.proofs.Common.{◌≡◌, ℕ, true, false, List, [], ◌∷◌, ◌++◌, map, Some, None, option_map, codes, refl}
+use Rattle.controller_table.specs.declared.channel_kind.ChannelKind.TheVariants.{Sdcch, Tch}
+use Rattle.controller_table.specs.declared.channel_state.ChannelState.TheVariants.{Free, InUse, Releasing}
+use Rattle.controller_table.specs.Controller.{Controller, new_controller}
+use Rattle.controller_table.proofs.Lives.{put, from_switch, from_station, down, played, after, usual_settings, usual_channels}
 use Rattle.controller_table.proofs.OnLiterals.{on_literals}
 use Rattle.controller_table.proofs.ChangeRows.{active_1, handing_over}
-use Rattle.controller_table.specs.Channels.{cell_identifier, is_sdcch, is_tch, is_alike, first_free}
+use Rattle.controller_table.specs.Channels.{cell_identifier, kind_of, is_alike, first_free}
 use Rattle.settings.specs.Parameters.{CellParameters}
 
 abbrev cell : ℕ → ℕ → List ℕ → CellParameters
@@ -19,35 +21,27 @@ three_digits : cell_identifier (record { mcc = codes "310"; mnc = codes "482"; r
 unfolding on_literals
 three_digits = refl
 
-kinds : map is_sdcch (0x08 ∷ 0x1f ∷ 0x20 ∷ 0x7f ∷ []) ≡ false ∷ false ∷ true ∷ true ∷ []
+kinds : map kind_of (0x08 ∷ 0x0f ∷ 0x10 ∷ 0x1f ∷ 0x20 ∷ 0x3f ∷ 0x40 ∷ 0x7f ∷ []) ≡ Tch ∷ Tch ∷ Tch ∷ Tch ∷ Sdcch ∷ Sdcch ∷ Sdcch ∷ Sdcch ∷ []
 unfolding on_literals
 kinds = refl
 
-other_kinds : map is_tch (0x08 ∷ 0x1f ∷ 0x20 ∷ 0x7f ∷ []) ≡ true ∷ true ∷ false ∷ false ∷ []
+alike : map (is_alike Tch) (Tch ∷ Sdcch ∷ []) ++ map (is_alike Sdcch) (Tch ∷ Sdcch ∷ []) ≡ true ∷ false ∷ false ∷ true ∷ []
 unfolding on_literals
-other_kinds = refl
-
-full_and_half_rate : map (is_alike 0x08) (0x0f ∷ 0x10 ∷ 0x1f ∷ 0x20 ∷ []) ≡ true ∷ true ∷ true ∷ false ∷ []
-unfolding on_literals
-full_and_half_rate = refl
-
-sdcch_4_and_8 : map (is_alike 0x20) (0x0f ∷ 0x1f ∷ 0x20 ∷ 0x40 ∷ []) ≡ false ∷ false ∷ true ∷ true ∷ []
-unfolding on_literals
-sdcch_4_and_8 = refl
+alike = refl
 
 -- a cell with each kind, not in the order of their numbers
 abbrev each_kind : Controller
 each_kind = new_controller (record usual_settings { network = record { mcc = codes "262"; mnc = codes "71"; release98 = false }; cells = cell 0x1234 0x5678 (0x12 ∷ 0x22 ∷ 0x41 ∷ 0x09 ∷ []) ∷ [] })
 
-gives_by_order : first_free each_kind 1 7 is_sdcch ≡ Some (record { station = 1; number = 0x22; cell = (0x00 ∷ 0x62 ∷ 0xf2 ∷ 0x17 ∷ 0x12 ∷ 0x34 ∷ 0x56 ∷ 0x78 ∷ []); description = record { arfcn = 700; ncc = 5; bcc = 3 }; reference = record { 0 = 7 } })
+gives_by_order : first_free each_kind 1 7 Sdcch ≡ Some (record { station = 1; number = 0x22; cell = (0x00 ∷ 0x62 ∷ 0xf2 ∷ 0x17 ∷ 0x12 ∷ 0x34 ∷ 0x56 ∷ 0x78 ∷ []); description = record { arfcn = 700; ncc = 5; bcc = 3 }; reference = record { 0 = 7 } })
 unfolding on_literals
 gives_by_order = refl
 
-gives_a_call : option_map (λ c. c.number) (first_free each_kind 1 0 is_tch) ≡ Some 0x12
+gives_a_call : option_map (λ c. c.number) (first_free each_kind 1 0 Tch) ≡ Some 0x12
 unfolding on_literals
 gives_a_call = refl
 
-gives_nothing_of_no_cell : first_free each_kind 2 0 is_tch ≡ None
+gives_nothing_of_no_cell : first_free each_kind 2 0 Tch ≡ None
 unfolding on_literals
 gives_nothing_of_no_cell = refl
 
@@ -125,14 +119,14 @@ releases_both_without_the_switch = refl
 
 -- a station whose link broke has no channel that isn't free, and none is given
 
-keeps_no_channel : (after handing_over (down 1 ∷ [])).uses ≡ record { at = place_at 2 0x41; number = 1; is_releasing = true } ∷ []
+keeps_no_channel : usual_channels (after handing_over (down 1 ∷ [])) ≡ Free ∷ Free ∷ Free ∷ Releasing 1 ∷ Free ∷ []
 unfolding on_literals
 keeps_no_channel = refl
 
-has_two_channels : handing_over.uses ≡ record { at = place_at 1 0x41; number = 1; is_releasing = false } ∷ record { at = place_at 2 0x41; number = 1; is_releasing = false } ∷ []
+has_two_channels : usual_channels handing_over ≡ InUse 1 ∷ Free ∷ Free ∷ InUse 1 ∷ Free ∷ []
 unfolding on_literals
 has_two_channels = refl
 
-has_one_releasing : (after handing_over (from_station 2 (0x03 ∷ 0x02 ∷ 0x01 ∷ 0x41 ∷ 0x02 ∷ 0x00 ∷ 0x0b ∷ 0x00 ∷ 0x03 ∷ 0x06 ∷ 0x2c ∷ 0x00 ∷ []) ∷ [])).uses ≡ record { at = place_at 1 0x41; number = 1; is_releasing = true } ∷ record { at = place_at 2 0x41; number = 1; is_releasing = false } ∷ []
+has_one_releasing : usual_channels (after handing_over (from_station 2 (0x03 ∷ 0x02 ∷ 0x01 ∷ 0x41 ∷ 0x02 ∷ 0x00 ∷ 0x0b ∷ 0x00 ∷ 0x03 ∷ 0x06 ∷ 0x2c ∷ 0x00 ∷ []) ∷ [])) ≡ Releasing 1 ∷ Free ∷ Free ∷ InUse 1 ∷ Free ∷ []
 unfolding on_literals
 has_one_releasing = refl

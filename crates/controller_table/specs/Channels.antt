@@ -1,12 +1,16 @@
 -- The channels of the cells, and which of them a connection is given or offered.
-use Rattle.std.specs.Prelude.{ℕ, ◌+◌, ◌-◌, ◌*◌, ◌/◌, ◌%◌, ◌&&◌, nat_le, nat_lt, Bool, if◌then◌else◌, List, [], ◌∷◌, find, slice_get, slice_index_or, Option, Some, None, option_map}
+use Rattle.std.specs.Prelude.{ℕ, ◌+◌, ◌-◌, ◌*◌, ◌/◌, ◌%◌, ◌&&◌, nat_lt, Bool, true, false, if◌then◌else◌, List, [], ◌∷◌, find, slice_get, slice_index_or, Option, Some, None, option_map}
 use Rattle.std.specs.Option.{option_and_then}
 use Rattle.conn_messages.specs.declared.channel.Channel.{Channel}
 use Rattle.conn_table.specs.declared.input.Input.{Input}
 use Rattle.conn_table.specs.Connection.{Connection}
 use Rattle.conn_table.specs.Steps.{Row}
 use Rattle.conn_table.specs.Table.{row_of}
-use Rattle.controller_table.specs.Controller.{Controller, is_up, is_free, place_at}
+use Rattle.controller_table.specs.declared.channel_kind.ChannelKind.{ChannelKind}
+use Rattle.controller_table.specs.declared.channel_kind.ChannelKind.TheVariants.{Sdcch, Tch}
+use Rattle.controller_table.specs.declared.channel_state.ChannelState.{ChannelState}
+use Rattle.controller_table.specs.declared.channel_state.ChannelState.TheVariants.{Free}
+use Rattle.controller_table.specs.Controller.{Controller, is_up, state_in, place_at}
 use Rattle.rsl_codec.specs.declared.channel_number.TheConstants.{FIRST_SDCCH}
 use Rattle.settings.specs.declared.network.Network.{Network}
 use Rattle.settings.specs.Parameters.{Parameters, CellParameters}
@@ -40,41 +44,51 @@ channel_in p station reference cell number = record {
   reference = record { 0 = reference };
 }
 
-abbrev pub is_sdcch : ℕ → Bool
-is_sdcch number = nat_le FIRST_SDCCH number
+-- the kind of a dedicated channel
+abbrev pub kind_of : ℕ → ChannelKind
+kind_of number = if nat_lt number FIRST_SDCCH then Tch else Sdcch
 
-abbrev pub is_tch : ℕ → Bool
-is_tch number = nat_lt number FIRST_SDCCH
+abbrev pub is_alike : ChannelKind → ChannelKind → Bool
+is_alike Sdcch Sdcch = true
+is_alike Tch Tch = true
+is_alike one other = false
 
--- SDCCH for SDCCH, TCH for TCH
-abbrev pub is_alike : ℕ → ℕ → Bool
-is_alike one other = if is_sdcch one then is_sdcch other else is_tch other
+abbrev pub is_unused : ChannelState → Bool
+is_unused Free = true
+is_unused state = false
+
+abbrev pub is_free : List (List ChannelState) → ℕ → ℕ → Bool
+is_free channels station number = is_unused (state_in channels (place_at station number))
 
 -- the first free channel of this kind in a cell, in the order of the settings
-abbrev pub free_in : Controller → ℕ → (ℕ → Bool) → CellParameters → Option ℕ
-free_in c station kind cell = find (λ number. kind number && is_free c (place_at station number)) cell.channels
+abbrev pub free_in : List (List ChannelState) → ℕ → ChannelKind → CellParameters → Option ℕ
+free_in channels station kind cell = find (λ number. is_alike kind (kind_of number) && is_free channels station number) cell.channels
 
-abbrev pub channel_of_kind : Controller → ℕ → ℕ → (ℕ → Bool) → CellParameters → Option Channel
-channel_of_kind c station reference kind cell = option_map (channel_in c.settings station reference cell) (free_in c station kind cell)
+abbrev pub channel_of_kind : Parameters → List (List ChannelState) → ℕ → ℕ → ChannelKind → CellParameters → Option Channel
+channel_of_kind p channels station reference kind cell = option_map (channel_in p station reference cell) (free_in channels station kind cell)
 
--- the cell of a station, from 1, has one; none where its link is down
-abbrev pub first_free : Controller → ℕ → ℕ → (ℕ → Bool) → Option Channel
-first_free c station reference kind =
-    if is_up c station then option_and_then (channel_of_kind c station reference kind) (slice_get c.settings.cells (station - 1)) else None
+-- the same in the cell of a station, from 1
+abbrev pub free_channel : Parameters → List (List ChannelState) → ℕ → ℕ → ChannelKind → Option Channel
+free_channel p channels station reference kind =
+    option_and_then (channel_of_kind p channels station reference kind) (slice_get p.cells (station - 1))
+
+-- none where its link is down
+abbrev pub first_free : Controller → ℕ → ℕ → ChannelKind → Option Channel
+first_free c station reference kind = if is_up c station then free_channel c.settings c.channels station reference kind else None
 
 -- for access
 abbrev pub access_channel : Controller → ℕ → Option Channel
-access_channel c station = first_free c station 0 is_sdcch
+access_channel c station = first_free c station 0 Sdcch
 
 -- ---- offers
 
 -- a TCH of the cell that serves
 abbrev pub assignment_offer : Controller → Channel → Option Channel
-assignment_offer c serving = first_free c serving.station 0 is_tch
+assignment_offer c serving = first_free c serving.station 0 Tch
 
 -- a channel of the same kind in another cell
 abbrev pub handover_offer : Controller → Channel → ℕ → Option Channel
-handover_offer c serving station = first_free c station c.handovers (is_alike serving.number)
+handover_offer c serving station = first_free c station c.handovers (kind_of serving.number)
 
 -- what serves after an input
 abbrev pub serving_after : Connection → Option Row → Channel

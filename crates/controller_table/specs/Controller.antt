@@ -1,6 +1,5 @@
 -- The controller, as a record of plain lists.
-use Rattle.std.specs.Prelude.{ℕ, ◌+◌, ◌==◌, ◌&&◌, min, Bool, true, false, not, if◌then◌else◌, List, [], ◌∷◌, ◌++◌, filter, map, length, replicate, unwrap_or, find, slice_get, set, Option}
-use Rattle.std.specs.List.{list_any}
+use Rattle.std.specs.Prelude.{ℕ, ◌+◌, ◌==◌, min, Bool, true, false, if◌then◌else◌, List, [], ◌∷◌, ◌++◌, length, replicate, unwrap_or, find, slice_get, slice_index_or, set, Option, Some, None}
 use Rattle.conn_messages.specs.declared.channel.Channel.{Channel}
 use Rattle.conn_messages.specs.declared.channel.Place.{Place}
 use Rattle.conn_messages.specs.declared.message.Message.{Message}
@@ -9,16 +8,12 @@ use Rattle.conn_messages.specs.declared.out.Out.{Out}
 use Rattle.conn_table.specs.declared.state.State.{State}
 use Rattle.conn_table.specs.declared.state.State.TheVariants.{Removed}
 use Rattle.conn_table.specs.Connection.{Connection}
-use Rattle.controller_table.specs.declared.limits.TheConstants.{MAX_IGNORED}
+use Rattle.controller_table.specs.declared.channel_state.ChannelState.{ChannelState}
+use Rattle.controller_table.specs.declared.channel_state.ChannelState.TheVariants.{Free, InUse, Releasing}
+use Rattle.controller_table.specs.declared.limits.TheConstants.{CHANNEL_NUMBERS, MAX_IGNORED}
 use Rattle.ho_decision.specs.State.{State as Averages}
 use Rattle.rsl_codec.specs.declared.rsl.Rsl.TheVariants.{ChannelActivation, RfChannelRelease}
 use Rattle.settings.specs.Parameters.{Parameters}
-
--- a channel that isn't free: the connection that has it, or had it until RF CHANNEL RELEASE was put
-pub record Use : Type 0 where
-  pub at : Place
-  pub number : ℕ
-  pub is_releasing : Bool
 
 -- a connection, and the averages of its serving channel
 pub record Entry : Type 0 where
@@ -29,8 +24,8 @@ pub record Controller : Type 0 where
   pub settings : Parameters
   -- whether each link is up, the switch's first
   pub links : List Bool
-  -- the channels that aren't free
-  pub uses : List Use
+  -- the channels: by link, the switch's first, which has none, and then by channel number
+  pub channels : List (List ChannelState)
   -- by rising number
   pub entries : List Entry
   -- the number of the next connection
@@ -40,12 +35,16 @@ pub record Controller : Type 0 where
   -- how much was ignored
   pub ignored : ℕ
 
--- nothing is in use, and every link is up
+-- of a link nothing is in use
+abbrev pub free_channels : List ChannelState
+free_channels = replicate CHANNEL_NUMBERS Free
+
+-- every link is up
 abbrev pub new_controller : Parameters → Controller
 new_controller settings = record {
   settings = settings;
   links = replicate (length settings.cells + 1) true;
-  uses = [];
+  channels = replicate (length settings.cells + 1) free_channels;
   entries = [];
   next_number = 1;
   handovers = 0;
@@ -108,31 +107,31 @@ place_at station number = record { station = station; number = number }
 abbrev pub place_of : Channel → Place
 place_of channel = place_at channel.station channel.number
 
-abbrev pub is_same : Place → Place → Bool
-is_same p q = (p.station == q.station) && (p.number == q.number)
+-- a channel that no cell has is free
+abbrev pub state_in : List (List ChannelState) → Place → ChannelState
+state_in channels at = slice_index_or (slice_index_or channels at.station []) at.number Free
 
-abbrev pub is_of : Place → Use → Bool
-is_of at u = is_same u.at at
+abbrev pub channel_state : Controller → Place → ChannelState
+channel_state c at = state_in c.channels at
 
--- None of a free channel
-abbrev pub use_of : Controller → Place → Option Use
-use_of c at = find (is_of at) c.uses
+-- the connection that has a channel, or had it until RF CHANNEL RELEASE was put
+abbrev pub holder : ChannelState → Option ℕ
+holder Free = None
+holder (InUse number) = Some number
+holder (Releasing number) = Some number
 
-abbrev pub is_free : Controller → Place → Bool
-is_free c at = not (list_any (is_of at) c.uses)
+abbrev pub with_state : Place → ChannelState → List (List ChannelState) → List (List ChannelState)
+with_state at state channels = set channels at.station (set (slice_index_or channels at.station []) at.number state)
 
 abbrev pub freed : Place → Controller → Controller
-freed at c = record c { uses = filter (λ u. not (is_of at u)) c.uses }
+freed at c = record c { channels = with_state at Free c.channels }
 
 -- those of a station whose link broke go
 abbrev pub freed_station : ℕ → Controller → Controller
-freed_station station c = record c { uses = filter (λ u. not (u.at.station == station)) c.uses }
-
-abbrev pub releasing_at : Place → Use → Use
-releasing_at at u = if is_of at u then (record u { is_releasing = true }) else u
+freed_station station c = record c { channels = set c.channels station free_channels }
 
 -- CHANNEL ACTIVATION takes a channel into use; RF CHANNEL RELEASE has it releasing
-abbrev pub uses_after : ℕ → List Use → Message → List Use
-uses_after number uses (Station station (ChannelActivation a)) = uses ++ record { at = place_at station a.channel; number = number; is_releasing = false } ∷ []
-uses_after number uses (Station station (RfChannelRelease channel)) = map (releasing_at (place_at station channel)) uses
-uses_after number uses _ = uses
+abbrev pub channels_after : ℕ → List (List ChannelState) → Message → List (List ChannelState)
+channels_after number channels (Station station (ChannelActivation a)) = with_state (place_at station a.channel) (InUse number) channels
+channels_after number channels (Station station (RfChannelRelease channel)) = with_state (place_at station channel) (Releasing number) channels
+channels_after number channels _ = channels

@@ -1,5 +1,5 @@
 -- The controller over what it takes: what each item and each tick puts, and what it makes of the controller.
-use Rattle.std.specs.Prelude.{ℕ, ◌+◌, ◌%◌, ◌==◌, ◌&&◌, nat_le, Bool, true, false, if◌then◌else◌, List, [], ◌∷◌, ◌++◌, count_by, fold, Option, Some, None}
+use Rattle.std.specs.Prelude.{ℕ, ◌+◌, ◌%◌, ◌==◌, ◌&&◌, nat_le, Bool, true, false, if◌then◌else◌, List, [], ◌∷◌, ◌++◌, count_by, fold, map, Option, Some, None}
 use Rattle.std.specs.Option.{is_some, option_and_then}
 use Rattle.conn_messages.specs.declared.channel.Change.{Change}
 use Rattle.conn_messages.specs.declared.channel.Change.TheVariants.{Assignment, Handover}
@@ -23,12 +23,16 @@ use Rattle.conn_table.specs.Timers.{after_pass}
 use Rattle.relay_items.specs.declared.Item.{Item}
 use Rattle.relay_items.specs.declared.What.{What}
 use Rattle.relay_items.specs.declared.What.TheVariants as whats
+use Rattle.controller_table.specs.declared.channel_state.ChannelState.{ChannelState}
+use Rattle.controller_table.specs.declared.channel_state.ChannelState.TheVariants.{Releasing}
 use Rattle.controller_table.specs.declared.limits.TheConstants.{MAX_CONNECTION_NUMBER}
 use Rattle.controller_table.specs.declared.step.Step.{Step}
 use Rattle.controller_table.specs.declared.step.Step.TheVariants.{Take, Tick}
+use Rattle.controller_table.specs.declared.word.Word.{Word}
+use Rattle.controller_table.specs.declared.word.Word.TheVariants.{Nothing, Ping, Asks, OnChannel, Reports, OnConnection}
 use Rattle.controller_table.specs.Channels.{access_channel, handover_offer, request_offer}
-use Rattle.controller_table.specs.Controller.{Controller, Entry, Turn, Use, turn, each, new_controller, ignoring, is_up, with_down, entry_of, with_entry, place_of, use_of, freed, freed_station, uses_after}
-use Rattle.controller_table.specs.Reading.{Word, nothing, ping, asks, on_channel, reports, on_connection, word_of}
+use Rattle.controller_table.specs.Controller.{Controller, Entry, Turn, turn, each, new_controller, ignoring, is_up, with_down, entry_of, with_entry, place_of, channel_state, holder, freed, freed_station, channels_after}
+use Rattle.controller_table.specs.Reading.{word_of}
 use Rattle.controller_table.specs.Reports.{decision_over}
 use Rattle.dtap_codec.specs.declared.report.Report.{Report}
 use Rattle.ho_decision.specs.declared.decision.Decision.{Decision}
@@ -43,14 +47,14 @@ use Rattle.settings.specs.Parameters.{Parameters, handover_settings_of}
 -- ---- a row of the table, in the controller
 
 -- of the channel that begins to serve nothing was reported
-abbrev pub new_averages : Controller → Channel → Averages
-new_averages c serving = new_state (handover_settings_of c.settings serving.station)
+abbrev pub new_averages : Parameters → Channel → Averages
+new_averages p serving = new_state (handover_settings_of p serving.station)
 
-abbrev pub averages_after : Controller → Channel → Channel → Averages → Averages
-averages_after c before after averages = if is_at (place_of before) after then averages else new_averages c after
+abbrev pub averages_after : Parameters → Channel → Channel → Averages → Averages
+averages_after p before after averages = if is_at (place_of before) after then averages else new_averages p after
 
-abbrev pub entry_after : Controller → Entry → Row → Entry
-entry_after c e r = record { connection = r.next; averages = averages_after c e.connection.serving r.next.serving e.averages }
+abbrev pub entry_after : Parameters → Entry → Row → Entry
+entry_after p e r = record { connection = r.next; averages = averages_after p e.connection.serving r.next.serving e.averages }
 
 -- a channel is activated with a handover reference
 abbrev pub is_handover : Message → Bool
@@ -62,8 +66,8 @@ handovers_after handovers messages = (handovers + count_by is_handover messages)
 
 -- what it puts goes out; the connection, its channels and the handovers begun are as after it
 abbrev pub by_row : Entry → Row → Controller → Turn
-by_row e r c = turn (outs_of e.connection.number r.outs) (with_entry (entry_after c e r) (record c {
-  uses = fold (uses_after e.connection.number) c.uses r.outs;
+by_row e r c = turn (outs_of e.connection.number r.outs) (with_entry (entry_after c.settings e r) (record c {
+  channels = fold (channels_after e.connection.number) c.channels r.outs;
   handovers = handovers_after c.handovers r.outs;
 }))
 
@@ -89,12 +93,12 @@ concerning_too input c (Some e) = by_fitting (turn [] c) e (row_in c e.connectio
 
 abbrev pub new_entry : Controller → Channel → RequestReference → ℕ → Entry
 new_entry c channel request delay =
-    record { connection = new_connection c.next_number channel request delay; averages = new_averages c channel }
+    record { connection = new_connection c.next_number channel request delay; averages = new_averages c.settings channel }
 
 -- the next connection, with a channel that is activated
 abbrev pub with_connection : Controller → Channel → RequestReference → ℕ → Turn
 with_connection c channel request delay = turn (out_of c.next_number (access_activation channel) ∷ []) (record c {
-  uses = uses_after c.next_number c.uses (access_activation channel);
+  channels = channels_after c.next_number c.channels (access_activation channel);
   entries = c.entries ++ new_entry c channel request delay ∷ [];
   next_number = c.next_number + 1;
 })
@@ -117,18 +121,21 @@ fits None input = false
 fits (Some e) input = is_some (row_of e.connection input None)
 
 -- RF CHANNEL RELEASE ACK frees a channel that is releasing, NACK one that a connection waits for
-abbrev pub frees : Use → Option Entry → Input → Bool
-frees u e (inputs.ReleaseAck at) = u.is_releasing
-frees u e (inputs.ActivationNack at) = fits e (inputs.ActivationNack at)
-frees u e _ = false
+abbrev pub frees : ChannelState → Option Entry → Input → Bool
+frees (Releasing number) e (inputs.ReleaseAck at) = true
+frees state e (inputs.ActivationNack at) = fits e (inputs.ActivationNack at)
+frees state e _ = false
 
-abbrev pub on_use : Bool → Input → Controller → Use → Option Entry → Turn
-on_use true input c u e = concerning_too input (freed u.at c) e
-on_use false input c u e = concerning input c e
+-- the connection that has the channel, or had it
+abbrev pub entry_at : Controller → ChannelState → Option Entry
+entry_at c state = option_and_then (entry_of c) (holder state)
 
-abbrev pub on_channel_in_use : Input → Controller → Option Use → Turn
-on_channel_in_use input c None = ignoring c
-on_channel_in_use input c (Some u) = on_use (frees u (entry_of c u.number) input) input c u (entry_of c u.number)
+abbrev pub on_freed : Bool → Place → Input → Controller → Option Entry → Turn
+on_freed true at input c e = concerning_too input (freed at c) e
+on_freed false at input c e = concerning input c e
+
+abbrev pub on_state : ChannelState → Place → Input → Controller → Option Entry → Turn
+on_state state at input c e = on_freed (frees state e input) at input c e
 
 -- ---- a report
 
@@ -165,12 +172,12 @@ abbrev pub pong : ℕ → Out
 pong source = record { to = source; conn = 0; frame = record { stream = CCM_STREAM; body = PONG ∷ [] } }
 
 abbrev pub on_word : ℕ → Word → Controller → Turn
-on_word source nothing c = ignoring c
-on_word source ping c = turn (pong source ∷ []) c
-on_word source (asks request delay) c = asked c source request delay
-on_word source (on_channel at input) c = on_channel_in_use input c (use_of c at)
-on_word source (reports at number report) c = on_report at number report c (option_and_then (λ u. entry_of c u.number) (use_of c at))
-on_word source (on_connection number input) c = concerning input c (entry_of c number)
+on_word source Nothing c = ignoring c
+on_word source Ping c = turn (pong source ∷ []) c
+on_word source (Asks request delay) c = asked c source request delay
+on_word source (OnChannel at input) c = on_state (channel_state c at) at input c (entry_at c (channel_state c at))
+on_word source (Reports at number report) c = on_report at number report c (entry_at c (channel_state c at))
+on_word source (OnConnection number input) c = concerning input c (entry_of c number)
 
 -- ---- links break
 
@@ -229,11 +236,15 @@ abbrev pub on_expiry : Option Input → Controller → Entry → Turn
 on_expiry None c e = turn [] c
 on_expiry (Some input) c e = told input c e
 
-abbrev pub passed : ℕ → Controller → Entry → Turn
-passed ms c e = on_expiry (expiry c.settings.timers (aged ms e).connection) (with_entry (aged ms e) c) (aged ms e)
+abbrev pub timed : Controller → Entry → Turn
+timed c e = on_expiry (expiry c.settings.timers e.connection) c e
 
+abbrev pub all_aged : ℕ → Controller → Controller
+all_aged ms c = record c { entries = map (aged ms) c.entries }
+
+-- first for all connections; then timers expire, by rising number
 unfoldable pub tick : ℕ → Controller → Turn
-tick ms c = each (passed ms) c c.entries
+tick ms c = each timed (all_aged ms c) (all_aged ms c).entries
 
 -- ---- a life
 

@@ -1,16 +1,17 @@
 -- Which connection a frame concerns.
-use Rattle.std.specs.Prelude.{◌≡◌, ℕ, Option, Some, None, option_map}
-use Rattle.controller_table.specs.Controller.{Controller, entry_of, use_of}
-use Rattle.controller_table.specs.Reading.{Word, nothing, ping, asks, on_channel, reports, on_connection}
+use Rattle.std.specs.Prelude.{◌≡◌, ℕ, Option, Some, None}
+use Rattle.controller_table.specs.declared.word.Word.{Word}
+use Rattle.controller_table.specs.declared.word.Word.TheVariants.{Nothing, Ping, Asks, OnChannel, Reports, OnConnection}
+use Rattle.controller_table.specs.Controller.{Controller, entry_of, channel_state, holder}
 
 -- a channel's messages concern the connection that has it; CHANNEL REQUIRED makes the next one
 abbrev pub concerned : Controller → Word → Option ℕ
-concerned c nothing = None
-concerned c ping = None
-concerned c (asks request delay) = Some c.next_number
-concerned c (on_channel at input) = option_map (λ u. u.number) (use_of c at)
-concerned c (reports at number report) = option_map (λ u. u.number) (use_of c at)
-concerned c (on_connection number input) = Some number
+concerned c Nothing = None
+concerned c Ping = None
+concerned c (Asks request delay) = Some c.next_number
+concerned c (OnChannel at input) = holder (channel_state c at)
+concerned c (Reports at number report) = holder (channel_state c at)
+concerned c (OnConnection number input) = Some number
 
 -- the connection of this number is as it was
 abbrev pub Leaves : ℕ → Controller → Controller → Type 0

@@ -1,13 +1,13 @@
-ghost use Rattle.std.specs.Prelude.{◌≡◌, ◌≢◌, ℕ, List, Option, Some, take};
+ghost use Rattle.std.specs.Prelude.{◌≡◌, ◌≢◌, ℕ, List, Option, Some, None, option_map, take};
 ghost use Rattle.conn_messages.specs.declared.channel.Channel.{Channel};
 ghost use Rattle.conn_table.specs.declared.input.Input.{Input};
 ghost use Rattle.conn_table.specs.Connection.{Connection};
 ghost use Rattle.conn_table.specs.Streams.{OfRow};
 ghost use Rattle.conn_table.specs.Table.{row_of};
-ghost use Rattle.controller_table.specs.Controller.{Controller, Entry};
-ghost use Rattle.controller_table.specs.Life.{on_word, passed, told};
+ghost use Rattle.controller_table.specs.declared.word.Word.{Word};
+ghost use Rattle.controller_table.specs.Controller.{Controller, Entry, entry_of};
+ghost use Rattle.controller_table.specs.Life.{aged, all_aged, on_word, timed, told};
 ghost use Rattle.controller_table.specs.Ownership.{Leaves, concerned};
-ghost use Rattle.controller_table.specs.Reading.{Word};
 ghost use Rattle.controller_table.specs.Reports.{decision_over, report_reading};
 ghost use Rattle.dtap_codec.specs.declared.report.Report.{Report};
 ghost use Rattle.dtap_codec.specs.declared.report.TheConstants.{REPORT_LENGTH};
@@ -38,5 +38,6 @@ pub fn row_keeps_number()
 pub fn others_are_left()
     ensures frames { (m source : ℕ) (word : Word) (c : Controller) → concerned c word ≢ Some m → Leaves m c (on_word source word c).next }
     ensures breaks { (m : ℕ) (input : Input) (c : Controller) (e : Entry) → m ≢ e.connection.number → Leaves m c (told input c e).next }
-    ensures time { (m ms : ℕ) (c : Controller) (e : Entry) → m ≢ e.connection.number → Leaves m c (passed ms c e).next }
+    ensures ages { (m ms : ℕ) (c : Controller) → entry_of (all_aged ms c) m ≡ option_map (aged ms) (entry_of c m) }
+    ensures time { (m : ℕ) (c : Controller) (e : Entry) → m ≢ e.connection.number → Leaves m c (timed c e).next }
 {}

@@ -3,3 +3,6 @@ pub const MAX_CONNECTION_NUMBER: u32 = 16_777_215;
 
 /// As far as ignored items are counted.
 pub const MAX_IGNORED: u64 = u64::MAX;
+
+/// The numbers of dedicated channels are below it (TS 48.058 clause 9.3.1).
+pub const CHANNEL_NUMBERS: usize = 128;

@@ -1,0 +1,74 @@
+-- The switch's messages of a connection over a whole life.
+use Rattle.std.proofs.Common.{ℕ, ◌≤◌, ◌<◌, List, [], ◌∷◌, find, fold, Option, Some, None, option_map, refl, sym, subst, inl, inr}
+use Rattle.std.proofs.lemmas.Bool.{cases_Bool, cond-true, cond-false, eqb-true}
+use Rattle.std.specs.List.{AllByRecursion}
+use Rattle.conn_messages.specs.declared.parameters.TheConstants.{SWITCH_LINK}
+use Rattle.controller_laws.specs.Acts.{brought_in}
+use Rattle.controller_laws.specs.Downlink.{ConservesDownlink, DownlinkIsConserved, Switched, nothing_switched, switched, with_moment}
+use Rattle.controller_laws.specs.History.{IsHistory, Moment, connection_of}
+use Rattle.controller_laws.specs.Numbers.{IsBelow, IsNumbered}
+use Rattle.controller_laws.proofs.Beside.{step_goes}
+use Rattle.controller_laws.proofs.Fitting.{Fits, in_break, new_fits, step_fits}
+use Rattle.controller_laws.proofs.Switched.{AgreesDown, IsBegun, acts_agree, step_says}
+use Rattle.controller_laws.proofs.Turns.{step_does}
+use Rattle.conn_table.specs.Connection.{Connection}
+use Rattle.controller_table.specs.declared.step.Step.{Step}
+use Rattle.controller_table.specs.Controller.{Controller, Entry, each, has_number, is_up, new_controller}
+use Rattle.controller_table.specs.Life.{life, step}
+use Rattle.dtap_codec.specs.declared.sapi.Sapi.{Sapi}
+use Rattle.settings.specs.Parameters.{Parameters}
+
+-- the messages that the steps put for a connection
+unfoldable pub moments_of : (number : ℕ) (c : Controller) → 1 ≤ number → Fits number c → List Step → List Moment
+moments_of number c from_one fits [] = []
+moments_of number c from_one fits (s ∷ ss) =
+    record { taken = s; messages = (step_does number c s from_one fits.numbered).put } ∷ moments_of number (step c s).next from_one (step_fits number c s from_one fits) ss
+
+pub history_of : (number : ℕ) (c : Controller) (from_one : 1 ≤ number) (fits : Fits number c) (steps : List Step) → IsHistory number c steps (moments_of number c from_one fits steps)
+unfolding moments_of
+history_of number c from_one fits [] = tt
+history_of number c from_one fits (s ∷ ss) =
+    (refl, (step_does number c s from_one fits.numbered).outs, history_of number (step c s).next from_one (step_fits number c s from_one fits) ss)
+
+found_begun : (number next : ℕ) (xs : List Entry) → AllByRecursion (IsBelow next) xs → IsBegun number next (option_map (λ (e : Entry). e.connection) (find (has_number number) xs))
+unfolding IsBegun
+found_begun number next [] below = tt
+found_begun number next (x ∷ xs) below = elim (cases_Bool (has_number number x)) [
+  | inl hit ↦
+      subst (λ (o : Option Entry). IsBegun number next (option_map (λ (e : Entry). e.connection) o)) (sym (cond-true _ (Some x) (find (has_number number) xs) hit))
+      (subst (λ (n : ℕ). n < next) (eqb-true x.connection.number number hit) below.0)
+  | inr miss ↦
+      subst (λ (o : Option Entry). IsBegun number next (option_map (λ (e : Entry). e.connection) o)) (sym (cond-false _ (Some x) (find (has_number number) xs) miss))
+      (found_begun number next xs below.1)
+]
+
+pub begun_in : (number : ℕ) (c : Controller) → IsNumbered c → IsBegun number c.next_number (connection_of c number)
+begun_in number c numbered = found_begun number c.next_number c.entries numbered.below
+
+agree_run : (sapi : Sapi) (number : ℕ) (c : Controller) (from_one : 1 ≤ number) (fits : Fits number c) (a : Switched) (steps : List Step) → AgreesDown sapi number c.next_number a (connection_of c number) →
+    AgreesDown sapi number (each step c steps).next.next_number (fold (with_moment number sapi) a (moments_of number c from_one fits steps)) (connection_of (each step c steps).next number)
+unfolding moments_of
+agree_run sapi number c from_one fits a [] agrees = agrees
+agree_run sapi number c from_one fits a (s ∷ ss) agrees =
+    let does = step_does number c s from_one fits.numbered in
+    agree_run sapi number (step c s).next from_one (step_fits number c s from_one fits) (with_moment number sapi a (record { taken = s; messages = does.put })) ss
+    (acts_agree sapi number c.next_number (step c s).next.next_number (is_up c SWITCH_LINK) (brought_in c number s) (connection_of c number) (connection_of (step c s).next number) does.put a s does.acts (step_goes c s).numbers (begun_in number c fits.numbered) fits.fine fits.linked (in_break c number s)
+    (λ up. step_says c number s up) agrees)
+
+conserved : (sapi : Sapi) (number next : ℕ) (a : Switched) (o : Option Connection) → AgreesDown sapi number next a o → ConservesDownlink a sapi o
+unfolding AgreesDown
+conserved sapi number next a None agrees = tt
+conserved sapi number next a (Some s) agrees = λ there. (agrees there).1
+
+new_agrees : (sapi : Sapi) (number : ℕ) (p : Parameters) → AgreesDown sapi number 1 nothing_switched (connection_of (new_controller p) number)
+unfolding AgreesDown
+new_agrees sapi number p = λ less. refl
+
+pub life_conserves : (p : Parameters) (steps : List Step) (number : ℕ) → 1 ≤ number → DownlinkIsConserved number p steps
+unfolding life
+life_conserves p steps number from_one = record {
+  moments = moments_of number (new_controller p) from_one (new_fits number p) steps;
+  history = history_of number (new_controller p) from_one (new_fits number p) steps;
+  downlink = λ sapi. conserved sapi number (each step (new_controller p) steps).next.next_number (switched number sapi (moments_of number (new_controller p) from_one (new_fits number p) steps)) (connection_of (each step (new_controller p) steps).next number)
+      (agree_run sapi number (new_controller p) from_one (new_fits number p) nothing_switched steps (new_agrees sapi number p));
+}

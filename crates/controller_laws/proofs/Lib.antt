@@ -1,0 +1,21 @@
+pub mod Entries
+pub mod Acting
+pub mod Words
+pub mod Turns
+pub mod Readings
+pub mod Beside
+pub mod Fitting
+pub mod Silence
+pub mod Lives
+pub mod Progress
+pub mod Sources
+pub mod Switched
+pub mod DownlinkLife
+pub mod Places
+pub mod Owning
+pub mod OwningRows
+pub mod OwningSteps
+pub mod OwningWords
+pub mod OwningLife
+mod OnLiterals
+mod Rows

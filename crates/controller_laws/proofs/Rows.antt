@@ -1,0 +1,152 @@
+-- The definitions at literal values.
+use Rattle.std.proofs.Common.{◌≡◌, ℕ, true, false, List, [], ◌∷◌, set, codes, refl}
+use Rattle.bssmap_codec.specs.declared.bssap.Bssap.TheVariants.{Management}
+use Rattle.bssmap_codec.specs.declared.bssmap.Bssmap.TheVariants.{CompleteLayer3Information, SapiNReject}
+use Rattle.conn_messages.specs.declared.channel.Channel.{Channel}
+use Rattle.conn_messages.specs.declared.message.Message.{Message}
+use Rattle.conn_messages.specs.declared.message.Message.TheVariants.{Request, Data}
+use Rattle.conn_messages.specs.StationMessage.{channel_release, handing}
+use Rattle.conn_table.specs.declared.input.Input.TheVariants as inputs
+use Rattle.controller_laws.specs.Acts.{brought_in}
+use Rattle.controller_laws.specs.Acts.Brought.{nothing, comes, breaks, passes}
+use Rattle.controller_laws.specs.Downlink.{switched}
+use Rattle.controller_laws.specs.History.{Moment, outs_for}
+use Rattle.controller_laws.proofs.OnLiterals.{on_literals}
+use Rattle.controller_table.specs.declared.channel_state.ChannelState.TheVariants.{InUse, Releasing}
+use Rattle.controller_table.specs.declared.step.Step.{Step}
+use Rattle.controller_table.specs.declared.step.Step.TheVariants.{Take, Tick}
+use Rattle.controller_table.specs.Controller.{Controller, free_channels, new_controller}
+use Rattle.dtap_codec.specs.declared.sapi.Sapi.TheVariants.{Zero, Three}
+use Rattle.relay_items.specs.declared.What.TheVariants as whats
+use Rattle.settings.specs.Parameters.{Parameters}
+
+-- ---- what comes
+
+from_switch : List ℕ → Step
+from_switch body = Take (record { source = 0; what = whats.Frame (record { stream = 0xfd; body = body }) })
+
+from_station : ℕ → List ℕ → Step
+from_station station body = Take (record { source = station; what = whats.Frame (record { stream = 0x00; body = body }) })
+
+abbrev moment : Step → List Message → Moment
+moment s put = record { taken = s; messages = put }
+
+serving : Channel
+serving = record { station = 1; number = 0x41; cell = []; description = record { arfcn = 20; ncc = 1; bcc = 1 }; reference = record { 0 = 0 } }
+
+-- DT1 with DTAP of connection 1 and of connection 2, on SAPI 0 and 3; CC of connection 1
+zero_1 : List ℕ → Step
+zero_1 octets = from_switch (0x06 ∷ 0x00 ∷ 0x00 ∷ 0x01 ∷ 0x00 ∷ 0x01 ∷ 0x05 ∷ 0x01 ∷ 0x00 ∷ 0x02 ∷ octets)
+
+zero_2 : List ℕ → Step
+zero_2 octets = from_switch (0x06 ∷ 0x00 ∷ 0x00 ∷ 0x02 ∷ 0x00 ∷ 0x01 ∷ 0x05 ∷ 0x01 ∷ 0x00 ∷ 0x02 ∷ octets)
+
+three_1 : List ℕ → Step
+three_1 octets = from_switch (0x06 ∷ 0x00 ∷ 0x00 ∷ 0x01 ∷ 0x00 ∷ 0x01 ∷ 0x05 ∷ 0x01 ∷ 0x83 ∷ 0x02 ∷ octets)
+
+confirm_1 : Step
+confirm_1 = from_switch (0x02 ∷ 0x00 ∷ 0x00 ∷ 0x01 ∷ 0x80 ∷ 0x00 ∷ 0x01 ∷ 0x02 ∷ 0x00 ∷ [])
+
+request : Message
+request = Request (Management (CompleteLayer3Information (record { 0 = [] }) (0x05 ∷ 0x24 ∷ [])))
+
+reject : Message
+reject = Data 0x800001 (Management (SapiNReject (record { 0 = 0x83 }) (record { 0 = 0x25 ∷ [] })))
+
+-- ---- the switch's messages
+
+-- before CC, of another connection, of another SAPI, or of radio resource management they don't count
+of_sapi_0 : switched 1 Zero
+    (moment (zero_1 (0x05 ∷ 0x01 ∷ [])) []
+    ∷ moment (Tick 1) (request ∷ [])
+    ∷ moment (zero_1 (0x05 ∷ 0x02 ∷ [])) []
+    ∷ moment confirm_1 []
+    ∷ moment (zero_1 (0x05 ∷ 0x03 ∷ [])) (handing serving Zero (0x05 ∷ 0x03 ∷ []) ∷ [])
+    ∷ moment (zero_2 (0x05 ∷ 0x04 ∷ [])) []
+    ∷ moment (three_1 (0x09 ∷ 0x05 ∷ [])) []
+    ∷ moment (zero_1 (0x06 ∷ 0x06 ∷ [])) (channel_release serving 0 ∷ [])
+    ∷ moment (zero_1 (0x03 ∷ 0x07 ∷ [])) [] ∷ [])
+    ≡ record { requested = true; confirmed = true; received = (0x05 ∷ 0x03 ∷ []) ∷ (0x03 ∷ 0x07 ∷ []) ∷ []; handed = (0x05 ∷ 0x03 ∷ []) ∷ [] }
+unfolding on_literals zero_1 zero_2 three_1 confirm_1 from_switch request serving
+of_sapi_0 = refl
+
+-- CC counts after CR alone
+confirmed_too_soon : switched 1 Zero (moment confirm_1 [] ∷ moment (Tick 1) (request ∷ []) ∷ moment (zero_1 (0x05 ∷ 0x02 ∷ [])) [] ∷ [])
+    ≡ record { requested = true; confirmed = false; received = []; handed = [] }
+unfolding on_literals zero_1 confirm_1 from_switch request
+confirmed_too_soon = refl
+
+-- what wasn't handed is rejected, on SAPI 3
+rejected : switched 1 Three
+    (moment (Tick 1) (request ∷ []) ∷ moment confirm_1 []
+    ∷ moment (three_1 (0x09 ∷ 0x01 ∷ [])) (handing serving Three (0x09 ∷ 0x01 ∷ []) ∷ [])
+    ∷ moment (three_1 (0x09 ∷ 0x02 ∷ [])) []
+    ∷ moment (Tick 2) (reject ∷ [])
+    ∷ moment (three_1 (0x09 ∷ 0x03 ∷ [])) [] ∷ [])
+    ≡ record { requested = true; confirmed = true; received = (0x09 ∷ 0x01 ∷ []) ∷ (0x09 ∷ 0x03 ∷ []) ∷ []; handed = (0x09 ∷ 0x01 ∷ []) ∷ [] }
+unfolding on_literals three_1 confirm_1 from_switch request reject serving
+rejected = refl
+
+not_rejected : switched 1 Zero (moment (Tick 1) (request ∷ []) ∷ moment confirm_1 [] ∷ moment (zero_1 (0x05 ∷ 0x02 ∷ [])) [] ∷ moment (Tick 2) (reject ∷ []) ∷ [])
+    ≡ record { requested = true; confirmed = true; received = (0x05 ∷ 0x02 ∷ []) ∷ []; handed = [] }
+unfolding on_literals zero_1 confirm_1 from_switch request reject
+not_rejected = refl
+
+-- ---- what a step brings
+
+settings : Parameters
+settings = record {
+  network = record { mcc = codes "001"; mnc = codes "01"; release98 = false };
+  switch_address = codes "a";
+  timers = record { t3101_ms = 3000; t3103_ms = 5000; t3107_ms = 5000; drain_ms = 2000 };
+  handover = record { rxlev_window = 10; rxqual_window = 1; neighbour_window = 10; interval = 6; hysteresis = 3 };
+  cells = record { listen = codes "b"; location_area_code = 1; cell_identity = 1; arfcn = 20; bsic = record { ncc = 1; bcc = 1 }; channels = 0x41 ∷ 0x0a ∷ [] } ∷ [];
+}
+
+-- 41 is in use by connection 7, 0A releasing by it
+busy : Controller
+busy = record (new_controller settings) { channels = free_channels ∷ set (set free_channels 0x41 (InUse 7)) 0x0a (Releasing 7) ∷ [] }
+
+to_its_connection : brought_in busy 7 (from_station 1 (0x03 ∷ 0x02 ∷ 0x01 ∷ 0x41 ∷ 0x02 ∷ 0x00 ∷ 0x0b ∷ 0x00 ∷ 0x02 ∷ 0x03 ∷ 0x45 ∷ [])) ≡ comes (inputs.Dtap (record { station = 1; number = 0x41 }) Zero (0x03 ∷ 0x45 ∷ []))
+unfolding on_literals busy from_station settings
+to_its_connection = refl
+
+acknowledged : brought_in busy 7 (from_station 1 (0x08 ∷ 0x33 ∷ 0x01 ∷ 0x0a ∷ [])) ≡ comes (inputs.ReleaseAck (record { station = 1; number = 0x0a }))
+unfolding on_literals busy from_station settings
+acknowledged = refl
+
+to_no_other : brought_in busy 8 (from_station 1 (0x08 ∷ 0x33 ∷ 0x01 ∷ 0x0a ∷ [])) ≡ nothing
+unfolding on_literals busy from_station settings
+to_no_other = refl
+
+to_nobody_on_a_free_channel : brought_in busy 7 (from_station 1 (0x08 ∷ 0x33 ∷ 0x01 ∷ 0x49 ∷ [])) ≡ nothing
+unfolding on_literals busy from_station settings
+to_nobody_on_a_free_channel = refl
+
+confirmed : brought_in busy 1 confirm_1 ≡ comes (inputs.ConnectionConfirm 0x800001)
+unfolding on_literals busy confirm_1 from_switch settings
+confirmed = refl
+
+nothing_of_a_link_that_is_down : brought_in (record busy { links = false ∷ true ∷ [] }) 1 confirm_1 ≡ nothing
+unfolding on_literals busy confirm_1 from_switch settings
+nothing_of_a_link_that_is_down = refl
+
+station_breaks : brought_in busy 1 (Take (record { source = 1; what = whats.Down })) ≡ breaks (inputs.StationDown 1)
+unfolding on_literals busy settings
+station_breaks = refl
+
+switch_breaks : brought_in busy 1 (Take (record { source = 0; what = whats.Down })) ≡ breaks inputs.SwitchDown
+unfolding on_literals busy settings
+switch_breaks = refl
+
+time_passes : brought_in busy 1 (Tick 5) ≡ passes
+time_passes = refl
+
+-- ---- frames of a connection
+
+of_connection_2 : outs_for 2
+    (record { to = 0; conn = 1; frame = record { stream = 0xfd; body = 1 ∷ [] } }
+    ∷ record { to = 1; conn = 2; frame = record { stream = 0x00; body = 2 ∷ [] } }
+    ∷ record { to = 0; conn = 0; frame = record { stream = 0xfe; body = 1 ∷ [] } } ∷ [])
+    ≡ record { to = 1; conn = 2; frame = record { stream = 0x00; body = 2 ∷ [] } } ∷ []
+of_connection_2 = refl

@@ -1,0 +1,57 @@
+-- Where nothing is handed or relayed.
+use Rattle.std.specs.Prelude.{◌≡◌, ℕ, ◌<◌, List, [], Option, Some, None}
+use Rattle.std.specs.List.{AllByRecursion}
+use Rattle.conn_messages.specs.declared.message.Message.{Message}
+use Rattle.conn_table.specs.Connection.{Connection}
+use Rattle.conn_messages.specs.Out.{outs_of}
+use Rattle.conn_table.specs.Streams.{IsOpen, IsChanging, GoesTo, OnlyReleases, handed, relayed}
+use Rattle.controller_laws.specs.History.{Moment, IsHistory, connection_of, outs_for}
+use Rattle.controller_table.specs.declared.step.Step.{Step}
+use Rattle.controller_table.specs.Controller.{Controller}
+use Rattle.controller_table.specs.Life.{step}
+use Rattle.dtap_codec.specs.declared.sapi.Sapi.{Sapi}
+
+-- a connection that is open
+abbrev pub IsThere : Option Connection → Type 0
+IsThere None = ⊥
+IsThere (Some s) = IsOpen s.state
+
+-- nothing is handed or relayed
+pub record HasNoStream (put : List Message) : Type 0 where
+  pub relays : (sapi : Sapi) → relayed sapi put ≡ []
+  pub hands : (sapi : Sapi) → handed sapi put ≡ []
+
+-- a connection whose mobile was commanded to another channel and hasn't answered
+abbrev pub IsAway : Option Connection → Type 0
+IsAway None = ⊥
+IsAway (Some s) = IsChanging s.state
+
+-- what is handed goes to the channel that serves, and nothing is handed where none does
+abbrev pub GoToServing : Option Connection → List Message → Type 0
+GoToServing None put = (sapi : Sapi) → handed sapi put ≡ []
+GoToServing (Some s) put = AllByRecursion (GoesTo s.serving) put
+
+-- after CLEAR COMPLETE only RLC is put, and of a connection that is gone nothing
+abbrev pub OnlyReleasesAfter : Option Connection → List Message → Type 0
+OnlyReleasesAfter None put = put ≡ []
+OnlyReleasesAfter (Some s) put = OnlyReleases s.state put
+
+-- What a step puts for a connection, and what of it is handed or relayed.
+pub record KeepsSilence (number : ℕ) (c : Controller) (s : Step) : Type 0 where
+  pub put : List Message
+  pub outs : outs_for number (step c s).outs ≡ outs_of number put
+  -- while its mobile changes the channel nothing is handed
+  pub away : IsAway (connection_of (step c s).next number) → (sapi : Sapi) → handed sapi put ≡ []
+  -- what is handed goes to the channel that serves after the step
+  pub serving : GoToServing (connection_of (step c s).next number) put
+  -- nothing is handed or relayed by the step that closes it, and from then on
+  pub over : (IsThere (connection_of (step c s).next number) → ⊥) → HasNoStream put
+  -- it doesn't open again
+  pub stays : number < c.next_number → (IsThere (connection_of c number) → ⊥) → IsThere (connection_of (step c s).next number) → ⊥
+  pub cleared : number < c.next_number → OnlyReleasesAfter (connection_of c number) put
+
+-- Nothing is handed or relayed in these steps.
+pub record StaysSilent (number : ℕ) (c : Controller) (steps : List Step) : Type 0 where
+  pub moments : List Moment
+  pub history : IsHistory number c steps moments
+  pub silent : AllByRecursion (λ m. HasNoStream m.messages) moments

@@ -1,0 +1,6 @@
+pub mod Acts
+pub mod Downlink
+pub mod End
+pub mod History
+pub mod Numbers
+pub mod Owning

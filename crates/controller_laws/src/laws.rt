@@ -1,0 +1,48 @@
+ghost use Rattle.std.specs.Prelude.{ℕ, ◌≤◌, ◌<◌, List};
+ghost use Rattle.controller_laws.specs.Acts.{ActsOn};
+ghost use Rattle.controller_laws.specs.Downlink.{DownlinkIsConserved};
+ghost use Rattle.controller_laws.specs.End.{IsThere, KeepsSilence, StaysSilent};
+ghost use Rattle.controller_laws.specs.History.{connection_of};
+ghost use Rattle.controller_laws.specs.Owning.{LinkedOf, OwnsOpen};
+ghost use Rattle.controller_table.specs.Controller.{is_up};
+ghost use Rattle.conn_messages.specs.declared.parameters.TheConstants.{SWITCH_LINK};
+ghost use Rattle.controller_laws.specs.Numbers.{IsNumbered};
+ghost use Rattle.controller_table.specs.declared.step.Step.{Step};
+ghost use Rattle.controller_table.specs.Life.{life};
+ghost use Rattle.settings.specs.Parameters.{AreAllowed, Parameters};
+
+/// Whatever comes, the numbers of the connections rise from 1 and are below that of the next one. It is a law on the
+/// definitions: it does nothing, as all here.
+pub fn numbers_rise()
+    ensures { (p : Parameters) (steps : List Step) → IsNumbered (life p steps).next }
+{}
+
+/// A step does one row of the table to a connection at most: by what a frame brings to it, by a report on its channel, by
+/// a link that breaks, or by a timer. Else it begins, or stays as it is, its timers aside.
+pub fn steps_are_rows()
+    ensures { (p : Parameters) (steps : List Step) (s : Step) (number : ℕ) → 1 ≤ number → ActsOn number (life p steps).next s }
+{}
+
+/// While the mobile of a connection changes its channel nothing is handed to it, and nothing by the step that commands it
+/// to; what a step hands goes to the channel that serves after it. From the step that closes a connection on nothing is
+/// handed or relayed; after CLEAR COMPLETE only RLC is put, and nothing once the connection is gone.
+pub fn silence_is_kept()
+    ensures steps { (p : Parameters) (steps : List Step) (s : Step) (number : ℕ) → 1 ≤ number → KeepsSilence number (life p steps).next s }
+    ensures end { (p : Parameters) (steps rest : List Step) (number : ℕ) → 1 ≤ number → number < (life p steps).next.next_number
+        → (IsThere (connection_of (life p steps).next number) → ⊥) → StaysSilent number (life p steps).next rest }
+{}
+
+/// Of each SAPI, what was handed to the mobile of a connection, then what is held for it, is what the switch sent from CC on,
+/// without what was rejected and without messages of radio resource management, as long as the connection is open.
+pub fn downlink_is_conserved()
+    ensures { (p : Parameters) (steps : List Step) (number : ℕ) → 1 ≤ number → DownlinkIsConserved number p steps }
+{}
+
+/// A connection that is open has its serving channel and its target in use, its old channels releasing, all different, and
+/// the links of their stations and of the switch up: so a channel is one connection's at most.
+pub fn channels_are_owned()
+    ensures channels { (p : Parameters) (steps : List Step) (number : ℕ) → AreAllowed p
+        → OwnsOpen (life p steps).next.channels (life p steps).next.links number (connection_of (life p steps).next number) }
+    ensures switch { (p : Parameters) (steps : List Step) (number : ℕ) → 1 ≤ number
+        → LinkedOf (is_up (life p steps).next SWITCH_LINK) (connection_of (life p steps).next number) }
+{}

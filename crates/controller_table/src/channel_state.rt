@@ -1,0 +1,10 @@
+/// What is made of a channel.
+#[derive(Clone, Copy)]
+pub enum ChannelState {
+    Free,
+    /// By the connection with this number.
+    InUse(u32),
+    /// From RF CHANNEL RELEASE to its acknowledgement (TS 48.058 clause 4.7): by the connection with this number, whose
+    /// messages may still come on it.
+    Releasing(u32),
+}
