@@ -1,3 +1,4 @@
 mod Readings
 mod Rows
 mod Sizes
+pub mod UseReadings

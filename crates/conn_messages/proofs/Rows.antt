@@ -12,6 +12,8 @@ use Rattle.conn_messages.specs.declared.causes.TheConstants.{ABNORMAL_RELEASE, B
 use Rattle.conn_messages.specs.declared.channel.Change.TheVariants.{Assignment, Handover}
 use Rattle.conn_messages.specs.declared.channel.Channel.{Channel}
 use Rattle.conn_messages.specs.declared.out.Out.{Out}
+use Rattle.conn_messages.specs.declared.uses.ChannelUse.TheVariants.{Activated, Released, Unchanged}
+use Rattle.conn_messages.specs.ChannelUse.{use_by}
 use Rattle.conn_messages.specs.Out.{IsReadOf, out_of, outs_of}
 use Rattle.conn_messages.specs.StationMessage.{access_activation, change_activation, change_command, channel_release, establish_request, handing, immediate_assign_command, link_on, mode_of, rf_channel_release}
 use Rattle.conn_messages.specs.SwitchMessage.{assignment_failure, change_complete, cipher_mode_reject, clear_complete, clear_request, complete_layer3, dlci_on, relaying, release_complete, sapi_3_reject}
@@ -278,3 +280,13 @@ data_read = (0x00 ∷ 0x04 ∷ 0x22 ∷ 0x04 ∷ 0x01 ∷ 0x20 ∷ [], refl, ref
 release_complete_read : IsReadOf 0x010203 (release_complete 0x0a0b0c) (0x05 ∷ 0x0a ∷ 0x0b ∷ 0x0c ∷ 0x01 ∷ 0x02 ∷ 0x03 ∷ [])
 unfolding sccp_reading octet_at sccp_type reference_at references_at fixed_references_at
 release_complete_read = refl
+
+-- ---- what is made of a channel
+
+uses : map use_by (access_activation (on_1 0x41) ∷ change_activation Handover (on_2 0x41) ∷ change_activation Assignment (on_1 0x0a) ∷ rf_channel_release (on_2 0x49) ∷ release_complete 0x0a0b0c ∷ [])
+    ≡ Activated (record { station = 1; number = 0x41 }) (record { 0 = 0x00 })
+    ∷ Activated (record { station = 2; number = 0x41 }) (record { 0 = 0x02 })
+    ∷ Activated (record { station = 1; number = 0x0a }) (record { 0 = 0x01 })
+    ∷ Released (record { station = 2; number = 0x49 })
+    ∷ Unchanged ∷ []
+uses = refl

@@ -8,6 +8,8 @@ pub use message::Message;
 pub use messages::Messages;
 pub use out::Out;
 pub use outputs::Outputs;
+pub use uses::{ChannelUse, channel_use};
+pub use parameters::SWITCH_LINK;
 
 pub mod causes;
 mod channel;
@@ -20,3 +22,4 @@ mod outputs;
 mod parameters;
 pub mod station_message;
 pub mod switch_message;
+mod uses;

@@ -9,7 +9,7 @@ pub use fault::RslFault;
 pub use link_identifier::LinkId;
 pub use radio_link::{Data, ErrorReport, Establishment, Link, Release};
 pub use rsl::{Rsl, rsl_text_is_read};
-pub use rsl_type::RslType;
+pub use rsl_type::{CHANNEL_ACTIVATION, DEDICATED_CHANNEL, RF_CHANNEL_RELEASE, RslType};
 pub use values::{
     ASYNCHRONOUS_HANDOVER, AccessDelay, ActivationType, BsPower, Cause, ChannelMode, FrameNumber,
     HandoverReference, IMMEDIATE_ASSIGNMENT, L1Information, MeasurementNumber, NORMAL_ASSIGNMENT,

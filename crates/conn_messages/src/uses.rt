@@ -1,0 +1,64 @@
+ghost use Rattle.std.specs.Prelude.{◌≡◌, ℕ};
+ghost use Rattle.conn_messages.specs.declared.message.Message.{Message};
+ghost use Rattle.conn_messages.specs.ChannelUse.{use_by};
+ghost use Rattle.conn_messages.specs.Out.{IsLawfulMessage, out_of};
+ghost use Rattle.conn_messages.specs.UseOctets as words;
+
+use crate::{Out, Place};
+use ipa_framing::RSL_STREAM;
+use rsl_codec::{
+    ActivationType, CHANNEL_ACTIVATION, ChanNo, DEDICATED_CHANNEL, RF_CHANNEL_RELEASE,
+};
+
+/// What a message makes of a channel of the station that it goes to.
+#[derive(Clone, Copy)]
+pub enum ChannelUse {
+    /// CHANNEL ACTIVATION takes the channel into use; why.
+    Activated(Place, ActivationType),
+    /// RF CHANNEL RELEASE has it releasing.
+    Released(Place),
+    /// It stays as it is.
+    Unchanged,
+}
+
+/// What the message of a frame makes of a channel. It takes no memory: it looks at the discriminator, the message type and the
+/// elements that these messages begin with.
+pub fn channel_use(out: &Out) -> ChannelUse
+    ensures octets { result ≡ words.use_of out.now }
+    ensures message { (number : ℕ) (message : Message) → IsLawfulMessage message → out.now ≡ out_of number message → result ≡ use_by message }
+{
+    use_in(out.to, out.frame.stream, out.frame.body.as_slice())
+}
+
+fn use_in(station: u16, stream: u8, octets: &[u8]) -> ChannelUse
+    ensures { result ≡ words.use_in station stream octets.now }
+{
+    if stream == RSL_STREAM && octet_at(octets, 0) == DEDICATED_CHANNEL {
+        use_by_type(station, octet_at(octets, 1), octets)
+    } else {
+        ChannelUse::Unchanged
+    }
+}
+
+// The channel number is the value of the first element, the activation type that of the second.
+fn use_by_type(station: u16, message_type: u8, octets: &[u8]) -> ChannelUse
+    ensures { result ≡ words.use_by_type station message_type octets.now }
+{
+    match (message_type, ChanNo::read(octet_at(octets, 3))) {
+        (CHANNEL_ACTIVATION, Ok(number)) => ChannelUse::Activated(
+            Place { station, number },
+            ActivationType(octet_at(octets, 5)),
+        ),
+        (RF_CHANNEL_RELEASE, Ok(number)) => ChannelUse::Released(Place { station, number }),
+        _ => ChannelUse::Unchanged,
+    }
+}
+
+fn octet_at(octets: &[u8], place: usize) -> u8
+    ensures { result ≡ words.octet_at octets.now place }
+{
+    match octets.get(place) {
+        Some(octet) => *octet,
+        None => 0,
+    }
+}
