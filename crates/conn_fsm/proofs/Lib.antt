@@ -1,4 +1,5 @@
 pub mod Keeping
+pub mod Later
 pub mod Leaving
 pub mod OldChannels
 pub mod Pushing

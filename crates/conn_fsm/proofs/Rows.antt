@@ -1,5 +1,5 @@
 -- Definitions against literal values: a connection with number 7, and frames of it.
-use Rattle.std.proofs.Common.{◌≡◌, ℕ, Bool, true, false, List, [], ◌∷◌, map, Some, None, refl, arith}
+use Rattle.std.proofs.Common.{◌≡◌, ℕ, Bool, true, false, List, [], ◌∷◌, map, Some, None, refl, ap, arith}
 use Rattle.conn_messages.specs.declared.channel.Channel.{Channel}
 use Rattle.conn_messages.specs.declared.out.Out.{Out}
 use Rattle.conn_messages.specs.Out.{out_of}
@@ -12,7 +12,7 @@ use Rattle.conn_table.specs.Connection.{Connection, emptied, new_connection}
 use Rattle.conn_table.specs.Steps.{Row, row}
 use Rattle.dtap_codec.specs.declared.sapi.Sapi.TheVariants.{Zero, Three}
 use Rattle.hold_queue.specs.ChainState.{Tenure}
-use Rattle.conn_fsm.specs.Doing.{Closes, Commits, EndsIn, Finishes, IsInitial, IsPlanned, Stays, Steps, outs_in}
+use Rattle.conn_fsm.specs.Doing.{Closes, Commits, EndsIn, Finishes, IsAsPlanned, IsInitial, IsPlanned, Stays, Steps, outs_in}
 use Rattle.conn_fsm.specs.Leaving.{leaving, left, left_outs, oldest_left}
 use Rattle.conn_fsm.specs.Views.{joined}
 
@@ -78,6 +78,16 @@ plans_no_clear planned = planned
 
 plans_no_report : IsPlanned inputs.Move → ⊥
 plans_no_report planned = planned
+
+-- time may pass for a planned connection, and nothing else
+as_planned : IsAsPlanned connection (record connection { waited = 3000; drained = 7 })
+as_planned = refl
+
+another_delay : ◌≡◌ {A = ℕ} 6 5 → ⊥
+another_delay same = omega arith
+
+not_as_planned : IsAsPlanned connection (record connection { waited = 3000; delay = 6 }) → ⊥
+not_as_planned same = another_delay (ap (λ (s : Connection). s.delay) same)
 
 ends_removed : EndsIn (Some Removed) (Some released) connection
 ends_removed = refl

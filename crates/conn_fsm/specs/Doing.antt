@@ -33,6 +33,10 @@ IsPlanned (StationDown station) = Unit {0}
 IsPlanned SwitchDown = Unit {0}
 IsPlanned _ = ⊥
 
+-- the connection is as it was planned, but for its two timers
+abbrev pub IsAsPlanned : Connection → Connection → Type 0
+IsAsPlanned was now = now ≡ record was { waited = now.waited; drained = now.drained }
+
 -- the connection ends in this state, or no row fits
 abbrev pub EndsIn : Option State → Option Row → Connection → Type 0
 EndsIn (Some last) (Some r) s = r.next ≡ emptied last s

@@ -1,4 +1,4 @@
-ghost use Rattle.std.specs.Prelude.{◌≡◌, ◌<◌, ◌≤◌, [], ◌∷◌, ◌++◌, None, map, length, IfOk, OnOk, OnErr};
+ghost use Rattle.std.specs.Prelude.{◌≡◌, ℕ, ◌<◌, ◌≤◌, [], ◌∷◌, ◌++◌, None, map, length, IfOk, OnOk, OnErr};
 ghost use Rattle.std.specs.List.{AllByRecursion};
 ghost use Rattle.bssmap_codec.specs.Layer3.{IsLayer3};
 ghost use Rattle.conn_messages.specs.Out.{IsSound, outs_of};
@@ -9,7 +9,7 @@ ghost use Rattle.conn_table.specs.declared.state.Stage.TheVariants.{Changing, Pr
 ghost use Rattle.conn_table.specs.declared.state.State.TheVariants.{Live, WaitActivation};
 ghost use Rattle.conn_table.specs.Standing.{Stands};
 ghost use Rattle.conn_table.specs.Steps.{after_begin, after_waiting, ask_for_held, begin, begin_outs, hand_held, may_begin, moved, request_for, resting, resting_stage, waiting_outs};
-ghost use Rattle.conn_table.specs.Table.{complete, failure, on_activation_ack, on_activation_nack, on_complete, on_failure, on_move, on_assignment_request, assign_immediately, command_to, refuse};
+ghost use Rattle.conn_table.specs.Table.{complete, failure, on_activation_ack, on_activation_nack, on_complete, on_failure, on_move, on_assignment_request, assign_immediately, command_to, refuse, row_of, serving_after};
 ghost use Rattle.hold_queue.specs.HoldState.{messages};
 ghost use Rattle.dtap_codec.specs.declared.sapi.Sapi.TheVariants.{Zero};
 ghost use Rattle.conn_fsm.specs.Doing.{Does, Stays, Steps};
@@ -27,7 +27,7 @@ use conn_messages::station_message::{
 };
 use conn_messages::switch_message::{assignment_failure, change_complete};
 use conn_messages::{Change, Channel, Messages, Outputs, Place};
-use conn_table::{DOWN_LIMIT, DRAIN_LIMIT, ShortMessageLink, Stage, State, Target};
+use conn_table::{DOWN_LIMIT, DRAIN_LIMIT, Input, ShortMessageLink, Stage, State, Target};
 use dtap_codec::{RrCause, Sapi};
 use octets::{Memory, Octets};
 
@@ -416,6 +416,36 @@ impl Machine {
         }
         self.complete(reference, change, target.channel, cause, offer, outputs)?;
         Ok(true)
+    }
+
+    /// The channel that serves once the row that fits the input is done.
+    #[tactic(auto, unfolding(conn_table::specs::Table::row_of), using(conn_table::proofs::Channels::serves_on))]
+    pub(crate) fn serving_after(&self, input: &Input) -> Channel
+        ensures { result ≡ serving_after self.now (row_of self.now input.now None) }
+    {
+        match input {
+            Input::Complete { at, change, .. } => self.serving_after_complete(at, change),
+            _ => self.serving,
+        }
+    }
+
+    // The target where the COMPLETE fits.
+    #[tactic(auto, using(conn_table::proofs::Channels::serves_where))]
+    fn serving_after_complete(&self, at: &Place, change: &Change) -> Channel
+        ensures { (cause : ℕ) → serving_after self.now (on_complete self.now.state self.now at.now change.now cause None) ≡ result }
+    {
+        let state = self.state;
+        let State::Live(_, stage) = state else {
+            return self.serving;
+        };
+        let Stage::Changing(target) = stage else {
+            return self.serving;
+        };
+        if is_at(at, &target.channel) && same_change(change, &target.change) {
+            target.channel
+        } else {
+            self.serving
+        }
     }
 
     fn complete(

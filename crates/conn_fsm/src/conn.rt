@@ -1,9 +1,9 @@
 ghost use Rattle.std.specs.Prelude.{◌≡◌, ◌<◌, ◌^◌, None, IfOk, OnOk, OnErr};
 ghost use Rattle.conn_table.specs.Connection.{new_connection};
 ghost use Rattle.conn_table.specs.Standing.{IsCarried, Stands};
-ghost use Rattle.conn_table.specs.Table.{row_of};
+ghost use Rattle.conn_table.specs.Table.{row_of, serving_after};
 ghost use Rattle.hold_queue.specs.HoldState.{messages};
-ghost use Rattle.conn_fsm.specs.Doing.{Commits, IsPlanned, Stays, Steps};
+ghost use Rattle.conn_fsm.specs.Doing.{Commits, IsAsPlanned, IsPlanned, Stays, Steps, outs_in};
 ghost use Rattle.conn_table.specs.Timers.{after_pass};
 ghost use Rattle.conn_fsm.specs.Views.{joined};
 
@@ -76,14 +76,16 @@ impl Conn {
         requires { IsPlanned input }
         ensures was { IfOk result (λ plan. plan.was ≡ self.now) }
         ensures input { IfOk result (λ plan. plan.input ≡ input) }
+        ensures outs { IfOk result (λ plan. plan.outs ≡ outs_in (row_of self.now input None) self.now.number) }
     {
         self.machine.plan(input)
     }
 
-    /// Does the step that was planned, the connection being as it was, and gives its frames. It takes no memory.
+    /// Does the step that was planned and gives its frames. The connection is as it was then, but time may have passed for
+    /// it. It takes no memory.
     #[tactic(auto, using(crate::proofs::Keeping::commit_stands))]
     pub fn commit(&mut self, plan: Plan) -> Outputs
-        requires { plan.was ≡ self.old }
+        requires { IsAsPlanned plan.was self.old }
         ensures { Commits (row_of self.old plan.input None) self.old self.new result.outs }
     {
         self.machine.commit(plan)
@@ -118,6 +120,14 @@ impl Conn {
         self.machine.serving
     }
 
+    /// The channel that serves once the connection has done the row that fits this input: the target, where a change
+    /// completes.
+    pub fn serving_after(&self, input: &Input) -> Channel
+        ensures { result ≡ serving_after self.now (row_of self.now input.now None) }
+    {
+        self.machine.serving_after(input)
+    }
+
     /// Milliseconds in the state, as far as 64 bits say them.
     pub fn waited(&self) -> u64
         ensures { result ≡ self.now.waited }
@@ -130,6 +140,20 @@ impl Conn {
         ensures { result ≡ self.now.drained }
     {
         self.machine.drained
+    }
+
+    /// What `waited` is once so many milliseconds more have passed.
+    pub fn waited_after(&self, ms: u32) -> u64
+        ensures { result ≡ (after_pass ms self.now).waited }
+    {
+        self.machine.waited_after(ms)
+    }
+
+    /// What `drained` is once so many milliseconds more have passed.
+    pub fn drained_after(&self, ms: u32) -> u64
+        ensures { result ≡ (after_pass ms self.now).drained }
+    {
+        self.machine.drained_after(ms)
     }
 
     /// A copy of the switch's messages of a SAPI that are held, in order.

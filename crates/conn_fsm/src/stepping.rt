@@ -1,7 +1,7 @@
 ghost use Rattle.std.specs.Prelude.{◌≡◌, None, IfOk, OnErr};
 ghost use Rattle.conn_table.specs.Standing.{IsCarried, Stands};
 ghost use Rattle.conn_table.specs.Table.{row_of};
-ghost use Rattle.conn_fsm.specs.Doing.{Closes, Commits, Finishes, IsPlanned, Plans, Stays, Steps};
+ghost use Rattle.conn_fsm.specs.Doing.{Closes, Commits, Finishes, IsAsPlanned, IsPlanned, Plans, Stays, Steps, outs_in};
 ghost use Rattle.conn_table.specs.Timers.{after_pass};
 
 use crate::Plan;
@@ -112,6 +112,7 @@ impl Machine {
         requires { IsPlanned input }
         ensures was { IfOk result (λ plan. plan.was ≡ self.now) }
         ensures input { IfOk result (λ plan. plan.input ≡ input) }
+        ensures outs { IfOk result (λ plan. plan.outs ≡ outs_in (row_of self.now input None) self.now.number) }
     {
         let Ending { outputs, last } = self.ending(&input)?;
         Ok(Plan {
@@ -123,9 +124,9 @@ impl Machine {
     }
 
     /// Does the step that was planned, and gives its frames.
-    #[tactic(auto, using(crate::proofs::Keeping::committed))]
+    #[tactic(auto, using(crate::proofs::Later::commits_later))]
     pub(crate) fn commit(&mut self, plan: Plan) -> Outputs
-        requires { plan.was ≡ self.old }
+        requires { IsAsPlanned plan.was self.old }
         ensures { Commits (row_of self.old plan.input None) self.old self.new result.outs }
     {
         let Plan { outputs, last, .. } = plan;
@@ -137,9 +138,25 @@ impl Machine {
     pub(crate) fn pass(&mut self, ms: u32)
         ensures { self.new ≡ after_pass ms self.old }
     {
-        self.waited = self.waited.saturating_add(u64::from(ms));
-        if !self.draining.is_empty() {
-            self.drained = self.drained.saturating_add(u64::from(ms));
+        self.waited = self.waited_after(ms);
+        self.drained = self.drained_after(ms);
+    }
+
+    /// What `waited` is once so many milliseconds more have passed.
+    pub(crate) fn waited_after(&self, ms: u32) -> u64
+        ensures { result ≡ (after_pass ms self.now).waited }
+    {
+        self.waited.saturating_add(u64::from(ms))
+    }
+
+    /// What `drained` is once so many milliseconds more have passed.
+    pub(crate) fn drained_after(&self, ms: u32) -> u64
+        ensures { result ≡ (after_pass ms self.now).drained }
+    {
+        if self.draining.is_empty() {
+            self.drained
+        } else {
+            self.drained.saturating_add(u64::from(ms))
         }
     }
 }

@@ -1,3 +1,5 @@
+mod ChannelRows
+pub mod Channels
 pub mod Closing
 pub mod Downlink
 pub mod DownlinkMessages

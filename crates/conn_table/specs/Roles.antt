@@ -1,6 +1,7 @@
 -- The roles of channels in a connection, and what rows do to them: the serving channel, the target of a change, old channels.
 use Rattle.std.specs.Prelude.{◌≡◌, ◌⊎◌, ℕ, Bool, true, false, not, ◌&&◌, if◌then◌else◌, List, [], ◌∷◌, ◌++◌, filter, Option, Some, None, Contains}
 use Rattle.std.specs.List.{AllByRecursion}
+use Rattle.std.specs.Option.{option_to_list}
 use Rattle.conn_messages.specs.declared.channel.Change.{Change}
 use Rattle.conn_messages.specs.declared.channel.Change.TheVariants.{Assignment, Handover}
 use Rattle.conn_messages.specs.declared.channel.Channel.{Channel}
@@ -17,7 +18,7 @@ use Rattle.conn_table.specs.declared.state.State.TheVariants.{Live, Closed, Remo
 use Rattle.conn_table.specs.declared.state.Target.{Target}
 use Rattle.conn_table.specs.Connection.{Connection, is_at, drain_at}
 use Rattle.conn_table.specs.Steps.{Row, done_at, goes_to}
-use Rattle.conn_table.specs.Streams.{IsOpen, undone, IsApart, AreApart, used_channels}
+use Rattle.conn_table.specs.Streams.{IsOpen, undone, IsApart, AreApart, target_in, used_channels}
 use Rattle.conn_table.specs.Table.{same_change}
 use Rattle.hold_queue.specs.HoldState.{HoldState}
 use Rattle.rsl_codec.specs.declared.rsl.Rsl.TheVariants.{ChannelActivation, DataRequest, RfChannelRelease}
@@ -276,3 +277,11 @@ IsNew None channels = Unit {0}
 
 abbrev pub StaysApart : Row → Type 0
 StaysApart r = IsOpen r.next.state → AreApart (used_channels r.next)
+
+-- ---- which channels a row knows
+
+-- The number stays; the channel that serves next is the serving one or the target, and the next target is the target or the offer.
+pub record KeepsChannels (s : Connection) (offer : Option Channel) (r : Row) : Type 0 where
+  pub number : r.next.number ≡ s.number
+  pub serving : Contains (s.serving ∷ target_in s.state) r.next.serving
+  pub target : AllByRecursion (Contains (target_in s.state ++ option_to_list offer)) (target_in r.next.state)

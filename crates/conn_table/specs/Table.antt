@@ -300,3 +300,8 @@ row_of s inputs.Expiry offer = on_expiry s.state s
 row_of s inputs.DrainExpiry offer = on_drain_expiry s.state s
 row_of s (inputs.StationDown station) offer = on_station_down s.state s station
 row_of s inputs.SwitchDown offer = on_switch_down s.state s
+
+-- the channel that serves once the row that fits is done
+abbrev pub serving_after : Connection → Option Row → Channel
+serving_after s None = s.serving
+serving_after s (Some r) = r.next.serving

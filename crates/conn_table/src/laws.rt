@@ -4,7 +4,7 @@ ghost use Rattle.rsl_codec.specs.declared.values.RequestReference.{RequestRefere
 ghost use Rattle.dtap_codec.specs.declared.sapi.Sapi.{Sapi};
 ghost use Rattle.conn_table.specs.declared.input.Input.{Input};
 ghost use Rattle.conn_table.specs.Connection.{Connection, new_connection};
-ghost use Rattle.conn_table.specs.Roles.{ChangesRolesBy, IsNew, KeepsAccount, StaysApart};
+ghost use Rattle.conn_table.specs.Roles.{ChangesRolesBy, IsNew, KeepsAccount, KeepsChannels, StaysApart};
 ghost use Rattle.conn_table.specs.Standing.{IsCarried, Stands};
 ghost use Rattle.conn_table.specs.Streams.{AreApart, IsFinal, IsSilent, KeepsDownlink, OfRow, used_channels};
 ghost use Rattle.conn_table.specs.Table.{row_of};
@@ -44,4 +44,10 @@ pub fn roles_change()
     ensures steps { (s : Connection) (input : Input) (offer : Option Channel) → Stands s → ChangesRolesBy s input offer (row_of s input offer) }
     ensures account { (s : Connection) (input : Input) (offer : Option Channel) → Stands s → OfRow (KeepsAccount s input offer) (row_of s input offer) }
     ensures apart { (s : Connection) (input : Input) (offer : Option Channel) → Stands s → AreApart (used_channels s) → IsNew offer (used_channels s) → OfRow StaysApart (row_of s input offer) }
+{}
+
+/// A row keeps its connection's number, and knows no other channels than the serving one, the target and the offer: the first
+/// two may serve after it, and the last two may be its target. It does nothing.
+pub fn channels_are_kept()
+    ensures { (s : Connection) (input : Input) (offer : Option Channel) → OfRow (KeepsChannels s offer) (row_of s input offer) }
 {}

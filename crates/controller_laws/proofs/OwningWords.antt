@@ -33,7 +33,8 @@ use Rattle.controller_table.specs.declared.channel_state.ChannelState.{ChannelSt
 use Rattle.controller_table.specs.declared.channel_state.ChannelState.TheVariants.{Free, InUse, Releasing}
 use Rattle.controller_table.specs.declared.word.Word.{Word}
 use Rattle.controller_table.specs.declared.word.Word.TheVariants.{Nothing, Ping, Asks, OnChannel, Reports, OnConnection}
-use Rattle.controller_table.specs.Channels.{access_channel, assignment_offer, handover_offer, request_offer, serving_after, kind_of}
+use Rattle.conn_table.specs.Table.{serving_after}
+use Rattle.controller_table.specs.Channels.{access_channel, assignment_offer, handover_offer, request_offer, kind_of}
 use Rattle.controller_table.specs.Controller.{Controller, Entry, Turn, turn, ignoring, entry_of, with_entry, channel_state, freed, holder, place_of, with_state}
 use Rattle.controller_table.specs.Life.{by_fitting, concerning, concerning_too, entry_at, fits, frees, given, may_open, measured, measures, new_entry, on_decision, on_freed, on_report, on_state, on_word, row_in, with_connection, with_report, is_measured}
 use Rattle.controller_table.specs.Reports.{decision_over}
@@ -278,7 +279,7 @@ given_holds : (c : Controller) (source : ℕ) (request : RequestReference) (dela
 given_holds c source request delay None is numbered holds = ignoring_holds c.links c holds
 given_holds c source request delay (Some channel) is numbered holds =
     let m : ℕ = c.next_number in
-    let e : Entry = new_entry c channel request delay in
+    let e : Entry = new_entry c.settings c.next_number channel request delay in
     let offered = offered_free c c.links source 0 Sdcch channel refl holds.shaped is in
     let after : List (List ChannelState) = with_state (place_of channel) (InUse m) c.channels in
     record {

@@ -254,7 +254,7 @@ freed_numbered false at input c o numbered = concerning_numbered input c o numbe
 given_numbered : (c : Controller) (request : RequestReference) (delay : ℕ) (o : Option Channel) → IsNumbered c → IsNumbered (given c request delay o).next
 given_numbered c request delay None numbered = same_numbers c (ignoring c).next refl refl numbered
 given_numbered c request delay (Some channel) numbered =
-    let e : Entry = new_entry c channel request delay in
+    let e : Entry = new_entry c.settings c.next_number channel request delay in
     record {
       rising = rising_push c.entries e numbered.rising numbered.below;
       below = all_push (IsBelow (c.next_number + 1)) c.entries e (all_weaker (IsBelow c.next_number) (IsBelow (c.next_number + 1)) c.entries (λ x less. omega arith) numbered.below) (omega arith);

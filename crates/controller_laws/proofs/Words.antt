@@ -122,7 +122,7 @@ channel_does number next up at c input (Releasing m) rising = freed_does number 
 given_does : (number : ℕ) (c : Controller) (request : RequestReference) (delay : ℕ) (o : Option Channel) → IsNumbered c → is_up c SWITCH_LINK ≡ true → Does number c.next_number (is_up c SWITCH_LINK) nothing (connection_of c number) (given c request delay o)
 given_does number c request delay None numbered up = does_nothing number c.next_number (is_up c SWITCH_LINK) nothing (connection_of c number) (ignoring c) refl refl tt
 given_does number c request delay (Some channel) numbered up =
-    let e : Entry = new_entry c channel request delay in
+    let e : Entry = new_entry c.settings c.next_number channel request delay in
     let t : Turn = with_connection c channel request delay in
     let none : entry_of c c.next_number ≡ None = find_below c.next_number c.entries numbered.below in
     decide_same number c.next_number (Does number c.next_number (is_up c SWITCH_LINK) nothing (connection_of c number) t)

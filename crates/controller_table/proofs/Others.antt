@@ -89,6 +89,14 @@ unfolding IsOf
 concerning_too_leaves m input c number None is other = refl
 concerning_too_leaves m input c number (Some e) is other = fitting_leaves m (turn [] c) e (row_in c e.connection input) c refl (keeps_number e.connection input _) (λ same. other (same ∙ is))
 
+-- the entry that is found has that number, and a step of it leaves the others
+pub found_number : (number : ℕ) (entries : List Entry) (e : Entry) → find (has_number number) entries ≡ Some e → e.connection.number ≡ number
+unfolding IsOf
+found_number number entries e found = subst (λ o. IsOf number o) found (found_is_of number entries)
+
+pub found_leaves : (m number : ℕ) (input : Input) (c : Controller) → m ≢ number → Leaves m c (concerning_too input c (entry_of c number)).next
+found_leaves m number input c other = concerning_too_leaves m input c number (entry_of c number) (found_is_of number c.entries) other
+
 -- ---- frames
 
 freed_leaves : (m : ℕ) (b : Bool) (at : Place) (input : Input) (c : Controller) (n : ℕ) (o : Option Entry) → IsOf n o → m ≢ n → Leaves m c (on_freed b at input c o).next
@@ -112,7 +120,7 @@ channel_leaves m at input c (Releasing n) other =
 
 given_leaves : (m : ℕ) (c : Controller) (request : RequestReference) (delay : ℕ) (o : Option Channel) → m ≢ c.next_number → Leaves m c (given c request delay o).next
 given_leaves m c request delay None other = refl
-given_leaves m c request delay (Some channel) other = behind_over m (new_entry c channel request delay) c.entries other
+given_leaves m c request delay (Some channel) other = behind_over m (new_entry c.settings c.next_number channel request delay) c.entries other
 
 asked_leaves : (m : ℕ) (b : Bool) (c : Controller) (t : Turn) → Leaves m c t.next → Leaves m c (if b then t else ignoring c).next
 asked_leaves m true c t h = h

@@ -4,8 +4,7 @@ use Rattle.std.specs.Option.{option_and_then}
 use Rattle.conn_messages.specs.declared.channel.Channel.{Channel}
 use Rattle.conn_table.specs.declared.input.Input.{Input}
 use Rattle.conn_table.specs.Connection.{Connection}
-use Rattle.conn_table.specs.Steps.{Row}
-use Rattle.conn_table.specs.Table.{row_of}
+use Rattle.conn_table.specs.Table.{row_of, serving_after}
 use Rattle.controller_table.specs.declared.channel_kind.ChannelKind.{ChannelKind}
 use Rattle.controller_table.specs.declared.channel_kind.ChannelKind.TheVariants.{Sdcch, Tch}
 use Rattle.controller_table.specs.declared.channel_state.ChannelState.{ChannelState}
@@ -89,11 +88,6 @@ assignment_offer c serving = first_free c serving.station 0 Tch
 -- a channel of the same kind in another cell
 abbrev pub handover_offer : Controller → Channel → ℕ → Option Channel
 handover_offer c serving station = first_free c station c.handovers (kind_of serving.number)
-
--- what serves after an input
-abbrev pub serving_after : Connection → Option Row → Channel
-serving_after s None = s.serving
-serving_after s (Some r) = r.next.serving
 
 -- a request for an assignment that begins with this input, or waited and begins after it
 abbrev pub request_offer : Controller → Connection → Input → Option Channel

@@ -3,8 +3,10 @@ use Rattle.std.specs.Prelude.{ℕ, ◌+◌, ◌==◌, min, Bool, true, false, if
 use Rattle.conn_messages.specs.declared.channel.Channel.{Channel}
 use Rattle.conn_messages.specs.declared.channel.Place.{Place}
 use Rattle.conn_messages.specs.declared.message.Message.{Message}
-use Rattle.conn_messages.specs.declared.message.Message.TheVariants.{Station}
 use Rattle.conn_messages.specs.declared.out.Out.{Out}
+use Rattle.conn_messages.specs.declared.uses.ChannelUse.{ChannelUse}
+use Rattle.conn_messages.specs.declared.uses.ChannelUse.TheVariants.{Activated, Released, Unchanged}
+use Rattle.conn_messages.specs.ChannelUse.{use_by}
 use Rattle.conn_table.specs.declared.state.State.{State}
 use Rattle.conn_table.specs.declared.state.State.TheVariants.{Removed}
 use Rattle.conn_table.specs.Connection.{Connection}
@@ -12,7 +14,6 @@ use Rattle.controller_table.specs.declared.channel_state.ChannelState.{ChannelSt
 use Rattle.controller_table.specs.declared.channel_state.ChannelState.TheVariants.{Free, InUse, Releasing}
 use Rattle.controller_table.specs.declared.limits.TheConstants.{CHANNEL_NUMBERS, MAX_IGNORED}
 use Rattle.ho_decision.specs.State.{State as Averages}
-use Rattle.rsl_codec.specs.declared.rsl.Rsl.TheVariants.{ChannelActivation, RfChannelRelease}
 use Rattle.settings.specs.Parameters.{Parameters}
 
 -- a connection, and the averages of its serving channel
@@ -130,8 +131,11 @@ freed at c = record c { channels = with_state at Free c.channels }
 abbrev pub freed_station : ℕ → Controller → Controller
 freed_station station c = record c { channels = set c.channels station free_channels }
 
--- CHANNEL ACTIVATION takes a channel into use; RF CHANNEL RELEASE has it releasing
+-- what was activated is in use; what RF CHANNEL RELEASE was put for is releasing
+abbrev pub after_use : ℕ → List (List ChannelState) → ChannelUse → List (List ChannelState)
+after_use number channels (Activated at why) = with_state at (InUse number) channels
+after_use number channels (Released at) = with_state at (Releasing number) channels
+after_use number channels Unchanged = channels
+
 abbrev pub channels_after : ℕ → List (List ChannelState) → Message → List (List ChannelState)
-channels_after number channels (Station station (ChannelActivation a)) = with_state (place_at station a.channel) (InUse number) channels
-channels_after number channels (Station station (RfChannelRelease channel)) = with_state (place_at station channel) (Releasing number) channels
-channels_after number channels _ = channels
+channels_after number channels message = after_use number channels (use_by message)

@@ -6,9 +6,11 @@ use Rattle.conn_messages.specs.declared.channel.Change.TheVariants.{Assignment, 
 use Rattle.conn_messages.specs.declared.channel.Channel.{Channel}
 use Rattle.conn_messages.specs.declared.channel.Place.{Place}
 use Rattle.conn_messages.specs.declared.message.Message.{Message}
-use Rattle.conn_messages.specs.declared.message.Message.TheVariants.{Station}
 use Rattle.conn_messages.specs.declared.out.Out.{Out}
 use Rattle.conn_messages.specs.declared.parameters.TheConstants.{SWITCH_LINK}
+use Rattle.conn_messages.specs.declared.uses.ChannelUse.{ChannelUse}
+use Rattle.conn_messages.specs.declared.uses.ChannelUse.TheVariants.{Activated}
+use Rattle.conn_messages.specs.ChannelUse.{use_by}
 use Rattle.conn_messages.specs.Out.{out_of, outs_of}
 use Rattle.conn_messages.specs.StationMessage.{access_activation}
 use Rattle.conn_table.specs.declared.input.Input.{Input}
@@ -39,7 +41,7 @@ use Rattle.ho_decision.specs.declared.decision.Decision.{Decision}
 use Rattle.ho_decision.specs.declared.decision.Decision.TheVariants.{Stay, Move}
 use Rattle.ho_decision.specs.State.{State as Averages, new_state, after_report}
 use Rattle.ipa_framing.specs.declared.streams.TheConstants.{CCM_STREAM, PONG}
-use Rattle.rsl_codec.specs.declared.rsl.Rsl.TheVariants.{ChannelActivation}
+use Rattle.rsl_codec.specs.declared.values.TheConstants.{ASYNCHRONOUS_HANDOVER}
 use Rattle.rsl_codec.specs.declared.values.RequestReference.{RequestReference}
 use Rattle.settings.specs.declared.timers.Timers.{Timers}
 use Rattle.settings.specs.Parameters.{Parameters, handover_settings_of}
@@ -56,13 +58,12 @@ averages_after p before after averages = if is_at (place_of before) after then a
 abbrev pub entry_after : Parameters → Entry → Row → Entry
 entry_after p e r = record { connection = r.next; averages = averages_after p e.connection.serving r.next.serving e.averages }
 
--- a channel is activated with a handover reference
-abbrev pub is_handover : Message → Bool
-is_handover (Station station (ChannelActivation a)) = is_some a.reference
-is_handover _ = false
+abbrev pub begins_handover : ChannelUse → Bool
+begins_handover (Activated at why) = why.0 == ASYNCHRONOUS_HANDOVER.0
+begins_handover _ = false
 
 abbrev pub handovers_after : ℕ → List Message → ℕ
-handovers_after handovers messages = (handovers + count_by is_handover messages) % 256
+handovers_after handovers messages = (handovers + count_by (λ m. begins_handover (use_by m)) messages) % 256
 
 -- what it puts goes out; the connection, its channels and the handovers begun are as after it
 abbrev pub by_row : Entry → Row → Controller → Turn
@@ -91,15 +92,15 @@ concerning_too input c (Some e) = by_fitting (turn [] c) e (row_in c e.connectio
 
 -- ---- a channel is asked for
 
-abbrev pub new_entry : Controller → Channel → RequestReference → ℕ → Entry
-new_entry c channel request delay =
-    record { connection = new_connection c.next_number channel request delay; averages = new_averages c.settings channel }
+abbrev pub new_entry : Parameters → ℕ → Channel → RequestReference → ℕ → Entry
+new_entry p number channel request delay =
+    record { connection = new_connection number channel request delay; averages = new_averages p channel }
 
 -- the next connection, with a channel that is activated
 abbrev pub with_connection : Controller → Channel → RequestReference → ℕ → Turn
 with_connection c channel request delay = turn (out_of c.next_number (access_activation channel) ∷ []) (record c {
   channels = channels_after c.next_number c.channels (access_activation channel);
-  entries = c.entries ++ new_entry c channel request delay ∷ [];
+  entries = c.entries ++ new_entry c.settings c.next_number channel request delay ∷ [];
   next_number = c.next_number + 1;
 })
 
