@@ -6,3 +6,4 @@ mod Rows
 pub mod Ten
 pub mod Unique
 pub mod Window
+mod Copies

@@ -67,6 +67,19 @@ impl Averages {
         self.sums.restart(settings);
     }
 
+    /// A copy of them. The settings are those that they were made for.
+    pub fn copied(&self, alloc: Global, settings: &HoSettings) -> Result<Averages, Memory>
+        requires { settings.now ≡ self.now.settings }
+        ensures { IfOk result (λ averages. averages ≡ self.now) }
+    {
+        Ok(Averages {
+            settings: Snapshot::of(settings),
+            reports: copied_reports(alloc, &self.reports)?,
+            number: self.number,
+            sums: self.sums.copied(alloc)?,
+        })
+    }
+
     /// Adds a report with its number, which takes no memory. An invalid report changes nothing.
     pub fn add(&mut self, report: &Report, number: u8)
         ensures { self.new ≡ after_report self.old report.now number }
@@ -143,4 +156,19 @@ impl Averages {
     {
         self.sums.levels[place].average(&self.reports)
     }
+}
+
+// A copy of the reports, in a ring of the same capacity.
+#[tactic(auto, using(crate::proofs::Copies::keeps_both))]
+fn copied_reports(
+    alloc: Global,
+    reports: &HeapCircularBuffer<Report>,
+) -> Result<HeapCircularBuffer<Report>, Memory>
+    ensures { IfOk result (λ copy. copy ≡ reports.now) }
+{
+    let mut copy = HeapCircularBuffer::with_capacity(alloc, reports.capacity())?;
+    let (first, rest) = reports.as_slices();
+    copy.extend_from_slice(first);
+    copy.extend_from_slice(rest);
+    Ok(copy)
 }

@@ -1,6 +1,7 @@
-ghost use Rattle.std.specs.Prelude.{◌≡◌, [], ◌∷◌, ◌++◌, length, map, IfOk};
+ghost use Rattle.std.specs.Prelude.{◌≡◌, [], ◌∷◌, ◌++◌, length, map, IfOk, List};
+ghost use Rattle.dtap_codec.specs.declared.report.Report.{Report};
 ghost use Rattle.std.specs.List.{All};
-ghost use Rattle.ho_decision.specs.Settings.{IsAllowed};
+ghost use Rattle.ho_decision.specs.Settings.{IsAllowed, Settings};
 ghost use Rattle.ho_decision.specs.Sums.{AreOf, AreOfSame, AreSums, IsSum, level_in_window};
 
 use crate::decision::QUALITY_WINDOW;
@@ -37,6 +38,19 @@ impl Sums {
             serving_quality: serving_quality(settings),
             bad_quality: bad_quality(),
             levels: levels(alloc, settings)?,
+        })
+    }
+
+    /// A copy of them.
+    pub fn copied(&self, alloc: Global) -> Result<Sums, Memory>
+        ensures of { (settings : Settings) → AreOf settings self.now → IfOk result (λ sums. AreOf settings sums) }
+        ensures sums { (reports : List Report) → AreSums reports self.now → IfOk result (λ sums. AreSums reports sums) }
+    {
+        Ok(Sums {
+            serving_level: self.serving_level,
+            serving_quality: self.serving_quality,
+            bad_quality: self.bad_quality,
+            levels: self.levels.to_vec(alloc)?,
         })
     }
 
