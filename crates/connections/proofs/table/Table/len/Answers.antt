@@ -1,0 +1,10 @@
+use Rattle.std.proofs.Common.{List, length, sym, ap, ◌∙◌}
+use Rattle.controller_table.specs.Controller.{Entry}
+use Rattle.connections.proofs.Indexed.{length-listed}
+use Rattle.connections.proofs.table.Table.len.Goals as goal
+
+pub returns : goal.returns
+returns c =
+    c.len.ensures.len
+    ∙ sym (length-listed c.self.inside.slots.slots c.self.inside.index.entries c.self.invariant)
+    ∙ ap (λ (es : List Entry). length es) c.self.view_is

@@ -1,0 +1,42 @@
+-- Entries in slots, and an index of them: their numbers, each with the key of its slot, in order. No public clause cites it.
+use Rattle.std.specs.Prelude.{◌≡◌, ◌≢◌, ℕ, ◌==◌, ◌||◌, Bool, true, false, List, [], ◌∷◌, ◌++◌, slice_index_or, Option, Some, None}
+use Rattle.std.specs.Option.{option_to_list}
+use Rattle.std.specs.Map.{remove_entry}
+use Rattle.controller_table.specs.Controller.{Entry}
+use Rattle.connections.specs.Entries.{is_removed}
+
+-- what has a key
+abbrev pub at : List (Option Entry) → ℕ → Option Entry
+at slots key = slice_index_or slots key None
+
+-- the entries, in the order of the index
+abbrev pub listed : List (Option Entry) → List (ℕ × ℕ) → List Entry
+listed slots [] = []
+listed slots (p ∷ ps) = option_to_list (at slots p.1) ++ listed slots ps
+
+-- of this number, and not removed
+abbrev pub HasNumber : ℕ → Option Entry → Type 0
+HasNumber number None = ⊥
+HasNumber number (Some e) = (e.connection.number ≡ number) × (is_removed e.connection.state ≡ false)
+
+abbrev pub is_key : ℕ → List (ℕ × ℕ) → Bool
+is_key key [] = false
+is_key key (p ∷ ps) = (p.1 == key) || is_key key ps
+
+-- every other key has what it had
+abbrev pub SameBut : ℕ → List (Option Entry) → List (Option Entry) → Type 0
+SameBut key old new = (k : ℕ) → k ≢ key → at new k ≡ at old k
+
+abbrev pub is_gone : Option Entry → Bool
+is_gone None = false
+is_gone (Some e) = is_removed e.connection.state
+
+-- an entry that is removed leaves its slot, and its number the index
+abbrev pub Settles : Bool → ℕ → ℕ → List (Option Entry) → List (Option Entry) → List (ℕ × ℕ) → List (ℕ × ℕ) → Type 0
+Settles true number key old new ps ps_after = SameBut key old new × (ps_after ≡ remove_entry (λ k. number == k) ps)
+Settles false number key old new ps ps_after = (new ≡ old) × (ps_after ≡ ps)
+
+-- each number stands beside the key of its entry, and no key stands twice
+abbrev pub IsIndex : List (Option Entry) → List (ℕ × ℕ) → Type 0
+IsIndex slots [] = Unit {0}
+IsIndex slots (p ∷ ps) = HasNumber p.0 (at slots p.1) × (is_key p.1 ps ≡ false) × IsIndex slots ps

@@ -1,0 +1,140 @@
+ghost use Rattle.std.specs.Prelude.{◌≡◌, ◌∷◌, [], ◌++◌, IfOk, OnOk, OnErr, None, false, find, length, map, slice_get};
+ghost use Rattle.std.specs.Option.{ForSome, option_copied};
+ghost use Rattle.conn_table.specs.Standing.{IsCarried};
+ghost use Rattle.controller_table.specs.Controller.{has_number};
+ghost use Rattle.controller_table.specs.Life.{aged};
+ghost use Rattle.connections.specs.Entries.{IsKept, IsOffer, is_removed};
+ghost use Rattle.connections.specs.Steps.{CommitsFor, IsLeft, IsPlanFor, StepsFor, all_with_report};
+
+use crate::Entry;
+use crate::cells::Cells;
+use crate::slots::{add_at, commit_at, key_of, pass_at, settle, step_at};
+use conn_fsm::{Channel, Input, Outputs, Plan};
+use dtap_codec::Report;
+use indexmap::IndexMap;
+use octets::Memory;
+use slab::Slab;
+use std::alloc::Global;
+use std::marker::Model;
+
+/// Entries in a slab, in the order in which they came, each found by its number. The index has their numbers in that order,
+/// each with the key of its slot.
+#[derive(Drop)]
+pub(crate) struct Table {
+    slots: Slab<Entry>,
+    index: IndexMap<u32, usize>,
+}
+
+impl Model for Table {
+    ghost use Rattle.std.specs.Prelude.{List};
+    ghost use Rattle.controller_table.specs.Controller.{Entry as EntryState};
+    ghost use Rattle.connections.specs.Index.{listed, IsIndex};
+
+    ghost Value = { List EntryState };
+
+    ghost view = { λ t. listed t.slots.slots t.index.entries };
+
+    ghost invariant = { λ t. IsIndex t.slots.slots t.index.entries };
+}
+
+impl Table {
+    pub(crate) fn new(alloc: Global) -> Table
+        ensures { result ≡ [] }
+    {
+        Table {
+            slots: Slab::new(alloc),
+            index: IndexMap::new(alloc),
+        }
+    }
+
+    pub(crate) fn push(&mut self, entry: Entry) -> Result<(), Memory>
+        requires fresh { find (has_number entry.connection.number) self.old ≡ None }
+        requires stays { is_removed entry.connection.state ≡ false }
+        ensures ok { OnOk result (self.new ≡ self.old ++ entry ∷ []) }
+        ensures err { OnErr result (self.new ≡ self.old) }
+    {
+        self.slots.reserve(1)?;
+        self.index.reserve(1)?;
+        let number = entry.connection().number();
+        let key = self.slots.insert_reserved(entry);
+        match self.index.insert(number, key) {
+            Ok(_) => Ok(()),
+            Err(_) => unreachable!(),
+        }
+    }
+
+    pub(crate) fn len(&self) -> usize
+        ensures { result ≡ length self.now }
+    {
+        self.index.len()
+    }
+
+    pub(crate) fn get(&self, number: u32) -> Option<&Entry>
+        ensures { option_copied result ≡ find (has_number number) self.now }
+    {
+        match key_of(&self.index, number) {
+            Some(key) => self.slots.get(key),
+            None => None,
+        }
+    }
+
+    pub(crate) fn at(&self, place: usize) -> Option<&Entry>
+        ensures { option_copied result ≡ slice_get self.now place }
+    {
+        match self.index.get_index(place) {
+            Some((_, key)) => self.slots.get(*key),
+            None => None,
+        }
+    }
+
+    pub(crate) fn step(
+        &mut self,
+        number: u32,
+        input: Input,
+        offer: Option<Channel>,
+        cells: &Cells,
+        outputs: &mut Outputs,
+    ) -> Result<bool, Memory>
+        requires carried { IsCarried input }
+        requires kept { ForSome (find (has_number number) self.old) (IsKept cells.now) }
+        requires offer { IsOffer cells.now offer }
+        ensures done { IfOk result (λ fits. StepsFor cells.now (find (has_number number) self.old) input offer fits self.old self.new outputs.old.outs outputs.new.outs) }
+        ensures err { OnErr result (IsLeft self.old self.new outputs.old.outs outputs.new.outs) }
+    {
+        let Some(key) = key_of(&self.index, number) else {
+            return Ok(false);
+        };
+        let fits = step_at(&mut self.slots, key, input, offer, cells, outputs)?;
+        settle(&mut self.slots, &mut self.index, number, key);
+        Ok(fits)
+    }
+
+    pub(crate) fn commit(&mut self, number: u32, plan: Plan, cells: &Cells) -> Outputs
+        requires plan { IsPlanFor plan (find (has_number number) self.old) }
+        requires kept { ForSome (find (has_number number) self.old) (IsKept cells.now) }
+        ensures { CommitsFor cells.now (find (has_number number) self.old) plan.input self.old self.new result.outs }
+    {
+        let Some(key) = key_of(&self.index, number) else {
+            unreachable!()
+        };
+        let outputs = commit_at(&mut self.slots, key, plan, cells);
+        settle(&mut self.slots, &mut self.index, number, key);
+        outputs
+    }
+
+    pub(crate) fn age(&mut self, ms: u32)
+        ensures { self.new ≡ map (aged ms) self.old }
+    {
+        for key in 0..self.slots.capacity() {
+            pass_at(&mut self.slots, key, ms);
+        }
+    }
+
+    pub(crate) fn add(&mut self, number: u32, report: &Report, report_number: u8)
+        ensures { self.new ≡ all_with_report report_number report.now (find (has_number number) self.old) self.old }
+    {
+        if let Some(key) = key_of(&self.index, number) {
+            add_at(&mut self.slots, key, report, report_number);
+        }
+    }
+}

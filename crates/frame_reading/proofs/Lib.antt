@@ -1,0 +1,4 @@
+pub mod Passed
+mod Rows
+pub mod Valid
+pub mod Words
