@@ -1,0 +1,37 @@
+-- Channels that are given or offered are those of cells.
+use Rattle.std.proofs.Common.{◌≡◌, ℕ, ◌-◌, ◌≤◌, ◌<◌, List, length, slice_get, Option, Some, None, option_map, refl, rules}
+use Rattle.std.specs.Option.{option_and_then}
+use Rattle.std.proofs.lemmas.Option.{slice_get_within}
+use Rattle.conn_table.specs.declared.input.Input.{Input}
+use Rattle.conn_table.specs.Steps.{Row}
+use Rattle.conn_table.specs.Table.{row_of, serving_after}
+use Rattle.connections.specs.Entries.{IsKept, IsOfCell, IsOffer, IsStation}
+use Rattle.connections.specs.Steps.{after_row}
+use Rattle.connections.proofs.Kept.{kept_after}
+use Rattle.controller_table.specs.declared.channel_kind.ChannelKind.{ChannelKind}
+use Rattle.controller_table.specs.declared.channel_state.ChannelState.{ChannelState}
+use Rattle.controller_table.specs.Channels.{channel_in, channel_of_kind, free_channel, free_in}
+use Rattle.controller_table.specs.Controller.{Entry}
+use Rattle.settings.specs.Parameters.{Parameters, CellParameters}
+
+given_in : (p : Parameters) (station reference : ℕ) (cell : CellParameters) (number : Option ℕ) → IsStation p station → IsOffer p (option_map (channel_in p station reference cell) number)
+given_in p station reference cell None is = tt
+given_in p station reference cell (Some number) is = (is, tt)
+
+in_cell : (p : Parameters) (channels : List (List ChannelState)) (station reference : ℕ) (kind : ChannelKind) (cell : Option CellParameters)
+    → slice_get p.cells (station - 1) ≡ cell → 1 ≤ station → IsOffer p (option_and_then (channel_of_kind p channels station reference kind) cell)
+in_cell p channels station reference kind None is one = tt
+in_cell p channels station reference kind (Some cell) is one =
+    given_in p station reference cell (free_in channels station kind cell) (one, reaches station (length p.cells) one (slice_get_within p.cells (station - 1) cell is)) where
+      reaches : (n count : ℕ) → 1 ≤ n → n - 1 < count → n ≤ count
+      reaches n count one within = search rules
+
+pub free_is_offer : (p : Parameters) (channels : List (List ChannelState)) (station reference : ℕ) (kind : ChannelKind) → 1 ≤ station → IsOffer p (free_channel p channels station reference kind)
+free_is_offer p channels station reference kind one = in_cell p channels station reference kind (slice_get p.cells (station - 1)) refl one
+
+serves_in : (p : Parameters) (e : Entry) (r : Option Row) → IsKept p (after_row p e r) → IsOfCell p (serving_after e.connection r)
+serves_in p e None kept = kept.serving
+serves_in p e (Some r) kept = kept.serving
+
+pub serves_a_cell : (p : Parameters) (e : Entry) (input : Input) → IsKept p e → IsOfCell p (serving_after e.connection (row_of e.connection input None))
+serves_a_cell p e input kept = serves_in p e (row_of e.connection input None) (kept_after p e input None kept tt)

@@ -1,0 +1,14 @@
+pub mod Carrying
+mod Cells
+mod Concerning
+pub mod Dues
+mod Freeing
+mod Held
+mod Inputs
+mod Lives
+mod Measuring
+mod Moves
+pub mod One
+pub mod Planning
+mod Reporting
+mod Stepping

@@ -1,0 +1,23 @@
+-- A life, step by step: what is left of the steps makes the rest of it.
+use Rattle.std.proofs.Common.{◌≡◌, List, ◌∷◌, ◌++◌, ap, ◌∙◌}
+use Rattle.std.proofs.lemmas.List.{append_assoc}
+use Rattle.conn_messages.specs.declared.out.Out.{Out}
+use Rattle.controller_table.specs.declared.step.Step.{Step}
+use Rattle.controller_table.specs.Controller.{Controller, Turn, each}
+use Rattle.controller_table.specs.Life as words
+use Rattle.controller.specs.Doing.{Turns}
+
+-- the steps that are left end as all do
+pub record Ends (whole : Turn) (c : Controller) (done : List Out) (left : List Step) : Type 0 where
+  pub next : (each words.step c left).next ≡ whole.next
+  pub outs : done ++ (each words.step c left).outs ≡ whole.outs
+
+pub ends_after : (whole : Turn) (c after : Controller) (outs outs_after : List Out) (s : Step) (left : List Step) → Turns (words.step c s) c after outs outs_after → Ends whole c outs (s ∷ left) → Ends whole after outs_after left
+ends_after whole c after outs outs_after s left turns ends = record {
+  next = ap (λ v. (each words.step v left).next) turns.0 ∙ ends.next;
+  outs =
+      ap (λ v. outs_after ++ (each words.step v left).outs) turns.0
+      ∙ ap (λ os. os ++ (each words.step (words.step c s).next left).outs) turns.1
+      ∙ append_assoc outs (words.step c s).outs (each words.step (words.step c s).next left).outs
+      ∙ ends.outs;
+}

@@ -1,0 +1,58 @@
+-- A move goes to a cell with a number, and the same channel serves.
+use Rattle.std.proofs.Common.{◌≡◌, ◌≢◌, ℕ, Bool, true, false, List, [], ◌∷◌, Option, Some, None, refl, rules}
+use Rattle.conn_messages.specs.declared.channel.Channel.{Channel}
+use Rattle.conn_messages.specs.declared.channel.Change.TheVariants.{Handover}
+use Rattle.conn_table.specs.declared.input.Input.TheVariants as inputs
+use Rattle.conn_table.specs.declared.state.State.{State}
+use Rattle.conn_table.specs.declared.state.State.TheVariants.{WaitActivation, WaitEstablish, WaitConfirm, Live, Closed, Removed}
+use Rattle.conn_table.specs.Connection.{Connection}
+use Rattle.conn_table.specs.declared.state.Stage.{Stage}
+use Rattle.conn_table.specs.Steps.{Row, begin, may_begin}
+use Rattle.conn_table.specs.Streams.{OfRow}
+use Rattle.conn_table.specs.Table.{on_move, row_if, row_of}
+use Rattle.controller_table.specs.Reports.{best, decision_over, decision_where, moving_to}
+use Rattle.controller.specs.Offers.{HasCell}
+use Rattle.dtap_codec.specs.declared.report.Report.{Report}
+use Rattle.ho_decision.specs.Decision.{is_due}
+use Rattle.ho_decision.specs.Settings.{Settings}
+
+moving_has : (o : Option ℕ) → HasCell (moving_to o)
+moving_has None = tt
+moving_has (Some place) = search rules
+
+where_has : (b : Bool) (s : Settings) (reports : List Report) → HasCell (decision_where b s reports)
+where_has true s reports = moving_has (best s reports)
+where_has false s reports = tt
+
+pub decision_has : (s : Settings) (reports : List Report) (number : ℕ) → HasCell (decision_over s reports number)
+decision_has s [] number = tt
+decision_has s (r ∷ rs) number = where_has (is_due s (r ∷ rs) number) s (r ∷ rs)
+
+-- the connection stays, and the same channel serves
+pub record Goes (s : Connection) (r : Row) : Type 0 where
+  pub number : r.next.number ≡ s.number
+  pub serving : r.next.serving ≡ s.serving
+  pub was : s.state ≢ Removed
+  pub stays : r.next.state ≢ Removed
+
+live_stays : (s : Connection) (reference : ℕ) (stage : Stage) → s.state ≡ Live reference stage → s.state ≢ Removed
+live_stays s reference stage is removed = absurd (cc)
+
+begun_goes : (s : Connection) (reference : ℕ) (stage : Stage) (offer : Option Channel) → s.state ≡ Live reference stage → Goes s (begin reference Handover offer s)
+begun_goes s reference stage None is = record { number = refl; serving = refl; was = live_stays s reference stage is; stays = live_stays s reference stage is }
+begun_goes s reference stage (Some channel) is = record { number = refl; serving = refl; was = live_stays s reference stage is; stays = λ removed. absurd (cc) }
+
+move_goes : (st : State) (s : Connection) (offer : Option Channel) → s.state ≡ st → OfRow (Goes s) (on_move st s offer)
+move_goes (Live reference stage) s offer is = goes_if (may_begin stage s.draining) (begun_goes s reference stage offer is) where
+  goes_if : (b : Bool) {r : Row} → Goes s r → OfRow (Goes s) (row_if b r)
+  goes_if true h = h
+  goes_if false h = tt
+move_goes WaitActivation s offer is = tt
+move_goes WaitEstablish s offer is = tt
+move_goes WaitConfirm s offer is = tt
+move_goes (Closed clearing) s offer is = tt
+move_goes Removed s offer is = tt
+
+pub goes_on : (s : Connection) (offer : Option Channel) → OfRow (Goes s) (row_of s inputs.Move offer)
+unfolding row_of
+goes_on s offer = move_goes s.state s offer refl

@@ -1,0 +1,148 @@
+-- A connection's row, done in the controller.
+use Rattle.std.proofs.Common.{◌≡◌, ℕ, ◌+◌, ◌-◌, ◌%◌, ◌<◌, take, rules, count_by, Bool, true, cond, List, [], ◌∷◌, ◌++◌, drop, fold, find, length, Option, Some, None, sym, subst, ap, ◌∙◌, inl, inr}
+use Rattle.std.proofs.lemmas.Bool.{cases_Bool, eqb-true}
+use Rattle.std.proofs.Math.Seq.{drop-append_seam, take-length}
+use Rattle.std.proofs.lemmas.List.{length-drop}
+use Rattle.std.specs.List.{AllByRecursion}
+use Rattle.std.specs.Option.{is_some}
+use Rattle.conn_messages.specs.declared.channel.Channel.{Channel}
+use Rattle.conn_messages.specs.declared.message.Message.{Message}
+use Rattle.conn_messages.specs.declared.out.Out.{Out}
+use Rattle.conn_messages.specs.ChannelUse.{use_by}
+use Rattle.conn_messages.specs.Out.{IsSound, outs_of}
+use Rattle.conn_table.specs.declared.state.State.{State}
+use Rattle.conn_table.specs.declared.state.State.TheVariants.{WaitActivation, WaitEstablish, WaitConfirm, Live, Closed, Removed}
+use Rattle.conn_table.specs.declared.input.Input.{Input}
+use Rattle.conn_table.specs.Steps.{Row}
+use Rattle.conn_table.specs.Streams.{OfRow}
+use Rattle.conn_table.specs.Table.{row_of}
+use Rattle.connections.specs.Entries.{IsBelow}
+use Rattle.connections.specs.Steps.{DoesRow, StepsFor, all_after}
+use Rattle.controller_table.proofs.Numbers.{keeps_number}
+use Rattle.controller_table.specs.declared.channel_state.ChannelState.{ChannelState}
+use Rattle.controller_table.specs.Controller.{Controller, Entry, channels_after, entry_of, has_number, put_back, remaining, turn}
+use Rattle.controller_table.specs.Life.{begins_handover, by_fitting, by_row, entry_after}
+use Rattle.settings.specs.Parameters.{Parameters}
+use Rattle.controller.specs.Doing.{Turns, by_offer, following}
+
+pub row_turns : (c after : Controller) (e : Entry) (r : Row) (entries : List Entry) (outs outs_after : List Out)
+    → entries ≡ put_back (entry_after c.settings e r) c.entries
+    → outs_after ≡ outs ++ outs_of e.connection.number r.outs
+    → AllByRecursion IsSound r.outs
+    → ((messages : List Message) → AllByRecursion IsSound messages → drop (length outs) outs_after ≡ outs_of e.connection.number messages
+    → after ≡ following e.connection.number messages (record c { entries = entries }))
+    → Turns (by_row e r c) c after outs outs_after
+row_turns c after e r entries outs outs_after same_entries same_outs sound follows = (
+  follows r.outs sound (ap (drop (length outs)) same_outs ∙ drop-append_seam outs (outs_of e.connection.number r.outs))
+      ∙ ap (λ (es : List Entry). following e.connection.number r.outs (record c { entries = es })) same_entries,
+  same_outs,
+)
+
+-- ---- numbers
+
+-- the entry that is found has the number
+abbrev pub NumberOf : ℕ → Option Entry → Type 0
+NumberOf number None = Unit {0}
+NumberOf number (Some e) = e.connection.number ≡ number
+
+-- what holds of all holds of the one that is found, which has the number
+pub record Found (P : Entry → Type 0) (number : ℕ) (e : Entry) : Type 0 where
+  pub holds : P e
+  pub is : e.connection.number ≡ number
+
+abbrev pub FoundIn : (Entry → Type 0) → ℕ → Option Entry → Type 0
+FoundIn P number None = Unit {0}
+FoundIn P number (Some e) = Found P number e
+
+pub found_in : (P : Entry → Type 0) (number : ℕ) (es : List Entry) → AllByRecursion P es → FoundIn P number (find (has_number number) es)
+found_in P number [] all = tt
+found_in P number (x ∷ xs) all =
+    elim (cases_Bool (has_number number x)) [
+      | inl hit ↦ subst (FoundIn P number) (sym (ap (λ b. cond b (Some x) (find (has_number number) xs)) hit)) (record { holds = all.0; is = eqb-true x.connection.number number hit })
+      | inr miss ↦ subst (FoundIn P number) (sym (ap (λ b. cond b (Some x) (find (has_number number) xs)) miss)) (found_in P number xs all.1)
+    ]
+
+pub found : (P : Entry → Type 0) (number : ℕ) (es : List Entry) (e : Entry) → AllByRecursion P es → find (has_number number) es ≡ Some e → Found P number e
+found P number es e all is = subst (FoundIn P number) is (found_in P number es all)
+
+-- an entry is put back among others
+remaining_all : (P : Entry → Type 0) (state : State) (e : Entry) (xs : List Entry) → P e → AllByRecursion P xs → AllByRecursion P (remaining state e ++ xs)
+remaining_all P Removed e xs one all = all
+remaining_all P WaitActivation e xs one all = (one, all)
+remaining_all P WaitEstablish e xs one all = (one, all)
+remaining_all P WaitConfirm e xs one all = (one, all)
+remaining_all P (Live reference stage) e xs one all = (one, all)
+remaining_all P (Closed clearing) e xs one all = (one, all)
+
+pub put_back_all : (P : Entry → Type 0) (e : Entry) (xs : List Entry) → P e → AllByRecursion P xs → AllByRecursion P (put_back e xs)
+put_back_all P e [] one all = tt
+put_back_all P e (x ∷ xs) one all =
+    elim (cases_Bool (has_number e.connection.number x)) [
+      | inl hit ↦ subst (AllByRecursion P) (sym (ap (λ b. cond b (remaining e.connection.state e ++ xs) (x ∷ put_back e xs)) hit)) (remaining_all P e.connection.state e xs one all.1)
+      | inr miss ↦ subst (AllByRecursion P) (sym (ap (λ b. cond b (remaining e.connection.state e ++ xs) (x ∷ put_back e xs)) miss)) (all.0, put_back_all P e xs one all.1)
+    ]
+
+-- ---- a step of the connections, in the controller
+
+-- a list from a place to its end
+pub to_the_end : {X : Type 0} (xs : List X) (from : ℕ) → take (length xs - from) (drop from xs) ≡ drop from xs
+to_the_end xs from = ap (λ n. take n (drop from xs)) (sym (length-drop from xs)) ∙ take-length (drop from xs)
+
+pub followed : (c : Controller) (number : ℕ) (messages : List Message) (channels : List (List ChannelState)) (begun : ℕ)
+    → channels ≡ fold (channels_after number) c.channels messages
+    → begun ≡ count_by (λ m. begins_handover (use_by m)) messages
+    → record c { channels = channels; handovers = (c.handovers + begun % 256) % 256 } ≡ following number messages c
+followed c number messages channels begun same_channels same_begun =
+    ap (λ (ch : List (List ChannelState)). record c { channels = ch; handovers = (c.handovers + begun % 256) % 256 }) same_channels
+    ∙ ap (λ (h : ℕ). record c { channels = fold (channels_after number) c.channels messages; handovers = h }) (rest c.handovers begun ∙ ap (λ k. (c.handovers + k) % 256) same_begun) where
+      rest : (a b : ℕ) → (a + b % 256) % 256 ≡ (a + b) % 256
+      rest a b = search rules
+
+row_case : (p : Parameters) (c after : Controller) (e : Entry) (number : ℕ) (r : Option Row) (entries : List Entry) (outs outs_after : List Out)
+    → p ≡ c.settings → e.connection.number ≡ number → is_some r ≡ true → DoesRow p e r c.entries entries outs outs_after
+    → ((messages : List Message) → AllByRecursion IsSound messages → drop (length outs) outs_after ≡ outs_of number messages → after ≡ following number messages (record c { entries = entries }))
+    → Turns (by_fitting (turn [] c) e r c) c after outs outs_after
+row_case p c after e number None entries outs outs_after same is fits does follows = absurd (cc)
+row_case p c after e number (Some r) entries outs outs_after same is fits does follows =
+    row_turns c after e r entries outs outs_after (does.entries ∙ ap (λ q. put_back (entry_after q e r) c.entries) same) does.outputs does.sound
+    (subst (λ n. (messages : List Message) → AllByRecursion IsSound messages → drop (length outs) outs_after ≡ outs_of n messages → after ≡ following n messages (record c { entries = entries })) (sym is) follows)
+
+step_case : (p : Parameters) (c after : Controller) (number : ℕ) (o : Option Entry) (input : Input) (offer : Option Channel) (fits : Bool) (entries : List Entry) (outs outs_after : List Out)
+    → p ≡ c.settings → NumberOf number o → fits ≡ true → StepsFor p o input offer fits c.entries entries outs outs_after
+    → ((messages : List Message) → AllByRecursion IsSound messages → drop (length outs) outs_after ≡ outs_of number messages → after ≡ following number messages (record c { entries = entries }))
+    → Turns (by_offer input offer c o) c after outs outs_after
+step_case p c after number None input offer fits entries outs outs_after same is fitting steps follows = absurd (cc)
+step_case p c after number (Some e) input offer fits entries outs outs_after same is fitting steps follows =
+    row_case p c after e number (row_of e.connection input offer) entries outs outs_after same is (sym steps.0 ∙ fitting) steps.1 follows
+
+pub number_of_found : (number : ℕ) (es : List Entry) → NumberOf number (find (has_number number) es)
+number_of_found number [] = tt
+number_of_found number (x ∷ xs) =
+    elim (cases_Bool (has_number number x)) [
+      | inl hit ↦ subst (NumberOf number) (sym (ap (λ b. cond b (Some x) (find (has_number number) xs)) hit)) (eqb-true x.connection.number number hit)
+      | inr miss ↦ subst (NumberOf number) (sym (ap (λ b. cond b (Some x) (find (has_number number) xs)) miss)) (number_of_found number xs)
+    ]
+
+pub step_turns : (p : Parameters) (c after : Controller) (number : ℕ) (input : Input) (offer : Option Channel) (fits : Bool) (entries : List Entry) (outs outs_after : List Out)
+    → p ≡ c.settings → fits ≡ true → StepsFor p (entry_of c number) input offer fits c.entries entries outs outs_after
+    → ((messages : List Message) → AllByRecursion IsSound messages → drop (length outs) outs_after ≡ outs_of number messages → after ≡ following number messages (record c { entries = entries }))
+    → Turns (by_offer input offer c (entry_of c number)) c after outs outs_after
+step_turns p c after number input offer fits entries outs outs_after same fitting steps follows =
+    step_case p c after number (entry_of c number) input offer fits entries outs outs_after same (number_of_found number c.entries) fitting steps follows
+
+-- the numbers stay below the next one
+below_row : (p : Parameters) (next : ℕ) (e : Entry) (r : Option Row) (es : List Entry) → OfRow (λ row. row.next.number ≡ e.connection.number) r → IsBelow next e → AllByRecursion (IsBelow next) es
+    → AllByRecursion (IsBelow next) (all_after p es e r)
+below_row p next e None es keeps below all = all
+below_row p next e (Some r) es keeps below all = put_back_all (IsBelow next) (entry_after p e r) es (subst (λ n. n < next) (sym keeps) below) all
+
+below_case : (p : Parameters) (next number : ℕ) (o : Option Entry) (input : Input) (offer : Option Channel) (fits : Bool) (es entries : List Entry) (outs outs_after : List Out)
+    → FoundIn (IsBelow next) number o → AllByRecursion (IsBelow next) es → StepsFor p o input offer fits es entries outs outs_after → AllByRecursion (IsBelow next) entries
+below_case p next number None input offer fits es entries outs outs_after found all steps = subst (AllByRecursion (IsBelow next)) (sym steps.1.entries) all
+below_case p next number (Some e) input offer fits es entries outs outs_after found all steps =
+    subst (AllByRecursion (IsBelow next)) (sym steps.1.entries) (below_row p next e (row_of e.connection input offer) es (keeps_number e.connection input offer) found.holds all)
+
+pub step_stays_below : (p : Parameters) (next number : ℕ) (input : Input) (offer : Option Channel) (fits : Bool) (es entries : List Entry) (outs outs_after : List Out)
+    → AllByRecursion (IsBelow next) es → StepsFor p (find (has_number number) es) input offer fits es entries outs outs_after → AllByRecursion (IsBelow next) entries
+step_stays_below p next number input offer fits es entries outs outs_after all steps =
+    below_case p next number (find (has_number number) es) input offer fits es entries outs outs_after (found_in (IsBelow next) number es all) all steps

@@ -1,0 +1,12 @@
+use Rattle.std.proofs.Common.{◌++◌, map}
+use Rattle.std.specs.Vec.Iter.{into_iter_items}
+use Rattle.controller.specs.Many.{carried_out, planned_for}
+use Rattle.controller.proofs.Carrying.{IsLeft}
+use Rattle.controller_table.specs.Controller.{each}
+use Rattle.controller.proofs.controller.Controller.carry_out.Given as goal
+
+-- what is left makes the same as all do
+abbrev pub invariant-loop-one : goal.invariant-loop-one
+invariant-loop-one l =
+    (goal.iterator-loop-one).can_next l.one-iterator × (goal.iterator-loop-one).is_finite l.one-iterator
+    × IsLeft l.self l.outputs.outs l.outputs.spare (into_iter_items l.one-iterator) (each carried_out l.fn.self (map planned_for l.fn.planned.items)).next (l.fn.outputs.outs ++ (each carried_out l.fn.self (map planned_for l.fn.planned.items)).outs)

@@ -1,0 +1,14 @@
+use Rattle.std.proofs.Common.{ap, ◌∙◌}
+use Rattle.conn_table.proofs.DownlinkMessages.{AllByRecursion-so}
+use Rattle.conn_messages.specs.Out.{IsLawfulMessage, IsSound}
+use Rattle.controller.specs.contracts.controller.Controller.{the_view}
+use Rattle.controller.specs.Doing.{following}
+use Rattle.controller.proofs.Stepping.{followed}
+use Rattle.controller.proofs.controller.Controller.follow.Goals as goal
+
+pub returns : goal.returns
+returns c = λ messages sound is.
+    followed (the_view c.self.inside) c.args.number messages _ _
+    (c.follow.ensures messages (AllByRecursion-so IsSound IsLawfulMessage (λ m one. one.1) messages sound) is)
+    (c.handovers_begun-begun.ensures c.args.number messages (AllByRecursion-so IsSound IsLawfulMessage (λ m one. one.1) messages sound) is)
+    ∙ ap (following c.args.number messages) c.self.view_is

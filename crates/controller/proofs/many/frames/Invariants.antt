@@ -1,0 +1,6 @@
+use Rattle.std.proofs.Common.{◌≡◌, ◌+◌, drop, sum_by}
+use Rattle.controller.specs.Many.{frames_of}
+use Rattle.controller.proofs.many.frames.Given as goal
+
+abbrev pub invariant-loop-one : goal.invariant-loop-one
+invariant-loop-one l = l.count + sum_by frames_of (drop l.one-index l.planned) ≡ sum_by frames_of l.planned

@@ -1,0 +1,36 @@
+-- What a call makes of the controller and of the outputs.
+use Rattle.std.specs.Prelude.{◌≡◌, ℕ, Bool, false, List, [], ◌++◌, fold, Option, Some, None}
+use Rattle.std.specs.Option.{is_some}
+use Rattle.conn_messages.specs.declared.channel.Channel.{Channel}
+use Rattle.conn_messages.specs.declared.message.Message.{Message}
+use Rattle.conn_messages.specs.declared.out.Out.{Out}
+use Rattle.conn_table.specs.declared.input.Input.{Input}
+use Rattle.conn_table.specs.Table.{row_of}
+use Rattle.controller_table.specs.Controller.{Controller, Entry, Turn, turn, channels_after}
+use Rattle.controller_table.specs.Life.{by_fitting, handovers_after, row_in}
+
+-- the turn is done: its frames are behind the others
+abbrev pub Turns : Turn → Controller → Controller → List Out → List Out → Type 0
+Turns t old new outs outs_after = (new ≡ t.next) × (outs_after ≡ outs ++ t.outs)
+
+-- nothing changed
+abbrev pub Stays : Controller → Controller → List Out → List Out → Type 0
+Stays old new outs outs_after = (new ≡ old) × (outs_after ≡ outs)
+
+-- whether a row fits
+abbrev pub fits_in : Controller → Input → Option Entry → Bool
+fits_in c input None = false
+fits_in c input (Some e) = is_some (row_in c e.connection input)
+
+abbrev pub fits_with : Input → Option Channel → Option Entry → Bool
+fits_with input offer None = false
+fits_with input offer (Some e) = is_some (row_of e.connection input offer)
+
+-- the row that fits with this offer, if one does
+abbrev pub by_offer : Input → Option Channel → Controller → Option Entry → Turn
+by_offer input offer c None = turn [] c
+by_offer input offer c (Some e) = by_fitting (turn [] c) e (row_of e.connection input offer) c
+
+-- channels and handovers once a connection put these messages
+abbrev pub following : ℕ → List Message → Controller → Controller
+following number messages c = record c { channels = fold (channels_after number) c.channels messages; handovers = handovers_after c.handovers messages }

@@ -1,0 +1,5 @@
+pub mod Doing
+pub mod Many
+pub mod Offers
+pub mod Reporting
+pub mod Standing

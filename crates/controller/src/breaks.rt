@@ -1,0 +1,47 @@
+ghost use Rattle.std.specs.Prelude.{◌≡◌, ◌≤◌, OnOk, OnErr};
+ghost use Rattle.controller_table.specs.Controller.{with_down};
+ghost use Rattle.controller_table.specs.Life as words;
+ghost use Rattle.controller.specs.Doing.{Stays, Turns};
+
+use crate::controller::Controller;
+use crate::many::{Cause, frames};
+use conn_fsm::Outputs;
+use conn_messages::SWITCH_LINK;
+use conn_table::Input;
+use octets::Memory;
+
+impl Controller {
+    /// The link of this number broke: the connections learn of it by rising number, and the channels of a station are free.
+    pub(crate) fn on_break(&mut self, source: u16, outputs: &mut Outputs) -> Result<(), Memory>
+        ensures ok { OnOk result (Turns (words.on_break source self.old) self.old self.new outputs.old.outs outputs.new.outs) }
+        ensures err { OnErr result (Stays self.old self.new outputs.old.outs outputs.new.outs) }
+    {
+        let planned = self.plan_all(&Cause::Break(source))?;
+        outputs.reserve(frames(&planned)?)?;
+        self.take_down(source);
+        self.carry_out(planned, outputs);
+        if source != SWITCH_LINK {
+            self.channels.free_station(source);
+        }
+        Ok(())
+    }
+
+    fn take_down(&mut self, source: u16)
+        ensures { self.new ≡ with_down source self.old }
+    {
+        if let Some(up) = self.links.get_mut(usize::from(source)) {
+            *up = false;
+        }
+    }
+}
+
+/// What a connection learns of the break of a link.
+pub(crate) fn break_of(source: u16) -> Input
+    ensures { result ≡ words.break_of source }
+{
+    if source == SWITCH_LINK {
+        Input::SwitchDown
+    } else {
+        Input::StationDown { station: source }
+    }
+}

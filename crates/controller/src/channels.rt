@@ -1,0 +1,113 @@
+ghost use Rattle.std.specs.Prelude.{◌≡◌, OnOk, OnErr, None};
+ghost use Rattle.std.specs.Option.{is_some};
+ghost use Rattle.conn_table.specs.declared.input.Input.TheVariants as inputs;
+ghost use Rattle.conn_table.specs.Connection.{is_at as at_channel};
+ghost use Rattle.conn_table.specs.Standing.{IsCarried};
+ghost use Rattle.conn_table.specs.Table.{row_of};
+ghost use Rattle.controller_table.specs.Controller as words;
+ghost use Rattle.controller_table.specs.Life.{concerning_too, entry_at, frees as is_freed, on_state};
+ghost use Rattle.controller.specs.Doing.{Stays, Turns};
+ghost use Rattle.controller.specs.Offers.{awaits as awaits_by};
+
+use crate::controller::Controller;
+use conn_fsm::{Conn, Outputs};
+use conn_messages::{Channel, Place};
+use conn_table::{Input, Stage, State};
+use controller_table::ChannelState;
+use octets::Memory;
+
+impl Controller {
+    /// What came on a channel. RF CHANNEL RELEASE ACK frees a channel that is releasing, and CHANNEL ACTIVATION NACK one that a
+    /// connection waits for, before the connection's step; on a free channel it is ignored.
+    pub(crate) fn on_channel(
+        &mut self,
+        at: &Place,
+        input: Input,
+        outputs: &mut Outputs,
+    ) -> Result<(), Memory>
+        requires { IsCarried input }
+        ensures ok { OnOk result (Turns (on_state (words.channel_state self.old at.now) at.now input self.old (entry_at self.old (words.channel_state self.old at.now))) self.old self.new outputs.old.outs outputs.new.outs) }
+        ensures err { OnErr result (Stays self.old self.new outputs.old.outs outputs.new.outs) }
+    {
+        let state = self.channels.state(*at);
+        let Some(number) = holder(&state) else {
+            self.ignore();
+            return Ok(());
+        };
+        if self.frees(&state, number, &input) {
+            self.on_freed(at, number, input, outputs)
+        } else {
+            self.concern(number, input, outputs)
+        }
+    }
+
+    // The channel is freed first; where memory is refused, it isn't.
+    fn on_freed(
+        &mut self,
+        at: &Place,
+        number: u32,
+        input: Input,
+        outputs: &mut Outputs,
+    ) -> Result<(), Memory>
+        requires { IsCarried input }
+        ensures ok { OnOk result (Turns (concerning_too input (words.freed at.now self.old) (words.entry_of self.old number)) self.old self.new outputs.old.outs outputs.new.outs) }
+        ensures err { OnErr result (Stays self.old self.new outputs.old.outs outputs.new.outs) }
+    {
+        let state = self.channels.state(*at);
+        self.channels.set(*at, ChannelState::Free);
+        match self.do_row(number, input, outputs) {
+            Ok(_) => Ok(()),
+            Err(Memory) => {
+                self.channels.set(*at, state);
+                Err(Memory)
+            }
+        }
+    }
+
+    fn frees(&self, state: &ChannelState, number: u32, input: &Input) -> bool
+        ensures { result ≡ is_freed state.now (words.entry_of self.now number) input.now }
+    {
+        match (state, input) {
+            (ChannelState::Releasing(_), Input::ReleaseAck { .. }) => true,
+            (_, Input::ActivationNack { at }) => match self.connections.get(number) {
+                Some(entry) => awaits(entry.connection(), at),
+                None => false,
+            },
+            _ => false,
+        }
+    }
+}
+
+/// The connection that has a channel, or had it.
+pub(crate) fn holder(state: &ChannelState) -> Option<u32>
+    ensures { result ≡ words.holder state.now }
+{
+    match state {
+        ChannelState::Free => None,
+        ChannelState::InUse(number) | ChannelState::Releasing(number) => Some(*number),
+    }
+}
+
+// Whether the connection waits for the activation of the channel.
+#[tactic(auto, using(crate::proofs::Concerning::nack_is_awaited))]
+fn awaits(conn: &Conn, at: &Place) -> bool
+    ensures { result ≡ is_some (row_of conn.now (inputs.ActivationNack at.now) None) }
+{
+    awaits_in(conn.state(), conn, at)
+}
+
+fn awaits_in(state: State, conn: &Conn, at: &Place) -> bool
+    ensures { result ≡ awaits_by state conn.now at.now }
+{
+    match state {
+        State::WaitActivation => is_at(at, &conn.serving()),
+        State::Live(_, Stage::Preparing(target)) => is_at(at, &target.channel),
+        _ => false,
+    }
+}
+
+pub(crate) fn is_at(at: &Place, channel: &Channel) -> bool
+    ensures { result ≡ at_channel at.now channel.now }
+{
+    at.station == channel.station && at.number == channel.number
+}

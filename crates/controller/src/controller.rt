@@ -1,0 +1,90 @@
+ghost use Rattle.std.specs.Prelude.{◌≡◌, IfOk, min, replicate, true};
+ghost use Rattle.controller_table.specs.Controller.{is_up, new_controller, ignoring};
+
+use cell_channels::Channels;
+use connections::Connections;
+use octets::Memory;
+use settings::Settings;
+use std::alloc::Global;
+use std::marker::Model;
+
+/// The controller of the cells in its settings (TS 48.008 clause 3.1, TS 48.058 clause 4).
+#[derive(Drop)]
+pub struct Controller {
+    pub(crate) alloc: Global,
+    pub(crate) settings: Settings,
+    /// Whether each link is up, the switch's first.
+    pub(crate) links: Vec<bool>,
+    pub(crate) channels: Channels,
+    pub(crate) connections: Connections,
+    /// The number of the next connection.
+    pub(crate) next_number: u32,
+    /// How many handovers were begun, modulo 256.
+    pub(crate) handovers: u8,
+    pub(crate) ignored: u64,
+}
+
+impl Model for Controller {
+    ghost use Rattle.controller_table.specs.Controller.{Controller};
+    ghost use Rattle.controller.specs.Standing.{IsStanding};
+
+    ghost Value = { Controller };
+
+    ghost view = { λ c. record {
+      settings = c.settings;
+      links = c.links.items;
+      channels = c.channels;
+      entries = c.connections.entries;
+      next_number = c.next_number;
+      handovers = c.handovers;
+      ignored = c.ignored;
+    } };
+
+    ghost invariant = { λ c. IsStanding c.settings c.connections c.links.items c.next_number };
+}
+
+impl Controller {
+    /// A controller with no connections, all of whose links are up. It keeps the allocator. An `Err` is want of memory.
+    pub fn new(alloc: Global, settings: Settings) -> Result<Controller, Memory>
+        ensures { IfOk result (λ c. c ≡ new_controller settings) }
+    {
+        let links = usize::from(settings.cell_count()) + 1;
+        Ok(Controller {
+            alloc,
+            links: all_up(alloc, links)?,
+            channels: Channels::new(alloc, links)?,
+            connections: Connections::new(alloc, &settings)?,
+            settings,
+            next_number: 1,
+            handovers: 0,
+            ignored: 0,
+        })
+    }
+
+    /// Whether the link of this number is up; there is no link of another number.
+    pub(crate) fn is_up(&self, source: u16) -> bool
+        ensures { result ≡ is_up self.now source }
+    {
+        match self.links.get(usize::from(source)) {
+            Some(up) => *up,
+            None => false,
+        }
+    }
+
+    /// Counts something that changes nothing.
+    pub(crate) fn ignore(&mut self)
+        ensures { self.new ≡ (ignoring self.old).next }
+    {
+        self.ignored = self.ignored.saturating_add(1);
+    }
+}
+
+fn all_up(alloc: Global, links: usize) -> Result<Vec<bool>, Memory>
+    ensures { IfOk result (λ up. up.items ≡ replicate links true) }
+{
+    let mut up = Vec::new(alloc);
+    for _ in 0..links {
+        up.push(true)?;
+    }
+    Ok(up)
+}

@@ -1,0 +1,90 @@
+ghost use Rattle.std.specs.Prelude.{◌≡◌, ◌++◌, ◌∷◌, [], OnOk, OnErr, IfErr};
+ghost use Rattle.controller_table.specs.Life as words;
+ghost use Rattle.controller_table.specs.Reading.{word_of};
+ghost use Rattle.controller.specs.Doing.{Stays, Turns};
+ghost use Rattle.frame_reading.specs.Words.{ComesFrom, IsCarriedWord};
+
+use crate::controller::Controller;
+use conn_fsm::Outputs;
+use conn_messages::Out;
+use controller_table::Word;
+use frame_reading::read_word;
+use ipa_framing::{CCM_STREAM, Frame, PONG};
+use octets::{Memory, Octets};
+use relay_items::{Item, What};
+use std::alloc::Global;
+
+impl Controller {
+    /// Takes an item: a frame of a link, or that the link gives nothing more. What it puts is appended to the outputs. After
+    /// the break of its link, and where there is no such link, an item is ignored. A refusal, for want of memory, changes
+    /// nothing and hands the item back.
+    pub fn step(&mut self, item: Item, outputs: &mut Outputs) -> Result<(), Item>
+        ensures ok { OnOk result (Turns (words.take item self.old) self.old self.new outputs.old.outs outputs.new.outs) }
+        ensures err { OnErr result (Stays self.old self.new outputs.old.outs outputs.new.outs) }
+        ensures back { IfErr result (λ refused. refused ≡ item) }
+    {
+        match self.take(&item, outputs) {
+            Ok(()) => Ok(()),
+            Err(Memory) => Err(item),
+        }
+    }
+
+    #[tactic(auto, unfolding(controller_table::specs::Life::take))]
+    fn take(&mut self, item: &Item, outputs: &mut Outputs) -> Result<(), Memory>
+        ensures ok { OnOk result (Turns (words.take item.now self.old) self.old self.new outputs.old.outs outputs.new.outs) }
+        ensures err { OnErr result (Stays self.old self.new outputs.old.outs outputs.new.outs) }
+    {
+        if !self.is_up(item.source) {
+            self.ignore();
+            return Ok(());
+        }
+        match &item.what {
+            What::Frame(frame) => self.on_frame(item.source, frame, outputs),
+            What::Down => self.on_break(item.source, outputs),
+        }
+    }
+
+    fn on_frame(&mut self, source: u16, frame: &Frame, outputs: &mut Outputs) -> Result<(), Memory>
+        ensures ok { OnOk result (Turns (words.on_word source (word_of source frame.now) self.old) self.old self.new outputs.old.outs outputs.new.outs) }
+        ensures err { OnErr result (Stays self.old self.new outputs.old.outs outputs.new.outs) }
+    {
+        let word = read_word(self.alloc, source, frame)?;
+        self.on_word(source, word, outputs)
+    }
+
+    fn on_word(&mut self, source: u16, word: Word, outputs: &mut Outputs) -> Result<(), Memory>
+        requires carried { IsCarriedWord word }
+        requires comes { ComesFrom source word }
+        ensures ok { OnOk result (Turns (words.on_word source word self.old) self.old self.new outputs.old.outs outputs.new.outs) }
+        ensures err { OnErr result (Stays self.old self.new outputs.old.outs outputs.new.outs) }
+    {
+        match word {
+            Word::Nothing => {
+                self.ignore();
+                Ok(())
+            }
+            Word::Ping => put_pong(self.alloc, source, outputs),
+            Word::Asks(request, delay) => self.on_request(source, request, delay, outputs),
+            Word::OnChannel(at, input) => self.on_channel(&at, input, outputs),
+            Word::Reports(at, number, report) => self.on_report(&at, number, &report, outputs),
+            Word::OnConnection(number, input) => self.concern(number, input, outputs),
+        }
+    }
+}
+
+// PONG on a link: this end is there.
+fn put_pong(alloc: Global, source: u16, outputs: &mut Outputs) -> Result<(), Memory>
+    ensures ok { OnOk result (outputs.new.outs ≡ outputs.old.outs ++ words.pong source ∷ []) }
+    ensures err { OnErr result (outputs.new.outs ≡ outputs.old.outs) }
+{
+    let mut body = Vec::new(alloc);
+    body.push(PONG)?;
+    outputs.push(Out {
+        to: source,
+        conn: 0,
+        frame: Frame {
+            stream: CCM_STREAM,
+            body: Octets::new(body),
+        },
+    })
+}

@@ -1,0 +1,114 @@
+ghost use Rattle.std.specs.Prelude.{◌≡◌, ◌+◌, ◌≤◌, ◌++◌, map, sum_by, IfOk, IfSome, OnOk};
+ghost use Rattle.conn_fsm.specs.Doing.{IsPlanned};
+ghost use Rattle.connections.specs.Entries.{AreRising};
+ghost use Rattle.controller_table.specs.Controller.{each, entry_of};
+ghost use Rattle.controller.specs.Doing.{Turns};
+ghost use Rattle.controller.specs.Many.{AreReady, IsReadyFor, all_due, due as due_input, due_of, carried_out, frames_of, planned_for};
+
+use crate::breaks::break_of;
+use crate::controller::Controller;
+use crate::time::expiry_after;
+use conn_fsm::{Conn, Outputs, Plan};
+use conn_table::Input;
+use octets::Memory;
+use std::marker::Model;
+
+/// What comes to all connections.
+#[derive(Clone, Copy)]
+pub(crate) enum Cause {
+    /// So many milliseconds pass.
+    Time(u32),
+    /// The link of this number breaks.
+    Break(u16),
+}
+
+/// What a connection will do.
+#[derive(Drop)]
+pub(crate) struct Planned {
+    pub(crate) number: u32,
+    pub(crate) plan: Plan,
+}
+
+impl Model for Planned {
+    ghost use Rattle.controller.specs.Many.{IsRow, PlannedState};
+
+    ghost Value = { PlannedState };
+
+    ghost view = { λ one. record { number = one.number; plan = one.plan } };
+
+    ghost invariant = { λ one. IsRow one.plan };
+}
+
+impl Controller {
+    /// Plans the steps of all connections that do one, by rising number. It takes all memory that they want but that of the
+    /// outputs.
+    pub(crate) fn plan_all(&self, cause: &Cause) -> Result<Vec<Planned>, Memory>
+        ensures planned { IfOk result (λ planned. map planned_for planned.items ≡ all_due cause.now self.now.settings.timers self.now.entries) }
+        ensures rising { AreRising self.now.entries }
+    {
+        let mut planned = Vec::new(self.alloc);
+        for place in 0..self.connections.len() {
+            let Some(entry) = self.connections.at(place) else {
+                break;
+            };
+            self.plan_one(entry.connection(), cause, &mut planned)?;
+        }
+        Ok(planned)
+    }
+
+    fn plan_one(&self, conn: &Conn, cause: &Cause, planned: &mut Vec<Planned>) -> Result<(), Memory>
+        ensures { OnOk result (map planned_for planned.new.items ≡ map planned_for planned.old.items ++ due_of cause.now self.now.settings.timers conn.now) }
+    {
+        if let Some(input) = self.due(cause, conn) {
+            let plan = conn.plan(input)?;
+            let number = conn.number();
+            planned.push(Planned { number, plan })?;
+        }
+        Ok(())
+    }
+
+    // What comes to a connection.
+    fn due(&self, cause: &Cause, conn: &Conn) -> Option<Input>
+        ensures input { result ≡ due_input cause.now self.now.settings.timers conn.now }
+        ensures planned { IfSome result IsPlanned }
+    {
+        match cause {
+            Cause::Time(ms) => expiry_after(&self.settings, conn, *ms),
+            Cause::Break(source) => Some(break_of(*source)),
+        }
+    }
+
+    /// Does the steps that were planned, in their order. It takes no memory.
+    pub(crate) fn carry_out(&mut self, planned: Vec<Planned>, outputs: &mut Outputs)
+        requires ready { AreReady (map planned_for planned.items) self.old.entries }
+        requires room { sum_by frames_of planned.items ≤ outputs.old.spare }
+        ensures { Turns (each carried_out self.old (map planned_for planned.items)) self.old self.new outputs.old.outs outputs.new.outs }
+    {
+        for one in planned {
+            self.carry_out_one(one, outputs);
+        }
+    }
+
+    fn carry_out_one(&mut self, one: Planned, outputs: &mut Outputs)
+        requires ready { IsReadyFor one.plan.was (entry_of self.old one.number) }
+        requires room { frames_of one ≤ outputs.old.spare }
+        ensures turns { Turns (carried_out self.old (planned_for one)) self.old self.new outputs.old.outs outputs.new.outs }
+        ensures room { outputs.old.spare ≤ outputs.new.spare + frames_of one }
+    {
+        let Planned { number, plan } = one;
+        let made = self.connections.commit(number, plan);
+        self.follow(number, made.as_slice());
+        outputs.append(made);
+    }
+}
+
+/// How many frames the steps put. An `Err` is want of memory: no memory has so many.
+pub(crate) fn frames(planned: &[Planned]) -> Result<usize, Memory>
+    ensures { IfOk result (λ count. count ≡ sum_by frames_of planned.now) }
+{
+    let mut count: usize = 0;
+    for one in planned {
+        count = count.checked_add(one.plan.len()).ok_or(Memory)?;
+    }
+    Ok(count)
+}

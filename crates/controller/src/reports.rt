@@ -1,0 +1,142 @@
+ghost use Rattle.std.specs.Prelude.{◌≡◌, ◌≤◌, ◌&&◌, IsSome, OnOk, OnErr, option_map, true};
+ghost use Rattle.conn_table.specs.Connection.{is_at as at_channel};
+ghost use Rattle.controller_table.specs.Controller.{channel_state, entry_of};
+ghost use Rattle.controller_table.specs.Life as words;
+ghost use Rattle.controller.specs.Doing.{Stays, Turns};
+ghost use Rattle.controller.specs.Offers.{HasCell};
+ghost use Rattle.controller.specs.Reporting.{decided_in, measured_in, measures_in, moved_in};
+
+use crate::channels::{holder, is_at};
+use crate::controller::Controller;
+use conn_fsm::{Conn, Outputs};
+use conn_messages::{Channel, Place};
+use conn_table::{Input, State};
+use dtap_codec::Report;
+use ho_decision::Decision;
+use octets::Memory;
+
+impl Controller {
+    /// A valid report on a channel: on the serving channel of a connection that asked the switch for one it is added to the
+    /// averages, and may decide for a handover; else it is ignored.
+    pub(crate) fn on_report(
+        &mut self,
+        at: &Place,
+        number: u8,
+        report: &Report,
+        outputs: &mut Outputs,
+    ) -> Result<(), Memory>
+        requires { report.now.valid ≡ true }
+        ensures ok { OnOk result (Turns (words.on_report at.now number report.now self.old (words.entry_at self.old (channel_state self.old at.now))) self.old self.new outputs.old.outs outputs.new.outs) }
+        ensures err { OnErr result (Stays self.old self.new outputs.old.outs outputs.new.outs) }
+    {
+        let state = self.channels.state(*at);
+        let Some(connection) = holder(&state) else {
+            self.ignore();
+            return Ok(());
+        };
+        self.on_report_of(connection, at, number, report, outputs)
+    }
+
+    // The same, of the connection that has the channel, or had it.
+    fn on_report_of(
+        &mut self,
+        connection: u32,
+        at: &Place,
+        number: u8,
+        report: &Report,
+        outputs: &mut Outputs,
+    ) -> Result<(), Memory>
+        requires { report.now.valid ≡ true }
+        ensures ok { OnOk result (Turns (words.on_report at.now number report.now self.old (entry_of self.old connection)) self.old self.new outputs.old.outs outputs.new.outs) }
+        ensures err { OnErr result (Stays self.old self.new outputs.old.outs outputs.new.outs) }
+    {
+        if self.measures(connection, at) {
+            self.measure(connection, number, report, outputs)
+        } else {
+            self.ignore();
+            Ok(())
+        }
+    }
+
+    // Whether the connection is there, serves on the channel and is measured.
+    fn measures(&self, connection: u32, at: &Place) -> bool
+        ensures { result ≡ measures_in at.now (entry_of self.now connection) }
+    {
+        match self.connections.get(connection) {
+            Some(entry) => measures_at(entry.connection(), at),
+            None => false,
+        }
+    }
+
+    // The report is added behind the handover that it decides for, since that alone may be refused memory.
+    fn measure(
+        &mut self,
+        connection: u32,
+        number: u8,
+        report: &Report,
+        outputs: &mut Outputs,
+    ) -> Result<(), Memory>
+        requires valid { report.now.valid ≡ true }
+        requires there { IsSome (entry_of self.old connection) }
+        ensures ok { OnOk result (Turns (measured_in number report.now self.old (entry_of self.old connection)) self.old self.new outputs.old.outs outputs.new.outs) }
+        ensures err { OnErr result (Stays self.old self.new outputs.old.outs outputs.new.outs) }
+    {
+        let decision = self.connections.decide_with(connection, report, number)?;
+        self.follow_decision(connection, decision, outputs)?;
+        self.connections.add(connection, report, number);
+        Ok(())
+    }
+
+    fn follow_decision(
+        &mut self,
+        connection: u32,
+        decision: Decision,
+        outputs: &mut Outputs,
+    ) -> Result<(), Memory>
+        requires { HasCell decision }
+        ensures ok { OnOk result (Turns (decided_in decision self.old (entry_of self.old connection)) self.old self.new outputs.old.outs outputs.new.outs) }
+        ensures err { OnErr result (Stays self.old self.new outputs.old.outs outputs.new.outs) }
+    {
+        match decision {
+            Decision::Stay => Ok(()),
+            Decision::Move(cell) => self.hand_over(connection, u16::from(cell), outputs),
+        }
+    }
+
+    // A handover to this cell begins, where one may.
+    fn hand_over(&mut self, connection: u32, cell: u16, outputs: &mut Outputs) -> Result<(), Memory>
+        requires { 1 ≤ cell }
+        ensures ok { OnOk result (Turns (moved_in cell self.old (entry_of self.old connection)) self.old self.new outputs.old.outs outputs.new.outs) }
+        ensures err { OnErr result (Stays self.old self.new outputs.old.outs outputs.new.outs) }
+    {
+        let Some(serving) = self.serving_of(connection) else {
+            return Ok(());
+        };
+        let offer = self.handover_offer(&serving, cell);
+        self.do_row_with(connection, Input::Move, offer, outputs)?;
+        Ok(())
+    }
+
+    // The serving channel of a connection.
+    fn serving_of(&self, connection: u32) -> Option<Channel>
+        ensures { result ≡ option_map (λ e. e.connection.serving) (entry_of self.now connection) }
+    {
+        match self.connections.get(connection) {
+            Some(entry) => Some(entry.connection().serving()),
+            None => None,
+        }
+    }
+}
+
+fn measures_at(conn: &Conn, at: &Place) -> bool
+    ensures { result ≡ (at_channel at.now conn.now.serving && words.is_measured conn.now.state) }
+{
+    is_at(at, &conn.serving()) && is_measured(conn.state())
+}
+
+// From the connection request on.
+fn is_measured(state: State) -> bool
+    ensures { result ≡ words.is_measured state }
+{
+    matches!(state, State::WaitConfirm | State::Live(_, _))
+}

@@ -1,0 +1,84 @@
+ghost use Rattle.std.specs.Prelude.{◌≡◌, List, IfOk, OnOk, OnErr};
+ghost use Rattle.std.specs.List.{AllByRecursion};
+ghost use Rattle.conn_messages.specs.declared.message.Message.{Message};
+ghost use Rattle.conn_messages.specs.Out.{IsSound, outs_of};
+ghost use Rattle.conn_table.specs.Standing.{IsCarried};
+ghost use Rattle.connections.specs.Entries.{IsOffer};
+ghost use Rattle.controller_table.specs.Controller.{entry_of};
+ghost use Rattle.controller_table.specs.Life.{concerning, concerning_too};
+ghost use Rattle.controller.specs.Doing.{Stays, Turns, by_offer, fits_in, fits_with, following};
+
+use crate::controller::Controller;
+use cell_channels::handovers_begun;
+use conn_fsm::{Channel, Outputs};
+use conn_messages::Out;
+use conn_table::Input;
+use octets::Memory;
+
+impl Controller {
+    /// What concerns the connection of this number; where it has no row that fits, or isn't there, it is ignored.
+    pub(crate) fn concern(
+        &mut self,
+        number: u32,
+        input: Input,
+        outputs: &mut Outputs,
+    ) -> Result<(), Memory>
+        requires { IsCarried input }
+        ensures ok { OnOk result (Turns (concerning input self.old (entry_of self.old number)) self.old self.new outputs.old.outs outputs.new.outs) }
+        ensures err { OnErr result (Stays self.old self.new outputs.old.outs outputs.new.outs) }
+    {
+        if !self.do_row(number, input, outputs)? {
+            self.ignore();
+        }
+        Ok(())
+    }
+
+    /// Has the connection of this number do the row that fits, with the channel that would be offered; whether one fits.
+    pub(crate) fn do_row(
+        &mut self,
+        number: u32,
+        input: Input,
+        outputs: &mut Outputs,
+    ) -> Result<bool, Memory>
+        requires { IsCarried input }
+        ensures fits { IfOk result (λ fits. fits ≡ fits_in self.old input (entry_of self.old number)) }
+        ensures ok { OnOk result (Turns (concerning_too input self.old (entry_of self.old number)) self.old self.new outputs.old.outs outputs.new.outs) }
+        ensures err { OnErr result (Stays self.old self.new outputs.old.outs outputs.new.outs) }
+    {
+        let offer = self.offer_for(number, &input);
+        self.do_row_with(number, input, offer, outputs)
+    }
+
+    /// The same with this offer.
+    pub(crate) fn do_row_with(
+        &mut self,
+        number: u32,
+        input: Input,
+        offer: Option<Channel>,
+        outputs: &mut Outputs,
+    ) -> Result<bool, Memory>
+        requires carried { IsCarried input }
+        requires offer { IsOffer self.old.settings offer }
+        ensures fits { IfOk result (λ fits. fits ≡ fits_with input offer (entry_of self.old number)) }
+        ensures ok { OnOk result (Turns (by_offer input offer self.old (entry_of self.old number)) self.old self.new outputs.old.outs outputs.new.outs) }
+        ensures err { OnErr result (Stays self.old self.new outputs.old.outs outputs.new.outs) }
+    {
+        let from = outputs.len();
+        let fits = self.connections.step(number, input, offer, outputs)?;
+        if fits {
+            self.follow(number, &outputs.as_slice()[from..]);
+        }
+        Ok(fits)
+    }
+
+    /// Follows the frames that a connection put: which channels they take into use or release, and how many handovers they
+    /// begin.
+    pub(crate) fn follow(&mut self, number: u32, outs: &[Out])
+        ensures { (messages : List Message) → AllByRecursion IsSound messages → outs.now ≡ outs_of number messages
+            → self.new ≡ following number messages self.old }
+    {
+        self.channels.follow(number, outs);
+        let begun = handovers_begun(outs);
+        self.handovers = self.handovers.wrapping_add((begun % 256) as u8);
+    }
+}

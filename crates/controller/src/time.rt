@@ -1,0 +1,72 @@
+ghost use Rattle.std.specs.Prelude.{◌≡◌, OnOk, OnErr};
+ghost use Rattle.conn_table.specs.Timers.{after_pass};
+ghost use Rattle.controller_table.specs.Life as words;
+ghost use Rattle.controller.specs.Doing.{Stays, Turns};
+
+use crate::controller::Controller;
+use crate::many::{Cause, frames};
+use conn_fsm::{Conn, Outputs};
+use conn_messages::Change;
+use conn_table::{Input, Stage, State};
+use octets::Memory;
+use settings::Settings;
+
+impl Controller {
+    /// So many milliseconds pass: for all connections; then what expires does, by rising number of the connections. A refusal,
+    /// for want of memory, changes nothing.
+    pub fn tick(&mut self, ms: u32, outputs: &mut Outputs) -> Result<(), Memory>
+        ensures ok { OnOk result (Turns (words.tick ms self.old) self.old self.new outputs.old.outs outputs.new.outs) }
+        ensures err { OnErr result (Stays self.old self.new outputs.old.outs outputs.new.outs) }
+    {
+        let planned = self.plan_all(&Cause::Time(ms))?;
+        outputs.reserve(frames(&planned)?)?;
+        self.connections.age(ms);
+        self.carry_out(planned, outputs);
+        Ok(())
+    }
+}
+
+/// What expires for a connection once so many milliseconds more have passed: the state's timer, which comes first, or the
+/// drain time.
+pub(crate) fn expiry_after(settings: &Settings, conn: &Conn, ms: u32) -> Option<Input>
+    ensures { result ≡ words.expiry settings.now.timers (after_pass ms conn.now) }
+{
+    if is_over(time_of(settings, conn.state()), conn.waited_after(ms)) {
+        Some(Input::Expiry)
+    } else if u64::from(settings.drain_ms()) <= conn.drained_after(ms) {
+        Some(Input::DrainExpiry)
+    } else {
+        None
+    }
+}
+
+fn is_over(time: Option<u32>, waited: u64) -> bool
+    ensures { result ≡ words.is_over time waited }
+{
+    match time {
+        Some(ms) => u64::from(ms) <= waited,
+        None => false,
+    }
+}
+
+// The time of a state's timer: T3101 until the mobile is there, T3107 and T3103 while an assignment or a handover goes on.
+fn time_of(settings: &Settings, state: State) -> Option<u32>
+    ensures { result ≡ words.time_of settings.now.timers state }
+{
+    match state {
+        State::WaitActivation | State::WaitEstablish => Some(settings.t3101_ms()),
+        State::Live(_, Stage::Preparing(target) | Stage::Changing(target)) => {
+            Some(change_time(settings, target.change))
+        }
+        _ => None,
+    }
+}
+
+fn change_time(settings: &Settings, change: Change) -> u32
+    ensures { result ≡ words.change_time settings.now.timers change }
+{
+    match change {
+        Change::Assignment => settings.t3107_ms(),
+        Change::Handover => settings.t3103_ms(),
+    }
+}

@@ -1,0 +1,65 @@
+ghost use Rattle.std.specs.Prelude.{◌≡◌, IfOk, filter};
+ghost use Rattle.conn_table.specs.Streams.{is_dtap as dtap};
+ghost use Rattle.controller_table.specs.Views as words;
+
+use crate::controller::Controller;
+use dtap_codec::Sapi;
+use frame_reading::is_dtap;
+use octets::{Memory, Octets};
+
+impl Controller {
+    /// How much was ignored: what changes nothing and is no row of the connections' table, as far as 64 bits say it.
+    pub fn ignored(&self) -> u64
+        ensures { result ≡ self.now.ignored }
+    {
+        self.ignored
+    }
+
+    /// How many links there are: one for each cell, and the switch's.
+    pub fn links(&self) -> usize
+        ensures { result ≡ words.links self.now }
+    {
+        self.links.len()
+    }
+
+    /// The average RXQUAL-FULL of a connection's serving channel; none without a report, or without such a connection.
+    pub fn rxqual(&self, conn: u32) -> Option<u8>
+        ensures { result ≡ words.rxqual self.now conn }
+    {
+        match self.connections.get(conn) {
+            Some(entry) => entry.averages().rxqual(),
+            None => None,
+        }
+    }
+
+    /// A copy of the switch's messages of a SAPI that are held for a connection, in order, without those of radio resource
+    /// management; none where it isn't there.
+    pub fn held(&self, conn: u32, sapi: Sapi) -> Result<Vec<Octets>, Memory>
+        ensures { IfOk result (λ list. list.items ≡ words.held self.now conn sapi) }
+    {
+        match self.connections.get(conn) {
+            Some(entry) => Ok(dtap_of(entry.connection().held(sapi)?)),
+            None => Ok(Vec::new(self.alloc)),
+        }
+    }
+
+    /// A copy of the mobile's messages of a SAPI that are held, those of the oldest tenure first, in order; none where the
+    /// connection isn't there.
+    #[tactic(auto, using(crate::proofs::Held::joined_is))]
+    pub fn held_up(&self, conn: u32, sapi: Sapi) -> Result<Vec<Octets>, Memory>
+        ensures { IfOk result (λ list. list.items ≡ words.held_up self.now conn sapi) }
+    {
+        match self.connections.get(conn) {
+            Some(entry) => entry.connection().held_up(sapi),
+            None => Ok(Vec::new(self.alloc)),
+        }
+    }
+}
+
+// Those that aren't of radio resource management.
+fn dtap_of(mut messages: Vec<Octets>) -> Vec<Octets>
+    ensures { result.items ≡ filter dtap messages.items }
+{
+    messages.retain(|message| is_dtap(message.as_slice()));
+    messages
+}
