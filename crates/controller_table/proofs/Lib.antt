@@ -3,9 +3,9 @@ mod ChangeRows
 pub mod Decides
 mod DrainRows
 mod LinkRows
-mod Lives
+pub mod Lives
 pub mod Numbers
-mod OnLiterals
+pub mod OnLiterals
 pub mod ReportBits
 pub mod Others
 mod ReportRows

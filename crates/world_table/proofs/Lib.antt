@@ -1,0 +1,3 @@
+mod ChangeRows
+mod OpeningRows
+pub mod Worlds

@@ -1,0 +1,13 @@
+//! The world with a controller: mobiles, base stations, the controller with its queues, and the switch, event by event.
+//! The definitions stand in `specs`.
+#![tactic(auto)]
+
+pub use event::{Event, SwitchAction};
+pub use limits::{MAX_NOT_TAKEN, MAX_TENURE, TIMER_EXPIRED};
+pub use line::{AirMessage, OutboxEntry};
+pub use seat::{Command, Seat, Tenure};
+
+mod event;
+mod limits;
+mod line;
+mod seat;
