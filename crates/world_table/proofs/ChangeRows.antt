@@ -1,5 +1,5 @@
 -- Changes of the channel, and the break of a station while its channel drains.
-use Rattle.std.proofs.Common.{◌≡◌, [], ◌∷◌, Some, option_map, refl}
+use Rattle.std.proofs.Common.{◌≡◌, [], ◌∷◌, Some, refl}
 use Rattle.dtap_codec.specs.declared.sapi.Sapi.TheVariants.{Zero}
 use Rattle.world_table.specs.declared.event.Event.TheVariants.{Upper, AirUp, AirAck, AirDown, Move, Touch, Arrive, Return, BaseTakes, BasePush, Handle, SwitchTakes, SwitchDoes, BaseDown, Report}
 use Rattle.world_table.specs.declared.event.SwitchAction.TheVariants.{Assign, Dtap}
@@ -99,9 +99,10 @@ handover_not_taken : (handed_over).not_taken ≡ 0
 unfolding on_literals
 handover_not_taken = refl
 
-detection_is_made : option_map (λ n. n) (Some ((handed_over).actors.controller.ignored)) ≡ Some 2
+-- HANDOVER DETECTION, and the ESTABLISH INDICATION on the target
+controller_looks_at_no_detection : (handed_over).actors.controller.ignored ≡ 2
 unfolding on_literals
-detection_is_made = refl
+controller_looks_at_no_detection = refl
 
 -- the old station breaks while it still has a message
 abbrev pub broken : World

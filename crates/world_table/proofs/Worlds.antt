@@ -1,5 +1,6 @@
 -- How rows of the world are told: events one after the other, and what is seen then.
-use Rattle.std.proofs.Common.{ℕ, List, map, fold, Option, option_map}
+use Rattle.std.proofs.Common.{ℕ, Bool, List, map, fold, Option, option_map}
+use Rattle.std.specs.Option.{is_some}
 use Rattle.controller_table.proofs.OnLiterals.{on_literals as octets_on_literals}
 use Rattle.rsl_codec.specs.RslText.{rsl_text}
 use Rattle.world_table.specs.declared.event.Event.{Event}
@@ -25,3 +26,7 @@ made_bodies w station = map rsl_text (base_of w.actors station).messages
 -- where a mobile is
 abbrev pub seat_of : World → ℕ → Option Seat
 seat_of w mobile = option_map (λ p. p.seat) (mobile_of w.actors mobile)
+
+-- whether an event's actor can take it
+abbrev pub takes : World → Event → Bool
+takes w event = is_some (event_after w.actors event)
