@@ -1,5 +1,7 @@
 mod ChangeRows
 mod ClearRows
+pub mod Inboxes
+pub mod Leads
 mod MobileRows
 mod MoveRows
 mod OpeningRows

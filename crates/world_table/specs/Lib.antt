@@ -5,3 +5,4 @@ pub mod Relay
 pub mod SwitchSide
 pub mod Life
 pub mod Views
+pub mod Queues

@@ -1,5 +1,5 @@
 -- What goes through the controller and its queues: pushes into the inbox, what is handled, ticks, and breaks of links.
-use Rattle.std.specs.Prelude.{ℕ, ◌==◌, Bool, true, false, if◌then◌else◌, List, [], ◌∷◌, ◌++◌, fold, set, Option, Some, None, Result, Ok}
+use Rattle.std.specs.Prelude.{ℕ, ◌==◌, Bool, true, false, if◌then◌else◌, List, [], ◌∷◌, ◌++◌, fold, Option, Some, None, Result, Ok}
 use Rattle.bssmap_codec.specs.declared.sccp.Sccp.{Sccp}
 use Rattle.bssmap_codec.specs.SccpText.{sccp_text}
 use Rattle.conn_messages.specs.declared.out.Out.{Out}
@@ -21,7 +21,7 @@ use Rattle.rsl_codec.specs.RslText.{rsl_text}
 use Rattle.world_table.specs.declared.line.OutboxEntry.{OutboxEntry}
 use Rattle.world_table.specs.declared.seat.Tenure.{Tenure}
 use Rattle.world_table.specs.Stations.{rsl_in}
-use Rattle.world_table.specs.World.{Actors, is_up, outbox_of, with_outbox, base_of, with_base, tenure_at}
+use Rattle.world_table.specs.World.{Actors, is_up, outbox_of, with_outbox, broken_link, with_link, base_of, with_base, tenure_at}
 
 -- ---- the first made item of a source goes to the inbox's end
 
@@ -98,7 +98,7 @@ without_made source w =
     if source == SWITCH_LINK then record w { switch_made = [] } else with_base source (after_take_down (base_of w source)) w
 
 abbrev pub broken : ℕ → Actors → Actors
-broken source w = with_item (record { source = source; what = whats.Down }) (with_outbox source [] (without_made source (record w { links = set w.links source false })))
+broken source w = with_item (record { source = source; what = whats.Down }) (without_made source (with_link source broken_link w))
 
 abbrev pub after_break : Actors → ℕ → Option Actors
 after_break w source = if is_up w source then Some (broken source w) else None

@@ -1,5 +1,5 @@
 -- The world with a controller, as a record of plain lists.
-use Rattle.std.specs.Prelude.{ℕ, ◌+◌, ◌-◌, ◌==◌, ◌&&◌, not, Bool, true, false, if◌then◌else◌, List, [], ◌∷◌, length, replicate, unwrap_or, find, slice_get, slice_index_or, set, Option, Some, None}
+use Rattle.std.specs.Prelude.{ℕ, ◌+◌, ◌-◌, ◌==◌, ◌&&◌, not, Bool, true, false, if◌then◌else◌, List, [], ◌∷◌, length, replicate, find, slice_index_or, set, Option, Some, None}
 use Rattle.bssmap_codec.specs.declared.sccp.Sccp.{Sccp}
 use Rattle.conn_messages.specs.declared.channel.Place.{Place}
 use Rattle.conn_messages.specs.declared.parameters.TheConstants.{SWITCH_LINK}
@@ -45,6 +45,11 @@ pub record Station : Type 0 where
   pub base : BaseState
   pub spots : List Spot
 
+-- a link of the controller, with its outbox
+pub record Link : Type 0 where
+  pub up : Bool
+  pub outbox : List OutboxEntry
+
 pub record Actors : Type 0 where
   -- how many numbers the messages of the flow have
   pub modulus : ℕ
@@ -55,13 +60,11 @@ pub record Actors : Type 0 where
   pub switch : SwitchState
   -- what the switch made
   pub switch_made : List Sccp
-  -- whether each link is up, the switch's first
-  pub links : List Bool
   -- of all sources, in the order in which they came
   pub inbox : List Item
   pub controller : Controller
-  -- by link, the switch's first
-  pub outboxes : List (List OutboxEntry)
+  -- the controller's, the switch's first
+  pub links : List Link
 
 -- its actors, and how many events none could take
 pub record World : Type 0 where
@@ -69,6 +72,9 @@ pub record World : Type 0 where
   pub not_taken : ℕ
 
 -- ---- the beginning
+
+abbrev pub new_link : Link
+new_link = record { up = true; outbox = [] }
 
 abbrev pub new_spot : Spot
 new_spot = record { tenure = 0; sapi_three_up = false; air = []; reports = 0 }
@@ -92,10 +98,9 @@ new_actors settings = record {
   stations = stations_from 1 settings.cells;
   switch = record { modulus = modulus_in settings; connections = [] };
   switch_made = [];
-  links = replicate (length settings.cells + 1) true;
   inbox = [];
   controller = new_controller settings;
-  outboxes = replicate (length settings.cells + 1) [];
+  links = replicate (length settings.cells + 1) new_link;
 }
 
 abbrev pub new_world : Parameters → World
@@ -103,18 +108,27 @@ new_world settings = record { actors = new_actors settings; not_taken = 0 }
 
 -- ---- links
 
--- no link of another number is there
+-- one that broke; no link of another number is there
+abbrev pub broken_link : Link
+broken_link = record { up = false; outbox = [] }
+
+abbrev pub link_of : Actors → ℕ → Link
+link_of w number = slice_index_or w.links number broken_link
+
+abbrev pub with_link : ℕ → Link → Actors → Actors
+with_link number link w = record w { links = set w.links number link }
+
 abbrev pub is_up : Actors → ℕ → Bool
-is_up w link = unwrap_or (slice_get w.links link) false
+is_up w number = (link_of w number).up
 
 abbrev pub is_station_up : Actors → ℕ → Bool
 is_station_up w station = not (station == SWITCH_LINK) && is_up w station
 
 abbrev pub outbox_of : Actors → ℕ → List OutboxEntry
-outbox_of w link = slice_index_or w.outboxes link []
+outbox_of w number = (link_of w number).outbox
 
 abbrev pub with_outbox : ℕ → List OutboxEntry → Actors → Actors
-with_outbox link entries w = record w { outboxes = set w.outboxes link entries }
+with_outbox number entries w = with_link number (record (link_of w number) { outbox = entries }) w
 
 -- ---- mobiles
 
