@@ -30,7 +30,7 @@ use Rattle.world_table.specs.Relay.{station_item, switch_item, with_item, pushed
 use Rattle.world_table.specs.Stations.{took, rsl_in, after_base_takes}
 use Rattle.world_table.specs.SwitchSide.{sccp_in, switch_took, switch_took_first, after_switch_takes, sent_on, may_send_on, is_layer_3, after_switch_does}
 use Rattle.world_table.specs.World.{Actors, is_up, broken_link, with_link, outbox_of, with_outbox, base_of, with_base}
-use Rattle.world_table.proofs.Leads.{OfTaken, FromAir, upper-leads, connect-leads, air_up-leads, air_ack-leads, air_down-leads, air_down_lost-leads, move-leads, touch-leads, arrive-leads, return-leads, report-leads, base_takes-leads, took-leads, switch_takes-leads, after-taken}
+use Rattle.world_table.proofs.Leads.{OfTaken, FromAir, upper-leads, connect-leads, air_up-leads, air_ack-leads, air_down-leads, air_down_lost-leads, move-leads, touch-leads, arrive-leads, return-leads, report-leads, base_takes-leads, took-leads, switch_takes-leads, switch_took-leads, does-leads, after-taken}
 
 -- the inbox is as it was
 abbrev Stays : Actors → Actors → Type 0
@@ -56,26 +56,6 @@ took-stays w station target o v is = took-leads (Stays w) station target o v (re
   answers = λ answer channel. is;
   releases = λ channel. is;
 })
-
-switch_took-stays : (w : Actors) (o : Option Sccp) (v : Actors) → Stays w v → Stays w (switch_took o v)
-switch_took-stays w None v is = is
-switch_took-stays w (Some message) v is = is
-
-sent_on-stays : (w : Actors) (connection : ℕ) (message : Bssap) (next : SwitchState) → OfTaken (Stays w) (sent_on w connection message next)
-unfolding OfTaken
-sent_on-stays w connection message next = by_bool (may_send_on w connection) where
-  by_bool : (b : Bool) → OfTaken (Stays w) (if b then Some (record w { switch = next; switch_made = w.switch_made ++ data_forms_on (connection_of w.switch.connections connection) message }) else None)
-  by_bool true = refl
-  by_bool false = tt
-
-does-stays : (w : Actors) (action : SwitchAction) → OfTaken (Stays w) (after_switch_does w action)
-unfolding OfTaken
-does-stays w (Assign connection) = sent_on-stays w connection assignment_request w.switch
-does-stays w (Clear connection) = sent_on-stays w connection clear_command (after_clear w.switch connection)
-does-stays w (Dtap connection sapi message) = by_bool (is_layer_3 message) where
-  by_bool : (b : Bool) → OfTaken (Stays w) (if b then sent_on w connection (Transfer (dlci_for sapi) message) w.switch else None)
-  by_bool true = sent_on-stays w connection (Transfer (dlci_for sapi) message) w.switch
-  by_bool false = tt
 
 -- ---- an event: what stands there and what it puts is what it takes and what stands there then
 
@@ -136,8 +116,8 @@ inbox-goes w (BaseTakes station) =
 inbox-goes w (BasePush source) = push-goes w source
 inbox-goes w Handle = append-nil w.inbox ∙ handle-goes w w.inbox refl
 inbox-goes w SwitchTakes =
-    quietly w (after_switch_takes w) (switch_takes-leads (Stays w) w (λ first others _ _. switch_took-stays w (sccp_in first.out.frame) (with_outbox SWITCH_LINK others w) refl))
-inbox-goes w (SwitchDoes action) = quietly w (after_switch_does w action) (does-stays w action)
+    quietly w (after_switch_takes w) (switch_takes-leads (Stays w) w (λ first others _ _. switch_took-leads (Stays w) (with_outbox SWITCH_LINK others w) (sccp_in first.out.frame) refl (λ next made. refl)))
+inbox-goes w (SwitchDoes action) = quietly w (after_switch_does w action) (does-leads (Stays w) w action (λ next made. refl))
 inbox-goes w (Tick ms) = append-nil w.inbox ∙ sym (turn-stays None (tick ms w.controller) w)
 inbox-goes w (BaseDown source) = break-goes w source
 inbox-goes w (Report number report) = quietly w (after_report w number report) (report-leads (Stays w) w number report (λ tenure _. refl))

@@ -3,6 +3,7 @@ use Rattle.std.proofs.Common.{◌≡◌, ℕ, ◌==◌, ◌&&◌, nat_eq, Bool, 
 use Rattle.std.specs.Option.{is_none, option_and_then}
 use Rattle.std.proofs.lemmas.Bool.{cases_Bool}
 use Rattle.bssmap_codec.specs.declared.bssap.Bssap.{Bssap}
+use Rattle.bssmap_codec.specs.declared.bssap.Bssap.TheVariants.{Transfer}
 use Rattle.bssmap_codec.specs.declared.sccp.Sccp.{Sccp}
 use Rattle.controller_table.specs.Controller.{place_at}
 use Rattle.conn_messages.specs.declared.parameters.TheConstants.{SWITCH_LINK}
@@ -10,8 +11,9 @@ use Rattle.controller_table.specs.Life.{take, tick}
 use Rattle.dtap_codec.specs.declared.report.TheConstants.{REPORT_LENGTH}
 use Rattle.dtap_codec.specs.declared.sapi.Sapi.{Sapi}
 use Rattle.link_model.specs.declared.fault.LinkFault.{LinkFault}
-use Rattle.link_model.specs.Base.{refusal_of_activate, after_activate}
+use Rattle.link_model.specs.Base.{refusal_of_activate, after_activate, first_message, after_next}
 use Rattle.mobile_end.specs.Mobile.{after_queue, refusal_of_connect, refusal_of_send, frame_answer, is_acknowledged, after_acked}
+use Rattle.msc_end.specs.Switch.{after, after_clear, assignment_request, clear_command, connection_of, data_forms_on, dlci_for, replies}
 use Rattle.msc_end.specs.SwitchState.{SwitchState}
 use Rattle.relay_items.specs.declared.Item.{Item}
 use Rattle.rsl_codec.specs.declared.rsl.Rsl.{Rsl}
@@ -21,6 +23,7 @@ use Rattle.dtap_codec.specs.declared.rr.RrMessage.TheVariants.{ImmediateAssignme
 use Rattle.dtap_codec.specs.declared.rr_fault.RrFault.{RrFault}
 use Rattle.dtap_codec.specs.RrReading.{rr_reading}
 use Rattle.world_table.specs.declared.event.SwitchAction.{SwitchAction}
+use Rattle.world_table.specs.declared.event.SwitchAction.TheVariants.{Assign, Clear, Dtap}
 use Rattle.world_table.specs.declared.line.AirMessage.{AirMessage}
 use Rattle.world_table.specs.declared.line.OutboxEntry.{OutboxEntry}
 use Rattle.world_table.specs.declared.limits.TheConstants.{MAX_TENURE}
@@ -38,6 +41,10 @@ use Rattle.world_table.specs.World.{Actors, Mobile, is_up, is_station_up, outbox
 unfoldable pub OfTaken : (Actors → Type 0) → Option Actors → Type 0
 OfTaken P None = Unit {0}
 OfTaken P (Some w) = P w
+
+some-leads : (P : Actors → Type 0) (w : Actors) → P w → OfTaken P (Some w)
+unfolding OfTaken
+some-leads P w h = h
 
 pub only_if-leads : (P : Actors → Type 0) (b : Bool) (w : Actors) → (b ≡ true → P w) → OfTaken P (only_if b w)
 unfolding OfTaken
@@ -187,11 +194,6 @@ pub base_takes-leads : (P : Actors → Type 0) (w : Actors) (station : ℕ) → 
 base_takes-leads P w station h =
     air_where P (is_station_up w station) (took_first station (outbox_of w station) w) (λ up. took_first-leads P w station (outbox_of w station) refl (λ first others. h first others up))
 
-pub pushed-leads : (P : Actors → Type 0) (station : ℕ) (o : Option Rsl) (w : Actors) → ((message : Rsl) → o ≡ Some message → OfTaken P (pushed_by_station station (Some message) w)) → OfTaken P (pushed_by_station station o w)
-unfolding OfTaken
-pushed-leads P station None w h = tt
-pushed-leads P station (Some message) w h = h message refl
-
 pub handle-leads : (P : Actors → Type 0) (w : Actors) → ((item : Item) (items : List Item) → w.inbox ≡ item ∷ items → P (with_turn (target_in w item.source item.what) (take item w.controller) (record w { inbox = items }))) → OfTaken P (after_handle w)
 unfolding OfTaken
 handle-leads P w h = by_items w.inbox refl where
@@ -209,6 +211,39 @@ switch_takes-leads P w h = air_where P (is_up w SWITCH_LINK) (switch_took_first 
   by_entries : is_up w SWITCH_LINK ≡ true → (entries : List OutboxEntry) → outbox_of w SWITCH_LINK ≡ entries → OfTaken P (switch_took_first entries w)
   by_entries up [] is = tt
   by_entries up (first ∷ others) is = h first others up is
+
+-- ---- sources and the switch
+
+switch_push-leads : (P : Actors → Type 0) (w : Actors) (made : List Sccp) → ((first : Sccp) (others : List Sccp) → P (with_item (switch_item first) (record w { switch_made = others }))) → OfTaken P (pushed_by_switch made w)
+unfolding OfTaken
+switch_push-leads P w [] h = tt
+switch_push-leads P w (first ∷ others) h = h first others
+
+station_push-leads : (P : Actors → Type 0) (w : Actors) (station : ℕ) (o : Option Rsl) → first_message (base_of w station) ≡ o → ((message : Rsl) → first_message (base_of w station) ≡ Some message → P (with_item (station_item station message) (with_base station (after_next (base_of w station)) w))) → OfTaken P (pushed_by_station station o w)
+unfolding OfTaken
+station_push-leads P w station None is h = tt
+station_push-leads P w station (Some message) is h = h message is
+
+pub push-leads : (P : Actors → Type 0) (w : Actors) (source : ℕ) → ((first : Sccp) (others : List Sccp) → P (with_item (switch_item first) (record w { switch_made = others }))) → ((message : Rsl) → first_message (base_of w source) ≡ Some message → P (with_item (station_item source message) (with_base source (after_next (base_of w source)) w))) → OfTaken P (after_base_push w source)
+push-leads P w source of_switch of_station = by_source (source == SWITCH_LINK) where
+  by_source : (b : Bool) → OfTaken P (if b then pushed_by_switch w.switch_made w else pushed_by_station source (first_message (base_of w source)) w)
+  by_source true = switch_push-leads P w w.switch_made of_switch
+  by_source false = station_push-leads P w source (first_message (base_of w source)) refl of_station
+
+sent_on-leads : (P : Actors → Type 0) (w : Actors) (connection : ℕ) (message : Bssap) (next : SwitchState) → ((made : List Sccp) → P (record w { switch = next; switch_made = made })) → OfTaken P (sent_on w connection message next)
+sent_on-leads P w connection message next h = air_where P (may_send_on w connection) (Some (record w { switch = next; switch_made = w.switch_made ++ data_forms_on (connection_of w.switch.connections connection) message })) (λ _. taken) where
+  taken : OfTaken P (Some (record w { switch = next; switch_made = w.switch_made ++ data_forms_on (connection_of w.switch.connections connection) message }))
+  taken = some-leads P _ (h (w.switch_made ++ data_forms_on (connection_of w.switch.connections connection) message))
+
+pub does-leads : (P : Actors → Type 0) (w : Actors) (action : SwitchAction) → ((next : SwitchState) (made : List Sccp) → P (record w { switch = next; switch_made = made })) → OfTaken P (after_switch_does w action)
+does-leads P w (Assign connection) h = sent_on-leads P w connection assignment_request w.switch (h w.switch)
+does-leads P w (Clear connection) h = sent_on-leads P w connection clear_command (after_clear w.switch connection) (h (after_clear w.switch connection))
+does-leads P w (Dtap connection sapi message) h =
+    air_where P (is_layer_3 message) (sent_on w connection (Transfer (dlci_for sapi) message) w.switch) (λ _. sent_on-leads P w connection (Transfer (dlci_for sapi) message) w.switch (h w.switch))
+
+pub switch_took-leads : (P : Actors → Type 0) (w : Actors) (o : Option Sccp) → P w → ((next : SwitchState) (made : List Sccp) → P (record w { switch = next; switch_made = made })) → P (switch_took o w)
+switch_took-leads P w None stays h = stays
+switch_took-leads P w (Some message) stays h = h (after w.switch message) (w.switch_made ++ replies w.switch.connections message)
 
 -- ---- what a station takes
 

@@ -2,6 +2,7 @@ mod ChangeRows
 mod ClearRows
 pub mod Inboxes
 pub mod Leads
+pub mod Outboxes
 mod MobileRows
 mod MoveRows
 mod OpeningRows

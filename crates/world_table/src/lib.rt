@@ -3,11 +3,13 @@
 #![tactic(auto)]
 
 pub use event::{Event, SwitchAction};
+pub use laws::queues_keep_order;
 pub use limits::{MAX_NOT_TAKEN, MAX_TENURE, TIMER_EXPIRED};
 pub use line::{AirMessage, OutboxEntry};
 pub use seat::{Command, Seat, Tenure};
 
 mod event;
+mod laws;
 mod limits;
 mod line;
 mod seat;
