@@ -1,11 +1,12 @@
 -- What an event leads to, where its actor can take it: the ways to show something of the actors after it.
-use Rattle.std.proofs.Common.{◌≡◌, ℕ, ◌==◌, ◌&&◌, nat_eq, Bool, true, false, not, cond, if◌then◌else◌, List, [], ◌∷◌, ◌++◌, length, unwrap_or, slice_index_or, Option, Some, None, Result, Ok, Err, refl, sym, subst, inl, inr}
+use Rattle.std.proofs.Common.{◌≡◌, ℕ, ◌==◌, ◌&&◌, nat_eq, Bool, true, false, not, cond, if◌then◌else◌, List, [], ◌∷◌, ◌++◌, length, fold, set, unwrap_or, slice_index_or, Option, Some, None, Result, Ok, Err, refl, sym, ap, ◌∙◌, subst, inl, inr}
 use Rattle.std.specs.Option.{is_none, option_and_then}
 use Rattle.std.proofs.lemmas.Bool.{cases_Bool}
 use Rattle.bssmap_codec.specs.declared.bssap.Bssap.{Bssap}
 use Rattle.bssmap_codec.specs.declared.bssap.Bssap.TheVariants.{Transfer}
 use Rattle.bssmap_codec.specs.declared.sccp.Sccp.{Sccp}
-use Rattle.controller_table.specs.Controller.{place_at}
+use Rattle.controller_table.specs.Controller.{Turn, place_at}
+use Rattle.conn_messages.specs.declared.out.Out.{Out}
 use Rattle.conn_messages.specs.declared.parameters.TheConstants.{SWITCH_LINK}
 use Rattle.controller_table.specs.Life.{take, tick}
 use Rattle.dtap_codec.specs.declared.report.TheConstants.{REPORT_LENGTH}
@@ -33,9 +34,9 @@ use Rattle.world_table.specs.declared.seat.Seat.TheVariants.{Asking, On, Moving,
 use Rattle.world_table.specs.declared.seat.Tenure.{Tenure}
 use Rattle.world_table.specs.Mobiles.{only_if, by_mobile, told, may_send, sent_by, after_upper, channel_required, connected, is_new, after_connecting, frame_in, brought, brought_up, after_air_up, acknowledged, after_air_ack, hearing, unheard, taken_from_air, brought_down, after_air_down, after_air_down_lost, left, moved, after_move, is_to_handover, handover_detection, touched, after_touch, complete, failure, seated, arrived, after_arriving, returned, after_return, reported_at, reported, after_report}
 use Rattle.world_table.specs.Stations.{rsl_in, new_tenure, activated_unless, activated, assigned_from, assigned_to, assigned, mobile_on, accepts, answered, released, took, took_first, after_base_takes}
-use Rattle.world_table.specs.Relay.{station_item, switch_item, with_item, pushed_by_station, pushed_by_switch, after_base_push, with_turn, target_in, handled, after_handle, after_tick, broken, after_break}
+use Rattle.world_table.specs.Relay.{station_item, switch_item, with_item, pushed_by_station, pushed_by_switch, after_base_push, entry_of, joined_by, with_turn, target_in, handled, after_handle, after_tick, broken, after_break}
 use Rattle.world_table.specs.SwitchSide.{sccp_in, switch_took, switch_took_first, after_switch_takes, sent_on, may_send_on, is_layer_3, after_switch_does}
-use Rattle.world_table.specs.World.{Actors, Mobile, is_up, is_station_up, outbox_of, with_outbox, mobile_of, with_mobile, base_of, with_base, spot_at, with_spot, is_active_at, tenure_at, is_reached}
+use Rattle.world_table.specs.World.{Actors, Mobile, Link, link_of, is_up, is_station_up, outbox_of, with_outbox, mobile_of, with_mobile, base_of, with_base, spot_at, with_spot, is_active_at, tenure_at, is_reached}
 
 -- of the actors after an event, where there are some
 unfoldable pub OfTaken : (Actors → Type 0) → Option Actors → Type 0
@@ -133,7 +134,7 @@ moved-leads P w p Gone h = tt
 pub move-leads : (P : Actors → Type 0) (w : Actors) (number : ℕ) → ((p : Mobile) (tenure : Tenure) (command : Command) → mobile_of w number ≡ Some p → p.seat ≡ On tenure (Some command) → is_reached w tenure ≡ true → P (left w p tenure command)) → OfTaken P (after_move w number)
 move-leads P w number h = by_mobile-leads P w number (λ p. moved w p p.seat) (λ p is. moved-leads P w p p.seat (λ tenure command. h p tenure command is))
 
-and-right : (a b : Bool) → a && b ≡ true → b ≡ true
+pub and-right : (a b : Bool) → a && b ≡ true → b ≡ true
 and-right true b is = is
 and-right false b is = absurd cc
 
@@ -302,3 +303,23 @@ pub after-taken : (P : Actors → Type 0) (o : Option Actors) (w : Actors) → O
 unfolding OfTaken
 after-taken P None w taken stays = stays
 after-taken P (Some v) w taken stays = taken
+
+-- ---- the controller's turn changes the controller and the links alone
+
+joined_links : (w : Actors) (target : Option Tenure) (out : Out) → (links : List Link) × (joined_by target w out ≡ record w { links = links })
+joined_links w target out = by_link (is_up w out.to) where
+  by_link : (b : Bool) → (links : List Link) × ((if b then with_outbox out.to (outbox_of w out.to ++ entry_of target out ∷ []) w else w) ≡ record w { links = links })
+  by_link true = (set w.links out.to (record (link_of w out.to) { outbox = outbox_of w out.to ++ entry_of target out ∷ [] }), refl)
+  by_link false = (w.links, refl)
+
+all_joined_links : (target : Option Tenure) (outs : List Out) (w : Actors) → (links : List Link) × (fold (joined_by target) w outs ≡ record w { links = links })
+all_joined_links target [] w = (w.links, refl)
+all_joined_links target (out ∷ outs) w =
+    let one = joined_links w target out in
+    let all = all_joined_links target outs (joined_by target w out) in
+    (all.0, all.1 ∙ ap (λ (v : Actors). record v { links = all.0 }) one.1)
+
+pub turn-leads : (P : Actors → Type 0) (target : Option Tenure) (t : Turn) (w : Actors) → ((links : List Link) → P (record w { controller = t.next; links = links })) → P (with_turn target t w)
+turn-leads P target t w h =
+    let all = all_joined_links target t.outs (record w { controller = t.next }) in
+    subst P (sym all.1) (h all.0)

@@ -1,5 +1,6 @@
 mod ChangeRows
 mod ClearRows
+pub mod Honesty
 pub mod Inboxes
 pub mod Leads
 pub mod Outboxes

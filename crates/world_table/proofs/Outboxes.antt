@@ -323,6 +323,9 @@ down-stays : (link : ℕ) (w : Actors) (events : List Event) → IsDown link w �
 down-stays link w [] down = down
 down-stays link w (event ∷ events) down = down-stays link (actors_after w event) events (down-by (step link w event) down)
 
+pub down-after : (link : ℕ) (w : Actors) (event : Event) → is_up w link ≡ false → is_up (actors_after w event) link ≡ false
+down-after link w event down = down-by (step link w event) down
+
 -- ---- all events
 
 Front-empty : {X : Type 0} (xs ys : List X) → xs ++ ys ≡ [] → xs ≡ []

@@ -6,3 +6,4 @@ pub mod SwitchSide
 pub mod Life
 pub mod Views
 pub mod Queues
+pub mod Honest

@@ -1,10 +1,17 @@
 ghost use Rattle.std.specs.Prelude.{List};
 ghost use Rattle.settings.specs.Parameters.{Parameters};
 ghost use Rattle.world_table.specs.declared.event.Event.{Event as WorldEvent};
+ghost use Rattle.world_table.specs.Honest.{AreHonest};
 ghost use Rattle.world_table.specs.Queues.{KeepsQueues};
 ghost use Rattle.world_table.specs.World.{new_actors};
 
 /// Law: whatever events happen, each queue of the relay gives what was put there, in order.
 pub fn queues_keep_order()
     ensures { (settings : Parameters) (events : List WorldEvent) → KeepsQueues (new_actors settings) events }
+{}
+
+/// Law: whatever events happen, stations are honest. Of what a station gives of a channel, no ESTABLISH INDICATION and no DTAP
+/// stands outside the stretch from an activation acknowledgement to the release acknowledgement after it.
+pub fn stations_are_honest()
+    ensures { (settings : Parameters) (events : List WorldEvent) → AreHonest (new_actors settings) events }
 {}
