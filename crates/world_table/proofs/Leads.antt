@@ -1,7 +1,8 @@
 -- What an event leads to, where its actor can take it: the ways to show something of the actors after it.
-use Rattle.std.proofs.Common.{◌≡◌, ℕ, ◌==◌, ◌&&◌, nat_eq, Bool, true, false, not, cond, if◌then◌else◌, List, [], ◌∷◌, ◌++◌, length, fold, set, unwrap_or, slice_index_or, Option, Some, None, Result, Ok, Err, refl, sym, ap, ◌∙◌, subst, inl, inr}
+use Rattle.std.proofs.Common.{◌≡◌, ◌≢◌, ℕ, ◌==◌, ◌&&◌, nat_eq, Bool, true, false, not, cond, if◌then◌else◌, List, [], ◌∷◌, ◌++◌, length, fold, set, unwrap_or, slice_index_or, Option, Some, None, Result, Ok, Err, refl, sym, ap, ◌∙◌, subst, inl, inr}
 use Rattle.std.specs.Option.{is_none, option_and_then}
-use Rattle.std.proofs.lemmas.Bool.{cases_Bool}
+use Rattle.std.proofs.lemmas.Bool.{eqb-true, eqb-false}
+use Rattle.relay_items.specs.declared.What.TheVariants as whats
 use Rattle.bssmap_codec.specs.declared.bssap.Bssap.{Bssap}
 use Rattle.bssmap_codec.specs.declared.bssap.Bssap.TheVariants.{Transfer}
 use Rattle.bssmap_codec.specs.declared.sccp.Sccp.{Sccp}
@@ -12,7 +13,7 @@ use Rattle.controller_table.specs.Life.{take, tick}
 use Rattle.dtap_codec.specs.declared.report.TheConstants.{REPORT_LENGTH}
 use Rattle.dtap_codec.specs.declared.sapi.Sapi.{Sapi}
 use Rattle.link_model.specs.declared.fault.LinkFault.{LinkFault}
-use Rattle.link_model.specs.Base.{refusal_of_activate, after_activate, first_message, after_next}
+use Rattle.link_model.specs.Base.{refusal_of_activate, after_activate, first_message, after_next, after_take_down}
 use Rattle.mobile_end.specs.Mobile.{after_queue, refusal_of_connect, refusal_of_send, frame_answer, is_acknowledged, after_acked}
 use Rattle.msc_end.specs.Switch.{after, after_clear, assignment_request, clear_command, connection_of, data_forms_on, dlci_for, replies}
 use Rattle.msc_end.specs.SwitchState.{SwitchState}
@@ -36,7 +37,7 @@ use Rattle.world_table.specs.Mobiles.{only_if, by_mobile, told, may_send, sent_b
 use Rattle.world_table.specs.Stations.{rsl_in, new_tenure, activated_unless, activated, assigned_from, assigned_to, assigned, mobile_on, accepts, answered, released, took, took_first, after_base_takes}
 use Rattle.world_table.specs.Relay.{station_item, switch_item, with_item, pushed_by_station, pushed_by_switch, after_base_push, entry_of, joined_by, with_turn, target_in, handled, after_handle, after_tick, broken, after_break}
 use Rattle.world_table.specs.SwitchSide.{sccp_in, switch_took, switch_took_first, after_switch_takes, sent_on, may_send_on, is_layer_3, after_switch_does}
-use Rattle.world_table.specs.World.{Actors, Mobile, Link, link_of, is_up, is_station_up, outbox_of, with_outbox, mobile_of, with_mobile, base_of, with_base, spot_at, with_spot, is_active_at, tenure_at, is_reached}
+use Rattle.world_table.specs.World.{Actors, Mobile, Link, broken_link, with_link, link_of, is_up, is_station_up, outbox_of, with_outbox, mobile_of, with_mobile, base_of, with_base, spot_at, with_spot, is_active_at, tenure_at, is_reached}
 
 -- of the actors after an event, where there are some
 unfoldable pub OfTaken : (Actors → Type 0) → Option Actors → Type 0
@@ -202,9 +203,13 @@ handle-leads P w h = by_items w.inbox refl where
   by_items [] is = tt
   by_items (item ∷ items) is = h item items is
 
-pub break-leads : (P : Actors → Type 0) (w : Actors) (source : ℕ) → (is_up w source ≡ true → P (broken source w)) → OfTaken P (after_break w source)
+-- of the switch's link or of a station's
+pub broken-leads : (P : Actors → Type 0) (w : Actors) (source : ℕ) → (is_up w source ≡ true → source ≡ SWITCH_LINK → P (with_item (record { source = source; what = whats.Down }) (record (with_link source broken_link w) { switch_made = [] }))) → (is_up w source ≡ true → source ≢ SWITCH_LINK → P (with_item (record { source = source; what = whats.Down }) (with_base source (after_take_down (base_of (with_link source broken_link w) source)) (with_link source broken_link w)))) → OfTaken P (after_break w source)
 unfolding OfTaken
-break-leads P w source h = air_where P (is_up w source) (Some (broken source w)) h
+broken-leads P w source of_switch of_station = air_where P (is_up w source) (Some (broken source w)) (λ up. by_source up (nat_eq source SWITCH_LINK) refl) where
+  by_source : is_up w source ≡ true → (b : Bool) → nat_eq source SWITCH_LINK ≡ b → P (with_item (record { source = source; what = whats.Down }) (if b then record (with_link source broken_link w) { switch_made = [] } else with_base source (after_take_down (base_of (with_link source broken_link w) source)) (with_link source broken_link w)))
+  by_source up true is = of_switch up (eqb-true source SWITCH_LINK is)
+  by_source up false is = of_station up (eqb-false source SWITCH_LINK is)
 
 pub switch_takes-leads : (P : Actors → Type 0) (w : Actors) → ((first : OutboxEntry) (others : List OutboxEntry) → is_up w SWITCH_LINK ≡ true → outbox_of w SWITCH_LINK ≡ first ∷ others → P (switch_took (sccp_in first.out.frame) (with_outbox SWITCH_LINK others w))) → OfTaken P (after_switch_takes w)
 unfolding OfTaken

@@ -4,6 +4,7 @@ pub mod Honesty
 pub mod Inboxes
 pub mod Leads
 pub mod Outboxes
+pub mod Living
 mod MobileRows
 mod MoveRows
 mod OpeningRows

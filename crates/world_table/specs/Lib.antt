@@ -7,3 +7,4 @@ pub mod Life
 pub mod Views
 pub mod Queues
 pub mod Honest
+pub mod Steps

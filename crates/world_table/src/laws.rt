@@ -3,6 +3,7 @@ ghost use Rattle.settings.specs.Parameters.{Parameters};
 ghost use Rattle.world_table.specs.declared.event.Event.{Event as WorldEvent};
 ghost use Rattle.world_table.specs.Honest.{AreHonest};
 ghost use Rattle.world_table.specs.Queues.{KeepsQueues};
+ghost use Rattle.world_table.specs.Steps.{LivesByTable};
 ghost use Rattle.world_table.specs.World.{new_actors};
 
 /// Law: whatever events happen, each queue of the relay gives what was put there, in order.
@@ -14,4 +15,10 @@ pub fn queues_keep_order()
 /// stands outside the stretch from an activation acknowledgement to the release acknowledgement after it.
 pub fn stations_are_honest()
     ensures { (settings : Parameters) (events : List WorldEvent) → AreHonest (new_actors settings) events }
+{}
+
+/// Law: the controller of a world is the one after the items that it handled and the time that passed for it. So what holds of
+/// the controller after any steps holds of it.
+pub fn controller_lives_by_its_table()
+    ensures { (settings : Parameters) (events : List WorldEvent) → LivesByTable settings events }
 {}
