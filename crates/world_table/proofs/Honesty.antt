@@ -64,10 +64,10 @@ less-one n m n_is m_is differs same = differs (omega arith)
 
 -- ---- ends of stations
 
-base-with_spot : (at : Place) (spot : Spot) (w : Actors) (n : ℕ) → base_of (with_spot at spot w) n ≡ base_of w n
+pub base-with_spot : (at : Place) (spot : Spot) (w : Actors) (n : ℕ) → base_of (with_spot at spot w) n ≡ base_of w n
 base-with_spot at spot w n = set-same-base w.stations (at.station - 1) (n - 1) _ refl
 
-base-elsewhere : (w : Actors) (n m : ℕ) (base : BaseState) → n ≢ 0 → m ≢ 0 → n ≢ m → base_of (with_base m base w) n ≡ base_of w n
+pub base-elsewhere : (w : Actors) (n m : ℕ) (base : BaseState) → n ≢ 0 → m ≢ 0 → n ≢ m → base_of (with_base m base w) n ≡ base_of w n
 base-elsewhere w n m base n_is m_is differs = ap (λ (s : Station). s.base) (set-elsewhere w.stations (m - 1) (n - 1) _ (less-one n m n_is m_is differs))
 
 base-there : (w : Actors) (n : ℕ) (base : BaseState) → (base_of (with_base n base w) n ≡ base) ⊎ ((base_of (with_base n base w) n ≡ no_station.base) × (base_of w n ≡ no_station.base))
@@ -84,10 +84,10 @@ data Acts (n : ℕ) (w v : Actors) : Type 0 where
   acts : (calls : List BaseCall) → is_up w n ≡ true → base_of v n ≡ after_calls (base_of w n) calls → messages_given (base_of w n) calls ≡ [] → Acts n w v
 
 -- all stations' ends are as in w
-abbrev SameEnds : Actors → Actors → Type 0
+abbrev pub SameEnds : Actors → Actors → Type 0
 SameEnds w u = (k : ℕ) → base_of u k ≡ base_of w k
 
-up-right : (station : ℕ) (w : Actors) → is_station_up w station ≡ true → (station ≢ 0) × (is_up w station ≡ true)
+pub up-right : (station : ℕ) (w : Actors) → is_station_up w station ≡ true → (station ≢ 0) × (is_up w station ≡ true)
 up-right station w up = by_number (station == SWITCH_LINK) refl where
   by_number : (b : Bool) → station == SWITCH_LINK ≡ b → (station ≢ 0) × (is_up w station ≡ true)
   by_number true is = absurd (impossible (sym (ap (λ (b : Bool). not b && is_up w station) is) ∙ up)) where
@@ -126,7 +126,7 @@ activating base channel is = sym (ap (λ (o : Option LinkFault). state_unless o 
 
 -- ---- reached channels are active, of a station that is up
 
-reached-up : (w : Actors) (tenure : Tenure) → is_reached w tenure ≡ true → (is_station_up w tenure.at.station ≡ true) × (is_active_at w tenure.at ≡ true)
+pub reached-up : (w : Actors) (tenure : Tenure) → is_reached w tenure ≡ true → (is_station_up w tenure.at.station ≡ true) × (is_active_at w tenure.at ≡ true)
 reached-up w tenure is =
     let front = and-left (is_station_up w tenure.at.station && is_active_at w tenure.at) ((spot_at w tenure.at).tenure == tenure.number) is in
     (and-left (is_station_up w tenure.at.station) (is_active_at w tenure.at) front, and-right (is_station_up w tenure.at.station) (is_active_at w tenure.at) front)
@@ -185,23 +185,36 @@ data Step (n : ℕ) (w : Actors) (event : Event) (v : Actors) : Type 0 where
   gives : (message : Rsl) → first_message (base_of w n) ≡ Some message → base_of v n ≡ after_next (base_of w n) → given n w event ≡ message ∷ [] → Step n w event v
   breaks : is_up v n ≡ false → (base_of v n).messages ≡ [] → given n w event ≡ [] → Step n w event v
 
+-- what a push or a break does to the end
+pub data Plain (n : ℕ) (w : Actors) (event : Event) (v : Actors) : Type 0 where
+  as_before : base_of v n ≡ base_of w n → given n w event ≡ [] → Plain n w event v
+  next : (message : Rsl) → first_message (base_of w n) ≡ Some message → base_of v n ≡ after_next (base_of w n) → given n w event ≡ message ∷ [] → Plain n w event v
+  ends_now : is_up v n ≡ false → (base_of v n).messages ≡ [] → given n w event ≡ [] → Plain n w event v
+
+plain-step : {n : ℕ} {w v : Actors} {event : Event} → Plain n w event v → Step n w event v
+plain-step (as_before same nothing) = acts_then (rests same) nothing
+plain-step (next message first is nows) = gives message first is nows
+plain-step (ends_now down left nothing) = breaks down left nothing
+
 acting : (n : ℕ) (w : Actors) (event : Event) (o : Option Actors) → given n w event ≡ [] → OfTaken (Acts n w) o → Step n w event (unwrap_or o w)
 acting n w event o nothing leads = acts_then (after-taken (Acts n w) o w leads (rests refl)) nothing
 
 -- a push
-pushing : (n source : ℕ) (w : Actors) → n ≢ 0 → Step n w (BasePush source) (unwrap_or (after_base_push w source) w)
+pub pushing : (n source : ℕ) (w : Actors) → n ≢ 0 → Plain n w (BasePush source) (unwrap_or (after_base_push w source) w)
 pushing n source w n_is = by_number (nat_eq source SWITCH_LINK) refl where
-  from_station : source ≢ 0 → (o : Option Rsl) → first_message (base_of w source) ≡ o → Step n w (BasePush source) (unwrap_or (pushed_by_station source o w) w)
+  none_given : source ≡ 0 → given n w (BasePush source) ≡ []
+  none_given is = ap (λ (b : Bool). if b then option_to_list (first_message (base_of w n)) else []) (ne_eqb source n (λ same. n_is (sym same ∙ is)))
+  from_station : source ≢ 0 → (o : Option Rsl) → first_message (base_of w source) ≡ o → Plain n w (BasePush source) (unwrap_or (pushed_by_station source o w) w)
   from_station source_is o made =
       elim (cases_Bool (nat_eq source n)) [
         | inl same ↦ own (eqb-true source n same) same o made
         | inr other ↦ others other o
       ] where
-    own : source ≡ n → nat_eq source n ≡ true → (o : Option Rsl) → first_message (base_of w source) ≡ o → Step n w (BasePush source) (unwrap_or (pushed_by_station source o w) w)
+    own : source ≡ n → nat_eq source n ≡ true → (o : Option Rsl) → first_message (base_of w source) ≡ o → Plain n w (BasePush source) (unwrap_or (pushed_by_station source o w) w)
     own is same None made =
-        acts_then (rests refl) (ap (λ (b : Bool). if b then option_to_list (first_message (base_of w n)) else []) same ∙ ap (λ (k : ℕ). option_to_list (first_message (base_of w k))) (sym is) ∙ ap option_to_list made)
+        as_before refl (ap (λ (b : Bool). if b then option_to_list (first_message (base_of w n)) else []) same ∙ ap (λ (k : ℕ). option_to_list (first_message (base_of w k))) (sym is) ∙ ap option_to_list made)
     own is same (Some message) made =
-        gives message (ap (λ (k : ℕ). first_message (base_of w k)) (sym is) ∙ made)
+        next message (ap (λ (k : ℕ). first_message (base_of w k)) (sym is) ∙ made)
           (subst (λ (k : ℕ). base_of (with_base source (after_next (base_of w source)) w) k ≡ after_next (base_of w k)) is (next_there source))
           (ap (λ (b : Bool). if b then option_to_list (first_message (base_of w n)) else []) same ∙ ap (λ (k : ℕ). option_to_list (first_message (base_of w k))) (sym is) ∙ ap option_to_list made) where
       next_there : (k : ℕ) → base_of (with_base k (after_next (base_of w k)) w) k ≡ after_next (base_of w k)
@@ -209,21 +222,19 @@ pushing n source w n_is = by_number (nat_eq source SWITCH_LINK) refl where
           | inl there ↦ there
           | inr nowhere ↦ nowhere.0 ∙ sym (ap after_next nowhere.1)
         ]
-    others : nat_eq source n ≡ false → (o : Option Rsl) → Step n w (BasePush source) (unwrap_or (pushed_by_station source o w) w)
-    others other None = acts_then (rests refl) (ap (λ (b : Bool). if b then option_to_list (first_message (base_of w n)) else []) other)
+    others : nat_eq source n ≡ false → (o : Option Rsl) → Plain n w (BasePush source) (unwrap_or (pushed_by_station source o w) w)
+    others other None = as_before refl (ap (λ (b : Bool). if b then option_to_list (first_message (base_of w n)) else []) other)
     others other (Some message) =
-        acts_then (rests (base-elsewhere w n source _ n_is source_is (λ is. eqb-false source n other (sym is)))) (ap (λ (b : Bool). if b then option_to_list (first_message (base_of w n)) else []) other)
-  from_switch : source ≡ 0 → (made : List Sccp) → Step n w (BasePush source) (unwrap_or (pushed_by_switch made w) w)
-  from_switch is made = acts_then (by_made made) (ap (λ (b : Bool). if b then option_to_list (first_message (base_of w n)) else []) (ne_eqb source n (λ same. n_is (sym same ∙ is)))) where
-    by_made : (made : List Sccp) → Acts n w (unwrap_or (pushed_by_switch made w) w)
-    by_made [] = rests refl
-    by_made (first ∷ others) = rests refl
-  by_number : (b : Bool) → nat_eq source SWITCH_LINK ≡ b → Step n w (BasePush source) (unwrap_or (if b then pushed_by_switch w.switch_made w else pushed_by_station source (first_message (base_of w source)) w) w)
+        as_before (base-elsewhere w n source _ n_is source_is (λ is. eqb-false source n other (sym is))) (ap (λ (b : Bool). if b then option_to_list (first_message (base_of w n)) else []) other)
+  from_switch : source ≡ 0 → (made : List Sccp) → Plain n w (BasePush source) (unwrap_or (pushed_by_switch made w) w)
+  from_switch is [] = as_before refl (none_given is)
+  from_switch is (first ∷ others) = as_before refl (none_given is)
+  by_number : (b : Bool) → nat_eq source SWITCH_LINK ≡ b → Plain n w (BasePush source) (unwrap_or (if b then pushed_by_switch w.switch_made w else pushed_by_station source (first_message (base_of w source)) w) w)
   by_number true is = from_switch (eqb-true source 0 is) w.switch_made
   by_number false is = from_station (eqb-false source 0 is) (first_message (base_of w source)) refl
 
 -- a break
-breaking : (n source : ℕ) (w : Actors) → n ≢ 0 → Step n w (BaseDown source) (unwrap_or (after_break w source) w)
+pub breaking : (n source : ℕ) (w : Actors) → n ≢ 0 → Plain n w (BaseDown source) (unwrap_or (after_break w source) w)
 breaking n source w n_is = by_link (is_up w source) refl where
   u : Actors
   u = with_link source broken_link w
@@ -234,18 +245,18 @@ breaking n source w n_is = by_link (is_up w source) refl where
       | inl there ↦ ap (λ (b : BaseState). b.messages) there
       | inr nowhere ↦ ap (λ (b : BaseState). b.messages) nowhere.0
     ]
-  own : source ≡ n → is_up w source ≡ true → Step n w (BaseDown source) v
-  own is up = subst (λ (k : ℕ). Step k w (BaseDown source) v) is (breaks (ap (λ (l : Link). l.up) (changed_link w.links source broken_link up)) nothing_left refl)
-  made : is_up w source ≡ true → (b : Bool) → nat_eq source SWITCH_LINK ≡ b → Step n w (BaseDown source) (with_item (record { source = source; what = whats.Down }) (if b then record u { switch_made = [] } else with_base source (after_take_down (base_of u source)) u))
-  made up true is = acts_then (rests refl) refl
+  own : source ≡ n → is_up w source ≡ true → Plain n w (BaseDown source) v
+  own is up = subst (λ (k : ℕ). Plain k w (BaseDown source) v) is (ends_now (ap (λ (l : Link). l.up) (changed_link w.links source broken_link up)) nothing_left refl)
+  made : is_up w source ≡ true → (b : Bool) → nat_eq source SWITCH_LINK ≡ b → Plain n w (BaseDown source) (with_item (record { source = source; what = whats.Down }) (if b then record u { switch_made = [] } else with_base source (after_take_down (base_of u source)) u))
+  made up true is = as_before refl refl
   made up false is =
       elim (cases_Bool (nat_eq source n)) [
         | inl same ↦ own (eqb-true source n same) up
-        | inr other ↦ acts_then (rests (base-elsewhere u n source (after_take_down (base_of u source)) n_is (eqb-false source 0 is) (λ is_n. eqb-false source n other (sym is_n)))) refl
+        | inr other ↦ as_before (base-elsewhere u n source (after_take_down (base_of u source)) n_is (eqb-false source 0 is) (λ is_n. eqb-false source n other (sym is_n))) refl
       ]
-  by_link : (b : Bool) → is_up w source ≡ b → Step n w (BaseDown source) (unwrap_or (if b then Some (broken source w) else None) w)
+  by_link : (b : Bool) → is_up w source ≡ b → Plain n w (BaseDown source) (unwrap_or (if b then Some (broken source w) else None) w)
   by_link true up = made up (nat_eq source SWITCH_LINK) refl
-  by_link false down = acts_then (rests refl) refl
+  by_link false down = as_before refl refl
 
 step : (n : ℕ) (w : Actors) (event : Event) → n ≢ 0 → Step n w event (actors_after w event)
 unfolding event_after FromAir OfTaken
@@ -267,14 +278,14 @@ step n w (Return number) n_is =
     acting n w (Return number) (after_return w number) refl (return-leads (Acts n w) w number (λ p from command _ _ reached. seated-acts n w p from (failure command.change) n_is reached))
 step n w (BaseTakes station) n_is =
     acting n w (BaseTakes station) (after_base_takes w station) refl (base_takes-leads (Acts n w) w station (λ first others up _. took-acts n station first.target (rsl_in first.out.frame) w (with_outbox station others w) n_is up (λ k. refl)))
-step n w (BasePush source) n_is = pushing n source w n_is
+step n w (BasePush source) n_is = plain-step (pushing n source w n_is)
 step n w Handle n_is =
     acting n w Handle (after_handle w) refl (handle-leads (Acts n w) w (λ item items _. turn-leads (Acts n w) (target_in w item.source item.what) (take item w.controller) (record w { inbox = items }) (λ links. rests refl)))
 step n w SwitchTakes n_is =
     acting n w SwitchTakes (after_switch_takes w) refl (switch_takes-leads (Acts n w) w (λ first others _ _. switch_took-leads (Acts n w) (with_outbox SWITCH_LINK others w) (sccp_in first.out.frame) (rests refl) (λ next made. rests refl)))
 step n w (SwitchDoes action) n_is = acting n w (SwitchDoes action) (after_switch_does w action) refl (does-leads (Acts n w) w action (λ next made. rests refl))
 step n w (Tick ms) n_is = acting n w (Tick ms) (after_tick w ms) refl (turn-leads (Acts n w) None (tick ms w.controller) w (λ links. rests refl))
-step n w (BaseDown source) n_is = breaking n source w n_is
+step n w (BaseDown source) n_is = plain-step (breaking n source w n_is)
 step n w (Report number report) n_is =
     acting n w (Report number report) (after_report w number report) refl (report-leads (Acts n w) w number report (λ tenure reached. told-acts n tenure.at.station _ w _ n_is (reached-up w tenure reached).0 (λ k. base-with_spot tenure.at _ w k) refl))
 

@@ -266,37 +266,42 @@ activated-leads : (P : Actors → Type 0) (station channel : ℕ) (target : Opti
 activated-leads P station channel target w None is h = h.activates channel is
 activated-leads P station channel target w (Some fault) is h = h.nothing
 
-unless_last-leads : (P : Actors → Type 0) (b : Bool) (w : Actors) → P w → OfTaken P (if b then None else Some w)
+pub unless_last-leads : (P : Actors → Type 0) (b : Bool) (w : Actors) → P w → OfTaken P (if b then None else Some w)
 unfolding OfTaken
 unless_last-leads P true w h = tt
 unless_last-leads P false w h = h
 
-seated_from-leads : (P : Actors → Type 0) (station number channel : ℕ) (target : Option Tenure) (w : Actors) (p : Mobile) (seat : Seat) → mobile_of w number ≡ Some p → p.seat ≡ seat → Taking P station target w → P (assigned_from seat (tenure_at w (place_at station channel)) p w)
-seated_from-leads P station number channel target w p Asking found is h = h.seats p number channel found is
-seated_from-leads P station number channel target w p (On tenure command) found is h = h.nothing
-seated_from-leads P station number channel target w p (Moving from command) found is h = h.nothing
-seated_from-leads P station number channel target w p Gone found is h = h.nothing
+-- the mobile that a station seats
+unfoldable pub Seats : (Actors → Type 0) → ℕ → Actors → Type 0
+Seats P station w = (p : Mobile) (number channel : ℕ) → mobile_of w number ≡ Some p → p.seat ≡ Asking → P (with_mobile (record p { seat = On (tenure_at w (place_at station channel)) None }) w)
 
-assigned_to-leads : (P : Actors → Type 0) (station number channel : ℕ) (target : Option Tenure) (w : Actors) (o : Option Mobile) → mobile_of w number ≡ o → Taking P station target w → P (assigned_to o (tenure_at w (place_at station channel)) w)
-assigned_to-leads P station number channel target w None found h = h.nothing
-assigned_to-leads P station number channel target w (Some p) found h = seated_from-leads P station number channel target w p p.seat found refl h
+seated_from-leads : (P : Actors → Type 0) (station number channel : ℕ) (w : Actors) (p : Mobile) (seat : Seat) → mobile_of w number ≡ Some p → p.seat ≡ seat → P w → Seats P station w → P (assigned_from seat (tenure_at w (place_at station channel)) p w)
+unfolding Seats
+seated_from-leads P station number channel w p Asking found is nothing seats = seats p number channel found is
+seated_from-leads P station number channel w p (On tenure command) found is nothing seats = nothing
+seated_from-leads P station number channel w p (Moving from command) found is nothing seats = nothing
+seated_from-leads P station number channel w p Gone found is nothing seats = nothing
 
-assigned-leads : (P : Actors → Type 0) (station : ℕ) (target : Option Tenure) (w : Actors) (r : Result RrMessage RrFault) → Taking P station target w → P (assigned station r w)
-assigned-leads P station target w (Ok (ImmediateAssignment channel request advance)) h =
-    assigned_to-leads P station (slice_index_or request 0 0) channel.channel.0 target w (mobile_of w (slice_index_or request 0 0)) refl h
-assigned-leads P station target w (Ok _) h = h.nothing
-assigned-leads P station target w (Err fault) h = h.nothing
+assigned_to-leads : (P : Actors → Type 0) (station number channel : ℕ) (w : Actors) (o : Option Mobile) → mobile_of w number ≡ o → P w → Seats P station w → P (assigned_to o (tenure_at w (place_at station channel)) w)
+assigned_to-leads P station number channel w None found nothing seats = nothing
+assigned_to-leads P station number channel w (Some p) found nothing seats = seated_from-leads P station number channel w p p.seat found refl nothing seats
+
+pub assigned-leads : (P : Actors → Type 0) (station : ℕ) (w : Actors) (r : Result RrMessage RrFault) → P w → Seats P station w → P (assigned station r w)
+assigned-leads P station w (Ok (ImmediateAssignment channel request advance)) nothing seats =
+    assigned_to-leads P station (slice_index_or request 0 0) channel.channel.0 w (mobile_of w (slice_index_or request 0 0)) refl nothing seats
+assigned-leads P station w (Ok _) nothing seats = nothing
+assigned-leads P station w (Err fault) nothing seats = nothing
 
 aired-leads : (P : Actors → Type 0) (station channel : ℕ) (message : List ℕ) (target : Option Tenure) (w : Actors) (b : Bool) → is_active_at w (place_at station channel) ≡ b → Taking P station target w → P (if b then with_spot (place_at station channel) (record (spot_at w (place_at station channel)) { air = (spot_at w (place_at station channel)).air ++ record { message = message; target = target } ∷ [] }) w else w)
 aired-leads P station channel message target w true is h = h.airs channel message is
 aired-leads P station channel message target w false is h = h.nothing
 
 pub took-leads : (P : Actors → Type 0) (station : ℕ) (target : Option Tenure) (o : Option Rsl) (w : Actors) → Taking P station target w → OfTaken P (took station target o w)
-unfolding OfTaken
+unfolding OfTaken Seats
 took-leads P station target None w h = h.nothing
 took-leads P station target (Some (ChannelActivation a)) w h =
     unless_last-leads P ((spot_at w (place_at station a.channel)).tenure == MAX_TENURE) (activated (place_at station a.channel) w) (activated-leads P station a.channel target w (refusal_of_activate (base_of w station) a.channel) refl h)
-took-leads P station target (Some (ImmediateAssignCommand i)) w h = assigned-leads P station target w (rr_reading i.information) h
+took-leads P station target (Some (ImmediateAssignCommand i)) w h = assigned-leads P station w (rr_reading i.information) h.nothing h.seats
 took-leads P station target (Some (DataRequest d)) w h = aired-leads P station d.channel d.l3 target w (is_active_at w (place_at station d.channel)) refl h
 took-leads P station target (Some (EstablishRequest l)) w h = h.answers (is_active_at w (place_at station l.channel) && accepts (mobile_on w (tenure_at w (place_at station l.channel)))) l.channel
 took-leads P station target (Some (RfChannelRelease channel)) w h = h.releases channel
