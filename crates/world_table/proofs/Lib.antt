@@ -1,5 +1,7 @@
+pub mod Acknowledging
 mod ChangeRows
 mod ClearRows
+pub mod Counting
 pub mod Honesty
 pub mod Inboxes
 pub mod Leads

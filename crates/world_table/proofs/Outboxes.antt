@@ -214,7 +214,7 @@ popped-step link other w event v none takes h =
           ∙ ap (λ (l : Link). l.outbox) (sym same)
           ∙ ap (λ (entries : List OutboxEntry). entries ++ outbox_of v link) (sym nobody))
 
-no_entries : (b : Bool) (entries : List OutboxEntry) → (if b then (if false then entries else []) else []) ≡ []
+pub no_entries : (b : Bool) (entries : List OutboxEntry) → (if b then (if false then entries else []) else []) ≡ []
 no_entries true entries = refl
 no_entries false entries = refl
 
@@ -223,7 +223,7 @@ unfolding OfTaken
 takes-step link other w event None none takes h = quiet link w event w none (takes ∙ no_entries (other == link) (first_of (outbox_of w link))) refl
 takes-step link other w event (Some v) none takes h = popped-step link other w event v none takes h
 
-right_of : (a b : Bool) → a && b ≡ true → b ≡ true
+pub right_of : (a b : Bool) → a && b ≡ true → b ≡ true
 right_of true b is = is
 right_of false b is = absurd cc
 
@@ -326,11 +326,24 @@ down-stays link w (event ∷ events) down = down-stays link (actors_after w even
 pub down-after : (link : ℕ) (w : Actors) (event : Event) → is_up w link ≡ false → is_up (actors_after w event) link ≡ false
 down-after link w event down = down-by (step link w event) down
 
--- ---- all events
-
 Front-empty : {X : Type 0} (xs ys : List X) → xs ++ ys ≡ [] → xs ≡ []
 Front-empty [] ys is = refl
 Front-empty (x ∷ xs) ys is = absurd cc
+
+-- nothing is taken of a link that is down and has nothing, and it has nothing then
+Both-empty : {X : Type 0} (xs ys : List X) → [] ≡ xs ++ ys → (xs ≡ []) × (ys ≡ [])
+Both-empty [] ys is = (refl, sym is)
+Both-empty (x ∷ xs) ys is = absurd cc
+
+empty-by : {link : ℕ} {w v : Actors} {event : Event} → Step link w event v → IsDown link w → outbox_of w link ≡ [] → (taken link w event ≡ []) × (outbox_of v link ≡ [])
+empty-by {link} {w} {v} {event} (goes same all) down none =
+    Both-empty (taken link w event) (outbox_of v link) (sym (sym all ∙ ap (λ (entries : List OutboxEntry). entries ++ put link w event) none ∙ down-puts link w event down))
+empty-by (breaks broken nothing nobody) down none = (nobody, ap (λ (l : Link). l.outbox) broken)
+
+pub down-empty : (link : ℕ) (w : Actors) (event : Event) → is_up w link ≡ false → outbox_of w link ≡ [] → (taken link w event ≡ []) × (outbox_of (actors_after w event) link ≡ [])
+down-empty link w event down none = empty-by (step link w event) down none
+
+-- ---- all events
 
 -- what is taken is the beginning of what stands there and is put
 begins-by : (link : ℕ) (w : Actors) (event : Event) (events : List Event) → Step link w event (actors_after w event) → IsPrefix (all_taken link (actors_after w event) events) (outbox_of (actors_after w event) link ++ all_put link (actors_after w event) events) → IsPrefix (all_taken link w (event ∷ events)) (outbox_of w link ++ all_put link w (event ∷ events))
@@ -383,7 +396,7 @@ pub rest-all : (link : ℕ) (w : Actors) (events : List Event) → outbox_of w l
 unfolding Left
 rest-all link w events empty up = ap (λ (entries : List OutboxEntry). entries ++ all_put link w events) (sym empty) ∙ left-all link w events up
 
-new_outbox : (count number : ℕ) → (get_or (replicate count new_link) number broken_link).outbox ≡ []
+pub new_outbox : (count number : ℕ) → (get_or (replicate count new_link) number broken_link).outbox ≡ []
 new_outbox zero number = refl
 new_outbox (suc count) zero = refl
 new_outbox (suc count) (suc number) = new_outbox count number

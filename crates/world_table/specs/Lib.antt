@@ -8,3 +8,4 @@ pub mod Views
 pub mod Queues
 pub mod Honest
 pub mod Steps
+pub mod Pipe
