@@ -70,7 +70,7 @@ base-with_spot at spot w n = set-same-base w.stations (at.station - 1) (n - 1) _
 pub base-elsewhere : (w : Actors) (n m : ℕ) (base : BaseState) → n ≢ 0 → m ≢ 0 → n ≢ m → base_of (with_base m base w) n ≡ base_of w n
 base-elsewhere w n m base n_is m_is differs = ap (λ (s : Station). s.base) (set-elsewhere w.stations (m - 1) (n - 1) _ (less-one n m n_is m_is differs))
 
-base-there : (w : Actors) (n : ℕ) (base : BaseState) → (base_of (with_base n base w) n ≡ base) ⊎ ((base_of (with_base n base w) n ≡ no_station.base) × (base_of w n ≡ no_station.base))
+pub base-there : (w : Actors) (n : ℕ) (base : BaseState) → (base_of (with_base n base w) n ≡ base) ⊎ ((base_of (with_base n base w) n ≡ no_station.base) × (base_of w n ≡ no_station.base))
 base-there w n base =
     elim (set-or-not w.stations (n - 1) (record (station_of w n) { base = base })) [
       | inl there ↦ inl (ap (λ (s : Station). s.base) there)

@@ -10,6 +10,7 @@ pub mod Living
 mod MobileRows
 mod MoveRows
 mod OpeningRows
+pub mod Piping
 mod QueueRows
 mod StationRows
 pub mod Worlds

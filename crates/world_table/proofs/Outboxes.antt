@@ -331,7 +331,7 @@ Front-empty [] ys is = refl
 Front-empty (x ∷ xs) ys is = absurd cc
 
 -- nothing is taken of a link that is down and has nothing, and it has nothing then
-Both-empty : {X : Type 0} (xs ys : List X) → [] ≡ xs ++ ys → (xs ≡ []) × (ys ≡ [])
+pub Both-empty : {X : Type 0} (xs ys : List X) → [] ≡ xs ++ ys → (xs ≡ []) × (ys ≡ [])
 Both-empty [] ys is = (refl, sym is)
 Both-empty (x ∷ xs) ys is = absurd cc
 
@@ -342,6 +342,14 @@ empty-by (breaks broken nothing nobody) down none = (nobody, ap (λ (l : Link). 
 
 pub down-empty : (link : ℕ) (w : Actors) (event : Event) → is_up w link ≡ false → outbox_of w link ≡ [] → (taken link w event ≡ []) × (outbox_of (actors_after w event) link ≡ [])
 down-empty link w event down none = empty-by (step link w event) down none
+
+-- a link that is down has nothing
+emptied-by : {link : ℕ} {w v : Actors} {event : Event} → Step link w event v → (is_up w link ≡ false → outbox_of w link ≡ []) → is_up v link ≡ false → outbox_of v link ≡ []
+emptied-by {link} {w} {v} {event} (goes same all) none down = (empty-by {link = link} {w = w} {v = v} {event = event} (goes same all) (sym same ∙ down) (none (sym same ∙ down))).1
+emptied-by (breaks broken nothing nobody) none down = ap (λ (l : Link). l.outbox) broken
+
+pub down-outbox : (link : ℕ) (w : Actors) (event : Event) → (is_up w link ≡ false → outbox_of w link ≡ []) → is_up (actors_after w event) link ≡ false → outbox_of (actors_after w event) link ≡ []
+down-outbox link w event none down = emptied-by (step link w event) none down
 
 -- ---- all events
 

@@ -37,6 +37,11 @@ due channel active [] = []
 due channel active (entry ∷ entries) =
     acknowledgement channel active (rsl_in entry.out.frame) ++ due channel (is_active_then channel active (rsl_in entry.out.frame)) entries
 
+-- whether it is active then
+abbrev pub active_all : ℕ → Bool → List OutboxEntry → Bool
+active_all channel active [] = active
+active_all channel active (entry ∷ entries) = active_all channel (is_active_then channel active (rsl_in entry.out.frame)) entries
+
 pub record IsPipe (station channel : ℕ) (begin : Actors) (events : List Event) : Type 0 where
   -- while its link is up, the acknowledgements due for all that was put are those given, those made, and those due for what the
   -- outbox has

@@ -2,6 +2,7 @@ ghost use Rattle.std.specs.Prelude.{List};
 ghost use Rattle.settings.specs.Parameters.{Parameters};
 ghost use Rattle.world_table.specs.declared.event.Event.{Event as WorldEvent};
 ghost use Rattle.world_table.specs.Honest.{AreHonest};
+ghost use Rattle.world_table.specs.Pipe.{ArePipes};
 ghost use Rattle.world_table.specs.Queues.{KeepsQueues};
 ghost use Rattle.world_table.specs.Steps.{LivesByTable};
 ghost use Rattle.world_table.specs.World.{new_actors};
@@ -21,4 +22,11 @@ pub fn stations_are_honest()
 /// the controller after any steps holds of it.
 pub fn controller_lives_by_its_table()
     ensures { (settings : Parameters) (events : List WorldEvent) → LivesByTable settings events }
+{}
+
+/// Law: whatever events happen, the acknowledgements of a station on a channel follow what the controller put for it, in order: to
+/// each activation of a channel that isn't active, and to each release, one was given, or is made, or is due for what stands
+/// in the outbox, until the link breaks.
+pub fn channels_are_pipes()
+    ensures { (settings : Parameters) (events : List WorldEvent) → ArePipes settings events }
 {}
