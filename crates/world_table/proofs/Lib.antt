@@ -2,6 +2,7 @@ pub mod Acknowledging
 mod ChangeRows
 mod ClearRows
 pub mod Counting
+mod HistoryRows
 pub mod Honesty
 pub mod Inboxes
 pub mod Leads
