@@ -1,16 +1,15 @@
 -- What a station acknowledges of what it takes.
-use Rattle.std.proofs.Common.{◌≡◌, ◌≢◌, ℕ, ◌-◌, ◌<◌, ◌==◌, ◌&&◌, ◌||◌, not, nat_eq, Bool, true, false, cond, if◌then◌else◌, List, [], ◌∷◌, ◌++◌, filter, get_or, set, length, Option, Some, None, refl, sym, ap, ◌∙◌, subst, inl, inr}
+use Rattle.std.proofs.Common.{◌≡◌, ℕ, ◌-◌, ◌<◌, ◌==◌, ◌&&◌, ◌||◌, not, nat_eq, Bool, true, false, cond, if◌then◌else◌, List, [], ◌∷◌, ◌++◌, filter, length, Option, Some, None, refl, sym, ap, ◌∙◌, subst, inl, inr}
 use Rattle.std.proofs.Math.Bool.{or-false}
-use Rattle.std.proofs.lemmas.Bool.{cases_Bool, eqb-true, eqb-false}
+use Rattle.std.proofs.lemmas.Bool.{cases_Bool, eqb-true}
 use Rattle.std.proofs.lemmas.List.{append-nil, get_or-set_same, length-set}
 use Rattle.std.proofs.lemmas.List.Elements.{filter-append}
 use Rattle.controller_table.specs.Controller.{place_at}
 use Rattle.dtap_codec.specs.RrReading.{rr_reading}
-use Rattle.link_model.specs.declared.fault.LinkFault.{LinkFault}
 use Rattle.link_model.specs.declared.fault.LinkFault.TheVariants.{Busy}
 use Rattle.link_model.specs.BaseState.{BaseState}
 use Rattle.link_model.specs.Message.{activation_ack}
-use Rattle.link_model.specs.Base.{is_active, refusal_of_activate, after_activate, after_release, after_tell}
+use Rattle.link_model.specs.Base.{is_active, after_activate, after_release, after_tell}
 use Rattle.link_model.specs.Tenures.{is_bound_of}
 use Rattle.link_model.proofs.Tenures.{is_active-push, is_active-released, is_active-kept}
 use Rattle.rsl_codec.specs.declared.dedicated_channel.Activation.{Activation}
@@ -19,7 +18,7 @@ use Rattle.rsl_codec.specs.declared.rsl.Rsl.TheVariants.{DataRequest, EstablishR
 use Rattle.world_table.specs.declared.limits.TheConstants.{MAX_TENURE}
 use Rattle.world_table.specs.declared.seat.Tenure.{Tenure}
 use Rattle.world_table.specs.Pipe.{acknowledgements, acknowledgement, is_active_then}
-use Rattle.world_table.specs.Stations.{new_tenure, activated_unless, activated, assigned, mobile_on, accepts, link_answer, answered, released, took}
+use Rattle.world_table.specs.Stations.{activated_unless, activated, mobile_on, accepts, link_answer, answered, released, took}
 use Rattle.world_table.specs.World.{Actors, Station, no_station, base_of, with_base, spot_at, with_spot, is_active_at, tenure_at, station_of}
 use Rattle.world_table.proofs.Honesty.{base-with_spot}
 use Rattle.world_table.proofs.Leads.{OfTaken, Seats, unless_last-leads, assigned-leads}

@@ -1,6 +1,6 @@
 -- The stations of a world are honest: all that happens to a station's end are calls of it.
-use Rattle.std.proofs.Common.{◌≡◌, ◌≢◌, ℕ, suc, zero, ◌+◌, ◌-◌, ◌==◌, ◌&&◌, not, nat_eq, Bool, true, false, cond, if◌then◌else◌, List, [], ◌∷◌, ◌++◌, fold, map, unwrap_or, get_or, set, length, replicate, Option, Some, None, option_to_list, refl, sym, ap, ◌∙◌, subst, append_assoc, inl, inr, ◌⊎◌, arith}
-use Rattle.std.proofs.lemmas.Bool.{cases_Bool, eqb-true, eqb-false, eq-eqb, ne_eqb}
+use Rattle.std.proofs.Common.{◌≡◌, ◌≢◌, ℕ, suc, zero, ◌+◌, ◌-◌, ◌==◌, ◌&&◌, not, nat_eq, Bool, true, false, cond, if◌then◌else◌, List, [], ◌∷◌, ◌++◌, unwrap_or, get_or, set, Option, Some, None, option_to_list, refl, sym, ap, ◌∙◌, subst, append_assoc, inl, inr, ◌⊎◌, arith}
+use Rattle.std.proofs.lemmas.Bool.{cases_Bool, eqb-true, eqb-false, ne_eqb}
 use Rattle.std.proofs.lemmas.List.{append-nil}
 use Rattle.conn_messages.specs.declared.parameters.TheConstants.{SWITCH_LINK}
 use Rattle.controller_table.specs.Life.{take, tick}
@@ -17,16 +17,16 @@ use Rattle.link_model.specs.Tenures.Tenures.{over, begins, brings, ends, apart}
 use Rattle.link_model.proofs.Tenures.{Tenures-given}
 use Rattle.rsl_codec.specs.declared.rsl.Rsl.{Rsl}
 use Rattle.settings.specs.Parameters.{Parameters, CellParameters}
-use Rattle.world_table.specs.World.{Actors, new_actors, stations_from, Mobile, Station, Spot, Link, broken_link, with_link, is_up, is_station_up, no_station, station_of, with_station, base_of, with_base, spot_at, with_spot, with_outbox, is_active_at, is_reached}
+use Rattle.world_table.specs.World.{Actors, new_actors, stations_from, Mobile, Station, Spot, Link, broken_link, with_link, is_up, is_station_up, no_station, station_of, base_of, with_base, spot_at, with_spot, with_outbox, is_active_at, is_reached}
 use Rattle.conn_messages.specs.declared.channel.Place.{Place}
 use Rattle.controller_table.specs.Controller.{place_at}
 use Rattle.world_table.specs.declared.seat.Tenure.{Tenure}
-use Rattle.world_table.specs.Mobiles.{is_new, complete, failure, after_upper, after_connecting, after_air_up, after_air_ack, after_air_down, after_air_down_lost, after_move, after_touch, after_arriving, after_return, after_report, told, channel_required, signalling_brought, short_message_brought, brought, handover_detection, measurement_result, seated, reported_at}
+use Rattle.world_table.specs.Mobiles.{is_new, complete, failure, after_upper, after_connecting, after_air_up, after_air_ack, after_air_down, after_air_down_lost, after_move, after_touch, after_arriving, after_return, after_report, told, channel_required, signalling_brought, short_message_brought, brought, handover_detection, seated}
 use Rattle.bssmap_codec.specs.declared.sccp.Sccp.{Sccp}
 use Rattle.relay_items.specs.declared.What.TheVariants as whats
 use Rattle.world_table.specs.declared.event.Event.{Event}
 use Rattle.world_table.specs.declared.event.Event.TheVariants.{Upper, Connect, AirUp, AirAck, AirDown, AirDownLost, Move, Touch, Arrive, Return, BaseTakes, BasePush, Handle, SwitchTakes, SwitchDoes, Tick, BaseDown, Report}
-use Rattle.world_table.specs.Honest.{given, all_given, IsHonest, AreHonest}
+use Rattle.world_table.specs.Honest.{given, all_given, AreHonest}
 use Rattle.world_table.specs.Life.{event_after, actors_after, actors_after_all}
 use Rattle.world_table.specs.Relay.{with_item, pushed_by_station, pushed_by_switch, after_base_push, target_in, after_handle, after_tick, broken, after_break}
 use Rattle.world_table.specs.SwitchSide.{sccp_in, after_switch_takes, after_switch_does}
@@ -34,7 +34,7 @@ use Rattle.mobile_end.specs.Mobile.{refusal_of_connect}
 use Rattle.std.specs.Option.{is_none}
 use Rattle.world_table.specs.Stations.{link_answer, answered, took, rsl_in, after_base_takes}
 use Rattle.world_table.proofs.Outboxes.{changed_link, down-after}
-use Rattle.world_table.proofs.Leads.{OfTaken, FromAir, and-left, and-right, upper-leads, connect-leads, air_up-leads, air_ack-leads, air_down-leads, air_down_lost-leads, move-leads, touch-leads, arrive-leads, return-leads, report-leads, base_takes-leads, took-leads, handle-leads, turn-leads, switch_takes-leads, switch_took-leads, push-leads, does-leads, after-taken}
+use Rattle.world_table.proofs.Leads.{OfTaken, FromAir, and-left, and-right, upper-leads, connect-leads, air_up-leads, air_ack-leads, air_down-leads, air_down_lost-leads, move-leads, touch-leads, arrive-leads, return-leads, report-leads, base_takes-leads, took-leads, handle-leads, turn-leads, switch_takes-leads, switch_took-leads, does-leads, after-taken}
 
 -- ---- lists
 

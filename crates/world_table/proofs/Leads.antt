@@ -1,5 +1,5 @@
 -- What an event leads to, where its actor can take it: the ways to show something of the actors after it.
-use Rattle.std.proofs.Common.{◌≡◌, ◌≢◌, ℕ, ◌==◌, ◌&&◌, nat_eq, Bool, true, false, not, cond, if◌then◌else◌, List, [], ◌∷◌, ◌++◌, length, fold, set, unwrap_or, slice_index_or, Option, Some, None, Result, Ok, Err, refl, sym, ap, ◌∙◌, subst, inl, inr}
+use Rattle.std.proofs.Common.{◌≡◌, ◌≢◌, ℕ, ◌==◌, ◌&&◌, nat_eq, Bool, true, false, if◌then◌else◌, List, [], ◌∷◌, ◌++◌, length, fold, set, unwrap_or, slice_index_or, Option, Some, None, Result, Ok, Err, refl, sym, ap, ◌∙◌, subst}
 use Rattle.std.specs.Option.{is_none, option_and_then}
 use Rattle.std.proofs.lemmas.Bool.{eqb-true, eqb-false}
 use Rattle.relay_items.specs.declared.What.TheVariants as whats
@@ -9,7 +9,7 @@ use Rattle.bssmap_codec.specs.declared.sccp.Sccp.{Sccp}
 use Rattle.controller_table.specs.Controller.{Turn, place_at}
 use Rattle.conn_messages.specs.declared.out.Out.{Out}
 use Rattle.conn_messages.specs.declared.parameters.TheConstants.{SWITCH_LINK}
-use Rattle.controller_table.specs.Life.{take, tick}
+use Rattle.controller_table.specs.Life.{take}
 use Rattle.dtap_codec.specs.declared.report.TheConstants.{REPORT_LENGTH}
 use Rattle.dtap_codec.specs.declared.sapi.Sapi.{Sapi}
 use Rattle.link_model.specs.declared.fault.LinkFault.{LinkFault}
@@ -35,7 +35,7 @@ use Rattle.world_table.specs.declared.seat.Seat.TheVariants.{Asking, On, Moving,
 use Rattle.world_table.specs.declared.seat.Tenure.{Tenure}
 use Rattle.world_table.specs.Mobiles.{only_if, by_mobile, told, may_send, sent_by, after_upper, channel_required, connected, is_new, after_connecting, frame_in, brought, brought_up, after_air_up, acknowledged, after_air_ack, hearing, unheard, taken_from_air, brought_down, after_air_down, after_air_down_lost, left, moved, after_move, is_to_handover, handover_detection, touched, after_touch, complete, failure, seated, arrived, after_arriving, returned, after_return, reported_at, reported, after_report}
 use Rattle.world_table.specs.Stations.{rsl_in, new_tenure, activated_unless, activated, assigned_from, assigned_to, assigned, mobile_on, accepts, answered, released, took, took_first, after_base_takes}
-use Rattle.world_table.specs.Relay.{station_item, switch_item, with_item, pushed_by_station, pushed_by_switch, after_base_push, entry_of, joined_by, with_turn, target_in, handled, after_handle, after_tick, broken, after_break}
+use Rattle.world_table.specs.Relay.{station_item, switch_item, with_item, pushed_by_station, pushed_by_switch, after_base_push, entry_of, joined_by, with_turn, target_in, handled, after_handle, broken, after_break}
 use Rattle.world_table.specs.SwitchSide.{sccp_in, switch_took, switch_took_first, after_switch_takes, sent_on, may_send_on, is_layer_3, after_switch_does}
 use Rattle.world_table.specs.World.{Actors, Mobile, Link, broken_link, with_link, link_of, is_up, is_station_up, outbox_of, with_outbox, mobile_of, with_mobile, base_of, with_base, spot_at, with_spot, is_active_at, tenure_at, is_reached}
 

@@ -1,9 +1,8 @@
 -- The controller of a world is the one after the steps that it took.
-use Rattle.std.proofs.Common.{◌≡◌, ℕ, List, [], ◌∷◌, ◌++◌, unwrap_or, Option, Some, None, refl, sym, ap, ◌∙◌}
+use Rattle.std.proofs.Common.{◌≡◌, ℕ, List, [], ◌∷◌, ◌++◌, unwrap_or, Option, None, refl, sym, ap, ◌∙◌}
 use Rattle.controller_table.specs.declared.step.Step.{Step}
-use Rattle.controller_table.specs.declared.step.Step.TheVariants as steps
 use Rattle.conn_messages.specs.declared.parameters.TheConstants.{SWITCH_LINK}
-use Rattle.controller_table.specs.Controller.{Controller, Turn, each, new_controller}
+use Rattle.controller_table.specs.Controller.{Controller, Turn, each}
 use Rattle.controller_table.specs.Life.{take, tick, step, life}
 use Rattle.dtap_codec.specs.declared.sapi.Sapi.{Sapi}
 use Rattle.dtap_codec.specs.declared.sapi.Sapi.TheVariants.{Zero, Three}
@@ -15,11 +14,11 @@ use Rattle.world_table.specs.declared.event.Event.TheVariants.{Upper, Connect, A
 use Rattle.world_table.specs.declared.seat.Tenure.{Tenure}
 use Rattle.world_table.specs.Life.{event_after, actors_after, actors_after_all}
 use Rattle.world_table.specs.Mobiles.{brought, after_upper, after_connecting, after_air_up, after_air_ack, after_air_down, after_air_down_lost, after_move, after_touch, after_arriving, after_return, after_report}
-use Rattle.world_table.specs.Relay.{with_turn, target_in, handled, after_base_push, without_made, with_item, broken, after_break}
+use Rattle.world_table.specs.Relay.{with_turn, target_in, handled, after_base_push, after_break}
 use Rattle.world_table.specs.Stations.{took, rsl_in, after_base_takes}
 use Rattle.world_table.specs.Steps.{first_taken, step_at, all_steps, LivesByTable}
 use Rattle.world_table.specs.SwitchSide.{sccp_in, after_switch_takes, after_switch_does}
-use Rattle.world_table.specs.World.{Actors, new_actors, with_outbox, is_up}
+use Rattle.world_table.specs.World.{Actors, new_actors, with_outbox}
 use Rattle.world_table.proofs.Leads.{OfTaken, FromAir, upper-leads, connect-leads, air_up-leads, air_ack-leads, air_down-leads, air_down_lost-leads, move-leads, touch-leads, arrive-leads, return-leads, report-leads, base_takes-leads, took-leads, turn-leads, switch_takes-leads, switch_took-leads, push-leads, does-leads, broken-leads, after-taken}
 
 -- the controller is as it was

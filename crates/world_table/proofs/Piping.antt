@@ -1,17 +1,16 @@
 -- The pipe of one channel, over all events.
-use Rattle.std.proofs.Common.{◌≡◌, ◌≢◌, ℕ, zero, suc, ◌+◌, ◌-◌, ◌<◌, ◌≤◌, ◌==◌, ◌&&◌, not, nat_eq, Bool, true, false, cond, if◌then◌else◌, List, [], ◌∷◌, ◌++◌, filter, length, unwrap_or, is_some, get_or, Option, Some, None, option_to_list, refl, sym, ap, ◌∙◌, subst, append_assoc, inl, inr, arith}
+use Rattle.std.proofs.Common.{◌≡◌, ◌≢◌, ℕ, zero, suc, ◌+◌, ◌-◌, ◌<◌, ◌≤◌, ◌==◌, ◌&&◌, nat_eq, Bool, true, false, if◌then◌else◌, List, [], ◌∷◌, ◌++◌, length, unwrap_or, is_some, get_or, Option, Some, None, refl, sym, ap, ◌∙◌, subst, append_assoc, inl, inr, arith}
 use Rattle.std.specs.Option.{is_none}
-use Rattle.std.proofs.lemmas.Bool.{cases_Bool, eqb-true, eqb-false, eq-eqb, ne_eqb}
+use Rattle.std.proofs.lemmas.Bool.{cases_Bool, eqb-true, eqb-false, ne_eqb}
 use Rattle.std.proofs.lemmas.List.{append-nil}
 use Rattle.std.proofs.lemmas.List.Elements.{filter-append}
-use Rattle.conn_messages.specs.declared.channel.Place.{Place}
 use Rattle.conn_messages.specs.declared.parameters.TheConstants.{SWITCH_LINK}
 use Rattle.controller_table.specs.Controller.{place_at}
 use Rattle.controller_table.specs.Life.{take, tick}
 use Rattle.dtap_codec.specs.declared.sapi.Sapi.{Sapi}
 use Rattle.dtap_codec.specs.declared.sapi.Sapi.TheVariants.{Zero, Three}
 use Rattle.link_model.specs.BaseState.{BaseState}
-use Rattle.link_model.specs.Base.{new_base, is_active, after_activate, after_establish, after_up, after_release, after_tell, first_of_messages, messages_behind_first, first_message, after_next}
+use Rattle.link_model.specs.Base.{is_active, after_activate, after_establish, after_up, after_release, after_tell, first_of_messages, messages_behind_first}
 use Rattle.link_model.specs.Message.{establish_indication, data_indication}
 use Rattle.link_model.specs.Tenures.{is_bound_of}
 use Rattle.mobile_end.specs.Mobile.{refusal_of_connect}
@@ -24,18 +23,18 @@ use Rattle.world_table.specs.declared.line.OutboxEntry.{OutboxEntry}
 use Rattle.world_table.specs.declared.seat.Tenure.{Tenure}
 use Rattle.world_table.specs.Honest.{given, all_given}
 use Rattle.world_table.specs.Life.{event_after, actors_after, actors_after_all}
-use Rattle.world_table.specs.Mobiles.{is_new, complete, failure, told, channel_required, signalling_brought, short_message_brought, brought, handover_detection, measurement_result, seated, after_upper, after_connecting, after_air_up, after_air_ack, after_air_down, after_air_down_lost, after_move, after_touch, after_arriving, after_return, after_report}
-use Rattle.world_table.specs.Pipe.{acknowledgements, acknowledgement, is_active_then, due, active_all, IsPipe, ArePipes}
+use Rattle.world_table.specs.Mobiles.{is_new, complete, failure, told, channel_required, signalling_brought, short_message_brought, brought, handover_detection, seated, after_upper, after_connecting, after_air_up, after_air_ack, after_air_down, after_air_down_lost, after_move, after_touch, after_arriving, after_return, after_report}
+use Rattle.world_table.specs.Pipe.{acknowledgements, acknowledgement, is_active_then, due, active_all, ArePipes}
 use Rattle.world_table.specs.Queues.{first_of, taken, all_taken, all_put}
-use Rattle.world_table.specs.Relay.{target_in, after_base_push, after_handle, after_tick, after_break}
+use Rattle.world_table.specs.Relay.{target_in, after_handle, after_tick}
 use Rattle.world_table.specs.Stations.{link_answer, answered, took, rsl_in, after_base_takes}
 use Rattle.world_table.specs.SwitchSide.{sccp_in, after_switch_takes, after_switch_does}
-use Rattle.world_table.specs.World.{Actors, new_actors, new_link, broken_link, stations_from, Mobile, is_up, is_station_up, no_station, base_of, with_base, spot_at, with_spot, outbox_of, with_outbox, is_reached}
+use Rattle.world_table.specs.World.{Actors, new_actors, stations_from, Mobile, is_up, is_station_up, no_station, base_of, with_base, spot_at, with_spot, outbox_of, with_outbox, is_reached}
 use Rattle.world_table.proofs.Acknowledging.{Answers, AnswersAt, acks-tell, took-answers}
 use Rattle.world_table.proofs.Counting.{same-stations}
 use Rattle.world_table.proofs.Honesty.{SameEnds, Plain, base-with_spot, base-elsewhere, base-there, up-right, reached-up, pushing, breaking}
 use Rattle.world_table.proofs.Honesty.Plain.{as_before, next, ends_now}
-use Rattle.world_table.proofs.Leads.{OfTaken, FromAir, and-left, and-right, upper-leads, connect-leads, air_up-leads, air_ack-leads, air_down-leads, air_down_lost-leads, move-leads, touch-leads, arrive-leads, return-leads, report-leads, base_takes-leads, took-leads, handle-leads, turn-leads, switch_takes-leads, switch_took-leads, push-leads, does-leads, after-taken}
+use Rattle.world_table.proofs.Leads.{OfTaken, FromAir, and-left, and-right, upper-leads, connect-leads, air_up-leads, air_ack-leads, air_down-leads, air_down_lost-leads, move-leads, touch-leads, arrive-leads, return-leads, report-leads, base_takes-leads, took-leads, handle-leads, turn-leads, switch_takes-leads, switch_took-leads, does-leads, after-taken}
 use Rattle.world_table.proofs.Outboxes.{down-after, down-empty, down-outbox, outboxes-all, rest-all, Both-empty, new_outbox}
 
 -- ---- events that ask a station for nothing

@@ -6,7 +6,7 @@ use Rattle.dtap_codec.specs.declared.sapi.Sapi.TheVariants.{Zero, Three}
 use Rattle.world_table.specs.declared.event.Event.TheVariants.{Upper, Connect, AirUp, AirAck, AirDown, AirDownLost, Move, Arrive, Return, BaseTakes, BasePush, Handle, SwitchTakes, SwitchDoes, Report}
 use Rattle.world_table.specs.declared.event.SwitchAction.TheVariants.{Assign, Clear, Dtap}
 use Rattle.world_table.specs.declared.seat.Seat.TheVariants.{Asking, On}
-use Rattle.world_table.specs.Views.{received, taken, accepted}
+use Rattle.world_table.specs.Views.{received}
 use Rattle.world_table.specs.World.{World, new_world, is_active_at, spot_at}
 use Rattle.world_table.proofs.Worlds.{on_literals, after_all, bodies, made_bodies, seat_of}
 use Rattle.world_table.proofs.OpeningRows.{opened}

@@ -1,5 +1,5 @@
 -- What the events of a mobile make of the world. None: the mobile can't take part in it.
-use Rattle.std.specs.Prelude.{ℕ, ◌+◌, ◌%◌, ◌==◌, ◌&&◌, nat_lt, Bool, true, false, if◌then◌else◌, List, [], ◌∷◌, ◌++◌, length, Option, Some, None, option_map, Result, Ok, Err}
+use Rattle.std.specs.Prelude.{ℕ, ◌+◌, ◌%◌, ◌==◌, ◌&&◌, nat_lt, Bool, true, false, if◌then◌else◌, List, [], ◌∷◌, ◌++◌, length, Option, Some, None, Result, Ok, Err}
 use Rattle.std.specs.Option.{is_none, option_and_then}
 use Rattle.conn_messages.specs.declared.causes.TheConstants.{NORMAL_EVENT}
 use Rattle.conn_messages.specs.declared.channel.Change.{Change}
@@ -27,7 +27,7 @@ use Rattle.world_table.specs.declared.seat.Command.{Command}
 use Rattle.world_table.specs.declared.seat.Seat.{Seat}
 use Rattle.world_table.specs.declared.seat.Seat.TheVariants.{Asking, On, Moving, Gone}
 use Rattle.world_table.specs.declared.seat.Tenure.{Tenure}
-use Rattle.world_table.specs.World.{Actors, Mobile, Spot, is_station_up, mobile_of, with_mobile, base_of, with_base, spot_at, with_spot, is_reached}
+use Rattle.world_table.specs.World.{Actors, Mobile, is_station_up, mobile_of, with_mobile, base_of, with_base, spot_at, with_spot, is_reached}
 
 abbrev pub only_if : Bool → Actors → Option Actors
 only_if condition w = if condition then Some w else None

@@ -1,5 +1,5 @@
 -- The pipe of one channel: the acknowledgements of its station follow what the controller puts, in order.
-use Rattle.std.specs.Prelude.{◌≡◌, ℕ, ◌==◌, ◌&&◌, ◌||◌, ◌≤◌, not, Bool, true, false, if◌then◌else◌, List, [], ◌∷◌, ◌++◌, filter, length, Option, Some, None}
+use Rattle.std.specs.Prelude.{◌≡◌, ℕ, ◌==◌, ◌&&◌, ◌||◌, ◌≤◌, not, Bool, true, false, if◌then◌else◌, List, [], ◌∷◌, ◌++◌, filter, length, Option, Some}
 use Rattle.link_model.specs.Message.{activation_ack}
 use Rattle.link_model.specs.Base.{is_active}
 use Rattle.link_model.specs.Tenures.{is_bound_of}

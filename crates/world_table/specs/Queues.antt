@@ -6,13 +6,12 @@ use Rattle.link_model.specs.Base.{first_message}
 use Rattle.octets.specs.Lists.{IsPrefix}
 use Rattle.relay_items.specs.declared.Item.{Item}
 use Rattle.relay_items.specs.declared.What.TheVariants as whats
-use Rattle.settings.specs.Parameters.{Parameters}
 use Rattle.world_table.specs.declared.event.Event.{Event}
 use Rattle.world_table.specs.declared.event.Event.TheVariants.{BaseTakes, BasePush, Handle, SwitchTakes, Tick, BaseDown}
 use Rattle.world_table.specs.declared.line.OutboxEntry.{OutboxEntry}
 use Rattle.world_table.specs.Life.{event_after, actors_after, actors_after_all}
 use Rattle.world_table.specs.Relay.{station_item, switch_item, entry_of, target_in}
-use Rattle.world_table.specs.World.{Actors, new_actors, is_up, outbox_of, base_of}
+use Rattle.world_table.specs.World.{Actors, is_up, outbox_of, base_of}
 
 abbrev pub first_of : {X : Type 0} → List X → List X
 first_of [] = []
