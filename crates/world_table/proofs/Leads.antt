@@ -58,7 +58,7 @@ unfolding OfTaken
 found-leads P None act h = tt
 found-leads P (Some p) act h = h p refl
 
-by_mobile-leads : (P : Actors → Type 0) (w : Actors) (number : ℕ) (act : Mobile → Option Actors) → ((p : Mobile) → mobile_of w number ≡ Some p → OfTaken P (act p)) → OfTaken P (by_mobile w number act)
+pub by_mobile-leads : (P : Actors → Type 0) (w : Actors) (number : ℕ) (act : Mobile → Option Actors) → ((p : Mobile) → mobile_of w number ≡ Some p → OfTaken P (act p)) → OfTaken P (by_mobile w number act)
 by_mobile-leads P w number act h = found-leads P (mobile_of w number) act h
 
 pub upper-leads : (P : Actors → Type 0) (w : Actors) (number : ℕ) (sapi : Sapi) (message : List ℕ) → ((p : Mobile) → mobile_of w number ≡ Some p → P (with_mobile (record p { end = after_queue p.end sapi message }) w)) → OfTaken P (after_upper w number sapi message)

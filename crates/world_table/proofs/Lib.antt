@@ -9,6 +9,7 @@ pub mod Leads
 pub mod Outboxes
 pub mod Living
 mod MobileRows
+pub mod Mobility
 mod MoveRows
 mod OpeningRows
 pub mod Piping

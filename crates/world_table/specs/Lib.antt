@@ -9,3 +9,4 @@ pub mod Queues
 pub mod Honest
 pub mod Steps
 pub mod Pipe
+pub mod Lives

@@ -2,6 +2,7 @@ ghost use Rattle.std.specs.Prelude.{List};
 ghost use Rattle.settings.specs.Parameters.{Parameters};
 ghost use Rattle.world_table.specs.declared.event.Event.{Event as WorldEvent};
 ghost use Rattle.world_table.specs.Honest.{AreHonest};
+ghost use Rattle.world_table.specs.Lives.{MobilesLive};
 ghost use Rattle.world_table.specs.Pipe.{ArePipes};
 ghost use Rattle.world_table.specs.Queues.{KeepsQueues};
 ghost use Rattle.world_table.specs.Steps.{LivesByTable};
@@ -29,4 +30,10 @@ pub fn controller_lives_by_its_table()
 /// in the outbox, until the link breaks.
 pub fn channels_are_pipes()
     ensures { (settings : Parameters) (events : List WorldEvent) → ArePipes settings events }
+{}
+
+/// Law: whatever events happen, all that happens to a mobile's end are calls of it. So what holds of a mobile end after any
+/// calls holds of the mobiles of a world: each repeats at most its one message that wasn't acknowledged.
+pub fn mobiles_live_by_their_ends()
+    ensures { (settings : Parameters) (events : List WorldEvent) → MobilesLive settings events }
 {}
