@@ -50,12 +50,12 @@ activation_busy k channel base o a is names busy =
       | inl same ↦
           let on : is_active base.active k ≡ true = ap (is_active base.active) (sym (eqb-true a.channel k same) ∙ names) ∙ busy in
           answers-nothing k base base (Some (ChannelActivation a))
-            (ap (λ (b : Bool). if (nat_eq a.channel k) && not b then activation_ack k ∷ [] else []) on ∙ ap (λ (b : Bool). if b && false then activation_ack k ∷ [] else []) same)
-            (ap (λ (b : Bool). b || nat_eq a.channel k) on ∙ sym on) refl refl
+          (ap (λ (b : Bool). if (nat_eq a.channel k) && not b then activation_ack k ∷ [] else []) on ∙ ap (λ (b : Bool). if b && false then activation_ack k ∷ [] else []) same)
+          (ap (λ (b : Bool). b || nat_eq a.channel k) on ∙ sym on) refl refl
       | inr other ↦
           answers-nothing k base base (Some (ChannelActivation a))
-            (ap (λ (b : Bool). if b && not (is_active base.active k) then activation_ack k ∷ [] else []) other)
-            (ap (λ (b : Bool). is_active base.active k || b) other ∙ or-false (is_active base.active k)) refl refl
+          (ap (λ (b : Bool). if b && not (is_active base.active k) then activation_ack k ∷ [] else []) other)
+          (ap (λ (b : Bool). is_active base.active k || b) other ∙ or-false (is_active base.active k)) refl refl
     ]
 
 activation_done : (k : ℕ) (base : BaseState) (a : Activation) → is_active base.active a.channel ≡ false → Answers k base (after_activate base a.channel) (Some (ChannelActivation a))
@@ -83,6 +83,7 @@ release_done k number base = record {
   by_channel : (b : Bool) → nat_eq number k ≡ b → cond (nat_eq number k) (RfChannelReleaseAck number ∷ []) [] ≡ (if nat_eq number k then RfChannelReleaseAck k ∷ [] else [])
   by_channel true same = ap (λ (n : ℕ). cond (nat_eq number k) (RfChannelReleaseAck n ∷ []) []) (eqb-true number k same)
   by_channel false other = ap (λ (b : Bool). cond b (RfChannelReleaseAck number ∷ []) []) other ∙ sym (ap (λ (b : Bool). if b then RfChannelReleaseAck k ∷ [] else []) other)
+
   by_active : (b : Bool) → nat_eq number k ≡ b → is_active (filter (λ n. not (nat_eq n number)) base.active) k ≡ not (nat_eq number k) && is_active base.active k
   by_active true same =
       ap (λ (c : ℕ). is_active (filter (λ n. not (nat_eq n c)) base.active) k) (eqb-true number k same)
@@ -109,15 +110,15 @@ activated-answers n k u a there = by_activity (is_active (base_of u n).active a.
   by_activity true busy = activation_busy k a.channel (base_of u n) (Some (ChannelActivation a)) a refl refl busy
   by_activity false idle =
       subst (λ (b : BaseState). Answers k (base_of u n) b (Some (ChannelActivation a)))
-        (sym (base-with_spot (place_at n a.channel) _ (with_base n (after_activate (base_of u n) a.channel) u) n ∙ base-own u n (after_activate (base_of u n) a.channel) there))
-        (activation_done k (base_of u n) a idle)
+      (sym (base-with_spot (place_at n a.channel) _ (with_base n (after_activate (base_of u n) a.channel) u) n ∙ base-own u n (after_activate (base_of u n) a.channel) there))
+      (activation_done k (base_of u n) a idle)
 
 released-answers : (n k number : ℕ) (u : Actors) → n - 1 < length u.stations → AnswersAt n k u (Some (RfChannelRelease number)) (released (place_at n number) u)
 unfolding AnswersAt
 released-answers n k number u there =
     subst (λ (b : BaseState). Answers k (base_of u n) b (Some (RfChannelRelease number)))
-      (sym (base-with_spot (place_at n number) _ (with_base n (after_release (base_of u n) number) u) n ∙ base-own u n (after_release (base_of u n) number) there))
-      (release_done k number (base_of u n))
+    (sym (base-with_spot (place_at n number) _ (with_base n (after_release (base_of u n) number) u) n ∙ base-own u n (after_release (base_of u n) number) there))
+    (release_done k number (base_of u n))
 
 answer-free : (k : ℕ) (answer : Bool) (channel : ℕ) → is_bound_of k (link_answer answer channel) ≡ false
 answer-free k true channel = refl
@@ -131,7 +132,7 @@ answered-answers n k channel answer u o none still there =
     base-own middle n (after_tell (base_of middle n) (link_answer answer channel)) (subst (λ (l : ℕ). n - 1 < l) (sym (length-set u.stations (n - 1) _)) there)
     ∙ ap (λ (b : BaseState). after_tell b (link_answer answer channel)) (base-with_spot (place_at n channel) _ u n) in
     subst (λ (b : BaseState). Answers k (base_of u n) b o) (sym is)
-      (answers-nothing k (base_of u n) (after_tell (base_of u n) (link_answer answer channel)) o none still (acks-tell k (base_of u n) (link_answer answer channel) (answer-free k answer channel)) refl)
+    (answers-nothing k (base_of u n) (after_tell (base_of u n) (link_answer answer channel)) o none still (acks-tell k (base_of u n) (link_answer answer channel) (answer-free k answer channel)) refl)
 
 pub took-answers : (n k : ℕ) (target : Option Tenure) (o : Option Rsl) (u : Actors) → n - 1 < length u.stations → OfTaken (AnswersAt n k u o) (took n target o u)
 unfolding OfTaken Seats
@@ -140,8 +141,8 @@ took-answers n k target (Some (ChannelActivation a)) u there =
     unless_last-leads (AnswersAt n k u (Some (ChannelActivation a))) ((spot_at u (place_at n a.channel)).tenure == MAX_TENURE) (activated (place_at n a.channel) u) (activated-answers n k u a there)
 took-answers n k target (Some (ImmediateAssignCommand i)) u there =
     assigned-leads (AnswersAt n k u (Some (ImmediateAssignCommand i))) n u (rr_reading i.information)
-      (nothing-at n k u (Some (ImmediateAssignCommand i)) u refl refl refl)
-      (λ p number channel _ _. nothing-at n k u (Some (ImmediateAssignCommand i)) _ refl refl refl)
+    (nothing-at n k u (Some (ImmediateAssignCommand i)) u refl refl refl)
+    (λ p number channel _ _. nothing-at n k u (Some (ImmediateAssignCommand i)) _ refl refl refl)
 took-answers n k target (Some (DataRequest d)) u there = by_activity (is_active_at u (place_at n d.channel)) where
   by_activity : (b : Bool) → AnswersAt n k u (Some (DataRequest d)) (if b then with_spot (place_at n d.channel) (record (spot_at u (place_at n d.channel)) { air = (spot_at u (place_at n d.channel)).air ++ record { message = d.l3; target = target } ∷ [] }) u else u)
   by_activity true = nothing-at n k u (Some (DataRequest d)) _ refl refl (base-with_spot (place_at n d.channel) _ u n)

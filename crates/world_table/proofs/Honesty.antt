@@ -102,11 +102,11 @@ calling n m w u calls base n_is up same is none =
       | inl here ↦ subst (λ (k : ℕ). Acts k w (with_base m base u)) (sym (eqb-true n m here)) at_m
       | inr other ↦ rests (base-elsewhere u n m base n_is (up-right m w up).0 (eqb-false n m other) ∙ same n)
     ] where
-  at_m : Acts m w (with_base m base u)
-  at_m = elim (base-there u m base) [
-      | inl there ↦ acts calls (up-right m w up).1 (there ∙ is) none
-      | inr nowhere ↦ rests (nowhere.0 ∙ sym nowhere.1 ∙ same m)
-    ]
+      at_m : Acts m w (with_base m base u)
+      at_m = elim (base-there u m base) [
+        | inl there ↦ acts calls (up-right m w up).1 (there ∙ is) none
+        | inr nowhere ↦ rests (nowhere.0 ∙ sym nowhere.1 ∙ same m)
+      ]
 
 acts-at : {n : ℕ} {w u v : Actors} → base_of v n ≡ base_of u n → Acts n w u → Acts n w v
 acts-at same (rests is) = rests (same ∙ is)
@@ -137,23 +137,26 @@ brought-acts : (n : ℕ) (w : Actors) (p : Mobile) (tenure : Tenure) (sapi : Sap
 brought-acts n w p tenure Zero frame n_is reached = acts-at refl (by_opening p.opens) where
   base : BaseState
   base = base_of w tenure.at.station
+
   by_opening : (b : Bool) → Acts n w (with_base tenure.at.station (signalling_brought base tenure.at.number b frame) w)
   by_opening true = calling n tenure.at.station w w (establishes tenure.at.number Zero (Some frame) ∷ []) _ n_is (reached-up w tenure reached).0 (λ k. refl) (establishing base tenure.at.number Zero (Some frame) (reached-up w tenure reached).1) refl
   by_opening false = calling n tenure.at.station w w (brings_up tenure.at.number Zero frame ∷ []) _ n_is (reached-up w tenure reached).0 (λ k. refl) (bringing base tenure.at.number Zero frame (reached-up w tenure reached).1) refl
 brought-acts n w p tenure Three frame n_is reached = acts-at (base-with_spot tenure.at _ (with_base tenure.at.station (short_message_brought base tenure.at.number (spot_at w tenure.at).sapi_three_up frame) w) n) (by_link (spot_at w tenure.at).sapi_three_up) where
   base : BaseState
   base = base_of w tenure.at.station
+
   is_on : is_active base.active tenure.at.number ≡ true
   is_on = (reached-up w tenure reached).1
+
   by_link : (b : Bool) → Acts n w (with_base tenure.at.station (short_message_brought base tenure.at.number b frame) w)
   by_link true = calling n tenure.at.station w w (brings_up tenure.at.number Three frame ∷ []) _ n_is (reached-up w tenure reached).0 (λ k. refl) (bringing base tenure.at.number Three frame is_on) refl
   by_link false = calling n tenure.at.station w w (establishes tenure.at.number Three None ∷ brings_up tenure.at.number Three frame ∷ []) _ n_is (reached-up w tenure reached).0 (λ k. refl)
-    (bringing (after_establish base tenure.at.number Three None) tenure.at.number Three frame is_on ∙ ap (λ (b : BaseState). after_call b (brings_up tenure.at.number Three frame)) (establishing base tenure.at.number Three None is_on)) refl
+      (bringing (after_establish base tenure.at.number Three None) tenure.at.number Three frame is_on ∙ ap (λ (b : BaseState). after_call b (brings_up tenure.at.number Three frame)) (establishing base tenure.at.number Three None is_on)) refl
 
 told-acts : (n m : ℕ) (message : Rsl) (w u : Actors) → n ≢ 0 → is_station_up w m ≡ true → SameEnds w u → is_told message ≡ true → Acts n w (told m message u)
 told-acts n m message w u n_is up same is =
     calling n m w u (tells message ∷ []) (after_tell (base_of u m) message) n_is up same
-      (ap (λ (b : BaseState). after_tell b message) (same m) ∙ sym (ap (λ (b : Bool). if b then after_tell (base_of w m) message else base_of w m) is)) refl
+    (ap (λ (b : BaseState). after_tell b message) (same m) ∙ sym (ap (λ (b : Bool). if b then after_tell (base_of w m) message else base_of w m) is)) refl
 
 seated-acts : (n : ℕ) (w : Actors) (p : Mobile) (tenure : Tenure) (control : List ℕ) → n ≢ 0 → is_reached w tenure ≡ true → Acts n w (seated w p tenure control)
 seated-acts n w p tenure control n_is reached =
@@ -162,20 +165,20 @@ seated-acts n w p tenure control n_is reached =
 answered-acts : (n station channel : ℕ) (answer : Bool) (w u : Actors) → n ≢ 0 → is_station_up w station ≡ true → SameEnds w u → Acts n w (answered answer (place_at station channel) u)
 answered-acts n station channel answer w u n_is up same =
     told-acts n station (link_answer answer channel) w _ n_is up (λ k. base-with_spot (place_at station channel) _ u k ∙ same k) (by_answer answer) where
-  by_answer : (b : Bool) → is_told (link_answer b channel) ≡ true
-  by_answer true = refl
-  by_answer false = refl
+      by_answer : (b : Bool) → is_told (link_answer b channel) ≡ true
+      by_answer true = refl
+      by_answer false = refl
 
 took-acts : (n station : ℕ) (target : Option Tenure) (o : Option Rsl) (w u : Actors) → n ≢ 0 → is_station_up w station ≡ true → SameEnds w u → OfTaken (Acts n w) (took station target o u)
 took-acts n station target o w u n_is up same = took-leads (Acts n w) station target o u (record {
   nothing = rests (same n);
   activates = λ channel free. acts-at (base-with_spot (place_at station channel) _ (with_base station (after_activate (base_of u station) channel) u) n)
-    (calling n station w u (activates channel ∷ []) _ n_is up same (activating (base_of u station) channel free ∙ ap (λ (b : BaseState). after_call b (activates channel)) (same station)) refl);
+      (calling n station w u (activates channel ∷ []) _ n_is up same (activating (base_of u station) channel free ∙ ap (λ (b : BaseState). after_call b (activates channel)) (same station)) refl);
   seats = λ p number channel _ _. rests (same n);
   airs = λ channel message _. rests (base-with_spot (place_at station channel) _ u n ∙ same n);
   answers = λ answer channel. answered-acts n station channel answer w u n_is up same;
   releases = λ channel. acts-at (base-with_spot (place_at station channel) _ (with_base station (after_release (base_of u station) channel) u) n)
-    (calling n station w u (releases channel ∷ []) _ n_is up same (ap (λ (b : BaseState). after_release b channel) (same station)) refl);
+      (calling n station w u (releases channel ∷ []) _ n_is up same (ap (λ (b : BaseState). after_release b channel) (same station)) refl);
 })
 
 -- ---- an event: calls of the end, with what it gives; or its link breaks, and what it made goes
@@ -204,31 +207,35 @@ pub pushing : (n source : ℕ) (w : Actors) → n ≢ 0 → Plain n w (BasePush 
 pushing n source w n_is = by_number (nat_eq source SWITCH_LINK) refl where
   none_given : source ≡ 0 → given n w (BasePush source) ≡ []
   none_given is = ap (λ (b : Bool). if b then option_to_list (first_message (base_of w n)) else []) (ne_eqb source n (λ same. n_is (sym same ∙ is)))
+
   from_station : source ≢ 0 → (o : Option Rsl) → first_message (base_of w source) ≡ o → Plain n w (BasePush source) (unwrap_or (pushed_by_station source o w) w)
   from_station source_is o made =
       elim (cases_Bool (nat_eq source n)) [
         | inl same ↦ own (eqb-true source n same) same o made
         | inr other ↦ others other o
       ] where
-    own : source ≡ n → nat_eq source n ≡ true → (o : Option Rsl) → first_message (base_of w source) ≡ o → Plain n w (BasePush source) (unwrap_or (pushed_by_station source o w) w)
-    own is same None made =
-        as_before refl (ap (λ (b : Bool). if b then option_to_list (first_message (base_of w n)) else []) same ∙ ap (λ (k : ℕ). option_to_list (first_message (base_of w k))) (sym is) ∙ ap option_to_list made)
-    own is same (Some message) made =
-        next message (ap (λ (k : ℕ). first_message (base_of w k)) (sym is) ∙ made)
-          (subst (λ (k : ℕ). base_of (with_base source (after_next (base_of w source)) w) k ≡ after_next (base_of w k)) is (next_there source))
-          (ap (λ (b : Bool). if b then option_to_list (first_message (base_of w n)) else []) same ∙ ap (λ (k : ℕ). option_to_list (first_message (base_of w k))) (sym is) ∙ ap option_to_list made) where
-      next_there : (k : ℕ) → base_of (with_base k (after_next (base_of w k)) w) k ≡ after_next (base_of w k)
-      next_there k = elim (base-there w k (after_next (base_of w k))) [
-          | inl there ↦ there
-          | inr nowhere ↦ nowhere.0 ∙ sym (ap after_next nowhere.1)
-        ]
-    others : nat_eq source n ≡ false → (o : Option Rsl) → Plain n w (BasePush source) (unwrap_or (pushed_by_station source o w) w)
-    others other None = as_before refl (ap (λ (b : Bool). if b then option_to_list (first_message (base_of w n)) else []) other)
-    others other (Some message) =
-        as_before (base-elsewhere w n source _ n_is source_is (λ is. eqb-false source n other (sym is))) (ap (λ (b : Bool). if b then option_to_list (first_message (base_of w n)) else []) other)
+        own : source ≡ n → nat_eq source n ≡ true → (o : Option Rsl) → first_message (base_of w source) ≡ o → Plain n w (BasePush source) (unwrap_or (pushed_by_station source o w) w)
+        own is same None made =
+            as_before refl (ap (λ (b : Bool). if b then option_to_list (first_message (base_of w n)) else []) same ∙ ap (λ (k : ℕ). option_to_list (first_message (base_of w k))) (sym is) ∙ ap option_to_list made)
+        own is same (Some message) made =
+            next message (ap (λ (k : ℕ). first_message (base_of w k)) (sym is) ∙ made)
+            (subst (λ (k : ℕ). base_of (with_base source (after_next (base_of w source)) w) k ≡ after_next (base_of w k)) is (next_there source))
+            (ap (λ (b : Bool). if b then option_to_list (first_message (base_of w n)) else []) same ∙ ap (λ (k : ℕ). option_to_list (first_message (base_of w k))) (sym is) ∙ ap option_to_list made) where
+              next_there : (k : ℕ) → base_of (with_base k (after_next (base_of w k)) w) k ≡ after_next (base_of w k)
+              next_there k = elim (base-there w k (after_next (base_of w k))) [
+                | inl there ↦ there
+                | inr nowhere ↦ nowhere.0 ∙ sym (ap after_next nowhere.1)
+              ]
+
+        others : nat_eq source n ≡ false → (o : Option Rsl) → Plain n w (BasePush source) (unwrap_or (pushed_by_station source o w) w)
+        others other None = as_before refl (ap (λ (b : Bool). if b then option_to_list (first_message (base_of w n)) else []) other)
+        others other (Some message) =
+            as_before (base-elsewhere w n source _ n_is source_is (λ is. eqb-false source n other (sym is))) (ap (λ (b : Bool). if b then option_to_list (first_message (base_of w n)) else []) other)
+
   from_switch : source ≡ 0 → (made : List Sccp) → Plain n w (BasePush source) (unwrap_or (pushed_by_switch made w) w)
   from_switch is [] = as_before refl (none_given is)
   from_switch is (first ∷ others) = as_before refl (none_given is)
+
   by_number : (b : Bool) → nat_eq source SWITCH_LINK ≡ b → Plain n w (BasePush source) (unwrap_or (if b then pushed_by_switch w.switch_made w else pushed_by_station source (first_message (base_of w source)) w) w)
   by_number true is = from_switch (eqb-true source 0 is) w.switch_made
   by_number false is = from_station (eqb-false source 0 is) (first_message (base_of w source)) refl
@@ -238,15 +245,19 @@ pub breaking : (n source : ℕ) (w : Actors) → n ≢ 0 → Plain n w (BaseDown
 breaking n source w n_is = by_link (is_up w source) refl where
   u : Actors
   u = with_link source broken_link w
+
   v : Actors
   v = with_item (record { source = source; what = whats.Down }) (with_base source (after_take_down (base_of u source)) u)
+
   nothing_left : (base_of v source).messages ≡ []
   nothing_left = elim (base-there u source (after_take_down (base_of u source))) [
-      | inl there ↦ ap (λ (b : BaseState). b.messages) there
-      | inr nowhere ↦ ap (λ (b : BaseState). b.messages) nowhere.0
-    ]
+    | inl there ↦ ap (λ (b : BaseState). b.messages) there
+    | inr nowhere ↦ ap (λ (b : BaseState). b.messages) nowhere.0
+  ]
+
   own : source ≡ n → is_up w source ≡ true → Plain n w (BaseDown source) v
   own is up = subst (λ (k : ℕ). Plain k w (BaseDown source) v) is (ends_now (ap (λ (l : Link). l.up) (changed_link w.links source broken_link up)) nothing_left refl)
+
   made : is_up w source ≡ true → (b : Bool) → nat_eq source SWITCH_LINK ≡ b → Plain n w (BaseDown source) (with_item (record { source = source; what = whats.Down }) (if b then record u { switch_made = [] } else with_base source (after_take_down (base_of u source)) u))
   made up true is = as_before refl refl
   made up false is =
@@ -254,6 +265,7 @@ breaking n source w n_is = by_link (is_up w source) refl where
         | inl same ↦ own (eqb-true source n same) up
         | inr other ↦ as_before (base-elsewhere u n source (after_take_down (base_of u source)) n_is (eqb-false source 0 is) (λ is_n. eqb-false source n other (sym is_n))) refl
       ]
+
   by_link : (b : Bool) → is_up w source ≡ b → Plain n w (BaseDown source) (unwrap_or (if b then Some (broken source w) else None) w)
   by_link true up = made up (nat_eq source SWITCH_LINK) refl
   by_link false down = as_before refl refl
@@ -263,7 +275,7 @@ unfolding event_after FromAir OfTaken
 step n w (Upper number sapi message) n_is = acting n w (Upper number sapi message) (after_upper w number sapi message) refl (upper-leads (Acts n w) w number sapi message (λ p _. rests refl))
 step n w (Connect number station initial accepts) n_is =
     acting n w (Connect number station initial accepts) (after_connecting w number station initial accepts) refl
-      (connect-leads (Acts n w) w number station initial accepts (λ may. told-acts n station (channel_required number) w _ n_is (and-right (is_new w number) (is_station_up w station) (and-left (is_new w number && is_station_up w station) (is_none (refusal_of_connect (Some initial))) may)) (λ k. refl) refl))
+    (connect-leads (Acts n w) w number station initial accepts (λ may. told-acts n station (channel_required number) w _ n_is (and-right (is_new w number) (is_station_up w station) (and-left (is_new w number && is_station_up w station) (is_none (refusal_of_connect (Some initial))) may)) (λ k. refl) refl))
 step n w (AirUp number sapi) n_is =
     acting n w (AirUp number sapi) (after_air_up w number sapi) refl (air_up-leads (Acts n w) w number sapi (λ p tenure command frame _ _ _ reached. brought-acts n w p tenure sapi frame n_is reached))
 step n w (AirAck number sapi) n_is = acting n w (AirAck number sapi) (after_air_ack w number sapi) refl (air_ack-leads (Acts n w) w number sapi (λ p _. rests refl))
@@ -337,16 +349,16 @@ kept-by n so_far w event v (acts_then (rests same) nothing) stays (works station
     works station calls (same ∙ is) (with_nothing so_far (given n w event) nothing ∙ gave)
 kept-by n so_far w event v (acts_then (acts more up is_more none) nothing) stays (works station calls is gave) =
     works station (calls ++ more)
-      (is_more ∙ ap (λ (b : BaseState). after_calls b more) is ∙ sym (after_calls-append (new_base station) calls more))
-      (with_nothing so_far (given n w event) nothing ∙ gave ∙ sym (append-nil (messages_given (new_base station) calls))
-        ∙ ap (λ (ms : List Rsl). messages_given (new_base station) calls ++ ms) (sym none ∙ ap (λ (b : BaseState). messages_given b more) is)
-        ∙ sym (messages_given-append (new_base station) calls more))
+    (is_more ∙ ap (λ (b : BaseState). after_calls b more) is ∙ sym (after_calls-append (new_base station) calls more))
+    (with_nothing so_far (given n w event) nothing ∙ gave ∙ sym (append-nil (messages_given (new_base station) calls))
+    ∙ ap (λ (ms : List Rsl). messages_given (new_base station) calls ++ ms) (sym none ∙ ap (λ (b : BaseState). messages_given b more) is)
+    ∙ sym (messages_given-append (new_base station) calls more))
 kept-by n so_far w event v (gives message first is_next gave_now) stays (works station calls is gave) =
     works station (calls ++ gives_next ∷ [])
-      (is_next ∙ ap after_next is ∙ sym (after_calls-append (new_base station) calls (gives_next ∷ [])))
-      (ap (λ (ms : List Rsl). so_far ++ ms) (gave_now ∙ sym (ap option_to_list (sym (ap first_message is) ∙ first)) ∙ sym (append-nil (option_to_list (first_message (after_calls (new_base station) calls)))))
-        ∙ ap (λ (ms : List Rsl). ms ++ (option_to_list (first_message (after_calls (new_base station) calls)) ++ [])) gave
-        ∙ sym (messages_given-append (new_base station) calls (gives_next ∷ [])))
+    (is_next ∙ ap after_next is ∙ sym (after_calls-append (new_base station) calls (gives_next ∷ [])))
+    (ap (λ (ms : List Rsl). so_far ++ ms) (gave_now ∙ sym (ap option_to_list (sym (ap first_message is) ∙ first)) ∙ sym (append-nil (option_to_list (first_message (after_calls (new_base station) calls)))))
+    ∙ ap (λ (ms : List Rsl). ms ++ (option_to_list (first_message (after_calls (new_base station) calls)) ++ [])) gave
+    ∙ sym (messages_given-append (new_base station) calls (gives_next ∷ [])))
 kept-by n so_far w event v (breaks down nothing_left nothing) stays (works station calls is gave) =
     rested down nothing_left (λ channel. tenures-of (with_nothing so_far (given n w event) nothing ∙ gave) (so_far-tenures channel station calls))
 kept-by n so_far w event v (acts_then (rests same) nothing) stays (rested down nothing_left tenures) =
@@ -360,12 +372,12 @@ kept-all : (n : ℕ) (so_far : List Rsl) (w : Actors) (events : List Event) → 
 kept-all n so_far w [] n_is kept = subst (λ (ms : List Rsl). Kept n ms w) (sym (append-nil so_far)) kept
 kept-all n so_far w (event ∷ events) n_is kept =
     subst (λ (ms : List Rsl). Kept n ms (actors_after_all (actors_after w event) events)) (append_assoc so_far (given n w event) (all_given n (actors_after w event) events))
-      (kept-all n (so_far ++ given n w event) (actors_after w event) events n_is (kept-by n so_far w event (actors_after w event) (step n w event n_is) (down-after n w event) kept))
+    (kept-all n (so_far ++ given n w event) (actors_after w event) events n_is (kept-by n so_far w event (actors_after w event) (step n w event n_is) (down-after n w event) kept))
 
 tenures-kept : (n channel : ℕ) (so_far : List Rsl) (w : Actors) → Kept n so_far w → (end : Bool) × Tenures channel false (so_far ++ (base_of w n).messages) end
 tenures-kept n channel so_far w (works station calls is gave) =
     tenures-of (ap (λ (ms : List Rsl). ms ++ (base_of w n).messages) gave ∙ ap (λ (b : BaseState). messages_given (new_base station) calls ++ b.messages) is)
-      (is_active (after_calls (new_base station) calls).active channel, Tenures-given channel station calls)
+    (is_active (after_calls (new_base station) calls).active channel, Tenures-given channel station calls)
 tenures-kept n channel so_far w (rested down nothing_left tenures) = tenures-of (with_nothing so_far (base_of w n).messages nothing_left) (tenures channel)
 
 -- a new station has a new end

@@ -1,5 +1,5 @@
 -- The mobiles of a world live by their ends.
-use Rattle.std.proofs.Common.{◌≡◌, ℕ, ◌==◌, ◌&&◌, not, Bool, true, false, cond, if◌then◌else◌, List, [], ◌∷◌, ◌++◌, find, unwrap_or, Option, Some, None, Result, Ok, Err, refl, sym, ap, ◌∙◌, subst, inl, inr}
+use Rattle.std.proofs.Common.{◌≡◌, ℕ, ◌&&◌, not, Bool, true, false, cond, if◌then◌else◌, List, [], ◌∷◌, ◌++◌, find, unwrap_or, Option, Some, None, Result, Ok, Err, refl, sym, ap, ◌∙◌, subst, inl, inr}
 use Rattle.std.specs.List.{AllByRecursion}
 use Rattle.std.specs.Option.{is_none}
 use Rattle.std.proofs.lemmas.Bool.{cases_Bool}
@@ -22,8 +22,8 @@ use Rattle.mobile_end.specs.declared.mobile_end.Stage.{Stage}
 use Rattle.mobile_end.specs.declared.mobile_end.Stage.TheVariants.{New, Connected}
 use Rattle.mobile_end.specs.MobileState.{MobileState}
 use Rattle.mobile_end.specs.Control.{is_control}
-use Rattle.mobile_end.specs.Calls.{Call, unless_refused, may_arrive, after_call, after_calls}
-use Rattle.mobile_end.specs.Calls.Call.{connects, sends, frames, acknowledges, leaves, arrives, gives_up}
+use Rattle.mobile_end.specs.Calls.{Call, unless_refused, after_call, after_calls}
+use Rattle.mobile_end.specs.Calls.Call.{connects, sends, frames, acknowledges, leaves, arrives}
 use Rattle.mobile_end.specs.DataLink.{waits}
 use Rattle.mobile_end.specs.DataLinkState.{DataLinkState}
 use Rattle.mobile_end.specs.Mobile.{new_mobile, link_of, with_link, after_number, after_queue, after_connect, refusal_of_connect, refusal_of_send, after_frame, after_frame_at, after_acked, after_acked_at, after_leave, after_arrival, is_on_channel}
@@ -37,14 +37,14 @@ use Rattle.world_table.specs.declared.seat.Seat.TheVariants.{Asking, On, Moving,
 use Rattle.world_table.specs.declared.seat.Tenure.{Tenure}
 use Rattle.world_table.specs.Life.{event_after, actors_after, actors_after_all}
 use Rattle.world_table.specs.Lives.{place_in, Lives, MobilesLive}
-use Rattle.world_table.specs.Mobiles.{only_if, may_send, sent_by, is_new, connected, told, channel_required, framed, left, brought, remembering, controlled, hearing, complete, failure, after_upper, after_connecting, after_air_up, after_air_ack, after_air_down, after_air_down_lost, after_move, after_touch, after_arriving, after_return, after_report}
+use Rattle.world_table.specs.Mobiles.{may_send, sent_by, is_new, connected, framed, left, brought, remembering, controlled, hearing, complete, failure, after_upper, after_connecting, after_air_up, after_air_ack, after_air_down, after_air_down_lost, after_move, after_touch, after_arriving, after_return, after_report}
 use Rattle.world_table.specs.Relay.{target_in, after_base_push, after_handle, after_tick, after_break}
 use Rattle.world_table.specs.Stations.{took, rsl_in, after_base_takes}
 use Rattle.world_table.specs.SwitchSide.{sccp_in, after_switch_takes, after_switch_does}
 use Rattle.world_table.specs.World.{Actors, Mobile, new_actors, modulus_in, has_number, mobile_of, put_back, with_mobile, with_outbox, is_station_up, tenure_at}
 use Rattle.controller_table.specs.Controller.{place_at}
 use Rattle.rsl_codec.specs.declared.rsl.Rsl.{Rsl}
-use Rattle.world_table.proofs.Leads.{OfTaken, FromAir, and-left, and-right, only_if-leads, by_mobile-leads, connect-leads, air_up-leads, air_ack-leads, air_down-leads, air_down_lost-leads, move-leads, touch-leads, arrive-leads, return-leads, report-leads, base_takes-leads, took-leads, handle-leads, turn-leads, switch_takes-leads, switch_took-leads, push-leads, does-leads, broken-leads, after-taken}
+use Rattle.world_table.proofs.Leads.{OfTaken, FromAir, and-right, only_if-leads, by_mobile-leads, connect-leads, air_up-leads, air_ack-leads, air_down-leads, air_down_lost-leads, move-leads, touch-leads, arrive-leads, return-leads, report-leads, base_takes-leads, took-leads, handle-leads, turn-leads, switch_takes-leads, switch_took-leads, push-leads, does-leads, broken-leads, after-taken}
 
 -- ---- lists
 
@@ -123,8 +123,8 @@ place-acked mobile sapi = by_place mobile.place where
 queues : (m : ℕ) (p : Mobile) (sapi : Sapi) (message : List ℕ) → is_none (refusal_of_send p.end sapi message) ≡ true → Lives m p → Lives m (record p { end = after_queue p.end sapi message })
 queues m p sapi message may lives =
     called m p (record p { end = after_queue p.end sapi message }) (sends sapi message) lives
-      (sym (ap (λ (o : Option MobileFault). unless_refused o p.end (after_queue p.end sapi message)) (none-by (refusal_of_send p.end sapi message) may)))
-      (place-queue p.end sapi message ∙ lives.place)
+    (sym (ap (λ (o : Option MobileFault). unless_refused o p.end (after_queue p.end sapi message)) (none-by (refusal_of_send p.end sapi message) may)))
+    (place-queue p.end sapi message ∙ lives.place)
 
 begins : (m number : ℕ) (initial : List ℕ) (accepts : Bool) → is_none (refusal_of_connect (Some initial)) ≡ true → Lives m (connected m number initial accepts)
 begins m number initial accepts may = record {
@@ -165,8 +165,8 @@ control-failure Handover = refl
 seats-again : (m : ℕ) (p : Mobile) (from tenure : Tenure) (command : Command) (control : List ℕ) → p.seat ≡ Moving from command → is_control control ≡ true → Lives m p → Lives m (record p { end = after_arrival p.end control; seat = On tenure None })
 seats-again m p from tenure command control seat is lives =
     called m p (record p { end = after_arrival p.end control; seat = On tenure None }) (arrives control) lives
-      (sym (ap (λ (b : Bool). if b then after_arrival p.end control else p.end) (ap (λ (place : Place). not (is_on_channel place) && is_control control) (lives.place ∙ ap place_in seat) ∙ is)))
-      refl
+    (sym (ap (λ (b : Bool). if b then after_arrival p.end control else p.end) (ap (λ (place : Place). not (is_on_channel place) && is_control control) (lives.place ∙ ap place_in seat) ∙ is)))
+    refl
 
 -- ---- each event
 
@@ -196,7 +196,7 @@ took-live m w u station target o live same numbers = took-leads (Live m) station
   nothing = same-live live same numbers;
   activates = λ channel _. same-live live same numbers;
   seats = λ p number channel found asking. live-with (record p { seat = On (tenure_at u (place_at station channel)) None }) live same numbers
-    (moved-seat m p (record p { seat = On (tenure_at u (place_at station channel)) None }) (lives-of number live (ap (find (has_number number)) (sym same) ∙ found)) refl (sym (ap place_in asking)));
+      (moved-seat m p (record p { seat = On (tenure_at u (place_at station channel)) None }) (lives-of number live (ap (find (has_number number)) (sym same) ∙ found)) refl (sym (ap place_in asking)));
   airs = λ channel message _. same-live live same numbers;
   answers = λ answer channel. same-live live same numbers;
   releases = λ channel. same-live live same numbers;
@@ -208,8 +208,8 @@ live-after m w o live leads = after-taken (Live m) o w leads live
 sent-live : (m : ℕ) (w : Actors) (number : ℕ) (sapi : Sapi) (message : List ℕ) → Live m w → OfTaken (Live m) (after_upper w number sapi message)
 sent-live m w number sapi message live = by_mobile-leads (Live m) w number (sent_by w sapi message) (λ p found.
     only_if-leads (Live m) (may_send p.seat && is_none (refusal_of_send p.end sapi message)) (with_mobile (record p { end = after_queue p.end sapi message }) w)
-      (λ may. live-with (record p { end = after_queue p.end sapi message }) live refl refl
-        (queues m p sapi message (and-right (may_send p.seat) (is_none (refusal_of_send p.end sapi message)) may) (lives-of number live found))))
+    (λ may. live-with (record p { end = after_queue p.end sapi message }) live refl refl
+    (queues m p sapi message (and-right (may_send p.seat) (is_none (refusal_of_send p.end sapi message)) may) (lives-of number live found))))
 
 live-step : (m : ℕ) (w : Actors) (event : Event) → Live m w → Live m (actors_after w event)
 unfolding event_after FromAir OfTaken
@@ -218,31 +218,31 @@ live-step m w (Connect number station initial accepts) live =
     live-after m w (after_connecting w number station initial accepts) live (connect-leads (Live m) w number station initial accepts (λ may. record {
       modulus = live.modulus;
       all = behind-all (Lives m) (connected w.modulus number initial accepts) w.mobiles
-        (subst (λ (n : ℕ). Lives n (connected w.modulus number initial accepts)) live.modulus (begins w.modulus number initial accepts (and-right (is_new w number && is_station_up w station) (is_none (refusal_of_connect (Some initial))) may))) live.all;
+          (subst (λ (n : ℕ). Lives n (connected w.modulus number initial accepts)) live.modulus (begins w.modulus number initial accepts (and-right (is_new w number && is_station_up w station) (is_none (refusal_of_connect (Some initial))) may))) live.all;
     }))
 live-step m w (AirUp number sapi) live =
     live-after m w (after_air_up w number sapi) live (air_up-leads (Live m) w number sapi (λ p tenure command frame found _ _ _. brought-live m w p tenure sapi frame live (lives-of number live found)))
 live-step m w (AirAck number sapi) live =
     live-after m w (after_air_ack w number sapi) live (air_ack-leads (Live m) w number sapi (λ p found. acks p (lives-of number live found))) where
-  acks : (p : Mobile) → Lives m p → Live m (with_mobile (record p { end = after_acked p.end sapi }) w)
-  acks p lives = live-with (record p { end = after_acked p.end sapi }) live refl refl (called m p (record p { end = after_acked p.end sapi }) (acknowledges sapi) lives refl (place-acked p.end sapi ∙ lives.place))
+      acks : (p : Mobile) → Lives m p → Live m (with_mobile (record p { end = after_acked p.end sapi }) w)
+      acks p lives = live-with (record p { end = after_acked p.end sapi }) live refl refl (called m p (record p { end = after_acked p.end sapi }) (acknowledges sapi) lives refl (place-acked p.end sapi ∙ lives.place))
 live-step m w (AirDown number) live =
     live-after m w (after_air_down w number) live (air_down-leads (Live m) w number (λ p tenure command found seat _ first others _. live-with (hearing p first) live refl refl (hears m p tenure command first seat (lives-of number live found))))
 live-step m w (AirDownLost number) live =
     live-after m w (after_air_down_lost w number) live (air_down_lost-leads (Live m) w number (λ p tenure command found _ _ first others _. live-with p live refl refl (lives-of number live found)))
 live-step m w (Move number) live =
     live-after m w (after_move w number) live (move-leads (Live m) w number (λ p tenure command found _ _. leaving p tenure command (lives-of number live found))) where
-  leaving : (p : Mobile) (tenure : Tenure) (command : Command) → Lives m p → Live m (left w p tenure command)
-  leaving p tenure command lives =
-      live-with (record p { end = after_leave p.end; seat = Moving tenure command; opens = false }) live refl refl
-        (called m p (record p { end = after_leave p.end; seat = Moving tenure command; opens = false }) leaves lives refl refl)
+      leaving : (p : Mobile) (tenure : Tenure) (command : Command) → Lives m p → Live m (left w p tenure command)
+      leaving p tenure command lives =
+          live-with (record p { end = after_leave p.end; seat = Moving tenure command; opens = false }) live refl refl
+          (called m p (record p { end = after_leave p.end; seat = Moving tenure command; opens = false }) leaves lives refl refl)
 live-step m w (Touch number) live = live-after m w (after_touch w number) live (touch-leads (Live m) w number (λ command _. same-live live refl refl))
 live-step m w (Arrive number) live =
     live-after m w (after_arriving w number) live (arrive-leads (Live m) w number (λ p from command found seat _. live-with (record p { end = after_arrival p.end (complete command.change); seat = On command.target None }) live refl refl
-      (seats-again m p from command.target command (complete command.change) seat (control-complete command.change) (lives-of number live found))))
+    (seats-again m p from command.target command (complete command.change) seat (control-complete command.change) (lives-of number live found))))
 live-step m w (Return number) live =
     live-after m w (after_return w number) live (return-leads (Live m) w number (λ p from command found seat _. live-with (record p { end = after_arrival p.end (failure command.change); seat = On from None }) live refl refl
-      (seats-again m p from from command (failure command.change) seat (control-failure command.change) (lives-of number live found))))
+    (seats-again m p from from command (failure command.change) seat (control-failure command.change) (lives-of number live found))))
 live-step m w (BaseTakes station) live =
     live-after m w (after_base_takes w station) live (base_takes-leads (Live m) w station (λ first others _ _. took-live m w (with_outbox station others w) station first.target (rsl_in first.out.frame) live refl refl))
 live-step m w (BasePush source) live = live-after m w (after_base_push w source) live (push-leads (Live m) w source (λ first others. same-live live refl refl) (λ message _. same-live live refl refl))

@@ -59,10 +59,10 @@ nothing_put link w event none = by_link (is_up w link) where
 quiet : (link : ℕ) (w : Actors) (event : Event) (v : Actors) → outputs w event ≡ [] → taken link w event ≡ [] → Stays w v → Step link w event v
 quiet link w event v none nobody same =
     goes (ap (λ (links : List Link). (get_or links link broken_link).up) same)
-      (ap (λ (entries : List OutboxEntry). outbox_of w link ++ entries) (nothing_put link w event none)
-        ∙ append-nil (outbox_of w link)
-        ∙ ap (λ (links : List Link). (get_or links link broken_link).outbox) (sym same)
-        ∙ ap (λ (entries : List OutboxEntry). entries ++ outbox_of v link) (sym nobody))
+    (ap (λ (entries : List OutboxEntry). outbox_of w link ++ entries) (nothing_put link w event none)
+    ∙ append-nil (outbox_of w link)
+    ∙ ap (λ (links : List Link). (get_or links link broken_link).outbox) (sym same)
+    ∙ ap (λ (entries : List OutboxEntry). entries ++ outbox_of v link) (sym nobody))
 
 quietly : (link : ℕ) (w : Actors) (event : Event) (o : Option Actors) → outputs w event ≡ [] → taken link w event ≡ [] → OfTaken (Stays w) o → Step link w event (unwrap_or o w)
 quietly link w event o none nobody leads = quiet link w event (unwrap_or o w) none nobody (after-taken (Stays w) o w leads refl)
@@ -106,30 +106,31 @@ joins link target w out =
       | inl same ↦ here (eqb-true out.to link same) (is_up w out.to) refl
       | inr other ↦ elsewhere other (is_up w out.to)
     ] where
-  here : out.to ≡ link → (b : Bool) → is_up w out.to ≡ b → Joins link target w out (if b then with_outbox out.to (outbox_of w out.to ++ entry_of target out ∷ []) w else w)
-  here is true up =
-      let there : get_or (set w.links out.to (record (link_of w out.to) { outbox = outbox_of w out.to ++ entry_of target out ∷ [] })) out.to broken_link ≡ record (link_of w out.to) { outbox = outbox_of w out.to ++ entry_of target out ∷ [] } = changed_link w.links out.to (record (link_of w out.to) { outbox = outbox_of w out.to ++ entry_of target out ∷ [] }) up in
-      subst (λ (n : ℕ). Joins n target w out (with_outbox out.to (outbox_of w out.to ++ entry_of target out ∷ []) w)) is (record {
-        up = ap (λ (l : Link). l.up) there;
-        outbox = ap (λ (l : Link). l.outbox) there
-          ∙ ap (λ (entries : List OutboxEntry). outbox_of w out.to ++ entries) (sym (ap (λ (b : Bool). if b then to_link out.to (entry_of target out ∷ []) else []) up ∙ one_to_link out.to target out true (eq-eqb out.to out.to refl)));
-      })
-  here is false down =
-      subst (λ (n : ℕ). Joins n target w out w) is (record {
+      here : out.to ≡ link → (b : Bool) → is_up w out.to ≡ b → Joins link target w out (if b then with_outbox out.to (outbox_of w out.to ++ entry_of target out ∷ []) w else w)
+      here is true up =
+          let there : get_or (set w.links out.to (record (link_of w out.to) { outbox = outbox_of w out.to ++ entry_of target out ∷ [] })) out.to broken_link ≡ record (link_of w out.to) { outbox = outbox_of w out.to ++ entry_of target out ∷ [] } = changed_link w.links out.to (record (link_of w out.to) { outbox = outbox_of w out.to ++ entry_of target out ∷ [] }) up in
+          subst (λ (n : ℕ). Joins n target w out (with_outbox out.to (outbox_of w out.to ++ entry_of target out ∷ []) w)) is (record {
+            up = ap (λ (l : Link). l.up) there;
+            outbox = ap (λ (l : Link). l.outbox) there
+                ∙ ap (λ (entries : List OutboxEntry). outbox_of w out.to ++ entries) (sym (ap (λ (b : Bool). if b then to_link out.to (entry_of target out ∷ []) else []) up ∙ one_to_link out.to target out true (eq-eqb out.to out.to refl)));
+          })
+      here is false down =
+          subst (λ (n : ℕ). Joins n target w out w) is (record {
+            up = refl;
+            outbox = sym (ap (λ (b : Bool). outbox_of w out.to ++ (if b then to_link out.to (entry_of target out ∷ []) else [])) down ∙ append-nil (outbox_of w out.to));
+          })
+
+      elsewhere : nat_eq out.to link ≡ false → (b : Bool) → Joins link target w out (if b then with_outbox out.to (outbox_of w out.to ++ entry_of target out ∷ []) w else w)
+      elsewhere other true =
+          let same : link_of (with_outbox out.to (outbox_of w out.to ++ entry_of target out ∷ []) w) link ≡ link_of w link = other_link w link out.to (record (link_of w out.to) { outbox = outbox_of w out.to ++ entry_of target out ∷ [] }) (λ is. eqb-false out.to link other (sym is)) in
+          record {
+            up = ap (λ (l : Link). l.up) same;
+            outbox = ap (λ (l : Link). l.outbox) same ∙ none_joins link w (is_up w link) ∙ ap (λ (entries : List OutboxEntry). outbox_of w link ++ (if is_up w link then entries else [])) (sym (one_to_link link target out false other));
+          }
+      elsewhere other false = record {
         up = refl;
-        outbox = sym (ap (λ (b : Bool). outbox_of w out.to ++ (if b then to_link out.to (entry_of target out ∷ []) else [])) down ∙ append-nil (outbox_of w out.to));
-      })
-  elsewhere : nat_eq out.to link ≡ false → (b : Bool) → Joins link target w out (if b then with_outbox out.to (outbox_of w out.to ++ entry_of target out ∷ []) w else w)
-  elsewhere other true =
-      let same : link_of (with_outbox out.to (outbox_of w out.to ++ entry_of target out ∷ []) w) link ≡ link_of w link = other_link w link out.to (record (link_of w out.to) { outbox = outbox_of w out.to ++ entry_of target out ∷ [] }) (λ is. eqb-false out.to link other (sym is)) in
-      record {
-        up = ap (λ (l : Link). l.up) same;
-        outbox = ap (λ (l : Link). l.outbox) same ∙ none_joins link w (is_up w link) ∙ ap (λ (entries : List OutboxEntry). outbox_of w link ++ (if is_up w link then entries else [])) (sym (one_to_link link target out false other));
+        outbox = none_joins link w (is_up w link) ∙ ap (λ (entries : List OutboxEntry). outbox_of w link ++ (if is_up w link then entries else [])) (sym (one_to_link link target out false other));
       }
-  elsewhere other false = record {
-    up = refl;
-    outbox = none_joins link w (is_up w link) ∙ ap (λ (entries : List OutboxEntry). outbox_of w link ++ (if is_up w link then entries else [])) (sym (one_to_link link target out false other));
-  }
 
 -- all outputs of a step
 record AllJoin (link : ℕ) (target : Option Tenure) (w : Actors) (outs : List Out) (v : Actors) : Type 0 where
@@ -148,10 +149,10 @@ all_join link target (out ∷ outs) w =
     record {
       up = others.up ∙ one.up;
       outbox = others.outbox
-        ∙ ap (λ (b : Bool). outbox_of (joined_by target w out) link ++ (if b then to_link link (map (entry_of target) outs) else [])) one.up
-        ∙ ap (λ (entries : List OutboxEntry). entries ++ (if is_up w link then to_link link (map (entry_of target) outs) else [])) one.outbox
-        ∙ append_assoc (outbox_of w link) (if is_up w link then to_link link (entry_of target out ∷ []) else []) (if is_up w link then to_link link (map (entry_of target) outs) else [])
-        ∙ ap (λ (entries : List OutboxEntry). outbox_of w link ++ entries) (both (is_up w link) link (entry_of target out) (map (entry_of target) outs));
+          ∙ ap (λ (b : Bool). outbox_of (joined_by target w out) link ++ (if b then to_link link (map (entry_of target) outs) else [])) one.up
+          ∙ ap (λ (entries : List OutboxEntry). entries ++ (if is_up w link then to_link link (map (entry_of target) outs) else [])) one.outbox
+          ∙ append_assoc (outbox_of w link) (if is_up w link then to_link link (entry_of target out ∷ []) else []) (if is_up w link then to_link link (map (entry_of target) outs) else [])
+          ∙ ap (λ (entries : List OutboxEntry). outbox_of w link ++ entries) (both (is_up w link) link (entry_of target out) (map (entry_of target) outs));
     }
 
 turn-goes : (link : ℕ) (w : Actors) (event : Event) (target : Option Tenure) (t : Turn) (u : Actors) → Stays w u → outputs w event ≡ map (entry_of target) t.outs → taken link w event ≡ [] → Step link w event (with_turn target t u)
@@ -159,10 +160,10 @@ turn-goes link w event target t u same puts nobody =
     let all : AllJoin link target (record u { controller = t.next }) t.outs (with_turn target t u) = all_join link target t.outs (record u { controller = t.next }) in
     let same_link : link_of u link ≡ link_of w link = ap (λ (links : List Link). get_or links link broken_link) same in
     goes (all.up ∙ ap (λ (l : Link). l.up) same_link)
-      (ap (λ (entries : List OutboxEntry). outbox_of w link ++ (if is_up w link then to_link link entries else [])) puts
-        ∙ ap (λ (l : Link). l.outbox ++ (if l.up then to_link link (map (entry_of target) t.outs) else [])) (sym same_link)
-        ∙ sym all.outbox
-        ∙ ap (λ (entries : List OutboxEntry). entries ++ outbox_of (with_turn target t u) link) (sym nobody))
+    (ap (λ (entries : List OutboxEntry). outbox_of w link ++ (if is_up w link then to_link link entries else [])) puts
+    ∙ ap (λ (l : Link). l.outbox ++ (if l.up then to_link link (map (entry_of target) t.outs) else [])) (sym same_link)
+    ∙ sym all.outbox
+    ∙ ap (λ (entries : List OutboxEntry). entries ++ outbox_of (with_turn target t u) link) (sym nobody))
 
 handle-step : (link : ℕ) (w : Actors) (items : List Item) → w.inbox ≡ items → Step link w Handle (unwrap_or (handled items w) w)
 handle-step link w [] is = quiet link w Handle w (ap (outputs_at w) is) refl refl
@@ -185,24 +186,26 @@ popped-step link other w event v none takes h =
       | inl same ↦ here (eqb-true other link same) (takes ∙ ap (λ (b : Bool). if b then first_of (outbox_of w link) else []) same)
       | inr differs ↦ elsewhere differs (takes ∙ ap (λ (b : Bool). if b then first_of (outbox_of w link) else []) differs)
     ] where
-  now_there : get_or v.links other broken_link ≡ record (link_of w other) { outbox = h.others }
-  now_there = ap (λ (links : List Link). get_or links other broken_link) h.links ∙ changed_link w.links other (record (link_of w other) { outbox = h.others }) h.up
-  here : other ≡ link → taken link w event ≡ first_of (outbox_of w link) → Step link w event v
-  here is takes_here =
-      let now : link_of v link ≡ record (link_of w link) { outbox = h.others } = subst (λ (n : ℕ). link_of v n ≡ record (link_of w n) { outbox = h.others }) is now_there in
-      let stood : outbox_of w link ≡ h.first ∷ h.others = subst (λ (n : ℕ). outbox_of w n ≡ h.first ∷ h.others) is h.stood in
-      goes (ap (λ (l : Link). l.up) now)
-        (ap (λ (entries : List OutboxEntry). outbox_of w link ++ entries) (nothing_put link w event none)
+      now_there : get_or v.links other broken_link ≡ record (link_of w other) { outbox = h.others }
+      now_there = ap (λ (links : List Link). get_or links other broken_link) h.links ∙ changed_link w.links other (record (link_of w other) { outbox = h.others }) h.up
+
+      here : other ≡ link → taken link w event ≡ first_of (outbox_of w link) → Step link w event v
+      here is takes_here =
+          let now : link_of v link ≡ record (link_of w link) { outbox = h.others } = subst (λ (n : ℕ). link_of v n ≡ record (link_of w n) { outbox = h.others }) is now_there in
+          let stood : outbox_of w link ≡ h.first ∷ h.others = subst (λ (n : ℕ). outbox_of w n ≡ h.first ∷ h.others) is h.stood in
+          goes (ap (λ (l : Link). l.up) now)
+          (ap (λ (entries : List OutboxEntry). outbox_of w link ++ entries) (nothing_put link w event none)
           ∙ append-nil (outbox_of w link)
           ∙ stood
           ∙ ap (λ (entries : List OutboxEntry). h.first ∷ entries) (sym (ap (λ (l : Link). l.outbox) now))
           ∙ ap (λ (entries : List OutboxEntry). first_of entries ++ outbox_of v link) (sym stood)
           ∙ ap (λ (entries : List OutboxEntry). entries ++ outbox_of v link) (sym takes_here))
-  elsewhere : nat_eq other link ≡ false → taken link w event ≡ [] → Step link w event v
-  elsewhere differs nobody =
-      let same : link_of v link ≡ link_of w link = ap (λ (links : List Link). get_or links link broken_link) h.links ∙ other_link w link other (record (link_of w other) { outbox = h.others }) (λ is. eqb-false other link differs (sym is)) in
-      goes (ap (λ (l : Link). l.up) same)
-        (ap (λ (entries : List OutboxEntry). outbox_of w link ++ entries) (nothing_put link w event none)
+
+      elsewhere : nat_eq other link ≡ false → taken link w event ≡ [] → Step link w event v
+      elsewhere differs nobody =
+          let same : link_of v link ≡ link_of w link = ap (λ (links : List Link). get_or links link broken_link) h.links ∙ other_link w link other (record (link_of w other) { outbox = h.others }) (λ is. eqb-false other link differs (sym is)) in
+          goes (ap (λ (l : Link). l.up) same)
+          (ap (λ (entries : List OutboxEntry). outbox_of w link ++ entries) (nothing_put link w event none)
           ∙ append-nil (outbox_of w link)
           ∙ ap (λ (l : Link). l.outbox) (sym same)
           ∙ ap (λ (entries : List OutboxEntry). entries ++ outbox_of v link) (sym nobody))
@@ -237,8 +240,8 @@ base_takes-popped w station = base_takes-leads (Popped station w) w station (λ 
 switch_takes-popped : (w : Actors) → OfTaken (Popped SWITCH_LINK w) (after_switch_takes w)
 switch_takes-popped w = switch_takes-leads (Popped SWITCH_LINK w) w (λ first others up stood.
     switch_took-leads (Popped SWITCH_LINK w) (with_outbox SWITCH_LINK others w) (sccp_in first.out.frame)
-      (record { first = first; others = others; up = up; stood = stood; links = refl })
-      (λ next made. record { first = first; others = others; up = up; stood = stood; links = refl }))
+    (record { first = first; others = others; up = up; stood = stood; links = refl })
+    (λ next made. record { first = first; others = others; up = up; stood = stood; links = refl }))
 
 -- ---- breaks
 
@@ -253,17 +256,17 @@ broken-step link source w up =
     elim (cases_Bool (nat_eq source link)) [
       | inl same ↦ breaks
           (ap (λ (links : List Link). get_or links link broken_link) links
-            ∙ subst (λ (n : ℕ). get_or (set w.links source broken_link) n broken_link ≡ broken_link) (eqb-true source link same) (changed_link w.links source broken_link up))
+          ∙ subst (λ (n : ℕ). get_or (set w.links source broken_link) n broken_link ≡ broken_link) (eqb-true source link same) (changed_link w.links source broken_link up))
           (nothing_put link w (BaseDown source) refl) refl
       | inr differs ↦
           let same : link_of (broken source w) link ≡ link_of w link =
           ap (λ (links : List Link). get_or links link broken_link) links ∙ other_link w link source broken_link (λ is. eqb-false source link differs (sym is)) in
           goes (ap (λ (l : Link). l.up) same)
-            (ap (λ (entries : List OutboxEntry). outbox_of w link ++ entries) (nothing_put link w (BaseDown source) refl)
-              ∙ append-nil (outbox_of w link) ∙ ap (λ (l : Link). l.outbox) (sym same))
+          (ap (λ (entries : List OutboxEntry). outbox_of w link ++ entries) (nothing_put link w (BaseDown source) refl)
+          ∙ append-nil (outbox_of w link) ∙ ap (λ (l : Link). l.outbox) (sym same))
     ] where
-  links : (broken source w).links ≡ set w.links source broken_link
-  links = without_made-stays source (with_link source broken_link w)
+      links : (broken source w).links ≡ set w.links source broken_link
+      links = without_made-stays source (with_link source broken_link w)
 
 break-step : (link source : ℕ) (w : Actors) → Step link w (BaseDown source) (unwrap_or (after_break w source) w)
 break-step link source w = by_link (is_up w source) refl where
@@ -348,21 +351,23 @@ down-outbox link w event none down = emptied-by (step link w event) none down
 
 -- what is taken is the beginning of what stands there and is put
 begins-by : (link : ℕ) (w : Actors) (event : Event) (events : List Event) → Step link w event (actors_after w event) → IsPrefix (all_taken link (actors_after w event) events) (outbox_of (actors_after w event) link ++ all_put link (actors_after w event) events) → IsPrefix (all_taken link w (event ∷ events)) (outbox_of w link ++ all_put link w (event ∷ events))
-begins-by link w event events (goes same all) (rest, is) =
-    (rest,
-      append_assoc (taken link w event) (all_taken link (actors_after w event) events) rest
+begins-by link w event events (goes same all) (rest, is) = (
+  rest,
+  append_assoc (taken link w event) (all_taken link (actors_after w event) events) rest
       ∙ ap (λ (entries : List OutboxEntry). taken link w event ++ entries) is
       ∙ sym (append_assoc (taken link w event) (outbox_of (actors_after w event) link) (all_put link (actors_after w event) events))
       ∙ ap (λ (entries : List OutboxEntry). entries ++ all_put link (actors_after w event) events) (sym all)
-      ∙ append_assoc (outbox_of w link) (put link w event) (all_put link (actors_after w event) events))
+      ∙ append_assoc (outbox_of w link) (put link w event) (all_put link (actors_after w event) events),
+)
 begins-by link w event events (breaks broken nothing nobody) (rest, is) =
     let down : IsDown link (actors_after w event) = ap (λ (l : Link). l.up) broken in
     let none : all_put link (actors_after w event) events ≡ [] = down-puts_all link (actors_after w event) events down in
     let empty : all_taken link (actors_after w event) events ++ rest ≡ [] =
-    is ∙ ap (λ (l : Link). l.outbox ++ all_put link (actors_after w event) events) broken ∙ none in
-    (outbox_of w link ++ all_put link w (event ∷ events),
+    is ∙ ap (λ (l : Link). l.outbox ++ all_put link (actors_after w event) events) broken ∙ none in (
+      outbox_of w link ++ all_put link w (event ∷ events),
       ap (λ (entries : List OutboxEntry). (entries ++ all_taken link (actors_after w event) events) ++ (outbox_of w link ++ all_put link w (event ∷ events))) nobody
-      ∙ ap (λ (entries : List OutboxEntry). entries ++ (outbox_of w link ++ all_put link w (event ∷ events))) (Front-empty (all_taken link (actors_after w event) events) rest empty))
+          ∙ ap (λ (entries : List OutboxEntry). entries ++ (outbox_of w link ++ all_put link w (event ∷ events))) (Front-empty (all_taken link (actors_after w event) events) rest empty),
+    )
 
 begins-all : (link : ℕ) (w : Actors) (events : List Event) → IsPrefix (all_taken link w events) (outbox_of w link ++ all_put link w events)
 begins-all link w [] = (outbox_of w link, sym (append-nil (outbox_of w link)))

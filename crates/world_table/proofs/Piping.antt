@@ -60,36 +60,38 @@ quiet-end n m k w u base n_is up same active acks =
       | inl here ↦ subst (λ (j : ℕ). Quiet j k w (with_base m base u)) (sym (eqb-true n m here)) at_m
       | inr other ↦ quiet-base (base-elsewhere u n m base n_is (up-right m w up).0 (eqb-false n m other) ∙ same n)
     ] where
-  at_m : Quiet m k w (with_base m base u)
-  at_m = elim (base-there u m base) [
-      | inl there ↦ record {
+      at_m : Quiet m k w (with_base m base u)
+      at_m = elim (base-there u m base) [
+        | inl there ↦ record {
           acks = ap (λ (b : BaseState). acknowledgements k b.messages) there ∙ acks;
           active = ap (λ (b : BaseState). is_active b.active k) there ∙ ap (λ (xs : List ℕ). is_active xs k) active;
         }
-      | inr nowhere ↦ quiet-base (nowhere.0 ∙ sym nowhere.1 ∙ same m)
-    ]
+        | inr nowhere ↦ quiet-base (nowhere.0 ∙ sym nowhere.1 ∙ same m)
+      ]
 
 told-quiet : (n m k : ℕ) (message : Rsl) (w u : Actors) → n ≢ 0 → is_station_up w m ≡ true → SameEnds w u → is_bound_of k message ≡ false → Quiet n k w (told m message u)
 told-quiet n m k message w u n_is up same free =
     quiet-end n m k w u (after_tell (base_of u m) message) n_is up same (ap (λ (b : BaseState). b.active) (same m))
-      (acks-tell k (base_of u m) message free ∙ ap (λ (b : BaseState). acknowledgements k b.messages) (same m))
+    (acks-tell k (base_of u m) message free ∙ ap (λ (b : BaseState). acknowledgements k b.messages) (same m))
 
 brought-quiet : (n k : ℕ) (w : Actors) (p : Mobile) (tenure : Tenure) (sapi : Sapi) (frame : List ℕ) → n ≢ 0 → is_reached w tenure ≡ true → Quiet n k w (brought w p tenure.at sapi frame)
 brought-quiet n k w p tenure Zero frame n_is reached = quiet-at refl (by_opening p.opens) where
   base : BaseState
   base = base_of w tenure.at.station
+
   by_opening : (b : Bool) → Quiet n k w (with_base tenure.at.station (signalling_brought base tenure.at.number b frame) w)
   by_opening true = told-quiet n tenure.at.station k (establish_indication tenure.at.number Zero (Some frame)) w w n_is (reached-up w tenure reached).0 (λ j. refl) refl
   by_opening false = told-quiet n tenure.at.station k (data_indication tenure.at.number Zero frame) w w n_is (reached-up w tenure reached).0 (λ j. refl) refl
 brought-quiet n k w p tenure Three frame n_is reached =
     quiet-at (base-with_spot tenure.at _ (with_base tenure.at.station (short_message_brought base tenure.at.number (spot_at w tenure.at).sapi_three_up frame) w) n) (by_link (spot_at w tenure.at).sapi_three_up) where
-  base : BaseState
-  base = base_of w tenure.at.station
-  by_link : (b : Bool) → Quiet n k w (with_base tenure.at.station (short_message_brought base tenure.at.number b frame) w)
-  by_link true = told-quiet n tenure.at.station k (data_indication tenure.at.number Three frame) w w n_is (reached-up w tenure reached).0 (λ j. refl) refl
-  by_link false =
-      quiet-end n tenure.at.station k w w (after_up (after_establish base tenure.at.number Three None) tenure.at.number Three frame) n_is (reached-up w tenure reached).0 (λ j. refl) refl
-        (acks-tell k (after_establish base tenure.at.number Three None) (data_indication tenure.at.number Three frame) refl ∙ acks-tell k base (establish_indication tenure.at.number Three None) refl)
+      base : BaseState
+      base = base_of w tenure.at.station
+
+      by_link : (b : Bool) → Quiet n k w (with_base tenure.at.station (short_message_brought base tenure.at.number b frame) w)
+      by_link true = told-quiet n tenure.at.station k (data_indication tenure.at.number Three frame) w w n_is (reached-up w tenure reached).0 (λ j. refl) refl
+      by_link false =
+          quiet-end n tenure.at.station k w w (after_up (after_establish base tenure.at.number Three None) tenure.at.number Three frame) n_is (reached-up w tenure reached).0 (λ j. refl) refl
+          (acks-tell k (after_establish base tenure.at.number Three None) (data_indication tenure.at.number Three frame) refl ∙ acks-tell k base (establish_indication tenure.at.number Three None) refl)
 
 seated-quiet : (n k : ℕ) (w : Actors) (p : Mobile) (tenure : Tenure) (control : List ℕ) → n ≢ 0 → is_reached w tenure ≡ true → Quiet n k w (seated w p tenure control)
 seated-quiet n k w p tenure control n_is reached =
@@ -104,9 +106,9 @@ data Step (n k : ℕ) (w : Actors) (event : Event) (v : Actors) : Type 0 where
 quiet-flows : (n k : ℕ) (w : Actors) (event : Event) (v : Actors) → given n w event ≡ [] → taken n w event ≡ [] → Quiet n k w v → Step n k w event v
 quiet-flows n k w event v nothing nobody quiet =
     flows
-      (ap (λ (ms : List Rsl). acknowledgements k (ms ++ (base_of v n).messages)) nothing ∙ quiet.acks ∙ sym (append-nil (acknowledgements k (base_of w n).messages))
-        ∙ ap (λ (entries : List OutboxEntry). acknowledgements k (base_of w n).messages ++ due k (is_active (base_of w n).active k) entries) (sym nobody))
-      (quiet.active ∙ ap (active_all k (is_active (base_of w n).active k)) (sym nobody))
+    (ap (λ (ms : List Rsl). acknowledgements k (ms ++ (base_of v n).messages)) nothing ∙ quiet.acks ∙ sym (append-nil (acknowledgements k (base_of w n).messages))
+    ∙ ap (λ (entries : List OutboxEntry). acknowledgements k (base_of w n).messages ++ due k (is_active (base_of w n).active k) entries) (sym nobody))
+    (quiet.active ∙ ap (active_all k (is_active (base_of w n).active k)) (sym nobody))
 
 quietly : (n k : ℕ) (w : Actors) (event : Event) (o : Option Actors) → given n w event ≡ [] → taken n w event ≡ [] → OfTaken (Quiet n k w) o → Step n k w event (unwrap_or o w)
 quietly n k w event o nothing nobody leads = quiet-flows n k w event (unwrap_or o w) nothing nobody (after-taken (Quiet n k w) o w leads (quiet-base refl))
@@ -123,10 +125,10 @@ plain-flows : (n k : ℕ) (w : Actors) (event : Event) (v : Actors) → taken n 
 plain-flows n k w event v nobody dropped (as_before same nothing) = quiet-flows n k w event v nothing nobody (quiet-base same)
 plain-flows n k w event v nobody dropped (next message first is gave) =
     flows
-      (ap (acknowledgements k) (ap (λ (ms : List Rsl). ms ++ (base_of v n).messages) gave ∙ ap (λ (b : BaseState). message ∷ b.messages) is ∙ first-and-behind (base_of w n).messages message first)
-        ∙ sym (append-nil (acknowledgements k (base_of w n).messages))
-        ∙ ap (λ (entries : List OutboxEntry). acknowledgements k (base_of w n).messages ++ due k (is_active (base_of w n).active k) entries) (sym nobody))
-      (ap (λ (b : BaseState). is_active b.active k) is ∙ ap (active_all k (is_active (base_of w n).active k)) (sym nobody))
+    (ap (acknowledgements k) (ap (λ (ms : List Rsl). ms ++ (base_of v n).messages) gave ∙ ap (λ (b : BaseState). message ∷ b.messages) is ∙ first-and-behind (base_of w n).messages message first)
+    ∙ sym (append-nil (acknowledgements k (base_of w n).messages))
+    ∙ ap (λ (entries : List OutboxEntry). acknowledgements k (base_of w n).messages ++ due k (is_active (base_of w n).active k) entries) (sym nobody))
+    (ap (λ (b : BaseState). is_active b.active k) is ∙ ap (active_all k (is_active (base_of w n).active k)) (sym nobody))
 plain-flows n k w event v nobody dropped (ends_now down left nothing) = stops down left (dropped down) nothing nobody
 
 -- ---- what the station takes
@@ -147,7 +149,7 @@ own-takes : (n k : ℕ) (w : Actors) → n - 1 < length w.stations → OfTaken (
 unfolding AnswersAt
 own-takes n k w there = base_takes-leads (Took n k w) w n (λ first others up stood.
     map-taken {P = AnswersAt n k (with_outbox n others w) (rsl_in first.out.frame)} (λ v answers. record { first = first; others = others; stood = stood; answers = answers }) (took n first.target (rsl_in first.out.frame) (with_outbox n others w))
-      (took-answers n k first.target (rsl_in first.out.frame) (with_outbox n others w) there))
+    (took-answers n k first.target (rsl_in first.out.frame) (with_outbox n others w) there))
 
 other-takes : (n s k : ℕ) (w : Actors) → n ≢ 0 → n ≢ s → OfTaken (Quiet n k w) (after_base_takes w s)
 other-takes n s k w n_is differs = base_takes-leads (Quiet n k w) w s (λ first others up stood. taking first others up) where
@@ -162,6 +164,7 @@ other-takes n s k w n_is differs = base_takes-leads (Quiet n k w) w s (λ first 
   }) where
     away : (base : BaseState) (u : Actors) → base_of u n ≡ base_of w n → Quiet n k w (with_base s base u)
     away base u same = quiet-base (base-elsewhere u n s base n_is (up-right s w up).0 differs ∙ same)
+
     answering : (answer : Bool) (channel : ℕ) → Quiet n k w (answered answer (place_at s channel) (with_outbox s others w))
     answering answer channel =
         let u : Actors = with_spot (place_at s channel) (record (spot_at (with_outbox s others w) (place_at s channel)) { sapi_three_up = answer }) (with_outbox s others w) in
@@ -173,9 +176,9 @@ own-flows n k w None takes h = quiet-flows n k w (BaseTakes n) w refl takes (qui
 own-flows n k w (Some v) takes h =
     let one : taken n w (BaseTakes n) ≡ h.first ∷ [] = takes ∙ ap first_of h.stood in
     flows
-      (h.answers.acks ∙ ap (λ (ms : List Rsl). acknowledgements k (base_of w n).messages ++ ms) (sym (append-nil (acknowledgement k (is_active (base_of w n).active k) (rsl_in h.first.out.frame))))
-        ∙ ap (λ (entries : List OutboxEntry). acknowledgements k (base_of w n).messages ++ due k (is_active (base_of w n).active k) entries) (sym one))
-      (h.answers.active ∙ ap (active_all k (is_active (base_of w n).active k)) (sym one))
+    (h.answers.acks ∙ ap (λ (ms : List Rsl). acknowledgements k (base_of w n).messages ++ ms) (sym (append-nil (acknowledgement k (is_active (base_of w n).active k) (rsl_in h.first.out.frame))))
+    ∙ ap (λ (entries : List OutboxEntry). acknowledgements k (base_of w n).messages ++ due k (is_active (base_of w n).active k) entries) (sym one))
+    (h.answers.active ∙ ap (active_all k (is_active (base_of w n).active k)) (sym one))
 
 takes-flows : (n s k : ℕ) (w : Actors) (o : Option Actors) → n ≢ 0 → n - 1 < length w.stations → o ≡ after_base_takes w s → taken n w (BaseTakes s) ≡ (if s == n then (if is_some o then first_of (outbox_of w n) else []) else []) → Step n k w (BaseTakes s) (unwrap_or o w)
 takes-flows n s k w o n_is there is takes =
@@ -184,10 +187,10 @@ takes-flows n s k w o n_is there is takes =
       | inr other ↦ quietly n k w (BaseTakes s) o refl (takes ∙ ap (λ (b : Bool). if b then (if is_some o then first_of (outbox_of w n) else []) else []) other)
           (subst (OfTaken (Quiet n k w)) (sym is) (other-takes n s k w n_is (λ same. eqb-false s n other (sym same))))
     ] where
-  own : s ≡ n → taken n w (BaseTakes s) ≡ (if is_some o then first_of (outbox_of w n) else []) → Step n k w (BaseTakes s) (unwrap_or o w)
-  own same now =
-      subst (λ (j : ℕ). Step n k w (BaseTakes j) (unwrap_or o w)) (sym same)
-        (own-flows n k w o (subst (λ (j : ℕ). taken n w (BaseTakes j) ≡ (if is_some o then first_of (outbox_of w n) else [])) same now)
+      own : s ≡ n → taken n w (BaseTakes s) ≡ (if is_some o then first_of (outbox_of w n) else []) → Step n k w (BaseTakes s) (unwrap_or o w)
+      own same now =
+          subst (λ (j : ℕ). Step n k w (BaseTakes j) (unwrap_or o w)) (sym same)
+          (own-flows n k w o (subst (λ (j : ℕ). taken n w (BaseTakes j) ≡ (if is_some o then first_of (outbox_of w n) else [])) same now)
           (subst (OfTaken (Took n k w)) (sym (is ∙ ap (after_base_takes w) same)) (own-takes n k w there)))
 
 -- ---- each event
@@ -197,7 +200,7 @@ unfolding event_after FromAir OfTaken
 step n k w (Upper number sapi message) n_is there none = quietly n k w (Upper number sapi message) (after_upper w number sapi message) refl refl (upper-leads (Quiet n k w) w number sapi message (λ p _. quiet-base refl))
 step n k w (Connect number station initial accepts) n_is there none =
     quietly n k w (Connect number station initial accepts) (after_connecting w number station initial accepts) refl refl
-      (connect-leads (Quiet n k w) w number station initial accepts (λ may. told-quiet n station k (channel_required number) w _ n_is (and-right (is_new w number) (is_station_up w station) (and-left (is_new w number && is_station_up w station) (is_none (refusal_of_connect (Some initial))) may)) (λ j. refl) refl))
+    (connect-leads (Quiet n k w) w number station initial accepts (λ may. told-quiet n station k (channel_required number) w _ n_is (and-right (is_new w number) (is_station_up w station) (and-left (is_new w number && is_station_up w station) (is_none (refusal_of_connect (Some initial))) may)) (λ j. refl) refl))
 step n k w (AirUp number sapi) n_is there none =
     quietly n k w (AirUp number sapi) (after_air_up w number sapi) refl refl (air_up-leads (Quiet n k w) w number sapi (λ p tenure command frame _ _ _ reached. brought-quiet n k w p tenure sapi frame n_is reached))
 step n k w (AirAck number sapi) n_is there none = quietly n k w (AirAck number sapi) (after_air_ack w number sapi) refl refl (air_ack-leads (Quiet n k w) w number sapi (λ p _. quiet-base refl))
@@ -218,7 +221,7 @@ step n k w Handle n_is there none =
     quietly n k w Handle (after_handle w) refl refl (handle-leads (Quiet n k w) w (λ item items _. turn-leads (Quiet n k w) (target_in w item.source item.what) (take item w.controller) (record w { inbox = items }) (λ links. quiet-base refl)))
 step n k w SwitchTakes n_is there none =
     quietly n k w SwitchTakes (after_switch_takes w) refl (ap (λ (b : Bool). if b then (if is_some (after_switch_takes w) then first_of (outbox_of w n) else []) else []) (ne_eqb SWITCH_LINK n (λ same. n_is (sym same))))
-      (switch_takes-leads (Quiet n k w) w (λ first others _ _. switch_took-leads (Quiet n k w) (with_outbox SWITCH_LINK others w) (sccp_in first.out.frame) (quiet-base refl) (λ nows made. quiet-base refl)))
+    (switch_takes-leads (Quiet n k w) w (λ first others _ _. switch_took-leads (Quiet n k w) (with_outbox SWITCH_LINK others w) (sccp_in first.out.frame) (quiet-base refl) (λ nows made. quiet-base refl)))
 step n k w (SwitchDoes action) n_is there none = quietly n k w (SwitchDoes action) (after_switch_does w action) refl refl (does-leads (Quiet n k w) w action (λ nows made. quiet-base refl))
 step n k w (Tick ms) n_is there none = quietly n k w (Tick ms) (after_tick w ms) refl refl (turn-leads (Quiet n k w) None (tick ms w.controller) w (λ links. quiet-base refl))
 step n k w (BaseDown source) n_is there none = plain-flows n k w (BaseDown source) (actors_after w (BaseDown source)) refl (down-outbox n w (BaseDown source) none) (breaking n source w n_is)
@@ -252,19 +255,19 @@ works-begins k gave made ds is = (acknowledgements k made, sym (acks-append k ga
 kept-by : (n k : ℕ) (gave : List Rsl) (took_so_far : List OutboxEntry) (w : Actors) (event : Event) (v : Actors) → Step n k w event v → (is_up w n ≡ false → is_up v n ≡ false) → (is_up w n ≡ false → outbox_of w n ≡ [] → (taken n w event ≡ []) × (outbox_of v n ≡ [])) → Kept n k gave took_so_far w → Kept n k (gave ++ given n w event) (took_so_far ++ taken n w event) v
 kept-by n k gave took_so_far w event v (flows all active) stays empties (works made on) =
     works
-      (ap (acknowledgements k) (append_assoc gave (given n w event) (base_of v n).messages)
-        ∙ acks-append k gave (given n w event ++ (base_of v n).messages)
-        ∙ ap (λ (ms : List Rsl). acknowledgements k gave ++ ms) all
-        ∙ sym (append_assoc (acknowledgements k gave) (acknowledgements k (base_of w n).messages) (due k (is_active (base_of w n).active k) (taken n w event)))
-        ∙ ap (λ (ms : List Rsl). ms ++ due k (is_active (base_of w n).active k) (taken n w event)) (sym (acks-append k gave (base_of w n).messages) ∙ made)
-        ∙ ap (λ (b : Bool). due k false took_so_far ++ due k b (taken n w event)) on
-        ∙ sym (due-append k false took_so_far (taken n w event)))
-      (active ∙ ap (λ (b : Bool). active_all k b (taken n w event)) on ∙ sym (active-append k false took_so_far (taken n w event)))
+    (ap (acknowledgements k) (append_assoc gave (given n w event) (base_of v n).messages)
+    ∙ acks-append k gave (given n w event ++ (base_of v n).messages)
+    ∙ ap (λ (ms : List Rsl). acknowledgements k gave ++ ms) all
+    ∙ sym (append_assoc (acknowledgements k gave) (acknowledgements k (base_of w n).messages) (due k (is_active (base_of w n).active k) (taken n w event)))
+    ∙ ap (λ (ms : List Rsl). ms ++ due k (is_active (base_of w n).active k) (taken n w event)) (sym (acks-append k gave (base_of w n).messages) ∙ made)
+    ∙ ap (λ (b : Bool). due k false took_so_far ++ due k b (taken n w event)) on
+    ∙ sym (due-append k false took_so_far (taken n w event)))
+    (active ∙ ap (λ (b : Bool). active_all k b (taken n w event)) on ∙ sym (active-append k false took_so_far (taken n w event)))
 kept-by n k gave took_so_far w event v (stops down left dropped nothing nobody) stays empties (works made on) =
     rested down dropped (ap (acknowledgements k) left)
-      (subst (λ (ms : List Rsl). IsPrefix (acknowledgements k ms) (due k false (took_so_far ++ taken n w event))) (sym (ap (λ (ms : List Rsl). gave ++ ms) nothing ∙ append-nil gave))
-        (subst (λ (es : List OutboxEntry). IsPrefix (acknowledgements k gave) (due k false es)) (sym (ap (λ (es : List OutboxEntry). took_so_far ++ es) nobody ∙ append-nil took_so_far))
-          (works-begins k gave (base_of w n).messages (due k false took_so_far) made)))
+    (subst (λ (ms : List Rsl). IsPrefix (acknowledgements k ms) (due k false (took_so_far ++ taken n w event))) (sym (ap (λ (ms : List Rsl). gave ++ ms) nothing ∙ append-nil gave))
+    (subst (λ (es : List OutboxEntry). IsPrefix (acknowledgements k gave) (due k false es)) (sym (ap (λ (es : List OutboxEntry). took_so_far ++ es) nobody ∙ append-nil took_so_far))
+    (works-begins k gave (base_of w n).messages (due k false took_so_far) made)))
 kept-by n k gave took_so_far w event v (flows all active) stays empties (rested down dropped left begins) =
     let gone : (taken n w event ≡ []) × (outbox_of v n ≡ []) = empties down dropped in
     let none : acknowledgements k (given n w event ++ (base_of v n).messages) ≡ [] =
@@ -272,22 +275,22 @@ kept-by n k gave took_so_far w event v (flows all active) stays empties (rested 
     let parts : (acknowledgements k (given n w event) ≡ []) × (acknowledgements k (base_of v n).messages ≡ []) =
     Both-empty (acknowledgements k (given n w event)) (acknowledgements k (base_of v n).messages) (sym none ∙ acks-append k (given n w event) (base_of v n).messages) in
     rested (stays down) gone.1 parts.1
-      (subst (λ (ms : List Rsl). IsPrefix ms (due k false (took_so_far ++ taken n w event))) (sym (acks-append k gave (given n w event) ∙ ap (λ (ms : List Rsl). acknowledgements k gave ++ ms) parts.0 ∙ append-nil (acknowledgements k gave)))
-        (subst (λ (es : List OutboxEntry). IsPrefix (acknowledgements k gave) (due k false es)) (sym (ap (λ (es : List OutboxEntry). took_so_far ++ es) gone.0 ∙ append-nil took_so_far)) begins))
+    (subst (λ (ms : List Rsl). IsPrefix ms (due k false (took_so_far ++ taken n w event))) (sym (acks-append k gave (given n w event) ∙ ap (λ (ms : List Rsl). acknowledgements k gave ++ ms) parts.0 ∙ append-nil (acknowledgements k gave)))
+    (subst (λ (es : List OutboxEntry). IsPrefix (acknowledgements k gave) (due k false es)) (sym (ap (λ (es : List OutboxEntry). took_so_far ++ es) gone.0 ∙ append-nil took_so_far)) begins))
 kept-by n k gave took_so_far w event v (stops down left dropped nothing nobody) stays empties (rested down_before dropped_before left_before begins) =
     rested down dropped (ap (acknowledgements k) left)
-      (subst (λ (ms : List Rsl). IsPrefix (acknowledgements k ms) (due k false (took_so_far ++ taken n w event))) (sym (ap (λ (ms : List Rsl). gave ++ ms) nothing ∙ append-nil gave))
-        (subst (λ (es : List OutboxEntry). IsPrefix (acknowledgements k gave) (due k false es)) (sym (ap (λ (es : List OutboxEntry). took_so_far ++ es) nobody ∙ append-nil took_so_far)) begins))
+    (subst (λ (ms : List Rsl). IsPrefix (acknowledgements k ms) (due k false (took_so_far ++ taken n w event))) (sym (ap (λ (ms : List Rsl). gave ++ ms) nothing ∙ append-nil gave))
+    (subst (λ (es : List OutboxEntry). IsPrefix (acknowledgements k gave) (due k false es)) (sym (ap (λ (es : List OutboxEntry). took_so_far ++ es) nobody ∙ append-nil took_so_far)) begins))
 
 kept-all : (n k : ℕ) (gave : List Rsl) (took_so_far : List OutboxEntry) (w : Actors) (events : List Event) → n ≢ 0 → n - 1 < length w.stations → (is_up w n ≡ false → outbox_of w n ≡ []) → Kept n k gave took_so_far w → Kept n k (gave ++ all_given n w events) (took_so_far ++ all_taken n w events) (actors_after_all w events)
 kept-all n k gave took_so_far w [] n_is there none kept =
     subst (λ (ms : List Rsl). Kept n k ms (took_so_far ++ []) w) (sym (append-nil gave)) (subst (λ (es : List OutboxEntry). Kept n k gave es w) (sym (append-nil took_so_far)) kept)
 kept-all n k gave took_so_far w (event ∷ events) n_is there none kept =
     subst (λ (ms : List Rsl). Kept n k ms (took_so_far ++ all_taken n w (event ∷ events)) (actors_after_all w (event ∷ events))) (append_assoc gave (given n w event) (all_given n (actors_after w event) events))
-      (subst (λ (es : List OutboxEntry). Kept n k ((gave ++ given n w event) ++ all_given n (actors_after w event) events) es (actors_after_all w (event ∷ events))) (append_assoc took_so_far (taken n w event) (all_taken n (actors_after w event) events))
-        (kept-all n k (gave ++ given n w event) (took_so_far ++ taken n w event) (actors_after w event) events n_is
-          (subst (λ (l : ℕ). n - 1 < l) (sym (same-stations w event)) there) (down-outbox n w event none)
-          (kept-by n k gave took_so_far w event (actors_after w event) (step n k w event n_is there none) (down-after n w event) (down-empty n w event) kept)))
+    (subst (λ (es : List OutboxEntry). Kept n k ((gave ++ given n w event) ++ all_given n (actors_after w event) events) es (actors_after_all w (event ∷ events))) (append_assoc took_so_far (taken n w event) (all_taken n (actors_after w event) events))
+    (kept-all n k (gave ++ given n w event) (took_so_far ++ taken n w event) (actors_after w event) events n_is
+    (subst (λ (l : ℕ). n - 1 < l) (sym (same-stations w event)) there) (down-outbox n w event none)
+    (kept-by n k gave took_so_far w event (actors_after w event) (step n k w event n_is there none) (down-after n w event) (down-empty n w event) kept)))
 
 -- ---- from the beginning
 
@@ -331,7 +334,7 @@ ArePipes-new settings events n k least most =
     record {
       flows = λ up. pipe-flows n k (all_given n w events) (all_taken n w events) (all_put n w events) (actors_after_all w events) kept up (rest-all n w events empty up);
       begins = prefix-trans (acknowledgements k (all_given n w events)) (due k false (all_taken n w events)) (due k false (all_put n w events))
-        (pipe-begins n k (all_given n w events) (all_taken n w events) (actors_after_all w events) kept) (due-begins k (all_taken n w events) (all_put n w events) (outboxes-all n w events empty));
+          (pipe-begins n k (all_given n w events) (all_taken n w events) (actors_after_all w events) kept) (due-begins k (all_taken n w events) (all_put n w events) (outboxes-all n w events empty));
     } where
-  not_zero : n ≡ 0 → 1 ≤ n → ⊥
-  not_zero is least = absurd (omega arith)
+      not_zero : n ≡ 0 → 1 ≤ n → ⊥
+      not_zero is least = absurd (omega arith)

@@ -75,7 +75,7 @@ is_new w number = nat_lt 0 number && is_none (mobile_of w number)
 abbrev pub after_connecting : Actors → ℕ → ℕ → List ℕ → Bool → Option Actors
 after_connecting w number station initial accepts =
     only_if (is_new w number && is_station_up w station && is_none (refusal_of_connect (Some initial)))
-      (told station (channel_required number) (record w { mobiles = w.mobiles ++ connected w.modulus number initial accepts ∷ [] }))
+    (told station (channel_required number) (record w { mobiles = w.mobiles ++ connected w.modulus number initial accepts ∷ [] }))
 
 -- ---- the station takes the frame in the air
 
@@ -99,11 +99,11 @@ framed p sapi = record p { end = after_frame p.end sapi }
 abbrev pub brought : Actors → Mobile → Place → Sapi → List ℕ → Actors
 brought w p at Zero frame =
     with_mobile (record (framed p Zero) { opens = false })
-      (with_base at.station (signalling_brought (base_of w at.station) at.number p.opens frame) w)
+    (with_base at.station (signalling_brought (base_of w at.station) at.number p.opens frame) w)
 brought w p at Three frame =
     with_mobile (framed p Three)
-      (with_spot at (record (spot_at w at) { sapi_three_up = true })
-        (with_base at.station (short_message_brought (base_of w at.station) at.number (spot_at w at).sapi_three_up frame) w))
+    (with_spot at (record (spot_at w at) { sapi_three_up = true })
+    (with_base at.station (short_message_brought (base_of w at.station) at.number (spot_at w at).sapi_three_up frame) w))
 
 abbrev pub brought_up : Actors → Sapi → Mobile → Seat → Option Actors
 brought_up w sapi p (On tenure command) =
@@ -162,7 +162,7 @@ after_air_down_lost w number = by_mobile w number (λ p. brought_down w unheard 
 abbrev pub left : Actors → Mobile → Tenure → Command → Actors
 left w p from command =
     with_mobile (record p { end = after_leave p.end; seat = Moving from command; opens = false })
-      (with_spot from.at (record (spot_at w from.at) { air = []; sapi_three_up = false }) w)
+    (with_spot from.at (record (spot_at w from.at) { air = []; sapi_three_up = false }) w)
 
 abbrev pub moved : Actors → Mobile → Seat → Option Actors
 moved w p (On tenure (Some command)) = only_if (is_reached w tenure) (left w p tenure command)
@@ -202,7 +202,7 @@ failure Handover = rr_text (HandoverFailure (record { 0 = TIMER_EXPIRED }))
 abbrev pub seated : Actors → Mobile → Tenure → List ℕ → Actors
 seated w p tenure control =
     with_mobile (record p { end = after_arrival p.end control; seat = On tenure None })
-      (with_base tenure.at.station (after_establish (base_of w tenure.at.station) tenure.at.number Zero None) w)
+    (with_base tenure.at.station (after_establish (base_of w tenure.at.station) tenure.at.number Zero None) w)
 
 abbrev pub arrived : Actors → Mobile → Seat → Option Actors
 arrived w p (Moving from command) = only_if (is_reached w command.target) (seated w p command.target (complete command.change))
@@ -234,7 +234,7 @@ measurement_result channel number report = MeasurementResult (record {
 abbrev pub reported_at : Actors → Place → List ℕ → Actors
 reported_at w at report =
     told at.station (measurement_result at.number (spot_at w at).reports report)
-      (with_spot at (record (spot_at w at) { reports = ((spot_at w at).reports + 1) % 256 }) w)
+    (with_spot at (record (spot_at w at) { reports = ((spot_at w at).reports + 1) % 256 }) w)
 
 abbrev pub reported : Actors → List ℕ → Seat → Option Actors
 reported w report (On tenure command) = only_if (is_reached w tenure && (length report == REPORT_LENGTH)) (reported_at w tenure.at report)
