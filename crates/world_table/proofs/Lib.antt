@@ -14,5 +14,6 @@ mod MoveRows
 mod OpeningRows
 pub mod Piping
 mod QueueRows
+pub mod Sizing
 mod StationRows
 pub mod Worlds
