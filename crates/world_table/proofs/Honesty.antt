@@ -39,12 +39,12 @@ use Rattle.world_table.proofs.Leads.{OfTaken, FromAir, and-left, and-right, uppe
 -- ---- lists
 
 -- changed where it is there, and else as it was
-set-or-not : (stations : List Station) (k : ℕ) (station : Station) → (get_or (set stations k station) k no_station ≡ station) ⊎ ((get_or (set stations k station) k no_station ≡ no_station) × (get_or stations k no_station ≡ no_station))
+pub set-or-not : (stations : List Station) (k : ℕ) (station : Station) → (get_or (set stations k station) k no_station ≡ station) ⊎ ((get_or (set stations k station) k no_station ≡ no_station) × (get_or stations k no_station ≡ no_station))
 set-or-not [] k station = inr (refl, refl)
 set-or-not (first ∷ stations) zero station = inl refl
 set-or-not (first ∷ stations) (suc k) station = set-or-not stations k station
 
-set-elsewhere : (stations : List Station) (k j : ℕ) (station : Station) → j ≢ k → get_or (set stations k station) j no_station ≡ get_or stations j no_station
+pub set-elsewhere : (stations : List Station) (k j : ℕ) (station : Station) → j ≢ k → get_or (set stations k station) j no_station ≡ get_or stations j no_station
 set-elsewhere [] k j station differs = refl
 set-elsewhere (first ∷ stations) zero zero station differs = absurd (differs refl)
 set-elsewhere (first ∷ stations) zero (suc j) station differs = refl

@@ -5,6 +5,7 @@ pub mod Counting
 mod HistoryRows
 pub mod Honesty
 pub mod Inboxes
+pub mod Lawful
 pub mod Leads
 pub mod Outboxes
 pub mod Living
@@ -15,5 +16,6 @@ mod OpeningRows
 pub mod Piping
 mod QueueRows
 pub mod Sizing
+pub mod Soundness
 mod StationRows
 pub mod Worlds

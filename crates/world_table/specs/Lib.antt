@@ -10,3 +10,4 @@ pub mod Honest
 pub mod Steps
 pub mod Pipe
 pub mod Lives
+pub mod Reading
