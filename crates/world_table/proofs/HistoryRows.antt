@@ -1,9 +1,12 @@
 -- Histories of queues, stations and the controller.
-use Rattle.std.proofs.Common.{◌≡◌, ℕ, true, false, List, [], ◌∷◌, length, map, refl}
+use Rattle.std.proofs.Common.{◌≡◌, ℕ, true, false, List, [], ◌∷◌, length, map, None, refl}
+use Rattle.conn_messages.specs.declared.channel.Change.TheVariants.{Assignment}
+use Rattle.controller_table.specs.Controller.{place_at}
 use Rattle.controller_table.proofs.Lives.{usual_settings}
 use Rattle.dtap_codec.specs.declared.sapi.Sapi.TheVariants.{Zero}
 use Rattle.world_table.specs.declared.event.Event.TheVariants.{Connect, AirUp, AirAck, BaseTakes, BasePush, Handle, SwitchTakes, SwitchDoes, Tick, BaseDown}
 use Rattle.world_table.specs.declared.event.SwitchAction.TheVariants.{Clear}
+use Rattle.world_table.specs.declared.seat.Seat.TheVariants.{Asking, On, Moving, Gone}
 use Rattle.world_table.proofs.Worlds.{on_literals}
 use Rattle.controller_table.specs.declared.step.Step.TheVariants as taken_steps
 use Rattle.link_model.specs.Message.{activation_ack}
@@ -18,6 +21,10 @@ use Rattle.world_table.specs.Steps.{all_steps}
 use Rattle.world_table.specs.World.{Actors, new_actors}
 use Rattle.controller_table.specs.declared.step.Step.{Step}
 use Rattle.relay_items.specs.declared.Item.{Item}
+use Rattle.mobile_end.specs.declared.mobile_end.Place.TheVariants as mobile_places
+use Rattle.mobile_end.specs.declared.mobile_end.Place.TheVariants.{OnChannel}
+use Rattle.world_table.specs.Lives.{place_in}
+use Rattle.world_table.specs.Reading.{frame_of}
 use Rattle.relay_items.specs.declared.What.{What}
 
 abbrev begin : Actors
@@ -127,3 +134,12 @@ is_not_active_in_the_end = refl
 no_other_is_active : active_all 0x49 false (all_taken 1 begin clears) ≡ false
 unfolding on_literals
 no_other_is_active = refl
+
+-- frames of stations, and where a mobile is while it sits or moves
+frame_of_a_message : frame_of (activation_ack 0x41) ≡ record { stream = 0; body = (0x08 ∷ 0x22 ∷ 0x01 ∷ 0x41 ∷ 0x08 ∷ 0x00 ∷ 0x00 ∷ []) }
+unfolding on_literals
+frame_of_a_message = refl
+
+places : map place_in (Asking ∷ On (record { at = place_at 1 0x41; number = 1 }) None ∷ Moving (record { at = place_at 1 0x41; number = 1 }) (record { change = Assignment; target = record { at = place_at 1 0x0a; number = 2 } }) ∷ Gone ∷ []) ≡ OnChannel ∷ OnChannel ∷ (mobile_places.Moving) ∷ OnChannel ∷ []
+unfolding on_literals
+places = refl

@@ -1,5 +1,5 @@
 -- Messages to a station that are read are on a lawful channel.
-use Rattle.std.proofs.Common.{◌≡◌, ℕ, Bool, true, false, cond, List, [], ◌∷◌, Option, Some, None, Result, Ok, Err, refl, sym, ap, ◌∙◌, subst}
+use Rattle.std.proofs.Common.{◌≡◌, ℕ, true, List, [], ◌∷◌, Option, Some, None, Result, Ok, Err, refl, subst}
 use Rattle.std.specs.Result.{result_ok}
 use Rattle.octets.specs.Answer.{result_map}
 use Rattle.octets.specs.Element.{Element}

@@ -3,6 +3,7 @@ mod ChangeRows
 mod ClearRows
 pub mod Counting
 mod HistoryRows
+pub mod Heard
 pub mod Honesty
 pub mod Inboxes
 pub mod Lawful

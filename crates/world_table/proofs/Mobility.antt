@@ -48,21 +48,21 @@ use Rattle.world_table.proofs.Leads.{OfTaken, FromAir, and-right, only_if-leads,
 
 -- ---- lists
 
-back-all : (P : Mobile → Type 0) (p : Mobile) (xs : List Mobile) → P p → AllByRecursion P xs → AllByRecursion P (put_back p xs)
+pub back-all : (P : Mobile → Type 0) (p : Mobile) (xs : List Mobile) → P p → AllByRecursion P xs → AllByRecursion P (put_back p xs)
 back-all P p [] h all = all
 back-all P p (x ∷ xs) h all = by_number (has_number p.number x) (back-all P p xs h all.1) where
   by_number : (b : Bool) → AllByRecursion P (put_back p xs) → AllByRecursion P (if b then p ∷ xs else x ∷ put_back p xs)
   by_number true others = (h, all.1)
   by_number false others = (all.0, others)
 
-behind-all : (P : Mobile → Type 0) (p : Mobile) (xs : List Mobile) → P p → AllByRecursion P xs → AllByRecursion P (xs ++ p ∷ [])
+pub behind-all : (P : Mobile → Type 0) (p : Mobile) (xs : List Mobile) → P p → AllByRecursion P xs → AllByRecursion P (xs ++ p ∷ [])
 behind-all P p [] h all = (h, tt)
 behind-all P p (x ∷ xs) h all = (all.0, behind-all P p xs h all.1)
 
 some-same : {p q : Mobile} → Some p ≡ Some q → p ≡ q
 some-same {p} is = ap (λ (o : Option Mobile). unwrap_or o p) is
 
-found-all : (P : Mobile → Type 0) (number : ℕ) (xs : List Mobile) (p : Mobile) → AllByRecursion P xs → find (has_number number) xs ≡ Some p → P p
+pub found-all : (P : Mobile → Type 0) (number : ℕ) (xs : List Mobile) (p : Mobile) → AllByRecursion P xs → find (has_number number) xs ≡ Some p → P p
 found-all P number [] p all found = absurd cc
 found-all P number (x ∷ xs) p all found =
     elim (cases_Bool (has_number number x)) [

@@ -1,5 +1,5 @@
 -- The messages of a mobile's links have 1 to 251 octets.
-use Rattle.std.proofs.Common.{◌≡◌, ℕ, ◌<◌, ◌≤◌, ◌==◌, ◌&&◌, ◌||◌, ◌%◌, not, nat_le, Bool, true, false, cond, if◌then◌else◌, List, [], ◌∷◌, ◌++◌, length, filter, Option, Some, None, option_to_list, refl, sym, ap, ◌∙◌, subst, arith}
+use Rattle.std.proofs.Common.{◌≡◌, ℕ, ◌<◌, ◌≤◌, ◌==◌, ◌&&◌, ◌||◌, ◌%◌, not, nat_le, Bool, true, false, if◌then◌else◌, List, [], ◌∷◌, length, Option, Some, None, option_to_list, refl, sym, ap, ◌∙◌, arith}
 use Rattle.std.specs.List.{AllByRecursion}
 use Rattle.std.specs.Option.{is_none}
 use Rattle.std.proofs.lemmas.Bool.{leb-true}
@@ -11,7 +11,6 @@ use Rattle.dtap_codec.specs.Number.{with_number}
 use Rattle.link_model.specs.declared.air_link.Air.{Air}
 use Rattle.link_model.specs.declared.air_link.Air.TheVariants.{Empty, Given, Reached}
 use Rattle.link_model.specs.AirLink.{message_in, offered_message, after_reach, after_ack}
-use Rattle.mobile_end.specs.declared.fault.MobileFault.{MobileFault}
 use Rattle.mobile_end.specs.declared.fault.MobileFault.TheVariants.{BadMessage}
 use Rattle.octets.specs.Refusal.{first_refusal}
 use Rattle.dtap_codec.specs.declared.message.TheConstants.{MOBILITY_MANAGEMENT, RADIO_RESOURCE}
@@ -19,7 +18,7 @@ use Rattle.mobile_end.specs.declared.mobile_end.Place.{Place}
 use Rattle.mobile_end.specs.declared.mobile_end.Place.TheVariants as places
 use Rattle.mobile_end.specs.declared.mobile_end.Stage.{Stage}
 use Rattle.mobile_end.specs.declared.mobile_end.Stage.TheVariants.{New, Connected}
-use Rattle.mobile_end.specs.Control.{without_control, is_control}
+use Rattle.mobile_end.specs.Control.{is_control}
 use Rattle.mobile_end.specs.DataLink.{waits, after_load_from, after_load, lent_message, after_lending, after_acknowledgement, outstanding_messages, after_resume, air_after_repeat, after_repeat}
 use Rattle.mobile_end.specs.DataLinkState.{DataLinkState}
 use Rattle.mobile_end.specs.Lawful.{is_sendable, is_initial, takes_sapi, has_clear_number}
@@ -79,7 +78,7 @@ in-air (Some message) is = (is, tt)
 resume-sized : (link : DataLinkState) (control : List ℕ) → IsL3 (Some control) → Sized link → Sized (after_resume link control)
 resume-sized link control is sized = record {
   waiting = AllByRecursion-filter (λ message. IsL3 (Some message)) (λ message. not (is_control message)) (outstanding_messages link)
-    (AllByRecursion-append (λ message. IsL3 (Some message)) (option_to_list (message_in link.air)) link.waiting (in-air (message_in link.air) sized.air) sized.waiting);
+      (AllByRecursion-append (λ message. IsL3 (Some message)) (option_to_list (message_in link.air)) link.waiting (in-air (message_in link.air) sized.air) sized.waiting);
   air = is;
 }
 
@@ -92,7 +91,7 @@ repeat-sized link sized = record { waiting = sized.waiting; air = by_air link.ai
 
 -- ---- a mobile's links
 
-link-sized : (mobile : MobileState) (sapi : Sapi) → HasSized mobile → Sized (link_of mobile sapi)
+pub link-sized : (mobile : MobileState) (sapi : Sapi) → HasSized mobile → Sized (link_of mobile sapi)
 link-sized mobile Zero sized = sized.zero
 link-sized mobile Three sized = sized.three
 
@@ -146,6 +145,7 @@ sendable-sized mobile sapi message may = by_stage mobile.stage refl where
   sized : (message : List ℕ) → is_sendable sapi message ≡ true → IsL3 (Some message)
   sized [] is = absurd cc
   sized (first ∷ rest) is = (one-octet first rest, leb-true (length (first ∷ rest)) MESSAGE_LIMIT (front (nat_le (length (first ∷ rest)) MESSAGE_LIMIT) (takes_sapi sapi (first % 16)) (has_clear_number (first ∷ rest)) is))
+
   by_stage : (stage : Stage) → mobile.stage ≡ stage → IsL3 (Some message)
   by_stage New is = absurd (impossible (sym (ap (λ (s : Stage). is_none (first_refusal (refusal_before_connect s) (if is_sendable sapi message then None else Some BadMessage))) is) ∙ may)) where
     impossible : false ≡ true → ⊥
@@ -156,6 +156,7 @@ pub initial-sized : (message : List ℕ) → is_none (refusal_of_connect (Some m
 initial-sized message may = sized message (lawful-by (is_initial message) may) where
   longer : (n : ℕ) → n ≤ INITIAL_LIMIT → n ≤ MESSAGE_LIMIT
   longer n h = omega arith
+
   sized : (message : List ℕ) → is_initial message ≡ true → IsL3 (Some message)
   sized [] is = absurd cc
   sized (first ∷ rest) is =

@@ -1,19 +1,16 @@
 -- The messages that stations make can be written, and are read as they were made.
-use Rattle.std.proofs.Common.{◌≡◌, ◌≢◌, ℕ, zero, suc, ◌+◌, ◌-◌, ◌<◌, ◌≤◌, ◌==◌, ◌&&◌, ◌||◌, not, nat_lt, nat_eq, Bool, true, false, cond, if◌then◌else◌, List, [], ◌∷◌, ◌++◌, filter, map, length, get_or, set, unwrap_or, Option, Some, None, Result, Ok, Err, option_to_list, refl, sym, ap, ◌∙◌, subst, inl, inr, arith}
+use Rattle.std.proofs.Common.{◌≡◌, ℕ, suc, ◌<◌, ◌≤◌, ◌||◌, not, nat_lt, nat_eq, Bool, true, false, cond, List, [], ◌∷◌, length, get_or, set, Some, None, Ok, refl, sym, ap, ◌∙◌, subst, inl, inr, arith}
 use Rattle.std.specs.List.{AllByRecursion}
-use Rattle.std.specs.Option.{is_none}
 use Rattle.std.proofs.lemmas.Bool.{cases_Bool, eqb-true, eqb-false, ne_eqb}
 use Rattle.std.proofs.lemmas.List.{append-nil}
 use Rattle.conn_table.proofs.DownlinkMessages.{AllByRecursion-filter, AllByRecursion-append}
-use Rattle.conn_messages.specs.declared.channel.Place.{Place}
 use Rattle.dtap_codec.specs.declared.sapi.Sapi.{Sapi}
-use Rattle.dtap_codec.specs.declared.sapi.Sapi.TheVariants.{Zero, Three}
+use Rattle.dtap_codec.specs.declared.sapi.Sapi.TheVariants.{Zero}
 use Rattle.link_model.specs.BaseState.{BaseState}
-use Rattle.link_model.specs.Base.{is_active, after_activate, after_release, after_tell, first_of_messages, messages_behind_first, after_next}
+use Rattle.link_model.specs.Base.{is_active, after_activate, after_release, after_tell, messages_behind_first}
 use Rattle.link_model.specs.Message.{activation_ack, establish_indication, data_indication}
 use Rattle.octets.specs.declared.limits.TheConstants.{MESSAGE_LIMIT}
 use Rattle.rsl_codec.specs.ChannelNumber.{is_channel}
-use Rattle.rsl_codec.specs.declared.fault.RslFault.{RslFault}
 use Rattle.rsl_codec.specs.declared.fault.RslFault.TheVariants.{Short, TooLong}
 use Rattle.rsl_codec.specs.declared.rsl.Rsl.{Rsl}
 use Rattle.rsl_codec.specs.declared.rsl.Rsl.TheVariants.{RfChannelReleaseAck}
@@ -23,7 +20,7 @@ use Rattle.rsl_codec.specs.RslText.{rsl_text, rsl_write_fault}
 use Rattle.rsl_codec.proofs.Messages.{rsl_text_is_text, text_is_read}
 use Rattle.world_table.specs.Mobiles.{channel_required, handover_detection, measurement_result}
 use Rattle.world_table.specs.Stations.{link_answer}
-use Rattle.world_table.specs.World.{Actors, Station, Spot, no_station, station_of, base_of, with_base, spot_at, with_spot}
+use Rattle.world_table.specs.World.{Station, no_station}
 use Rattle.world_table.proofs.Honesty.{set-or-not, set-elsewhere}
 
 -- ---- sound messages
@@ -40,10 +37,11 @@ fault-free : (l3 : List ℕ) → IsL3 (Some l3) → cond (nat_eq (length l3) 0) 
 fault-free l3 (some, few) =
     ap (λ (b : Bool). cond b (Some Short) (cond (nat_lt MESSAGE_LIMIT (length l3) || false) (Some TooLong) None)) (ne_eqb (length l3) 0 (λ is. none is))
     ∙ ap (λ (b : Bool). cond (b || false) (Some TooLong) None) (short (length l3) few) where
-  none : length l3 ≡ 0 → ⊥
-  none is = absurd (omega arith)
-  short : (n : ℕ) → n ≤ MESSAGE_LIMIT → nat_lt MESSAGE_LIMIT n ≡ false
-  short n few = grind arith
+      none : length l3 ≡ 0 → ⊥
+      none is = absurd (omega arith)
+
+      short : (n : ℕ) → n ≤ MESSAGE_LIMIT → nat_lt MESSAGE_LIMIT n ≡ false
+      short n few = grind arith
 
 sound-ack : (channel : ℕ) → is_channel channel ≡ true → IsSound (activation_ack channel)
 unfolding rsl_write_fault
@@ -53,40 +51,41 @@ sound-release : (channel : ℕ) → is_channel channel ≡ true → IsSound (RfC
 unfolding rsl_write_fault
 sound-release channel is = record { lawful = (is, tt); written = refl }
 
-sound-answer : (answer : Bool) (channel : ℕ) → is_channel channel ≡ true → IsSound (link_answer answer channel)
+pub sound-answer : (answer : Bool) (channel : ℕ) → is_channel channel ≡ true → IsSound (link_answer answer channel)
 unfolding rsl_write_fault
 sound-answer true channel is = record { lawful = (is, tt); written = refl }
 sound-answer false channel is = record { lawful = (is, tt); written = refl }
 
-sound-request : (number : ℕ) → IsSound (channel_required number)
+pub sound-request : (number : ℕ) → IsSound (channel_required number)
 unfolding rsl_write_fault
 sound-request number = record { lawful = (refl, tt); written = refl }
 
-sound-detection : (channel : ℕ) → is_channel channel ≡ true → IsSound (handover_detection channel)
+pub sound-detection : (channel : ℕ) → is_channel channel ≡ true → IsSound (handover_detection channel)
 unfolding rsl_write_fault
 sound-detection channel is = record { lawful = (is, tt); written = refl }
 
-sound-establishment : (channel : ℕ) (sapi : Sapi) → is_channel channel ≡ true → IsSound (establish_indication channel sapi None)
+pub sound-establishment : (channel : ℕ) (sapi : Sapi) → is_channel channel ≡ true → IsSound (establish_indication channel sapi None)
 unfolding rsl_write_fault
 sound-establishment channel sapi is = record { lawful = (is, tt); written = refl }
 
-sound-initial : (channel : ℕ) (frame : List ℕ) → is_channel channel ≡ true → IsL3 (Some frame) → IsSound (establish_indication channel Zero (Some frame))
+pub sound-initial : (channel : ℕ) (frame : List ℕ) → is_channel channel ≡ true → IsL3 (Some frame) → IsSound (establish_indication channel Zero (Some frame))
 unfolding rsl_write_fault
 sound-initial channel frame is l3 = record { lawful = (is, l3); written = fault-free frame l3 }
 
-sound-data : (channel : ℕ) (sapi : Sapi) (frame : List ℕ) → is_channel channel ≡ true → IsL3 (Some frame) → IsSound (data_indication channel sapi frame)
+pub sound-data : (channel : ℕ) (sapi : Sapi) (frame : List ℕ) → is_channel channel ≡ true → IsL3 (Some frame) → IsSound (data_indication channel sapi frame)
 unfolding rsl_write_fault
 sound-data channel sapi frame is l3 = record { lawful = (is, l3); written = fault-free frame l3 }
 
-sound-report : (channel number : ℕ) (report : List ℕ) → is_channel channel ≡ true → length report ≡ 16 → IsSound (measurement_result channel number report)
+pub sound-report : (channel number : ℕ) (report : List ℕ) → is_channel channel ≡ true → length report ≡ 16 → IsSound (measurement_result channel number report)
 unfolding rsl_write_fault
 sound-report channel number report is sixteen =
     let l3 : IsL3 (Some (0x06 ∷ 0x15 ∷ report)) = (some (length report), few (length report) sixteen) in
     record { lawful = (is, l3); written = fault-free (0x06 ∷ 0x15 ∷ report) l3 } where
-  some : (n : ℕ) → 0 < suc (suc n)
-  some n = omega arith
-  few : (n : ℕ) → n ≡ 16 → suc (suc n) ≤ MESSAGE_LIMIT
-  few n is = omega arith
+      some : (n : ℕ) → 0 < suc (suc n)
+      some n = omega arith
+
+      few : (n : ℕ) → n ≡ 16 → suc (suc n) ≤ MESSAGE_LIMIT
+      few n is = omega arith
 
 -- ---- ends of stations
 
@@ -97,19 +96,19 @@ pub record SoundEnd (base : BaseState) : Type 0 where
 pub sound-tell : (base : BaseState) (message : Rsl) → IsSound message → SoundEnd base → SoundEnd (after_tell base message)
 sound-tell base message is sound = record { channels = sound.channels; made = AllByRecursion-append IsSound base.messages (message ∷ []) sound.made (is, tt) }
 
-sound-activated : (base : BaseState) (channel : ℕ) → is_channel channel ≡ true → SoundEnd base → SoundEnd (after_activate base channel)
+pub sound-activated : (base : BaseState) (channel : ℕ) → is_channel channel ≡ true → SoundEnd base → SoundEnd (after_activate base channel)
 sound-activated base channel is sound = record {
   channels = AllByRecursion-append (λ channel. is_channel channel ≡ true) base.active (channel ∷ []) sound.channels (is, tt);
   made = AllByRecursion-append IsSound base.messages (activation_ack channel ∷ []) sound.made (sound-ack channel is, tt);
 }
 
-sound-released : (base : BaseState) (channel : ℕ) → is_channel channel ≡ true → SoundEnd base → SoundEnd (after_release base channel)
+pub sound-released : (base : BaseState) (channel : ℕ) → is_channel channel ≡ true → SoundEnd base → SoundEnd (after_release base channel)
 sound-released base channel is sound = record {
   channels = AllByRecursion-filter (λ channel. is_channel channel ≡ true) (λ number. not (nat_eq number channel)) base.active sound.channels;
   made = AllByRecursion-append IsSound base.messages (RfChannelReleaseAck channel ∷ []) sound.made (sound-release channel is, tt);
 }
 
-sound-behind : (messages : List Rsl) → AllByRecursion IsSound messages → AllByRecursion IsSound (messages_behind_first messages)
+pub sound-behind : (messages : List Rsl) → AllByRecursion IsSound messages → AllByRecursion IsSound (messages_behind_first messages)
 sound-behind [] all = tt
 sound-behind (first ∷ others) all = all.1
 
@@ -133,8 +132,8 @@ ends-set stations k station sound ends j =
       | inl same ↦ subst (λ (i : ℕ). SoundEnd (get_or (set stations k station) i no_station).base) (sym (eqb-true j k same)) own
       | inr other ↦ subst (λ (s : Station). SoundEnd s.base) (sym (set-elsewhere stations k j station (eqb-false j k other))) (ends j)
     ] where
-  own : SoundEnd (get_or (set stations k station) k no_station).base
-  own = elim (set-or-not stations k station) [
-      | inl there ↦ subst (λ (s : Station). SoundEnd s.base) (sym there) sound
-      | inr nowhere ↦ subst (λ (s : Station). SoundEnd s.base) (sym nowhere.0) (record { channels = tt; made = tt })
-    ]
+      own : SoundEnd (get_or (set stations k station) k no_station).base
+      own = elim (set-or-not stations k station) [
+        | inl there ↦ subst (λ (s : Station). SoundEnd s.base) (sym there) sound
+        | inr nowhere ↦ subst (λ (s : Station). SoundEnd s.base) (sym nowhere.0) (record { channels = tt; made = tt })
+      ]

@@ -5,6 +5,7 @@ ghost use Rattle.world_table.specs.Honest.{AreHonest};
 ghost use Rattle.world_table.specs.Lives.{MobilesLive};
 ghost use Rattle.world_table.specs.Pipe.{ArePipes};
 ghost use Rattle.world_table.specs.Queues.{KeepsQueues};
+ghost use Rattle.world_table.specs.Reading.{AreRead};
 ghost use Rattle.world_table.specs.Steps.{LivesByTable};
 ghost use Rattle.world_table.specs.World.{new_actors};
 
@@ -36,4 +37,10 @@ pub fn channels_are_pipes()
 /// calls holds of the mobiles of a world: each repeats at most its one message that wasn't acknowledged.
 pub fn mobiles_live_by_their_ends()
     ensures { (settings : Parameters) (events : List WorldEvent) → MobilesLive settings events }
+{}
+
+/// Law: whatever events happen, each frame that a station gives to the inbox is the text of a message that it made, and is read as
+/// that message.
+pub fn stations_are_read()
+    ensures { (settings : Parameters) (events : List WorldEvent) → AreRead settings events }
 {}
