@@ -10,6 +10,7 @@ use Rattle.world_table.specs.declared.seat.Seat.TheVariants.{On, Moving}
 use Rattle.world_table.specs.World.{World, new_world}
 use Rattle.world_table.proofs.Worlds.{on_literals, after_all, made_bodies, seat_of}
 use Rattle.world_table.proofs.OpeningRows.{opened, opened_eager}
+use Rattle.world_table.specs.World.{Mobile}
 use Rattle.world_table.proofs.Worlds.{takes}
 
 -- an ASSIGNMENT COMMAND is remembered
@@ -129,3 +130,8 @@ initial_message_comes_again = refl
 paging_response_is_dropped : map (takes (after_all (new_world usual_settings) (Connect 1 1 (0x06 ∷ 0x27 ∷ 0x71 ∷ []) true ∷ BasePush 1 ∷ Handle ∷ BaseTakes 1 ∷ BasePush 1 ∷ Handle ∷ BaseTakes 1 ∷ AirUp 1 Zero ∷ BasePush 1 ∷ Handle ∷ SwitchTakes ∷ BasePush 0 ∷ Handle ∷ SwitchDoes (Assign 1) ∷ BasePush 0 ∷ Handle ∷ BaseTakes 1 ∷ BasePush 1 ∷ Handle ∷ BaseTakes 1 ∷ AirDown 1 ∷ Move 1 ∷ Arrive 1 ∷ AirUp 1 Zero ∷ AirAck 1 Zero ∷ []))) (AirUp 1 Zero ∷ []) ≡ false ∷ []
 unfolding on_literals
 paging_response_is_dropped = refl
+
+-- once it moved, no message is the initial one
+after_a_move_nothing_is_initial : made_bodies (after_all (record commanded { actors = record (commanded).actors { mobiles = map (λ (p : Mobile). record p { opens = true }) (commanded).actors.mobiles } }) (Move 1 ∷ Arrive 1 ∷ AirUp 1 Zero ∷ [])) 1 ≡ (0x02 ∷ 0x06 ∷ 0x01 ∷ 0x0a ∷ 0x02 ∷ 0x00 ∷ []) ∷ (0x03 ∷ 0x02 ∷ 0x01 ∷ 0x0a ∷ 0x02 ∷ 0x00 ∷ 0x0b ∷ 0x00 ∷ 0x03 ∷ 0x06 ∷ 0x29 ∷ 0x00 ∷ []) ∷ []
+unfolding on_literals
+after_a_move_nothing_is_initial = refl
