@@ -187,6 +187,10 @@ link_is_down_when_released : (spot_at ((after_all short_message_handed (SwitchDo
 unfolding on_literals
 link_is_down_when_released = refl
 
+rejects_link_when_released : made_bodies (after_all (record released_channel { actors = with_outbox 1 (record { out = record { to = 1; conn = 1; frame = record { stream = 0; body = (0x02 ∷ 0x04 ∷ 0x01 ∷ 0x41 ∷ 0x02 ∷ 0x03 ∷ []) } }; target = None } ∷ []) (released_channel).actors }) (BaseTakes 1 ∷ [])) 1 ≡ (0x08 ∷ 0x33 ∷ 0x01 ∷ 0x41 ∷ []) ∷ (0x02 ∷ 0x09 ∷ 0x01 ∷ 0x41 ∷ 0x02 ∷ 0x03 ∷ []) ∷ []
+unfolding on_literals
+rejects_link_when_released = refl
+
 air_is_silent_when_released : map (takes released_channel) (Upper 1 Zero (0x03 ∷ 0x05 ∷ []) ∷ AirUp 1 Zero ∷ AirAck 1 Zero ∷ AirDown 1 ∷ AirDownLost 1 ∷ Report 1 (0x14 ∷ 0x14 ∷ 0x00 ∷ 0x57 ∷ 0x02 ∷ 0x40 ∷ 0x00 ∷ 0x00 ∷ 0x00 ∷ 0x00 ∷ 0x00 ∷ 0x00 ∷ 0x00 ∷ 0x00 ∷ 0x00 ∷ 0x00 ∷ []) ∷ []) ≡ true ∷ false ∷ false ∷ false ∷ false ∷ false ∷ []
 unfolding on_literals
 air_is_silent_when_released = refl
