@@ -2,7 +2,7 @@
 use Rattle.std.proofs.Common.{◌≡◌, ◌≢◌, List, ℕ, Option, Some, None, refl, subst}
 use Rattle.std.specs.Prelude.{IfSome}
 use Rattle.std.specs.Io.KnownBytes.{Appends}
-use Rattle.world.specs.declared.event.Event.{Event}
+use Rattle.world_table.specs.declared.event.Event.{Event}
 use Rattle.world.specs.World.{after_all, fixed_world}
 use Rattle.world.specs.WorldState.{WorldState}
 use Rattle.bsc_program.specs.Replayed.{Replays}

@@ -10,7 +10,7 @@ use Rattle.ipa_framing.specs.declared.fault.FrameFault.TheVariants as frame_faul
 use Rattle.rsl_codec.specs.declared.fault.RslFault.TheVariants as faults
 use Rattle.bssmap_codec.specs.declared.fault.InterfaceFault.TheVariants as interface
 use Rattle.dtap_codec.specs.declared.sapi.Sapi.TheVariants.{Zero}
-use Rattle.world.specs.declared.event.Event.TheVariants.{Upper, AirUp, AirAck, SwitchTakes, Handle}
+use Rattle.world_table.specs.declared.event.Event.TheVariants.{Upper, AirUp, AirAck, SwitchTakes, Handle}
 use Rattle.world.specs.World.{after_all, fixed_world}
 use Rattle.world.specs.WorldState.{WorldState}
 use Rattle.bsc_program.specs.declared.input.TheConstants.{MOST_READS}

@@ -8,7 +8,7 @@ use Rattle.std.specs.Prelude.{IfSome}
 use Rattle.std.specs.Io.KnownBytes.{Consumes, IsAtEnd}
 use Rattle.std.proofs.KnownBytes.{Consumes-nil, Consumes-trans, Consumes-whole}
 use Rattle.memchr.specs.Find.{IsFirstByte, is_byte}
-use Rattle.world.specs.declared.event.Event.{Event}
+use Rattle.world_table.specs.declared.event.Event.{Event}
 use Rattle.world.specs.Script.{IsLine}
 use Rattle.world.specs.declared.line_fault.LineFault.{LineFault}
 use Rattle.world.specs.declared.line_fault.LineFault.TheVariants.{BadEvent, Memory}

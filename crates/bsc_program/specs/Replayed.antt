@@ -1,7 +1,7 @@
 -- What `replay` prints of a script.
 use Rattle.std.specs.Prelude.{ℕ, List, Option, IfSome}
 use Rattle.std.specs.Io.KnownBytes.{Appends}
-use Rattle.world.specs.declared.event.Event.{Event}
+use Rattle.world_table.specs.declared.event.Event.{Event}
 use Rattle.world.specs.World.{after_all, fixed_world}
 use Rattle.bsc_program.specs.Report.{IsReport}
 use Rattle.bsc_program.specs.Script.{IsScript}

@@ -2,7 +2,7 @@
 use Rattle.std.specs.Prelude.{◌≡◌, ◌≢◌, ◌⊎◌, ℕ, ◌+◌, ◌-◌, ◌^◌, min, List, [], ◌∷◌, ◌++◌, length, codes}
 use Rattle.std.specs.List.{flat_map, AllByRecursion}
 use Rattle.std.specs.Str.{IsUtf8}
-use Rattle.world.specs.declared.event.Event.{Event}
+use Rattle.world_table.specs.declared.event.Event.{Event}
 use Rattle.world.specs.Script.{IsLine}
 use Rattle.bsc_program.specs.declared.script.Script.{Script}
 

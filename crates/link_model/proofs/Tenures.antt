@@ -30,7 +30,7 @@ Tenures-at {channel} {b} {d} {xs} from to tenures =
     subst (λ (x : Bool). Tenures channel x xs d) (sym from) (subst (λ (x : Bool). Tenures channel b xs x) (sym to) tenures)
 
 -- a channel is active after its activation, and the others are as they were
-is_active-push : (active : List ℕ) (number channel : ℕ) → is_active (active ++ number ∷ []) channel ≡ (is_active active channel || (nat_eq number channel || false))
+pub is_active-push : (active : List ℕ) (number channel : ℕ) → is_active (active ++ number ∷ []) channel ≡ (is_active active channel || (nat_eq number channel || false))
 is_active-push active number channel = list_any-append (λ n. nat_eq n channel) active (number ∷ [])
 
 activation : (channel number : ℕ) (active : List ℕ) → is_active active number ≡ false → Tenures channel (is_active active channel) (activation_ack number ∷ []) (is_active (active ++ number ∷ []) channel)
@@ -59,7 +59,7 @@ bringing channel number active message up is unbound =
     ]
 
 -- a channel isn't active after its release, and the others are as they were
-is_active-released : (channel : ℕ) (active : List ℕ) → is_active (filter (λ number. not (nat_eq number channel)) active) channel ≡ false
+pub is_active-released : (channel : ℕ) (active : List ℕ) → is_active (filter (λ number. not (nat_eq number channel)) active) channel ≡ false
 is_active-released channel [] = refl
 is_active-released channel (n ∷ ns) =
     elim (cases_Bool (nat_eq n channel)) [
@@ -71,7 +71,7 @@ is_active-released channel (n ∷ ns) =
           ∙ ap (λ (b : Bool). b || is_active (filter (λ number. not (nat_eq number channel)) ns) channel) other ∙ is_active-released channel ns
     ]
 
-is_active-kept : (channel released : ℕ) (active : List ℕ) → nat_eq released channel ≡ false → is_active (filter (λ number. not (nat_eq number released)) active) channel ≡ is_active active channel
+pub is_active-kept : (channel released : ℕ) (active : List ℕ) → nat_eq released channel ≡ false → is_active (filter (λ number. not (nat_eq number released)) active) channel ≡ is_active active channel
 is_active-kept channel released [] differ = refl
 is_active-kept channel released (n ∷ ns) differ =
     elim (cases_Bool (nat_eq n released)) [

@@ -7,6 +7,8 @@ mod base_end;
 #[cfg(test)]
 mod connection;
 #[cfg(test)]
+mod controller;
+#[cfg(test)]
 mod decision;
 #[cfg(test)]
 mod fault_texts;
@@ -18,6 +20,8 @@ mod hold;
 mod mobile;
 #[cfg(test)]
 mod program;
+#[cfg(test)]
+mod reading;
 #[cfg(test)]
 mod reception;
 #[cfg(test)]

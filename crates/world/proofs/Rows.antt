@@ -6,9 +6,9 @@ use Rattle.hex.proofs.OnLiterals.{hex_on_literals}
 use Rattle.dtap_codec.specs.Number.{count_of}
 use Rattle.dtap_codec.specs.declared.number.Modulus.TheVariants.{Two}
 use Rattle.dtap_codec.specs.declared.sapi.Sapi.TheVariants.{Zero, Three}
-use Rattle.world.specs.declared.event.Event.{Event}
-use Rattle.world.specs.declared.event.Event.TheVariants.{Upper, Connect, AirUp, AirAck, AirDown, AirDownLost, Move, Touch, Arrive, Return, BaseTakes, BasePush, Handle, SwitchTakes, SwitchDoes, Tick, BaseDown, Report}
-use Rattle.world.specs.declared.event.SwitchAction.TheVariants.{Assign, Clear, Dtap}
+use Rattle.world_table.specs.declared.event.Event.{Event}
+use Rattle.world_table.specs.declared.event.Event.TheVariants.{Upper, Connect, AirUp, AirAck, AirDown, AirDownLost, Move, Touch, Arrive, Return, BaseTakes, BasePush, Handle, SwitchTakes, SwitchDoes, Tick, BaseDown, Report}
+use Rattle.world_table.specs.declared.event.SwitchAction.TheVariants.{Assign, Clear, Dtap}
 use Rattle.world.specs.declared.fixed.TheConstants.{FIXED_CONNECTION, FIXED_MOBILE}
 use Rattle.mobile_end.specs.MobileState.{MobileState}
 use Rattle.world.specs.declared.world.Scene.{Scene}

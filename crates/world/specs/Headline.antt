@@ -2,7 +2,7 @@
 -- beginning of what its mobile sent, once and in order; and each relay queue gives what was put there, in order.
 use Rattle.std.specs.Prelude.{◌≡◌, ℕ, ◌≤◌, Option, Some, IsSome, List, ◌++◌}
 use Rattle.octets.specs.Lists.{IsPrefix}
-use Rattle.world.specs.declared.event.Event.{Event}
+use Rattle.world_table.specs.declared.event.Event.{Event}
 use Rattle.world.specs.declared.world.Scene.{Scene}
 use Rattle.world.specs.Queues.{Queue, outbox, all_messages_put, all_messages_taken, messages_left, IsTakenBySwitch}
 use Rattle.world.specs.Views.{sent_list, accepted_list, progress_in, opener_in}

@@ -4,9 +4,9 @@ use Rattle.std.specs.List.{AllByRecursion, join_with_byte, All}
 use Rattle.dtap_codec.specs.declared.sapi.Sapi.{Sapi}
 use Rattle.world.specs.Words.{mobile_in, station_in, source_in, any_number_in, sapi_in, answer_in, octets_in}
 use Rattle.world.specs.WordsLeft.{is_space}
-use Rattle.world.specs.declared.event.Event.{Event}
-use Rattle.world.specs.declared.event.Event.TheVariants.{Upper, Connect, AirUp, AirAck, AirDown, AirDownLost, Move, Touch, Arrive, Return, BaseTakes, BasePush, Handle, SwitchTakes, SwitchDoes, Tick, BaseDown, Report}
-use Rattle.world.specs.declared.event.SwitchAction.TheVariants.{Assign, Clear, Dtap}
+use Rattle.world_table.specs.declared.event.Event.{Event}
+use Rattle.world_table.specs.declared.event.Event.TheVariants.{Upper, Connect, AirUp, AirAck, AirDown, AirDownLost, Move, Touch, Arrive, Return, BaseTakes, BasePush, Handle, SwitchTakes, SwitchDoes, Tick, BaseDown, Report}
+use Rattle.world_table.specs.declared.event.SwitchAction.TheVariants.{Assign, Clear, Dtap}
 use Rattle.world.specs.declared.script.Kind.{Kind}
 use Rattle.world.specs.declared.script.Kind.TheVariants as kind
 use Rattle.world.specs.declared.script.Action.{Action}

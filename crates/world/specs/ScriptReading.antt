@@ -2,9 +2,9 @@
 use Rattle.std.specs.Prelude.{◌≡◌, ℕ, find, Option, Some, None, IsSome, Result, Ok, Err, List, [], ◌∷◌}
 use Rattle.dtap_codec.specs.declared.sapi.Sapi.{Sapi}
 use Rattle.world.specs.Words.{value_at, end_of, mobile_in, station_in, source_in, any_number_in, sapi_in, answer_in, octets_in}
-use Rattle.world.specs.declared.event.Event.{Event}
-use Rattle.world.specs.declared.event.Event.TheVariants.{Upper, Connect, AirUp, AirAck, AirDown, AirDownLost, Move, Touch, Arrive, Return, BaseTakes, BasePush, Handle, SwitchTakes, SwitchDoes, Tick, BaseDown, Report}
-use Rattle.world.specs.declared.event.SwitchAction.TheVariants.{Assign, Clear, Dtap}
+use Rattle.world_table.specs.declared.event.Event.{Event}
+use Rattle.world_table.specs.declared.event.Event.TheVariants.{Upper, Connect, AirUp, AirAck, AirDown, AirDownLost, Move, Touch, Arrive, Return, BaseTakes, BasePush, Handle, SwitchTakes, SwitchDoes, Tick, BaseDown, Report}
+use Rattle.world_table.specs.declared.event.SwitchAction.TheVariants.{Assign, Clear, Dtap}
 use Rattle.world.specs.declared.script.Kind.{Kind}
 use Rattle.world.specs.declared.script.Kind.TheVariants as kind
 use Rattle.world.specs.declared.script.Action.{Action}

@@ -1,6 +1,6 @@
 -- What events make of a world.
 use Rattle.std.specs.Prelude.{ℕ, ◌+◌, ◌-◌, ◌^◌, min, false, Option, option_map, unwrap_or, is_some, List, [], ◌∷◌, if◌then◌else◌}
-use Rattle.world.specs.declared.event.Event.{Event}
+use Rattle.world_table.specs.declared.event.Event.{Event}
 use Rattle.world.specs.declared.world.Scene.{Scene}
 use Rattle.world.specs.declared.world.Scene.TheVariants.{Fixed}
 use Rattle.world.specs.Fixed.{fixed_beginning, fixed_after}

@@ -1,5 +1,5 @@
 ghost use Rattle.std.specs.Prelude.{List};
-ghost use Rattle.world.specs.declared.event.Event.{Event};
+ghost use Rattle.world_table.specs.declared.event.Event.{Event};
 ghost use Rattle.world.specs.WorldState.{WorldState};
 ghost use Rattle.world.specs.World.{after_all};
 ghost use Rattle.world.specs.Headline.{Begins, IsInOrder};

@@ -2,13 +2,12 @@
 //! stays the beginning of what the mobile sent.
 #![tactic(auto)]
 
-pub use event::{Event, SwitchAction};
 pub use laws::keeps_order;
 pub use line_fault::LineFault;
 pub use script::read_line;
 pub use world::World;
+pub use world_table::{Event, SwitchAction};
 
-mod event;
 mod fixed;
 mod hexadecimal;
 mod laws;

@@ -2,7 +2,7 @@ ghost use Rattle.std.specs.Prelude.{◌≡◌, ◌⊎◌, IfOk};
 ghost use Rattle.world.specs.Words.{Reads, mobile_in, station_in, source_in, any_number_in};
 ghost use Rattle.world.specs.ScriptReading.{GivesEvent, kind_in, action_in, last_at, mobile_and_sapi_in, upper_at, connect_at, report_at, dtap_at, switch_does_at, event_at, line_at};
 ghost use Rattle.world.specs.Script.{IsLine};
-ghost use Rattle.world.specs.declared.event.Event.{Event as WorldEvent};
+ghost use Rattle.world_table.specs.declared.event.Event.{Event as WorldEvent};
 
 use crate::line_fault::{BadEvent, LineFault};
 use crate::words::Words;

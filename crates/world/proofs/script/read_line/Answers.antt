@@ -1,6 +1,6 @@
 use Rattle.std.proofs.Common.{◌≡◌, ◌⊎◌, ℕ, Result, Ok, Err, Option, Some, None, IsSome, IfOk, List, refl, subst, inl, inr}
 use Rattle.std.specs.List.{slice_split}
-use Rattle.world.specs.declared.event.Event.{Event}
+use Rattle.world_table.specs.declared.event.Event.{Event}
 use Rattle.world.specs.declared.line_fault.LineFault.{LineFault}
 use Rattle.world.specs.declared.line_fault.LineFault.TheVariants.{BadEvent, Memory}
 use Rattle.world.specs.WordsLeft.{is_space}

@@ -1,0 +1,22 @@
+pub mod Acknowledging
+mod ChangeRows
+mod ClearRows
+pub mod Counting
+mod HistoryRows
+pub mod Heard
+pub mod Honesty
+pub mod Inboxes
+pub mod Lawful
+pub mod Leads
+pub mod Outboxes
+pub mod Living
+mod MobileRows
+pub mod Mobility
+mod MoveRows
+mod OpeningRows
+pub mod Piping
+mod QueueRows
+pub mod Sizing
+pub mod Soundness
+mod StationRows
+pub mod Worlds

@@ -1,0 +1,96 @@
+-- The controller of a world is the one after the steps that it took.
+use Rattle.std.proofs.Common.{◌≡◌, ℕ, List, [], ◌∷◌, ◌++◌, unwrap_or, Option, None, refl, sym, ap, ◌∙◌}
+use Rattle.controller_table.specs.declared.step.Step.{Step}
+use Rattle.conn_messages.specs.declared.parameters.TheConstants.{SWITCH_LINK}
+use Rattle.controller_table.specs.Controller.{Controller, Turn, each}
+use Rattle.controller_table.specs.Life.{take, tick, step, life}
+use Rattle.dtap_codec.specs.declared.sapi.Sapi.{Sapi}
+use Rattle.dtap_codec.specs.declared.sapi.Sapi.TheVariants.{Zero, Three}
+use Rattle.relay_items.specs.declared.Item.{Item}
+use Rattle.rsl_codec.specs.declared.rsl.Rsl.{Rsl}
+use Rattle.settings.specs.Parameters.{Parameters}
+use Rattle.world_table.specs.declared.event.Event.{Event}
+use Rattle.world_table.specs.declared.event.Event.TheVariants.{Upper, Connect, AirUp, AirAck, AirDown, AirDownLost, Move, Touch, Arrive, Return, BaseTakes, BasePush, Handle, SwitchTakes, SwitchDoes, Tick, BaseDown, Report}
+use Rattle.world_table.specs.declared.seat.Tenure.{Tenure}
+use Rattle.world_table.specs.Life.{event_after, actors_after, actors_after_all}
+use Rattle.world_table.specs.Mobiles.{brought, after_upper, after_connecting, after_air_up, after_air_ack, after_air_down, after_air_down_lost, after_move, after_touch, after_arriving, after_return, after_report}
+use Rattle.world_table.specs.Relay.{with_turn, target_in, handled, after_base_push, after_break}
+use Rattle.world_table.specs.Stations.{took, rsl_in, after_base_takes}
+use Rattle.world_table.specs.Steps.{first_taken, step_at, all_steps, LivesByTable}
+use Rattle.world_table.specs.SwitchSide.{sccp_in, after_switch_takes, after_switch_does}
+use Rattle.world_table.specs.World.{Actors, new_actors, with_outbox}
+use Rattle.world_table.proofs.Leads.{OfTaken, FromAir, upper-leads, connect-leads, air_up-leads, air_ack-leads, air_down-leads, air_down_lost-leads, move-leads, touch-leads, arrive-leads, return-leads, report-leads, base_takes-leads, took-leads, turn-leads, switch_takes-leads, switch_took-leads, push-leads, does-leads, broken-leads, after-taken}
+
+-- the controller is as it was
+abbrev Stays : Actors → Actors → Type 0
+Stays w v = v.controller ≡ w.controller
+
+-- the controller after steps
+abbrev after_steps : Controller → List Step → Controller
+after_steps c ss = (each step c ss).next
+
+Moves : Actors → Event → Type 0
+Moves w event = (actors_after w event).controller ≡ after_steps w.controller (step_at w event)
+
+still : (w : Actors) (o : Option Actors) → OfTaken (Stays w) o → (unwrap_or o w).controller ≡ w.controller
+still w o leads = after-taken (Stays w) o w leads refl
+
+brought-stays : (w : Actors) (p : _) (at : _) (sapi : Sapi) (frame : List ℕ) → Stays w (brought w p at sapi frame)
+brought-stays w p at Zero frame = refl
+brought-stays w p at Three frame = refl
+
+took-stays : (w : Actors) (station : ℕ) (target : Option Tenure) (o : Option Rsl) (v : Actors) → Stays w v → OfTaken (Stays w) (took station target o v)
+took-stays w station target o v is = took-leads (Stays w) station target o v (record {
+  nothing = is;
+  activates = λ channel _. is;
+  seats = λ p number channel _ _. is;
+  airs = λ channel message _. is;
+  answers = λ answer channel. is;
+  releases = λ channel. is;
+})
+
+turn-moves : (target : Option Tenure) (t : Turn) (w : Actors) → (with_turn target t w).controller ≡ t.next
+turn-moves target t w = turn-leads (λ v. v.controller ≡ t.next) target t w (λ links. refl)
+
+handle-moves : (w : Actors) (items : List Item) → (unwrap_or (handled items w) w).controller ≡ after_steps w.controller (first_taken items)
+handle-moves w [] = refl
+handle-moves w (item ∷ items) = turn-moves (target_in w item.source item.what) (take item w.controller) (record w { inbox = items })
+
+moves : (w : Actors) (event : Event) → Moves w event
+unfolding event_after FromAir Moves
+moves w (Upper number sapi message) = still w (after_upper w number sapi message) (upper-leads (Stays w) w number sapi message (λ p _. refl))
+moves w (Connect number station initial accepts) = still w (after_connecting w number station initial accepts) (connect-leads (Stays w) w number station initial accepts (λ _. refl))
+moves w (AirUp number sapi) = still w (after_air_up w number sapi) (air_up-leads (Stays w) w number sapi (λ p tenure command frame _ _ _ _. brought-stays w p tenure.at sapi frame))
+moves w (AirAck number sapi) = still w (after_air_ack w number sapi) (air_ack-leads (Stays w) w number sapi (λ p _. refl))
+moves w (AirDown number) = still w (after_air_down w number) (air_down-leads (Stays w) w number (λ p tenure command _ _ _ first others _. refl))
+moves w (AirDownLost number) = still w (after_air_down_lost w number) (air_down_lost-leads (Stays w) w number (λ p tenure command _ _ _ first others _. refl))
+moves w (Move number) = still w (after_move w number) (move-leads (Stays w) w number (λ p tenure command _ _ _. refl))
+moves w (Touch number) = still w (after_touch w number) (touch-leads (Stays w) w number (λ command _. refl))
+moves w (Arrive number) = still w (after_arriving w number) (arrive-leads (Stays w) w number (λ p from command _ _ _. refl))
+moves w (Return number) = still w (after_return w number) (return-leads (Stays w) w number (λ p from command _ _ _. refl))
+moves w (BaseTakes station) =
+    still w (after_base_takes w station) (base_takes-leads (Stays w) w station (λ first others _ _. took-stays w station first.target (rsl_in first.out.frame) (with_outbox station others w) refl))
+moves w (BasePush source) = still w (after_base_push w source) (push-leads (Stays w) w source (λ first others. refl) (λ message _. refl))
+moves w Handle = handle-moves w w.inbox
+moves w SwitchTakes =
+    still w (after_switch_takes w) (switch_takes-leads (Stays w) w (λ first others _ _. switch_took-leads (Stays w) (with_outbox SWITCH_LINK others w) (sccp_in first.out.frame) refl (λ next made. refl)))
+moves w (SwitchDoes action) = still w (after_switch_does w action) (does-leads (Stays w) w action (λ next made. refl))
+moves w (Tick ms) = turn-moves None (tick ms w.controller) w
+moves w (BaseDown source) = still w (after_break w source) (broken-leads (Stays w) w source (λ _ _. refl) (λ _ _. refl))
+moves w (Report number report) = still w (after_report w number report) (report-leads (Stays w) w number report (λ tenure _. refl))
+
+after_steps-append : (c : Controller) (xs ys : List Step) → after_steps c (xs ++ ys) ≡ after_steps (after_steps c xs) ys
+after_steps-append c [] ys = refl
+after_steps-append c (x ∷ xs) ys = after_steps-append (step c x).next xs ys
+
+moves-all : (w : Actors) (events : List Event) → (actors_after_all w events).controller ≡ after_steps w.controller (all_steps w events)
+unfolding Moves
+moves-all w [] = refl
+moves-all w (event ∷ events) =
+    moves-all (actors_after w event) events
+    ∙ ap (λ (c : Controller). after_steps c (all_steps (actors_after w event) events)) (moves w event)
+    ∙ sym (after_steps-append w.controller (step_at w event) (all_steps (actors_after w event) events))
+
+pub LivesByTable-new : (settings : Parameters) (events : List Event) → LivesByTable settings events
+unfolding life
+LivesByTable-new settings events = moves-all (new_actors settings) events

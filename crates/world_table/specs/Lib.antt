@@ -1,0 +1,13 @@
+pub mod World
+pub mod Mobiles
+pub mod Stations
+pub mod Relay
+pub mod SwitchSide
+pub mod Life
+pub mod Views
+pub mod Queues
+pub mod Honest
+pub mod Steps
+pub mod Pipe
+pub mod Lives
+pub mod Reading

@@ -1,0 +1,30 @@
+-- What the controller of a world took, step by step.
+use Rattle.std.specs.Prelude.{◌≡◌, List, [], ◌∷◌, ◌++◌}
+use Rattle.controller_table.specs.declared.step.Step.{Step}
+use Rattle.controller_table.specs.declared.step.Step.TheVariants as steps
+use Rattle.controller_table.specs.Life.{life}
+use Rattle.relay_items.specs.declared.Item.{Item}
+use Rattle.settings.specs.Parameters.{Parameters}
+use Rattle.world_table.specs.declared.event.Event.{Event}
+use Rattle.world_table.specs.declared.event.Event.TheVariants.{Handle, Tick}
+use Rattle.world_table.specs.Life.{actors_after, actors_after_all}
+use Rattle.world_table.specs.World.{Actors, new_actors}
+
+-- the first item of the inbox
+abbrev pub first_taken : List Item → List Step
+first_taken [] = []
+first_taken (item ∷ items) = steps.Take item ∷ []
+
+-- at an event, and at all these
+abbrev pub step_at : Actors → Event → List Step
+step_at w Handle = first_taken w.inbox
+step_at w (Tick ms) = steps.Tick ms ∷ []
+step_at w _ = []
+
+abbrev pub all_steps : Actors → List Event → List Step
+all_steps w [] = []
+all_steps w (event ∷ events) = step_at w event ++ all_steps (actors_after w event) events
+
+-- the controller is the one after these steps
+abbrev pub LivesByTable : Parameters → List Event → Type 0
+LivesByTable settings events = (actors_after_all (new_actors settings) events).controller ≡ (life settings (all_steps (new_actors settings) events)).next

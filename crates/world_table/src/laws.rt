@@ -1,0 +1,46 @@
+ghost use Rattle.std.specs.Prelude.{List};
+ghost use Rattle.settings.specs.Parameters.{Parameters};
+ghost use Rattle.world_table.specs.declared.event.Event.{Event as WorldEvent};
+ghost use Rattle.world_table.specs.Honest.{AreHonest};
+ghost use Rattle.world_table.specs.Lives.{MobilesLive};
+ghost use Rattle.world_table.specs.Pipe.{ArePipes};
+ghost use Rattle.world_table.specs.Queues.{KeepsQueues};
+ghost use Rattle.world_table.specs.Reading.{AreRead};
+ghost use Rattle.world_table.specs.Steps.{LivesByTable};
+ghost use Rattle.world_table.specs.World.{new_actors};
+
+/// Law: whatever events happen, each queue of the relay gives what was put there, in order.
+pub fn queues_keep_order()
+    ensures { (settings : Parameters) (events : List WorldEvent) → KeepsQueues (new_actors settings) events }
+{}
+
+/// Law: whatever events happen, stations are honest. Of what a station gives of a channel, no ESTABLISH INDICATION and no DTAP
+/// stands outside the stretch from an activation acknowledgement to the release acknowledgement after it.
+pub fn stations_are_honest()
+    ensures { (settings : Parameters) (events : List WorldEvent) → AreHonest (new_actors settings) events }
+{}
+
+/// Law: the controller of a world is the one after the items that it handled and the time that passed for it. So what holds of
+/// the controller after any steps holds of it.
+pub fn controller_lives_by_its_table()
+    ensures { (settings : Parameters) (events : List WorldEvent) → LivesByTable settings events }
+{}
+
+/// Law: whatever events happen, the acknowledgements of a station on a channel follow what the controller put for it, in order: to
+/// each activation of a channel that isn't active, and to each release, one was given, or is made, or is due for what stands
+/// in the outbox, until the link breaks.
+pub fn channels_are_pipes()
+    ensures { (settings : Parameters) (events : List WorldEvent) → ArePipes settings events }
+{}
+
+/// Law: whatever events happen, all that happens to a mobile's end are calls of it. So what holds of a mobile end after any
+/// calls holds of the mobiles of a world: each repeats at most its one message that wasn't acknowledged.
+pub fn mobiles_live_by_their_ends()
+    ensures { (settings : Parameters) (events : List WorldEvent) → MobilesLive settings events }
+{}
+
+/// Law: whatever events happen, each frame that a station gives to the inbox is the text of a message that it made, and is read as
+/// that message.
+pub fn stations_are_read()
+    ensures { (settings : Parameters) (events : List WorldEvent) → AreRead settings events }
+{}

@@ -1,0 +1,18 @@
+//! The world with a controller: mobiles, base stations, the controller with its queues, and the switch, event by event.
+//! The definitions stand in `specs`.
+#![tactic(auto)]
+
+pub use event::{Event, SwitchAction};
+pub use laws::{
+    channels_are_pipes, controller_lives_by_its_table, mobiles_live_by_their_ends,
+    queues_keep_order, stations_are_honest, stations_are_read,
+};
+pub use limits::{MAX_NOT_TAKEN, MAX_TENURE, TIMER_EXPIRED};
+pub use line::{AirMessage, OutboxEntry};
+pub use seat::{Command, Seat, Tenure};
+
+mod event;
+mod laws;
+mod limits;
+mod line;
+mod seat;
