@@ -19,3 +19,4 @@ pub mod OwningWords
 pub mod OwningLife
 mod OnLiterals
 mod Rows
+pub mod Tenures

@@ -30,7 +30,7 @@ is_same at other = (at.station == other.station) && (at.number == other.number)
 
 -- on its channel, while it isn't over
 abbrev pub is_on : Place → Tenure → Bool
-is_on at t = not t.is_over && is_same at t.place
+is_on at t = not t.is_over && is_same t.place at
 
 -- a channel begins to serve
 abbrev pub beginning : Place → List (List ℕ) → Tenure
@@ -67,9 +67,13 @@ abbrev pub begin_first : Bool → Place → List ℕ → List Tenure → List Te
 begin_first true at initial [] = beginning at (initial ∷ []) ∷ []
 begin_first requested at initial tenures = tenures
 
+abbrev pub begin_next : List Tenure → Bool → Place → List Tenure
+begin_next [] performed at = []
+begin_next (t ∷ ts) performed at = if performed then beginning at [] ∷ t ∷ ts else t ∷ ts
+
 abbrev pub after_input : Input → List Message → List Tenure → List Tenure
 after_input (inputs.EstablishIndication at Zero (Some initial)) put tenures = begin_first (requests put) at initial tenures
-after_input (inputs.Complete at change cause) put tenures = if performs put then beginning at [] ∷ tenures else tenures
+after_input (inputs.Complete at change cause) put tenures = begin_next tenures (performs put) at
 after_input (inputs.Dtap at sapi message) put tenures = map (heard at sapi message) tenures
 after_input (inputs.ReleaseAck at) put tenures = acknowledged at tenures
 after_input _ put tenures = tenures
