@@ -20,3 +20,5 @@ pub mod OwningLife
 mod OnLiterals
 mod Rows
 pub mod Tenures
+pub mod Following
+pub mod FollowingRows

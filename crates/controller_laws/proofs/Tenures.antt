@@ -137,7 +137,7 @@ ended_none at (t ∷ old) away = ap (λ (u : Tenure). u ∷ map (ended at) old) 
 
 -- ---- what a connection has still to relay
 
-same_false : (at : Place) (c : Channel) → is_at at c ≡ false → is_same (place_of c) at ≡ false
+pub same_false : (at : Place) (c : Channel) → is_at at c ≡ false → is_same (place_of c) at ≡ false
 same_false at c away = elim (cases_Bool (is_same (place_of c) at)) [
   | inl hit ↦
       let parts = and_parts (c.station == at.station) (c.number == at.number) hit in
