@@ -22,3 +22,4 @@ mod Rows
 pub mod Tenures
 pub mod Following
 pub mod FollowingRows
+pub mod FollowingChanges
