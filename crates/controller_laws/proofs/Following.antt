@@ -1,13 +1,11 @@
 -- What was relayed follows the tenures, row by row.
-use Rattle.std.proofs.Common.{◌≡◌, ◌≢◌, ◌⊎◌, ℕ, zero, suc, ◌+◌, ◌==◌, ◌&&◌, ◌||◌, Bool, true, false, not, if◌then◌else◌, List, [], ◌∷◌, ◌++◌, length, map, Option, Some, None, refl, sym, subst, ap, ◌∙◌, inl, inr, append_assoc, append-nil, true≢false}
-use Rattle.std.proofs.lemmas.Bool.{cases_Bool, cond-true, cond-false, eqb-true, eq-eqb, and_parts}
+use Rattle.std.proofs.Common.{◌≡◌, ℕ, ◌==◌, ◌&&◌, Bool, true, false, not, if◌then◌else◌, List, [], ◌∷◌, ◌++◌, Option, Some, None, refl, sym, subst, ap, ◌∙◌, append_assoc, append-nil}
+use Rattle.std.proofs.lemmas.Bool.{cond-true, eq-eqb}
 use Rattle.std.proofs.lemmas.Grind.{flat_map-append}
-use Rattle.std.specs.List.{AllByRecursion}
 use Rattle.conn_messages.specs.declared.channel.Channel.{Channel}
 use Rattle.conn_messages.specs.declared.channel.Place.{Place}
 use Rattle.conn_messages.specs.declared.message.Message.{Message}
-use Rattle.conn_table.proofs.RolesTable.{ChangesRoles-row}
-use Rattle.conn_table.proofs.UplinkPlaces.{AreAway, all_away, all_behind, away-of, away-of_other, drain_at-drains, DrainsAt, same_place}
+use Rattle.conn_table.proofs.UplinkPlaces.{AreAway, all_behind, away-of_other}
 use Rattle.conn_table.proofs.UplinkTable.{row-keeps}
 use Rattle.conn_table.specs.declared.input.Input.{Input}
 use Rattle.conn_table.specs.declared.input.Input.TheVariants as inputs
@@ -16,16 +14,16 @@ use Rattle.conn_table.specs.declared.state.Stage.TheVariants.{Active, Preparing,
 use Rattle.conn_table.specs.declared.state.State.{State}
 use Rattle.conn_table.specs.declared.state.State.TheVariants.{WaitActivation, WaitEstablish, WaitConfirm, Live, Closed, Removed}
 use Rattle.conn_table.specs.declared.state.Target.{Target}
-use Rattle.conn_table.specs.Connection.{Connection, drain_at, is_at}
+use Rattle.conn_table.specs.Connection.{Connection, is_at}
 use Rattle.conn_table.specs.Roles.{TargetRole, Roles, RoleStep, GoesOn, after_step, awaits_at, changes_by, roles_of, step_by, target_channels, target_role, with_target}
 use Rattle.conn_table.specs.Roles.RoleStep.{stays, commands, completes, goes_back, leaves}
 use Rattle.conn_table.specs.Standing.{Stands}
 use Rattle.conn_table.specs.Steps.{Row}
-use Rattle.conn_table.specs.Streams.{AreApart, Ends, Future, IsApart, IsOpen, KeepsUplink, OfRow, first_at, from_input, of_prepared, of_target, on_channel, relayed, relayed_by, still_of, undone, used_channels}
+use Rattle.conn_table.specs.Streams.{AreApart, Ends, Future, IsApart, IsOpen, KeepsUplink, OfRow, from_input, of_prepared, of_target, on_channel, relayed, relayed_by, still_of, undone, used_channels}
 use Rattle.conn_table.specs.Table.{row_of}
 use Rattle.controller_laws.specs.Owning.{used_in}
-use Rattle.controller_laws.specs.Uplink.{Tenure, acknowledged, after_input, beginning, begin_next, heard, is_on, is_same, of_sapi, performs}
-use Rattle.controller_laws.proofs.Tenures.{NoneOn, channel_clear, clear, ended_none, heard_none, joined_acknowledged, joined_clear, joined_heard, joined_with, same_false, still_clear}
+use Rattle.controller_laws.specs.Uplink.{Tenure, after_input, is_on, is_same}
+use Rattle.controller_laws.proofs.Tenures.{NoneOn, clear, joined_clear, joined_with, same_false, still_clear}
 use Rattle.controller_table.specs.Controller.{place_of}
 use Rattle.dtap_codec.specs.declared.sapi.Sapi.{Sapi}
 use Rattle.dtap_codec.specs.declared.sapi.Sapi.TheVariants.{Zero, Three}
@@ -231,7 +229,7 @@ joined_kill sapi f s put ts (Some t) apart follows =
     let away = target_away s (Some t) apart t refl in
     joined_clear sapi (place_of t.target.channel) f ts (none_on s put ts (place_of t.target.channel) follows away.0 away.1)
 
-relayed_append : (sapi : Sapi) (xs ys : List Message) → relayed sapi (xs ++ ys) ≡ relayed sapi xs ++ relayed sapi ys
+pub relayed_append : (sapi : Sapi) (xs ys : List Message) → relayed sapi (xs ++ ys) ≡ relayed sapi xs ++ relayed sapi ys
 relayed_append sapi xs ys = flat_map-append (relayed_by sapi) xs ys
 
 -- what was relayed before, then by the row

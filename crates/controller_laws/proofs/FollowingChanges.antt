@@ -1,13 +1,12 @@
 -- What was relayed follows the tenures: a change is complete; access; which rows fit.
-use Rattle.std.proofs.Common.{◌≡◌, ◌≢◌, ◌⊎◌, ℕ, zero, suc, ◌+◌, ◌==◌, ◌&&◌, ◌||◌, nat_le, Bool, true, false, not, if◌then◌else◌, List, [], ◌∷◌, ◌++◌, length, map, Option, Some, None, refl, sym, subst, ap, ◌∙◌, inl, inr, append_assoc, append-nil, true≢false}
-use Rattle.std.proofs.lemmas.Bool.{cases_Bool, cond-true, cond-false, eqb-true, eq-eqb, and_parts}
+use Rattle.std.proofs.Common.{◌≡◌, ℕ, ◌&&◌, Bool, true, false, if◌then◌else◌, List, [], ◌∷◌, ◌++◌, Option, Some, None, refl, sym, subst, ap, ◌∙◌, inl, inr, append_assoc, append-nil}
+use Rattle.std.proofs.lemmas.Bool.{cases_Bool, cond-true, cond-false, and_parts}
 use Rattle.conn_messages.specs.declared.channel.Change.{Change}
 use Rattle.conn_messages.specs.declared.channel.Change.TheVariants.{Assignment, Handover}
 use Rattle.conn_messages.specs.declared.channel.Channel.{Channel}
 use Rattle.conn_messages.specs.declared.channel.Place.{Place}
 use Rattle.conn_messages.specs.declared.message.Message.{Message}
-use Rattle.conn_messages.specs.SwitchMessage.{complete_layer3}
-use Rattle.conn_table.proofs.UplinkPlaces.{AreAway, all_behind, away-of, drain_at-drains, drain-behind_away, same_place}
+use Rattle.conn_table.proofs.UplinkPlaces.{AreAway, away-of, drain_at-drains, drain-behind_away, same_place}
 use Rattle.conn_table.specs.declared.input.Input.{Input}
 use Rattle.conn_table.specs.declared.input.Input.TheVariants as inputs
 use Rattle.conn_table.specs.declared.state.Drain.{Drain}
@@ -15,19 +14,19 @@ use Rattle.conn_table.specs.declared.state.Stage.{Stage}
 use Rattle.conn_table.specs.declared.state.Stage.TheVariants.{Active, Preparing, Changing, Draining}
 use Rattle.conn_table.specs.declared.state.State.{State}
 use Rattle.conn_table.specs.declared.state.State.TheVariants.{WaitActivation, WaitEstablish, WaitConfirm, Live, Closed, Removed}
-use Rattle.conn_table.specs.Connection.{Connection, drain_at, enter, is_at, tenure_at}
+use Rattle.conn_table.specs.Connection.{Connection, is_at, tenure_at}
 use Rattle.conn_table.specs.Roles.{TargetRole, Roles, RoleStep, GoesOn, after_step, changes_by, is_target_at, roles_of, step_by, target_channels, target_role}
-use Rattle.conn_table.specs.Roles.RoleStep.{stays, commands, completes, goes_back, leaves}
+use Rattle.conn_table.specs.Roles.RoleStep.{stays, completes}
 use Rattle.conn_table.specs.Standing.{Stands}
-use Rattle.conn_table.specs.Steps.{Row, row, failing}
-use Rattle.conn_table.specs.Streams.{AreApart, Future, IsApart, IsOpen, from_input, of_target, on_channel, relayed, still_of, undone, used_channels}
-use Rattle.conn_table.specs.Table.{row_of, complete, dtap_in, dtap_on_target, on_complete, on_dtap, on_establish_indication, same_change}
+use Rattle.conn_table.specs.Steps.{Row, failing}
+use Rattle.conn_table.specs.Streams.{AreApart, Future, IsApart, IsOpen, from_input, of_target, relayed, still_of, undone, used_channels}
+use Rattle.conn_table.specs.Table.{row_of, complete, dtap_in, on_complete, on_dtap, same_change}
 use Rattle.controller_laws.specs.Owning.{used_in}
 use Rattle.conn_messages.specs.declared.causes.TheConstants.{EQUIPMENT_FAILURE}
-use Rattle.controller_laws.specs.Uplink.{Tenure, begin_next, beginning, of_sapi, is_performed, performs}
-use Rattle.controller_laws.proofs.Following.{Follows, Serves, begun_same, begun_killed, joins, keeps, none_on, of_target_role, older, role_target, target_away}
+use Rattle.controller_laws.specs.Uplink.{Tenure, begin_next, beginning, of_sapi, performs}
+use Rattle.controller_laws.proofs.Following.{Follows, Serves, begun_same, begun_killed, joins, keeps, none_on, of_target_role, role_target}
 use Rattle.controller_laws.proofs.OwningWords.{if_is}
-use Rattle.controller_laws.proofs.Tenures.{NoneOn, joined_with}
+use Rattle.controller_laws.proofs.Tenures.{joined_with}
 use Rattle.controller_table.specs.Controller.{place_of}
 use Rattle.dtap_codec.specs.declared.sapi.Sapi.{Sapi}
 use Rattle.dtap_codec.specs.declared.sapi.Sapi.TheVariants.{Zero, Three}

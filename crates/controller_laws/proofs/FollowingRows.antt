@@ -1,31 +1,24 @@
 -- What was relayed follows the tenures, where a message comes, a change is complete, or an old channel is released.
-use Rattle.std.proofs.Common.{◌≡◌, ◌≢◌, ◌⊎◌, ℕ, zero, suc, ◌+◌, ◌==◌, ◌&&◌, ◌||◌, Bool, true, false, not, if◌then◌else◌, List, [], ◌∷◌, ◌++◌, length, map, Option, Some, None, refl, sym, subst, ap, ◌∙◌, inl, inr, append_assoc, append-nil, true≢false}
-use Rattle.std.proofs.lemmas.Bool.{cases_Bool, cond-true, cond-false, eqb-true, eq-eqb, and_parts}
-use Rattle.std.specs.List.{AllByRecursion}
-use Rattle.conn_messages.specs.declared.channel.Change.{Change}
-use Rattle.conn_messages.specs.declared.channel.Change.TheVariants.{Assignment, Handover}
+use Rattle.std.proofs.Common.{◌≡◌, ◌≢◌, ℕ, zero, suc, ◌==◌, Bool, true, false, if◌then◌else◌, List, [], ◌∷◌, ◌++◌, map, Option, Some, None, refl, sym, subst, ap, ◌∙◌, inl, inr, append-nil, true≢false}
+use Rattle.std.proofs.lemmas.Bool.{cases_Bool, cond-true, cond-false, eqb-true, and_parts}
 use Rattle.conn_messages.specs.declared.channel.Channel.{Channel}
 use Rattle.conn_messages.specs.declared.channel.Place.{Place}
 use Rattle.conn_messages.specs.declared.message.Message.{Message}
 use Rattle.conn_table.proofs.RolesAccount.{undone-still_draining}
-use Rattle.conn_table.proofs.UplinkPlaces.{AreAway, DrainsAt, all_behind, away-of, drain_at-drains, drain-behind_away, same_place}
+use Rattle.conn_table.proofs.UplinkPlaces.{AreAway, DrainsAt, drain_at-drains, drain-behind_away, same_place}
 use Rattle.conn_table.specs.declared.input.Input.{Input}
 use Rattle.conn_table.specs.declared.input.Input.TheVariants as inputs
 use Rattle.conn_table.specs.declared.state.Drain.{Drain}
-use Rattle.conn_table.specs.declared.state.Stage.{Stage}
-use Rattle.conn_table.specs.declared.state.Stage.TheVariants.{Active, Preparing, Changing, Draining}
-use Rattle.conn_table.specs.declared.state.State.{State}
-use Rattle.conn_table.specs.declared.state.State.TheVariants.{WaitActivation, WaitEstablish, WaitConfirm, Live, Closed, Removed}
 use Rattle.conn_table.specs.Connection.{Connection, drain_at, is_at}
-use Rattle.conn_table.specs.Roles.{TargetRole, Roles, RoleStep, GoesOn, after_step, leaves_at, roles_of, step_by, still_draining, target_channels, target_role, with_target}
-use Rattle.conn_table.specs.Roles.RoleStep.{stays, commands, completes, goes_back, leaves}
+use Rattle.conn_table.specs.Roles.{TargetRole, Roles, RoleStep, GoesOn, after_step, leaves_at, roles_of, step_by, target_channels, target_role}
+use Rattle.conn_table.specs.Roles.RoleStep.{stays, leaves}
 use Rattle.conn_table.specs.Standing.{Stands}
 use Rattle.conn_table.specs.Steps.{Row, done_at}
-use Rattle.conn_table.specs.Streams.{AreApart, Future, IsApart, IsOpen, from_input, of_target, on_channel, relayed, still_of, undone, used_channels}
+use Rattle.conn_table.specs.Streams.{AreApart, Future, IsOpen, from_input, of_target, relayed, still_of, undone, used_channels}
 use Rattle.conn_table.specs.Table.{row_of}
 use Rattle.controller_laws.specs.Owning.{used_in}
 use Rattle.controller_laws.specs.Uplink.{Tenure, acknowledged, ended, heard, is_on, is_same, with_message}
-use Rattle.controller_laws.proofs.Following.{Follows, Killed, SameChannels, Serves, begun_same, begun_killed, joined_kill, joins, keeps, kill, kill_kills, none_on, of_target_role, older, quiet_keeps, role_killed, role_target, same_true, serving_off, step_killed, still_kill, target_away}
+use Rattle.controller_laws.proofs.Following.{Follows, Killed, Serves, begun_same, begun_killed, joined_kill, joins, keeps, kill, kill_kills, none_on, of_target_role, older, quiet_keeps, role_killed, role_target, same_true, serving_off, still_kill, target_away}
 use Rattle.controller_laws.proofs.Owning.{all_done_at, away_done}
 use Rattle.controller_laws.proofs.Tenures.{NoneOn, clear, joined_acknowledged, joined_clear, joined_heard, joined_with, same_false, still_clear}
 use Rattle.controller_table.specs.Controller.{place_of}

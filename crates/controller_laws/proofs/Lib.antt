@@ -23,3 +23,4 @@ pub mod Tenures
 pub mod Following
 pub mod FollowingRows
 pub mod FollowingChanges
+pub mod FollowingTable

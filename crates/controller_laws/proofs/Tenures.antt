@@ -1,19 +1,14 @@
 -- The tenures of a connection, with what may still come on their channels.
-use Rattle.std.proofs.Common.{◌≡◌, ◌≢◌, ℕ, ◌==◌, ◌&&◌, Bool, true, false, not, if◌then◌else◌, List, [], ◌∷◌, ◌++◌, map, Option, Some, None, refl, sym, subst, ap, ◌∙◌, inl, inr, append_assoc, append-nil, true≢false}
+use Rattle.std.proofs.Common.{◌≡◌, ℕ, ◌==◌, ◌&&◌, Bool, true, false, not, if◌then◌else◌, List, [], ◌∷◌, ◌++◌, map, refl, sym, ap, ◌∙◌, inl, inr, append_assoc, append-nil, true≢false}
 use Rattle.std.proofs.lemmas.Bool.{cases_Bool, cond-true, cond-false, eqb-true, eq-eqb, and_parts}
 use Rattle.std.specs.List.{AllByRecursion}
 use Rattle.conn_messages.specs.declared.channel.Channel.{Channel}
 use Rattle.conn_messages.specs.declared.channel.Place.{Place}
-use Rattle.conn_table.specs.declared.input.Input.{Input}
 use Rattle.conn_table.specs.declared.input.Input.TheVariants as inputs
 use Rattle.conn_table.specs.declared.state.Drain.{Drain}
-use Rattle.conn_table.specs.declared.state.Stage.TheVariants.{Active, Preparing, Changing, Draining}
-use Rattle.conn_table.specs.declared.state.State.{State}
-use Rattle.conn_table.specs.declared.state.State.TheVariants.{WaitActivation, WaitEstablish, WaitConfirm, Live, Closed, Removed}
 use Rattle.conn_table.specs.Connection.{is_at}
-use Rattle.conn_table.specs.Roles.{TargetRole, target_role}
-use Rattle.conn_table.specs.Streams.{Future, first_at, from_input, of_target, on_channel, still_of, undone}
-use Rattle.conn_table.proofs.UplinkPlaces.{AreAway, all_behind}
+use Rattle.conn_table.specs.Streams.{Future, from_input, on_channel, still_of, undone}
+use Rattle.conn_table.proofs.UplinkPlaces.{AreAway}
 use Rattle.controller_laws.specs.Uplink.{Tenure, acknowledged, ended, heard, is_on, is_same, joined, of_sapi, with_message}
 use Rattle.controller_table.specs.Controller.{place_of}
 use Rattle.dtap_codec.specs.declared.sapi.Sapi.{Sapi}
