@@ -206,13 +206,17 @@ target_away s (Some u) apart t is =
   where
     of : (let o : Option TargetRole = Some u in o) ≡ Some t → u ≡ t
     of is = cc
+
     here : is_at (place_of u.target.channel) u.target.channel ≡ true
     here = same_true (place_of u.target.channel)
+
     turned : (c : Channel) → IsApart c u.target.channel → is_at (place_of u.target.channel) c ≡ false
     turned c apart = away-of_other (place_of u.target.channel) c u.target.channel apart (same_true (place_of u.target.channel))
+
     old : (cs : List Channel) → AreApart (cs ++ s.serving ∷ u.target.channel ∷ []) → AreAway (place_of u.target.channel) cs
     old [] apart = tt
     old (c ∷ cs) apart = (turned c (all_behind (IsApart c) cs (s.serving ∷ u.target.channel ∷ []) apart.0).1.0, old cs apart.1)
+
     last : (cs : List Channel) → AreApart (cs ++ s.serving ∷ u.target.channel ∷ []) → is_at (place_of u.target.channel) s.serving ≡ false
     last [] apart = turned s.serving apart.0.0
     last (c ∷ cs) apart = last cs apart.1

@@ -126,6 +126,7 @@ complete_follows s at change cause offer r before ts stands apart is there on fo
     plain : (sapi : Sapi) (f : Future) → from_input sapi (inputs.Complete at change cause) f ≡ f
     plain Zero f = refl
     plain Three f = refl
+
     begun : (sapi : Sapi) (xs : List (List ℕ)) → xs ≡ of_sapi sapi (beginning at []) ++ xs
     begun Zero xs = refl
     begun Three xs = refl

@@ -37,6 +37,7 @@ undone_back at other zero (d ∷ ds) drains differ away = by d.is_done
       | inl hit ↦ absurd (differ (same_place other d.channel hit ∙ sym (same_place at d.channel drains.0)))
       | inr miss ↦ miss
     ]
+
     by : (b : Bool) → AreAway other (if b then undone ds else d.channel ∷ undone ds)
     by true = away
     by false = (here, away)

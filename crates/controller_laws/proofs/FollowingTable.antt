@@ -202,16 +202,17 @@ serving_row s input offer r before ts in_it stands apart roles_apart is there fo
 pub row_up : (state : State) (s : Connection) → s.state ≡ state → (input : Input) (offer : Option Channel) (r : Row) (before : List Message) (ts : List Tenure) → Stands s → AreApart (used_channels s) → AreApart (used_in (roles_of s)) → row_of s input offer ≡ Some r → IsOpen r.next.state → UpIn state s before ts → UpIn r.next.state r.next (before ++ r.outs) (after_input input r.outs ts)
 row_up WaitActivation s same input offer r before ts stands apart roles_apart is there up =
     let next : Next WaitActivation input r.next.state r.outs = subst (λ (state : State). Next state input r.next.state r.outs) same (subst (OfRow (Advances s.state input)) is (advances s input offer) there) in
-    subst (λ (state : State). UpIn state r.next (before ++ r.outs) (after_input input r.outs ts)) (sym next.0)
-    (ap (after_input input r.outs) up.0 ∙ early_none input r.outs next.1,
-        silent_more before r.outs up.1 (activation_open s input offer r (ap (λ (state : State). row_by state s input offer) (sym same) ∙ sym (row_is_by s input offer) ∙ is) there))
+    subst (λ (state : State). UpIn state r.next (before ++ r.outs) (after_input input r.outs ts)) (sym next.0) (
+      ap (after_input input r.outs) up.0 ∙ early_none input r.outs next.1,
+      silent_more before r.outs up.1 (activation_open s input offer r (ap (λ (state : State). row_by state s input offer) (sym same) ∙ sym (row_is_by s input offer) ∙ is) there),
+    )
 row_up WaitEstablish s same input offer r before ts stands apart roles_apart is there up =
     let a = access_open s input offer r (ap (λ (state : State). row_by state s input offer) (sym same) ∙ sym (row_is_by s input offer) ∙ is) there in
     let bare = (by_state WaitEstablish s same stands).0 in
     subst (λ (q : Row). UpIn q.next.state q.next (before ++ q.outs) (after_input input q.outs ts)) (sym a.is)
     (subst (λ (i : Input). Follows (enter WaitConfirm s) (before ++ complete_layer3 s.serving a.initial ∷ []) (after_input i (complete_layer3 s.serving a.initial ∷ []) ts)) (sym a.comes)
-        (subst (λ (us : List Tenure). Follows (enter WaitConfirm s) (before ++ complete_layer3 s.serving a.initial ∷ []) (begin_first true a.at a.initial us)) (sym up.0)
-        (accessed s before a.at a.initial bare.none_drains bare.one_tenure a.here up.1)))
+    (subst (λ (us : List Tenure). Follows (enter WaitConfirm s) (before ++ complete_layer3 s.serving a.initial ∷ []) (begin_first true a.at a.initial us)) (sym up.0)
+    (accessed s before a.at a.initial bare.none_drains bare.one_tenure a.here up.1)))
 row_up WaitConfirm s same input offer r before ts stands apart roles_apart is there up =
     let next : Next WaitConfirm input r.next.state r.outs = subst (λ (state : State). Next state input r.next.state r.outs) same (subst (OfRow (Advances s.state input)) is (advances s input offer) there) in
     let follows = serving_row s input offer r before ts (inl same) stands apart roles_apart is there up in

@@ -24,3 +24,4 @@ pub mod Following
 pub mod FollowingRows
 pub mod FollowingChanges
 pub mod FollowingTable
+pub mod FollowingRests

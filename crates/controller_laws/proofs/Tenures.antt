@@ -104,11 +104,13 @@ heard_one sapi of at message f t = tenure_cases at t _
   where
     skip : is_on at t ≡ false → of_sapi sapi (heard at of message t) ++ (if (heard at of message t).is_over then [] else f (heard at of message t).place) ≡ of_sapi sapi t ++ (if t.is_over then [] else f t.place)
     skip miss = ap (λ (u : Tenure). of_sapi sapi u ++ (if u.is_over then [] else f u.place)) (cond-false _ (with_message of message t) t miss)
+
     same : (sapi of : Sapi) → is_same t.place at ≡ false → from_input sapi (inputs.Dtap at of message) f t.place ≡ f t.place
     same Zero Zero away = cond-false _ _ _ away
     same Three Three away = cond-false _ _ _ away
     same Zero Three away = refl
     same Three Zero away = refl
+
     put : (sapi of : Sapi) → t.is_over ≡ false → is_same t.place at ≡ true → of_sapi sapi (with_message of message t) ++ (if (with_message of message t).is_over then [] else f (with_message of message t).place) ≡ of_sapi sapi t ++ (if t.is_over then [] else from_input sapi (inputs.Dtap at of message) f t.place)
     put Zero Zero is hit = ap (λ (xs : List (List ℕ)). (t.zero ++ message ∷ []) ++ xs) (cond-false _ _ _ is) ∙ append_assoc t.zero (message ∷ []) (f t.place) ∙ ap (λ (xs : List (List ℕ)). t.zero ++ xs) (sym (cond-false _ _ _ is ∙ cond-true _ _ _ hit))
     put Three Three is hit = ap (λ (xs : List (List ℕ)). (t.three ++ message ∷ []) ++ xs) (cond-false _ _ _ is) ∙ append_assoc t.three (message ∷ []) (f t.place) ∙ ap (λ (xs : List (List ℕ)). t.three ++ xs) (sym (cond-false _ _ _ is ∙ cond-true _ _ _ hit))
