@@ -19,3 +19,9 @@ pub mod OwningWords
 pub mod OwningLife
 mod OnLiterals
 mod Rows
+pub mod Tenures
+pub mod Following
+pub mod FollowingRows
+pub mod FollowingChanges
+pub mod FollowingTable
+pub mod FollowingRests

@@ -161,7 +161,7 @@ acknowledged_holds at c k (Some e) state there rising stands holds = by (row_in 
     }
 
 -- by NACK
-if_is : (b : Bool) (q r : Row) → row_if b q ≡ Some r → (b ≡ true) × (q ≡ r)
+pub if_is : (b : Bool) (q r : Row) → row_if b q ≡ Some r → (b ≡ true) × (q ≡ r)
 if_is true q r is = (refl, of is)
   where
     of : (let o : Option Row = Some q in o) ≡ Some r → q ≡ r

@@ -4,3 +4,4 @@ pub mod End
 pub mod History
 pub mod Numbers
 pub mod Owning
+pub mod Uplink
