@@ -8,8 +8,8 @@ pub use message::Message;
 pub use messages::Messages;
 pub use out::Out;
 pub use outputs::Outputs;
-pub use uses::{ChannelUse, channel_use};
 pub use parameters::SWITCH_LINK;
+pub use uses::{ChannelUse, channel_use};
 
 pub mod causes;
 mod channel;

@@ -7,5 +7,5 @@ pub returns : goal.returns
 returns c = record {
   octets = c.use_in.ensures ∙ ap (words.use_in c.args.out.now.to c.args.out.now.frame.stream) c.as_slice.ensures;
   message = λ number message lawful is.
-    c.use_in.ensures ∙ ap (words.use_in c.args.out.now.to c.args.out.now.frame.stream) c.as_slice.ensures ∙ ap words.use_of is ∙ is_use_by number message lawful;
+      c.use_in.ensures ∙ ap (words.use_in c.args.out.now.to c.args.out.now.frame.stream) c.as_slice.ensures ∙ ap words.use_of is ∙ is_use_by number message lawful;
 }
