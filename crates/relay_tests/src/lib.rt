@@ -7,8 +7,6 @@ mod base_end;
 #[cfg(test)]
 mod connection;
 #[cfg(test)]
-mod controller;
-#[cfg(test)]
 mod decision;
 #[cfg(test)]
 mod fault_texts;
@@ -24,6 +22,8 @@ mod program;
 mod reading;
 #[cfg(test)]
 mod reception;
+#[cfg(test)]
+mod relay_life;
 #[cfg(test)]
 mod settings_text;
 #[cfg(test)]
