@@ -25,3 +25,6 @@ pub mod FollowingRows
 pub mod FollowingChanges
 pub mod FollowingTable
 pub mod FollowingRests
+pub mod FollowingSteps
+pub mod UplinkLife
+mod UplinkRows
