@@ -28,3 +28,4 @@ pub mod FollowingRests
 pub mod FollowingSteps
 pub mod UplinkLife
 mod UplinkRows
+pub mod SilenceLife

@@ -1,7 +1,7 @@
 ghost use Rattle.std.specs.Prelude.{ℕ, ◌≤◌, ◌<◌, List};
 ghost use Rattle.controller_laws.specs.Acts.{ActsOn};
 ghost use Rattle.controller_laws.specs.Downlink.{DownlinkIsConserved};
-ghost use Rattle.controller_laws.specs.End.{IsThere, KeepsSilence, StaysSilent};
+ghost use Rattle.controller_laws.specs.End.{IsThere, SilenceIsKept, StaysSilent};
 ghost use Rattle.controller_laws.specs.History.{connection_of};
 ghost use Rattle.controller_laws.specs.Owning.{LinkedOf, OwnsOpen};
 ghost use Rattle.controller_laws.specs.Uplink.{UplinkIsConserved};
@@ -28,7 +28,7 @@ pub fn steps_are_rows()
 /// to; what a step hands goes to the channel that serves after it. From the step that closes a connection on nothing is
 /// handed or relayed; after CLEAR COMPLETE only RLC is put, and nothing once the connection is gone.
 pub fn silence_is_kept()
-    ensures steps { (p : Parameters) (steps : List Step) (s : Step) (number : ℕ) → 1 ≤ number → KeepsSilence number (life p steps).next s }
+    ensures steps { (p : Parameters) (steps : List Step) (number : ℕ) → 1 ≤ number → SilenceIsKept number p steps (life p steps) }
     ensures end { (p : Parameters) (steps rest : List Step) (number : ℕ) → 1 ≤ number → number < (life p steps).next.next_number
         → (IsThere (connection_of (life p steps).next number) → ⊥) → StaysSilent number (life p steps).next rest }
 {}
