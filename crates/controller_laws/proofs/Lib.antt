@@ -29,3 +29,4 @@ pub mod FollowingSteps
 pub mod UplinkLife
 mod UplinkRows
 pub mod SilenceLife
+pub mod UsualRows
