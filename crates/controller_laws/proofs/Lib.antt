@@ -30,3 +30,4 @@ pub mod UplinkLife
 mod UplinkRows
 pub mod SilenceLife
 pub mod UsualRows
+pub mod Seen

@@ -1,9 +1,10 @@
 -- What rows put: in CR the initial message alone, and in DT1 no initial message.
-use Rattle.std.proofs.Common.{ℕ, zero, suc, ◌==◌, ◌&&◌, ◌||◌, nat_le, Bool, true, false, not, if◌then◌else◌, List, [], ◌∷◌, ◌++◌, filter, length, map, Option, Some, None, inl, inr, subst, sym}
-use Rattle.std.proofs.lemmas.Bool.{cases_Bool, cond-true, cond-false}
+use Rattle.std.proofs.Common.{◌≡◌, ℕ, refl, zero, suc, ◌==◌, ◌&&◌, nat_le, Bool, true, false, not, if◌then◌else◌, List, [], ◌∷◌, ◌++◌, filter, length, map, Option, Some, None}
 use Rattle.std.specs.List.{AllByRecursion}
-use Rattle.bssmap_codec.specs.declared.bssap.Bssap.TheVariants.{Management}
+use Rattle.bssmap_codec.specs.declared.bssap.Bssap.TheVariants.{Management, Transfer}
 use Rattle.bssmap_codec.specs.declared.bssmap.Bssmap.TheVariants.{CompleteLayer3Information}
+use Rattle.bssmap_codec.specs.Values.{is_dlci}
+use Rattle.conn_messages.specs.declared.parameters.TheConstants.{SACCH_SAPI_3_DLCI, SDCCH_SAPI_3_DLCI}
 use Rattle.conn_messages.specs.declared.causes.TheConstants.{ABNORMAL_RELEASE, BSS_NOT_EQUIPPED, EQUIPMENT_FAILURE, NORMAL_EVENT, PROTOCOL_ERROR, RADIO_INTERFACE_FAILURE, RADIO_INTERFACE_MESSAGE_FAILURE}
 use Rattle.conn_messages.specs.declared.channel.Change.{Change}
 use Rattle.conn_messages.specs.declared.channel.Change.TheVariants.{Assignment, Handover}
@@ -12,10 +13,10 @@ use Rattle.conn_messages.specs.declared.channel.Place.{Place}
 use Rattle.conn_messages.specs.declared.message.Message.{Message}
 use Rattle.conn_messages.specs.declared.message.Message.TheVariants.{Data, Request}
 use Rattle.conn_messages.specs.StationMessage.{handing, rf_channel_release}
-use Rattle.conn_messages.specs.SwitchMessage.{assignment_failure, change_complete, clear_complete, complete_layer3, relaying, release_complete}
+use Rattle.conn_messages.specs.SwitchMessage.{assignment_failure, change_complete, clear_complete, complete_layer3, dlci_on, relaying, release_complete}
 use Rattle.conn_table.specs.declared.input.Input.{Input}
 use Rattle.conn_table.specs.declared.input.Input.TheVariants as inputs
-use Rattle.conn_table.specs.declared.state.Clearing.TheVariants.{Complete, Due, Asked as WasAsked}
+use Rattle.conn_table.specs.declared.state.Clearing.TheVariants.{Due, Asked as WasAsked}
 use Rattle.conn_table.specs.declared.state.Drain.{Drain}
 use Rattle.conn_table.specs.declared.state.ShortMessageLink.{ShortMessageLink}
 use Rattle.conn_table.specs.declared.state.ShortMessageLink.TheVariants.{Down, Asked, Up}
@@ -23,20 +24,22 @@ use Rattle.conn_table.specs.declared.state.Stage.{Stage}
 use Rattle.conn_table.specs.declared.state.Stage.TheVariants.{Active, Preparing, Changing, Draining}
 use Rattle.conn_table.specs.declared.state.State.{State}
 use Rattle.conn_table.specs.declared.state.State.TheVariants.{WaitActivation, WaitEstablish, WaitConfirm, Live, Closed, Removed}
-use Rattle.conn_table.specs.Connection.{Connection, drain_at, emptied, enter, first_channel, is_at, tenure_at}
-use Rattle.conn_table.specs.Steps.{Row, row, ◌then◌, begin, begin_outs, begin_waiting, done_at, dropping, end_outs, ending, failing, goes_to, hold_down, hold_short_message, hold_up, leave, link_down, link_up, may_begin, moved, relay_held, request_for, request_where, resting, resting_stage, settled, settled_stage, shifted, short_message, target_release, tenure_outs, waiting_outs, without_station}
+use Rattle.conn_table.specs.Connection.{Connection, drain_at, emptied, enter, first_channel, tenure_at}
+use Rattle.conn_table.specs.Steps.{Row, row, ◌then◌, begin, begin_outs, begin_waiting, done_at, dropping, end_outs, failing, goes_to, hold_down, hold_short_message, hold_up, leave, link_down, link_up, may_begin, moved, relay_held, request_for, request_where, resting, resting_stage, settled, settled_stage, shifted, short_message, target_release, tenure_outs, waiting_outs, without_station}
 use Rattle.conn_table.specs.Streams.{OfRow}
-use Rattle.conn_table.specs.Table.{access, assign_immediately, command_to, complete, drains_at, dtap_in, dtap_on_target, failure, failure_outs, is_some_draining, nack_outs, on_activation_ack, on_activation_nack, on_assignment_request, on_cipher_mode_command, on_clear_command, on_complete, on_confirm, on_connection_failure, on_downlink, on_drain_expiry, on_dtap, on_error_indication, on_establish_confirm, on_establish_indication, on_expiry, on_failure, on_move, on_refused, on_release_ack, on_release_indication, on_released, on_station_down, on_switch_down, refuse, release, release_complete_to, release_in, row_if, row_of, same_change, speech_request, targets, was_asked}
+use Rattle.conn_table.specs.Table.{access, assign_immediately, command_to, complete, dtap_in, dtap_on_target, failure, failure_outs, nack_outs, on_activation_ack, on_activation_nack, on_assignment_request, on_cipher_mode_command, on_clear_command, on_complete, on_confirm, on_connection_failure, on_downlink, on_drain_expiry, on_dtap, on_error_indication, on_establish_confirm, on_establish_indication, on_expiry, on_failure, on_move, on_refused, on_release_ack, on_release_indication, on_released, on_station_down, on_switch_down, refuse, release, release_in, row_if, row_of, speech_request}
 use Rattle.dtap_codec.specs.declared.sapi.Sapi.{Sapi}
 use Rattle.dtap_codec.specs.declared.sapi.Sapi.TheVariants.{Zero, Three}
 use Rattle.hold_queue.specs.ChainState.{Tenure, chain_count, put_in}
 use Rattle.hold_queue.specs.HoldState.{count, messages, with_messages}
+use Rattle.rsl_codec.specs.declared.channel_number.TheConstants.{FIRST_SDCCH}
 use Rattle.octets.specs.declared.limits.TheConstants.{INITIAL_LIMIT}
 
 abbrev pub IsUsual : Message → Type 0
 IsUsual (Request (Management (CompleteLayer3Information cell initial))) = Unit {0}
 IsUsual (Request message) = ⊥
 IsUsual (Data reference (Management (CompleteLayer3Information cell initial))) = ⊥
+IsUsual (Data reference (Transfer dlci message)) = is_dlci dlci ≡ true
 IsUsual _ = Unit {0}
 
 abbrev pub AreUsual : List Message → Type 0
@@ -71,9 +74,17 @@ all_handed : (c : Channel) (sapi : Sapi) (ms : List (List ℕ)) → AreUsual (ma
 all_handed c sapi [] = tt
 all_handed c sapi (m ∷ ms) = (tt, all_handed c sapi ms)
 
+dlci_usual : (number : ℕ) (sapi : Sapi) → is_dlci (dlci_on number sapi) ≡ true
+dlci_usual number Zero = refl
+dlci_usual number Three = by (nat_le FIRST_SDCCH number)
+  where
+    by : (b : Bool) → is_dlci (if b then SDCCH_SAPI_3_DLCI else SACCH_SAPI_3_DLCI) ≡ true
+    by true = refl
+    by false = refl
+
 all_relayed : (reference : ℕ) (c : Channel) (sapi : Sapi) (ms : List (List ℕ)) → AreUsual (map (relaying reference c sapi) ms)
 all_relayed reference c sapi [] = tt
-all_relayed reference c sapi (m ∷ ms) = (tt, all_relayed reference c sapi ms)
+all_relayed reference c sapi (m ∷ ms) = (dlci_usual c.number sapi, all_relayed reference c sapi ms)
 
 all_of_tenure : (reference : ℕ) (c : Channel) (ts : List Tenure) → AreUsual (tenure_outs reference c ts)
 all_of_tenure reference c [] = tt
@@ -211,7 +222,7 @@ of_dtap_on_target reference (Changing target) s at Zero = where_fits _ (failing 
 of_dtap_on_target reference _ s at _ = tt
 
 of_dtap_in : (place : Option ℕ) (reference : ℕ) (stage : Stage) (s : Connection) (at : Place) (sapi : Sapi) (message : List ℕ) → OfRow PutsUsual (dtap_in place reference stage s at sapi message)
-of_dtap_in (Some zero) reference stage s at sapi message = (tt, tt)
+of_dtap_in (Some zero) reference stage s at sapi message = (dlci_usual (first_channel s.draining s.serving).number sapi, tt)
 of_dtap_in (Some (suc tenure)) reference stage s at sapi message = of_hold_up (Live reference stage) (suc tenure) sapi message s
 of_dtap_in None reference stage s at sapi message = of_dtap_on_target reference stage s at sapi
 
