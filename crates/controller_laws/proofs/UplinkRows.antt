@@ -4,8 +4,8 @@ use Rattle.bssmap_codec.specs.declared.bssap.Bssap.TheVariants.{Management}
 use Rattle.bssmap_codec.specs.declared.bssmap.Bssmap.TheVariants.{AssignmentComplete, ClearRequest, CompleteLayer3Information, HandoverPerformed}
 use Rattle.conn_messages.specs.declared.message.Message.{Message}
 use Rattle.conn_messages.specs.declared.message.Message.TheVariants.{Request, Data}
-use Rattle.controller_laws.specs.History.{Moment}
-use Rattle.controller_laws.specs.Uplink.{Tenure, joined, service}
+use Rattle.controller_laws.specs.History.{Moment, all_messages}
+use Rattle.controller_laws.specs.Uplink.{Tenure, joined, messages_on, service}
 use Rattle.controller_table.proofs.Lives.{down, eager_settings, from_station, from_switch}
 use Rattle.controller_table.proofs.OnLiterals.{on_literals}
 use Rattle.controller_table.specs.declared.step.Step.{Step}
@@ -179,3 +179,14 @@ holds_nothing_after_it = refl
 holds_nothing_after_a_clear : held_up (life eager_settings (changing ++ from_switch (0x06 ∷ 0x00 ∷ 0x00 ∷ 0x01 ∷ 0x00 ∷ 0x01 ∷ 0x06 ∷ 0x00 ∷ 0x04 ∷ 0x20 ∷ 0x04 ∷ 0x01 ∷ 0x09 ∷ []) ∷ [])).next 1 Zero ≡ []
 unfolding on_literals
 holds_nothing_after_a_clear = refl
+
+-- ---- lists
+
+on_sapi_0 : messages_on Zero (record { sapi = Zero; message = 1 ∷ [] } ∷ record { sapi = Three; message = 2 ∷ [] } ∷ record { sapi = Zero; message = 3 ∷ [] } ∷ []) ≡ (1 ∷ []) ∷ (3 ∷ []) ∷ []
+on_sapi_0 = refl
+
+on_sapi_3 : messages_on Three (record { sapi = Zero; message = 1 ∷ [] } ∷ record { sapi = Three; message = 2 ∷ [] } ∷ record { sapi = Zero; message = 3 ∷ [] } ∷ []) ≡ (2 ∷ []) ∷ []
+on_sapi_3 = refl
+
+all_in_order : all_messages (moment (Tick 1) (request ∷ assigned ∷ []) ∷ moment (Tick 2) [] ∷ moment (Tick 3) (clears ∷ []) ∷ []) ≡ request ∷ assigned ∷ clears ∷ []
+all_in_order = refl
