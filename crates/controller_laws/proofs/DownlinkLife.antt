@@ -1,12 +1,15 @@
 -- The switch's messages of a connection over a whole life.
-use Rattle.std.proofs.Common.{ℕ, ◌≤◌, ◌<◌, List, [], ◌∷◌, find, fold, Option, Some, None, option_map, refl, sym, subst, inl, inr}
+use Rattle.std.proofs.Common.{◌≡◌, ℕ, ◌≤◌, ◌<◌, List, [], ◌∷◌, ◌++◌, find, fold, Option, Some, None, option_map, refl, sym, subst, ap, ◌∙◌, inl, inr}
 use Rattle.std.proofs.lemmas.Bool.{cases_Bool, cond-true, cond-false, eqb-true}
 use Rattle.std.specs.List.{AllByRecursion}
+use Rattle.conn_messages.specs.declared.out.Out.{Out}
+use Rattle.conn_messages.specs.Out.{outs_of}
 use Rattle.conn_messages.specs.declared.parameters.TheConstants.{SWITCH_LINK}
 use Rattle.controller_laws.specs.Acts.{brought_in}
 use Rattle.controller_laws.specs.Downlink.{ConservesDownlink, DownlinkIsConserved, Switched, nothing_switched, switched, with_moment}
-use Rattle.controller_laws.specs.History.{IsHistory, Moment, connection_of}
+use Rattle.controller_laws.specs.History.{IsHistory, Moment, all_messages, connection_of, outs_for}
 use Rattle.controller_laws.specs.Numbers.{IsBelow, IsNumbered}
+use Rattle.controller_laws.proofs.Acting.{outs_append, outs_of_append}
 use Rattle.controller_laws.proofs.Beside.{step_goes}
 use Rattle.controller_laws.proofs.Fitting.{Fits, in_break, new_fits, step_fits}
 use Rattle.controller_laws.proofs.Switched.{AgreesDown, IsBegun, acts_agree, step_says}
@@ -29,6 +32,17 @@ unfolding moments_of
 history_of number c from_one fits [] = tt
 history_of number c from_one fits (s ∷ ss) =
     (refl, (step_does number c s from_one fits.numbered).outs, history_of number (step c s).next from_one (step_fits number c s from_one fits) ss)
+
+pub frames_of : (number : ℕ) (c : Controller) (from_one : 1 ≤ number) (fits : Fits number c) (steps : List Step) → outs_for number (each step c steps).outs ≡ outs_of number (all_messages (moments_of number c from_one fits steps))
+unfolding moments_of
+frames_of number c from_one fits [] = refl
+frames_of number c from_one fits (s ∷ ss) =
+    let does = step_does number c s from_one fits.numbered in
+    let rest = moments_of number (step c s).next from_one (step_fits number c s from_one fits) ss in
+    outs_append number (step c s).outs (each step (step c s).next ss).outs
+    ∙ ap (λ (outs : List Out). outs ++ outs_for number (each step (step c s).next ss).outs) does.outs
+    ∙ ap (λ (outs : List Out). outs_of number does.put ++ outs) (frames_of number (step c s).next from_one (step_fits number c s from_one fits) ss)
+    ∙ sym (outs_of_append number does.put (all_messages rest))
 
 found_begun : (number next : ℕ) (xs : List Entry) → AllByRecursion (IsBelow next) xs → IsBegun number next (option_map (λ (e : Entry). e.connection) (find (has_number number) xs))
 unfolding IsBegun
@@ -64,11 +78,12 @@ new_agrees : (sapi : Sapi) (number : ℕ) (p : Parameters) → AgreesDown sapi n
 unfolding AgreesDown
 new_agrees sapi number p = λ less. refl
 
-pub life_conserves : (p : Parameters) (steps : List Step) (number : ℕ) → 1 ≤ number → DownlinkIsConserved number p steps
+pub life_conserves : (p : Parameters) (steps : List Step) (number : ℕ) → 1 ≤ number → DownlinkIsConserved number p steps (life p steps)
 unfolding life
 life_conserves p steps number from_one = record {
   moments = moments_of number (new_controller p) from_one (new_fits number p) steps;
   history = history_of number (new_controller p) from_one (new_fits number p) steps;
+  frames = frames_of number (new_controller p) from_one (new_fits number p) steps;
   downlink = λ sapi. conserved sapi number (each step (new_controller p) steps).next.next_number (switched number sapi (moments_of number (new_controller p) from_one (new_fits number p) steps)) (connection_of (each step (new_controller p) steps).next number)
       (agree_run sapi number (new_controller p) from_one (new_fits number p) nothing_switched steps (new_agrees sapi number p));
 }

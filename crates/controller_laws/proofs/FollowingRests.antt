@@ -24,11 +24,11 @@ use Rattle.dtap_codec.specs.declared.sapi.Sapi.TheVariants.{Zero, Three}
 abbrev States : Type 0
 States = List (List ChannelState)
 
-not_begun : (ts : List Tenure) (at : Place) → begin_next ts false at ≡ ts
+pub not_begun : (ts : List Tenure) (at : Place) → begin_next ts false at ≡ ts
 not_begun [] at = refl
 not_begun (t ∷ ts) at = refl
 
-older_none : (at : Place) (ts : List Tenure) → NoneOn at (older ts) → acknowledged at ts ≡ ts
+pub older_none : (at : Place) (ts : List Tenure) → NoneOn at (older ts) → acknowledged at ts ≡ ts
 older_none at [] away = refl
 older_none at (t ∷ old) away = ap (λ (us : List Tenure). t ∷ us) (ended_none at old away)
 

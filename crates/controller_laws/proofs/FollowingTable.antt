@@ -126,7 +126,7 @@ live_up WaitConfirm s put ts live follows = absurd live
 live_up (Closed clearing) s put ts live follows = live
 live_up Removed s put ts live follows = live
 
-early_none : (input : Input) (put : List Message) → requests put ≡ false → after_input input put [] ≡ []
+pub early_none : (input : Input) (put : List Message) → requests put ≡ false → after_input input put [] ≡ []
 early_none (inputs.EstablishIndication at Zero (Some initial)) put none = ap (λ (b : Bool). begin_first b at initial []) none
 early_none (inputs.EstablishIndication at Zero None) put none = refl
 early_none (inputs.EstablishIndication at Three message) put none = refl

@@ -25,3 +25,9 @@ pub mod FollowingRows
 pub mod FollowingChanges
 pub mod FollowingTable
 pub mod FollowingRests
+pub mod FollowingSteps
+pub mod UplinkLife
+mod UplinkRows
+pub mod SilenceLife
+pub mod UsualRows
+pub mod Seen

@@ -145,7 +145,7 @@ or_false false b is = (refl, is)
 away_from : (station : ℕ) (c : Channel) → (c.station == station) ≡ false → IsAwayFrom station c
 away_from station c miss = λ same. true≢false (sym (eq-eqb c.station station same) ∙ miss)
 
-none_if : (b : Bool) (q : Row) → row_if b q ≡ None → b ≡ false
+pub none_if : (b : Bool) (q : Row) → row_if b q ≡ None → b ≡ false
 none_if true q is = absurd cc
 none_if false q is = refl
 
@@ -268,7 +268,7 @@ break_owns b number next source up channels links row (Some s) after put is (res
 
 -- ---- a step
 
-pub AllFine : Controller → Type 0
+unfoldable pub AllFine : Controller → Type 0
 AllFine c = (n : ℕ) → IsFine (connection_of c n)
 
 fine_stand : (c : Controller) → AllFine c → AllStand c
@@ -360,7 +360,7 @@ cells_of : (cells : List CellParameters) → AllByRecursion IsCell cells → All
 cells_of [] all = tt
 cells_of (cell ∷ cells) all = (numbers_of cell.channels (recursion_from_All IsChannel cell.channels all.0.channels.each), cells_of cells all.1)
 
-new_holds : (p : Parameters) → AreAllowed p → Holds (new_controller p).links (new_controller p)
+pub new_holds : (p : Parameters) → AreAllowed p → Holds (new_controller p).links (new_controller p)
 new_holds p allowed = record {
   shaped = record {
     links = length-replicate (length p.cells + 1) free_channels;
@@ -370,7 +370,7 @@ new_holds p allowed = record {
   each = λ n. tt;
 }
 
-fine_at : (c : Controller) → IsNumbered c → ((n : ℕ) → 1 ≤ n → IsFine (connection_of c n)) → (n : ℕ) → IsFine (connection_of c n)
+pub fine_at : (c : Controller) → IsNumbered c → ((n : ℕ) → 1 ≤ n → IsFine (connection_of c n)) → (n : ℕ) → IsFine (connection_of c n)
 unfolding IsFine
 fine_at c numbered fine zero = subst IsFine (sym (ap (option_map (λ (e : Entry). e.connection)) (find_above 0 c.entries numbered.above))) tt
 fine_at c numbered fine (suc n) = fine (suc n) (omega arith)

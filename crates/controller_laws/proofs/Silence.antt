@@ -143,15 +143,13 @@ acts_cleared number next up brought before after put (goes old s input offer r i
     subst (λ (o : Option Connection). OnlyReleasesAfter o put) (sym is) (subst (OnlyReleases old.state) (sym put_is)
     (subst (λ (state : State). OnlyReleases state r.outs) (same_state old s aged) (final_row s input offer r fits).cleared))
 
-pub step_silence : (number : ℕ) (c : Controller) (s : Step) → 1 ≤ number → Fits number c → KeepsSilence number c s
+pub step_silence : (number : ℕ) (c : Controller) (s : Step) (from_one : 1 ≤ number) (fits : Fits number c) → KeepsSilence number c s (step_does number c s from_one fits.numbered).put
 step_silence number c s from_one fits =
     let does = step_does number c s from_one fits.numbered in
     let before : Option Connection = connection_of c number in
     let after : Option Connection = connection_of (step c s).next number in
     let brought : Brought = brought_in c number s in
     record {
-      put = does.put;
-      outs = does.outs;
       away = acts_away number c.next_number (is_up c SWITCH_LINK) brought before after does.put does.acts;
       serving = acts_serving number c.next_number (is_up c SWITCH_LINK) brought before after does.put does.acts fits.fine;
       over = acts_over number c.next_number (is_up c SWITCH_LINK) brought before after does.put does.acts;
@@ -164,11 +162,12 @@ step_silence number c s from_one fits =
 pub stays_silent : (number : ℕ) (c : Controller) (steps : List Step) → 1 ≤ number → Fits number c → number < c.next_number → (IsThere (connection_of c number) → ⊥) → StaysSilent number c steps
 stays_silent number c [] from_one fits less over = record { moments = []; history = tt; silent = tt }
 stays_silent number c (s ∷ ss) from_one fits less over =
+    let does = step_does number c s from_one fits.numbered in
     let now = step_silence number c s from_one fits in
     let numbers = (step_goes c s).numbers in
     let rest = stays_silent number (step c s).next ss from_one (step_fits number c s from_one fits) (omega arith) (now.stays less over) in
     record {
-      moments = record { taken = s; messages = now.put } ∷ rest.moments;
-      history = (refl, now.outs, rest.history);
+      moments = record { taken = s; messages = does.put } ∷ rest.moments;
+      history = (refl, does.outs, rest.history);
       silent = (now.over (now.stays less over), rest.silent);
     }

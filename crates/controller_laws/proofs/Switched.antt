@@ -348,7 +348,7 @@ some_agrees : (sapi : Sapi) (number next : ℕ) (a : Switched) (before : Option 
 unfolding AgreesDown
 some_agrees sapi number next a before s is agrees = subst (AgreesDown sapi number next a) is agrees
 
-some_begun : (number next : ℕ) (before : Option Connection) (s : Connection) → before ≡ Some s → IsBegun number next before → number < next
+pub some_begun : (number next : ℕ) (before : Option Connection) (s : Connection) → before ≡ Some s → IsBegun number next before → number < next
 unfolding IsBegun
 some_begun number next before s is begun = subst (IsBegun number next) is begun
 

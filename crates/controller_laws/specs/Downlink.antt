@@ -2,16 +2,16 @@
 use Rattle.std.specs.Prelude.{◌≡◌, ℕ, ◌==◌, ◌&&◌, ◌||◌, Bool, true, false, if◌then◌else◌, List, [], ◌∷◌, ◌++◌, filter, fold, Option, Some, None}
 use Rattle.conn_messages.specs.declared.message.Message.{Message}
 use Rattle.conn_messages.specs.declared.message.Message.TheVariants.{Request}
+use Rattle.conn_messages.specs.Out.{outs_of}
 use Rattle.conn_table.specs.declared.input.Input.{Input}
 use Rattle.conn_table.specs.declared.input.Input.TheVariants as inputs
 use Rattle.conn_table.specs.Connection.{Connection}
 use Rattle.conn_table.specs.Streams.{IsOpen, handed, is_dtap, received_by, rejects}
 use Rattle.controller_table.specs.declared.word.Word.{Word}
 use Rattle.controller_table.specs.declared.word.Word.TheVariants.{OnConnection}
-use Rattle.controller_laws.specs.History.{IsHistory, Moment, connection_of, word_in}
+use Rattle.controller_laws.specs.History.{IsHistory, Moment, all_messages, connection_of, outs_for, word_in}
 use Rattle.controller_table.specs.declared.step.Step.{Step}
-use Rattle.controller_table.specs.Controller.{new_controller}
-use Rattle.controller_table.specs.Life.{life}
+use Rattle.controller_table.specs.Controller.{Turn, new_controller}
 use Rattle.settings.specs.Parameters.{Parameters}
 use Rattle.dtap_codec.specs.declared.sapi.Sapi.{Sapi}
 use Rattle.dtap_codec.specs.declared.sapi.Sapi.TheVariants.{Zero, Three}
@@ -80,7 +80,8 @@ ConservesDownlink a sapi (Some s) = IsOpen s.state → a.handed ++ filter is_dta
 
 -- There are messages, step by step, of which the connection's frames are, and over them, per SAPI, what was handed, then what
 -- is held, is what came and wasn't rejected.
-pub record DownlinkIsConserved (number : ℕ) (p : Parameters) (steps : List Step) : Type 0 where
+pub record DownlinkIsConserved (number : ℕ) (p : Parameters) (steps : List Step) (life : Turn) : Type 0 where
   pub moments : List Moment
   pub history : IsHistory number (new_controller p) steps moments
-  pub downlink : (sapi : Sapi) → ConservesDownlink (switched number sapi moments) sapi (connection_of (life p steps).next number)
+  pub frames : outs_for number life.outs ≡ outs_of number (all_messages moments)
+  pub downlink : (sapi : Sapi) → ConservesDownlink (switched number sapi moments) sapi (connection_of life.next number)

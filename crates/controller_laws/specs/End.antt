@@ -1,15 +1,16 @@
 -- Where nothing is handed or relayed.
-use Rattle.std.specs.Prelude.{◌≡◌, ℕ, ◌<◌, List, [], Option, Some, None}
+use Rattle.std.specs.Prelude.{◌≡◌, ℕ, ◌<◌, List, [], ◌∷◌, Option, Some, None}
 use Rattle.std.specs.List.{AllByRecursion}
 use Rattle.conn_messages.specs.declared.message.Message.{Message}
 use Rattle.conn_table.specs.Connection.{Connection}
 use Rattle.conn_messages.specs.Out.{outs_of}
 use Rattle.conn_table.specs.Streams.{IsOpen, IsChanging, GoesTo, OnlyReleases, handed, relayed}
-use Rattle.controller_laws.specs.History.{Moment, IsHistory, connection_of, outs_for}
+use Rattle.controller_laws.specs.History.{IsHistory, Moment, all_messages, connection_of, outs_for}
 use Rattle.controller_table.specs.declared.step.Step.{Step}
-use Rattle.controller_table.specs.Controller.{Controller}
+use Rattle.controller_table.specs.Controller.{Controller, Turn, new_controller}
 use Rattle.controller_table.specs.Life.{step}
 use Rattle.dtap_codec.specs.declared.sapi.Sapi.{Sapi}
+use Rattle.settings.specs.Parameters.{Parameters}
 
 -- a connection that is open
 abbrev pub IsThere : Option Connection → Type 0
@@ -37,9 +38,7 @@ OnlyReleasesAfter None put = put ≡ []
 OnlyReleasesAfter (Some s) put = OnlyReleases s.state put
 
 -- What a step puts for a connection, and what of it is handed or relayed.
-pub record KeepsSilence (number : ℕ) (c : Controller) (s : Step) : Type 0 where
-  pub put : List Message
-  pub outs : outs_for number (step c s).outs ≡ outs_of number put
+pub record KeepsSilence (number : ℕ) (c : Controller) (s : Step) (put : List Message) : Type 0 where
   -- while its mobile changes the channel nothing is handed
   pub away : IsAway (connection_of (step c s).next number) → (sapi : Sapi) → handed sapi put ≡ []
   -- what is handed goes to the channel that serves after the step
@@ -49,6 +48,18 @@ pub record KeepsSilence (number : ℕ) (c : Controller) (s : Step) : Type 0 wher
   -- it doesn't open again
   pub stays : number < c.next_number → (IsThere (connection_of c number) → ⊥) → IsThere (connection_of (step c s).next number) → ⊥
   pub cleared : number < c.next_number → OnlyReleasesAfter (connection_of c number) put
+
+-- each step of a history
+abbrev pub AllKeepSilence : ℕ → Controller → List Moment → Type 0
+AllKeepSilence number c [] = Unit {0}
+AllKeepSilence number c (m ∷ ms) = KeepsSilence number c m.taken m.messages × AllKeepSilence number (step c m.taken).next ms
+
+-- There are messages, step by step, of which the connection's frames are, and each step keeps silence.
+pub record SilenceIsKept (number : ℕ) (p : Parameters) (steps : List Step) (life : Turn) : Type 0 where
+  pub moments : List Moment
+  pub history : IsHistory number (new_controller p) steps moments
+  pub frames : outs_for number life.outs ≡ outs_of number (all_messages moments)
+  pub silent : AllKeepSilence number (new_controller p) moments
 
 -- Nothing is handed or relayed in these steps.
 pub record StaysSilent (number : ℕ) (c : Controller) (steps : List Step) : Type 0 where

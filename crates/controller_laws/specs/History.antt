@@ -1,5 +1,6 @@
 -- What came to the controller, step by step, and what it put for one connection.
 use Rattle.std.specs.Prelude.{◌≡◌, ℕ, ◌==◌, Bool, List, [], ◌∷◌, filter, Option, option_map}
+use Rattle.std.specs.List.{flat_map}
 use Rattle.conn_messages.specs.declared.message.Message.{Message}
 use Rattle.conn_messages.specs.declared.out.Out.{Out}
 use Rattle.conn_messages.specs.Out.{outs_of}
@@ -41,6 +42,10 @@ IsHistory number c [] [] = Unit {0}
 IsHistory number c (s ∷ ss) (m ∷ ms) =
     (m.taken ≡ s) × (outs_for number (step c s).outs ≡ outs_of number m.messages) × IsHistory number (step c s).next ss ms
 IsHistory number c _ _ = ⊥
+
+-- all that was put for it, in order
+abbrev pub all_messages : List Moment → List Message
+all_messages moments = flat_map (λ m. m.messages) moments
 
 -- a connection of the controller
 abbrev pub connection_of : Controller → ℕ → Option Connection

@@ -1,18 +1,27 @@
 -- The mobile's messages of a connection: those of its tenures.
-use Rattle.std.specs.Prelude.{ℕ, ◌==◌, ◌&&◌, ◌||◌, not, Bool, true, false, if◌then◌else◌, List, [], ◌∷◌, ◌++◌, fold, map, Some}
+use Rattle.std.specs.Prelude.{◌≡◌, ℕ, ◌==◌, ◌&&◌, ◌||◌, not, Bool, true, false, if◌then◌else◌, List, [], ◌∷◌, ◌++◌, fold, map, Some}
+use Rattle.std.specs.List.{flat_map}
 use Rattle.conn_messages.specs.declared.channel.Place.{Place}
 use Rattle.conn_messages.specs.declared.message.Message.{Message}
 use Rattle.conn_messages.specs.declared.message.Message.TheVariants.{Data}
+use Rattle.conn_messages.specs.Out.{outs_of}
 use Rattle.bssmap_codec.specs.declared.bssap.Bssap.TheVariants.{Management}
 use Rattle.bssmap_codec.specs.declared.bssmap.Bssmap.TheVariants.{AssignmentComplete, HandoverPerformed}
 use Rattle.conn_table.specs.declared.input.Input.{Input}
 use Rattle.conn_table.specs.declared.input.Input.TheVariants as inputs
+use Rattle.conn_table.specs.Streams.{relayed}
+use Rattle.controller_table.specs.declared.forwarded.Forwarded.{Forwarded}
+use Rattle.controller_table.specs.declared.step.Step.{Step}
 use Rattle.controller_table.specs.declared.word.Word.{Word}
 use Rattle.controller_table.specs.declared.word.Word.TheVariants.{OnChannel}
+use Rattle.controller_table.specs.Controller.{Turn, new_controller}
+use Rattle.controller_table.specs.Views.{held_up}
 use Rattle.controller_laws.specs.Downlink.{requests}
-use Rattle.controller_laws.specs.History.{Moment, word_in}
+use Rattle.controller_laws.specs.End.{IsThere}
+use Rattle.controller_laws.specs.History.{IsHistory, Moment, all_messages, connection_of, outs_for, word_in}
 use Rattle.dtap_codec.specs.declared.sapi.Sapi.{Sapi}
 use Rattle.dtap_codec.specs.declared.sapi.Sapi.TheVariants.{Zero, Three}
+use Rattle.settings.specs.Parameters.{Parameters}
 
 -- A tenure: what came on a channel from the moment that it served, until its release is acknowledged.
 pub record Tenure : Type 0 where
@@ -82,11 +91,37 @@ abbrev pub after_word : Word → List Message → List Tenure → List Tenure
 after_word (OnChannel at input) put tenures = after_input input put tenures
 after_word _ put tenures = tenures
 
+abbrev pub after_moment : List Tenure → Moment → List Tenure
+after_moment tenures m = after_word (word_in m.taken) m.messages tenures
+
 -- the service list: the tenures, the one that serves first
 abbrev pub service : List Moment → List Tenure
-service moments = fold (λ tenures m. after_word (word_in m.taken) m.messages tenures) [] moments
+service moments = fold after_moment [] moments
 
 -- their messages in the order in which they came to serve
 abbrev pub joined : Sapi → List Tenure → List (List ℕ)
 joined sapi [] = []
 joined sapi (serving ∷ old) = joined sapi old ++ of_sapi sapi serving
+
+-- of those that were forwarded, the messages on a SAPI
+abbrev pub is_same_sapi : Sapi → Sapi → Bool
+is_same_sapi Zero Zero = true
+is_same_sapi Three Three = true
+is_same_sapi _ _ = false
+
+abbrev pub passed_by : Sapi → Forwarded → List (List ℕ)
+passed_by sapi f = if is_same_sapi sapi f.sapi then f.message ∷ [] else []
+
+abbrev pub messages_on : Sapi → List Forwarded → List (List ℕ)
+messages_on sapi list = flat_map (passed_by sapi) list
+
+-- ---- the law
+
+-- There are messages, step by step, of which the connection's frames are, and while it is open, per SAPI, what was relayed, then
+-- what is held, is what came on its tenures, in the order in which they came to serve.
+pub record UplinkIsConserved (number : ℕ) (p : Parameters) (steps : List Step) (life : Turn) : Type 0 where
+  pub moments : List Moment
+  pub history : IsHistory number (new_controller p) steps moments
+  pub frames : outs_for number life.outs ≡ outs_of number (all_messages moments)
+  pub uplink : IsThere (connection_of life.next number) → (sapi : Sapi) →
+      relayed sapi (all_messages moments) ++ held_up life.next number sapi ≡ joined sapi (service moments)

@@ -1,9 +1,10 @@
 ghost use Rattle.std.specs.Prelude.{ℕ, ◌≤◌, ◌<◌, List};
 ghost use Rattle.controller_laws.specs.Acts.{ActsOn};
 ghost use Rattle.controller_laws.specs.Downlink.{DownlinkIsConserved};
-ghost use Rattle.controller_laws.specs.End.{IsThere, KeepsSilence, StaysSilent};
+ghost use Rattle.controller_laws.specs.End.{IsThere, SilenceIsKept, StaysSilent};
 ghost use Rattle.controller_laws.specs.History.{connection_of};
 ghost use Rattle.controller_laws.specs.Owning.{LinkedOf, OwnsOpen};
+ghost use Rattle.controller_laws.specs.Uplink.{UplinkIsConserved};
 ghost use Rattle.controller_table.specs.Controller.{is_up};
 ghost use Rattle.conn_messages.specs.declared.parameters.TheConstants.{SWITCH_LINK};
 ghost use Rattle.controller_laws.specs.Numbers.{IsNumbered};
@@ -27,7 +28,7 @@ pub fn steps_are_rows()
 /// to; what a step hands goes to the channel that serves after it. From the step that closes a connection on nothing is
 /// handed or relayed; after CLEAR COMPLETE only RLC is put, and nothing once the connection is gone.
 pub fn silence_is_kept()
-    ensures steps { (p : Parameters) (steps : List Step) (s : Step) (number : ℕ) → 1 ≤ number → KeepsSilence number (life p steps).next s }
+    ensures steps { (p : Parameters) (steps : List Step) (number : ℕ) → 1 ≤ number → SilenceIsKept number p steps (life p steps) }
     ensures end { (p : Parameters) (steps rest : List Step) (number : ℕ) → 1 ≤ number → number < (life p steps).next.next_number
         → (IsThere (connection_of (life p steps).next number) → ⊥) → StaysSilent number (life p steps).next rest }
 {}
@@ -35,7 +36,14 @@ pub fn silence_is_kept()
 /// Of each SAPI, what was handed to the mobile of a connection, then what is held for it, is what the switch sent from CC on,
 /// without what was rejected and without messages of radio resource management, as long as the connection is open.
 pub fn downlink_is_conserved()
-    ensures { (p : Parameters) (steps : List Step) (number : ℕ) → 1 ≤ number → DownlinkIsConserved number p steps }
+    ensures { (p : Parameters) (steps : List Step) (number : ℕ) → 1 ≤ number → DownlinkIsConserved number p steps (life p steps) }
+{}
+
+/// Of each SAPI, what was relayed of a connection to the switch, the initial message first, then what is held of it, is what
+/// came on its channels: of the first channel from the initial message on, of each next one from its COMPLETE on, until its
+/// release is acknowledged, channel after channel in the order in which they came to serve; as long as the connection is open.
+pub fn uplink_is_conserved()
+    ensures { (p : Parameters) (steps : List Step) (number : ℕ) → AreAllowed p → 1 ≤ number → UplinkIsConserved number p steps (life p steps) }
 {}
 
 /// A connection that is open has its serving channel and its target in use, its old channels releasing, all different, and

@@ -4,6 +4,7 @@
 
 pub use laws::{
     channels_are_owned, downlink_is_conserved, numbers_rise, silence_is_kept, steps_are_rows,
+    uplink_is_conserved,
 };
 
 mod laws;
