@@ -25,3 +25,5 @@ pub mod FollowingRows
 pub mod FollowingChanges
 pub mod FollowingTable
 pub mod FollowingRests
+pub mod Reaching
+pub mod UsingRows

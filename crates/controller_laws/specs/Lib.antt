@@ -5,3 +5,5 @@ pub mod History
 pub mod Numbers
 pub mod Owning
 pub mod Uplink
+pub mod Using
+pub mod Reach
