@@ -27,3 +27,5 @@ pub mod FollowingTable
 pub mod FollowingRests
 pub mod Reaching
 pub mod UsingRows
+pub mod UsingGoes
+pub mod UsingWords
