@@ -29,3 +29,4 @@ pub mod Reaching
 pub mod UsingRows
 pub mod UsingGoes
 pub mod UsingWords
+pub mod UsingLife

@@ -268,7 +268,7 @@ break_owns b number next source up channels links row (Some s) after put is (res
 
 -- ---- a step
 
-pub AllFine : Controller → Type 0
+unfoldable pub AllFine : Controller → Type 0
 AllFine c = (n : ℕ) → IsFine (connection_of c n)
 
 pub fine_stand : (c : Controller) → AllFine c → AllStand c

@@ -18,11 +18,11 @@ use Rattle.conn_table.specs.declared.state.Drain.{Drain}
 use Rattle.conn_table.specs.declared.state.ShortMessageLink.{ShortMessageLink}
 use Rattle.conn_table.specs.declared.state.ShortMessageLink.TheVariants.{Down, Asked, Up}
 use Rattle.conn_table.specs.declared.state.Stage.{Stage}
-use Rattle.conn_table.specs.declared.state.Stage.TheVariants.{Active, Preparing, Changing, Draining}
+use Rattle.conn_table.specs.declared.state.Stage.TheVariants.{Preparing, Changing, Draining}
 use Rattle.conn_table.specs.declared.state.State.{State}
 use Rattle.conn_table.specs.declared.state.State.TheVariants.{WaitActivation, WaitEstablish, WaitConfirm, Live, Closed, Removed}
 use Rattle.conn_table.specs.Connection.{Connection, emptied, enter, first_channel, tenure_at, drain_at}
-use Rattle.conn_table.specs.Steps.{Row, row, ◌then◌, dropping, failing, link_up, without_station, begin, begin_outs, begin_waiting, waiting_outs, hold_down, hold_short_message, short_message, request_where, link_down, hold_up, relay_held, tenure_outs, leave, shifted, settled, settled_stage, resting_stage, resting, moved, hand_held, ask_for_held, request_for, done_at, may_begin}
+use Rattle.conn_table.specs.Steps.{Row, row, ◌then◌, dropping, failing, link_up, without_station, begin, begin_outs, begin_waiting, waiting_outs, hold_down, hold_short_message, short_message, request_where, link_down, hold_up, relay_held, tenure_outs, leave, shifted, settled, settled_stage, resting_stage, resting, moved, request_for, done_at, may_begin}
 use Rattle.conn_table.specs.Streams.{OfRow, IsOpen, target_in}
 use Rattle.conn_table.specs.Table.{row_of, row_if, assign_immediately, command_to, refuse, nack_outs, access, release, complete, failure, failure_outs, speech_request, release_in, dtap_in, dtap_on_target, on_activation_ack, on_activation_nack, on_establish_indication, on_establish_confirm, on_release_indication, on_error_indication, on_connection_failure, on_dtap, on_complete, on_failure, on_release_ack, on_move, on_confirm, on_refused, on_released, on_downlink, on_assignment_request, on_cipher_mode_command, on_clear_command, on_expiry, on_drain_expiry, on_station_down, on_switch_down}
 use Rattle.dtap_codec.specs.declared.sapi.Sapi.{Sapi}
@@ -279,13 +279,13 @@ module _ (P : ℕ → Type 0) where
   of_downlink _ s sapi message here = tt
 
   of_speech : (reference : ℕ) (stage : Stage) (offer : Option Channel) (s : Connection) → AllByRecursion (λ (c : Channel). P c.station) (option_to_list offer) → Reaching (speech_request reference stage offer s)
-  of_speech reference stage offer s there = 
+  of_speech reference stage offer s there =
       either (may_begin stage s.draining) (begin reference Assignment offer s) (if s.waits then row (assignment_failure reference PROTOCOL_ERROR None ∷ []) s else row [] (record s { waits = true }))
       (λ _. begins reference Assignment offer there)
       (either s.waits (row (assignment_failure reference PROTOCOL_ERROR None ∷ []) s) (row [] (record s { waits = true })) (λ _. (tt, tt)) (λ _. tt))
 
   of_assignment_request : (state : State) (s : Connection) (is_speech : Bool) (offer : Option Channel) → AllByRecursion (λ (c : Channel). P c.station) (option_to_list offer) → OfRow Reaching (on_assignment_request state s is_speech offer)
-  of_assignment_request (Live reference stage) s is_speech offer there = 
+  of_assignment_request (Live reference stage) s is_speech offer there =
       either is_speech (speech_request reference stage offer s) (row (assignment_failure reference BSS_NOT_EQUIPPED None ∷ []) s) (of_speech reference stage offer s there) (λ _. (tt, tt))
   of_assignment_request _ s is_speech offer there = tt
 

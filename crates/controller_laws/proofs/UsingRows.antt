@@ -1,6 +1,6 @@
 -- Which channels are in use after a row of the table.
-use Rattle.std.proofs.Common.{◌≡◌, ◌≢◌, ◌⊎◌, ℕ, zero, suc, ◌==◌, ◌<◌, ◌≤◌, ◌&&◌, Bool, true, false, if◌then◌else◌, List, [], ◌∷◌, ◌++◌, length, fold, filter, map, slice_index_or, Contains, Option, Some, None, option_map, refl, sym, subst, ap, ◌∙◌, inl, inr, arith, true≢false}
-use Rattle.std.proofs.lemmas.Bool.{cases_Bool, cond-true, cond-false, eqb-true, eq-eqb, and_parts}
+use Rattle.std.proofs.Common.{◌≡◌, ◌≢◌, ◌⊎◌, ℕ, zero, suc, ◌==◌, ◌<◌, ◌≤◌, ◌&&◌, Bool, true, false, if◌then◌else◌, List, [], ◌∷◌, ◌++◌, fold, filter, map, Contains, Option, Some, None, option_map, refl, sym, subst, ap, ◌∙◌, inl, inr, arith, true≢false}
+use Rattle.std.proofs.lemmas.Bool.{cases_Bool, eqb-true, eq-eqb, and_parts}
 use Rattle.std.proofs.lemmas.List.Elements.{Contains-push, Contains-append_left, Contains-append_right, Contains-append_cases}
 use Rattle.std.specs.List.{AllByRecursion}
 use Rattle.conn_messages.specs.declared.channel.Change.{Change}
@@ -17,13 +17,13 @@ use Rattle.conn_table.specs.declared.input.Input.TheVariants as inputs
 use Rattle.conn_table.specs.declared.state.State.{State}
 use Rattle.conn_table.specs.declared.state.State.TheVariants.{WaitActivation, WaitEstablish, WaitConfirm, Live, Closed, Removed}
 use Rattle.conn_table.specs.declared.state.Target.{Target}
-use Rattle.conn_table.specs.Connection.{Connection, is_at}
-use Rattle.conn_table.specs.Roles.{TargetRole, Roles, RoleStep, RoleEnd, ChangesRoles, GoesOn, Ends, KeepsAccount, IsGivenUp, roles_of, after_step, step_by, step_orders, begin_orders, with_target, end_messages, target_channels, target_orders, target_releases, those_that_go, to_stations, is_to_station, is_order, orders, channels_in, channels_in_use}
+use Rattle.conn_table.specs.Connection.{Connection}
+use Rattle.conn_table.specs.Roles.{TargetRole, Roles, RoleStep, RoleEnd, ChangesRoles, IsGivenUp, roles_of, after_step, step_by, step_orders, begin_orders, with_target, end_messages, target_channels, those_that_go, is_to_station, is_order, channels_in, channels_in_use}
 use Rattle.conn_table.specs.Roles.ChangesRoles.{goes_on, ends, had_ended}
 use Rattle.conn_table.specs.Roles.IsGivenUp.{released, broke, not_activated}
 use Rattle.conn_table.specs.Roles.RoleEnd.{refused, drops, dismisses}
 use Rattle.conn_table.specs.Roles.RoleStep.{stays, commands, completes, goes_back, leaves}
-use Rattle.conn_table.specs.Steps.{Row, goes_to}
+use Rattle.conn_table.specs.Steps.{Row}
 use Rattle.conn_table.specs.Streams.{IsOpen, OfRow}
 use Rattle.conn_table.specs.Table.{row_of}
 use Rattle.controller_laws.specs.Acts.{kept, kept_in}
@@ -65,7 +65,7 @@ alive_or links station = elim (cases_Bool (is_link_up links station)) [
 pub all_contained : {A : Type 0} (P : A → Type 0) (xs : List A) (x : A) → AllByRecursion P xs → Contains xs x → P x
 all_contained P xs x all there = subst P there.2 (all_at P xs there.0 x there.1 all)
 
-contains_none : {A : Type 0} (x : A) → Contains [] x → ⊥
+pub contains_none : {A : Type 0} (x : A) → Contains [] x → ⊥
 contains_none x there = let short = there.1 in omega arith
 
 contains_one : {A : Type 0} (x y : A) → Contains (x ∷ []) y → x ≡ y
@@ -151,9 +151,12 @@ give_use m n p at channels is = elim (set_or_not channels p at (Releasing m)) [
   | inl hit ↦ absurd (release≢use m n (sym hit ∙ is))
   | inr kept ↦
       let was : state_in channels at ≡ InUse n = sym kept ∙ is in
-      inr (was, λ same.
-      let there = is_there channels at (λ free. free≢use n (sym free ∙ was)) in
-      release≢use m n (sym (subst (λ (q : Place). state_in (with_state q (Releasing m) channels) at ≡ Releasing m) (sym same) (state_here channels at (Releasing m) there)) ∙ is))
+      inr (
+        was,
+        λ same.
+            let there = is_there channels at (λ free. free≢use n (sym free ∙ was)) in
+            release≢use m n (sym (subst (λ (q : Place). state_in (with_state q (Releasing m) channels) at ≡ Releasing m) (sym same) (state_here channels at (Releasing m) there)) ∙ is),
+      )
 ]
 
 message_use : (m n : ℕ) (at : Place) (channels : States) (message : Message) → state_in (channels_after m channels message) at ≡ InUse n → ((n ≡ m) × TakesAt at message) ⊎ ((state_in channels at ≡ InUse n) × Spares at message)

@@ -1,5 +1,5 @@
 -- Which channels are in use after a frame, and where what it puts goes.
-use Rattle.std.proofs.Common.{◌≡◌, ◌≢◌, ℕ, ◌+◌, ◌-◌, ◌==◌, ◌≤◌, ◌<◌, Bool, true, false, if◌then◌else◌, List, [], ◌∷◌, ◌++◌, map, find, slice_get, Contains, Option, Some, None, option_map, refl, sym, subst, ap, ◌∙◌, inl, inr, arith, true≢false}
+use Rattle.std.proofs.Common.{◌≡◌, ◌≢◌, ℕ, ◌+◌, ◌-◌, ◌≤◌, ◌<◌, Bool, true, false, if◌then◌else◌, List, [], ◌∷◌, find, slice_get, Contains, Option, Some, None, option_map, refl, sym, subst, ap, ◌∙◌, inl, inr, arith, true≢false}
 use Rattle.std.proofs.lemmas.Bool.{cases_Bool, cond-true, cond-false, and_parts}
 use Rattle.std.proofs.lemmas.Option.{option_and_then_some}
 use Rattle.std.specs.List.{AllByRecursion}
@@ -8,7 +8,6 @@ use Rattle.conn_messages.specs.declared.channel.Channel.{Channel}
 use Rattle.conn_messages.specs.declared.channel.Place.{Place}
 use Rattle.conn_messages.specs.declared.out.Out.{Out}
 use Rattle.conn_messages.specs.declared.parameters.TheConstants.{SWITCH_LINK}
-use Rattle.conn_messages.specs.StationMessage.{access_activation}
 use Rattle.conn_messages.specs.Out.{out_of}
 use Rattle.conn_table.proofs.Channels.{keeps_channels}
 use Rattle.conn_table.specs.declared.input.Input.{Input}
@@ -16,8 +15,8 @@ use Rattle.conn_table.specs.declared.input.Input.TheVariants as inputs
 use Rattle.conn_table.specs.declared.state.Stage.TheVariants.{Active, Preparing, Changing, Draining}
 use Rattle.conn_table.specs.declared.state.State.{State}
 use Rattle.conn_table.specs.declared.state.State.TheVariants.{WaitActivation, WaitEstablish, WaitConfirm, Live, Closed, Removed}
-use Rattle.conn_table.specs.Connection.{Connection, is_at, new_connection}
-use Rattle.conn_table.specs.Roles.{KeepsChannels, Roles, roles_of, target_channels, target_role}
+use Rattle.conn_table.specs.Connection.{Connection, is_at}
+use Rattle.conn_table.specs.Roles.{KeepsChannels, roles_of, target_channels, target_role}
 use Rattle.conn_table.specs.Standing.{Stands}
 use Rattle.conn_table.specs.Steps.{Row}
 use Rattle.conn_table.specs.Streams.{IsOpen, OfRow, target_in}
@@ -26,13 +25,13 @@ use Rattle.controller_laws.specs.History.{connection_of}
 use Rattle.controller_laws.specs.Numbers.{IsNumbered, AreRising, IsAbove, IsBelow}
 use Rattle.controller_laws.specs.Owning.{AreIn, OwnsOpen, is_link_up}
 use Rattle.controller_laws.specs.Using.{used_places}
-use Rattle.controller_laws.proofs.Entries.{back_over, back_found, back_rising, behind_found, behind_over, find_below, found_number}
+use Rattle.controller_laws.proofs.Entries.{back_over, back_found, back_rising, behind_found, behind_over, find_below}
 use Rattle.controller_laws.proofs.OwningSteps.{IsShaped}
 use Rattle.controller_laws.proofs.OwningWords.{AllStand, Holds, at_number, changes_of, owns_entry}
 use Rattle.controller_laws.proofs.Places.{is_there, set_or_not, state_else, state_here}
 use Rattle.controller_laws.proofs.Sources.{IsAtPlace, IsFrom, IsOfSwitch}
 use Rattle.controller_laws.proofs.UsingGoes.{OwnAlive, outs_up, row_goes, targets_in}
-use Rattle.controller_laws.proofs.UsingRows.{GoesUp, IsAlive, RowUses, Uses, all_contained, alive_or, by_row_uses, contains_first, free≢use, set_use, take_use}
+use Rattle.controller_laws.proofs.UsingRows.{IsAlive, RowUses, Uses, all_contained, alive_or, by_row_uses, contains_first, free≢use, set_use, take_use}
 use Rattle.controller_laws.proofs.Words.{decide_same, measured_stays}
 use Rattle.controller_table.specs.declared.channel_kind.ChannelKind.{ChannelKind}
 use Rattle.controller_table.specs.declared.channel_kind.ChannelKind.TheVariants.{Sdcch, Tch}
@@ -40,8 +39,8 @@ use Rattle.controller_table.specs.declared.channel_state.ChannelState.{ChannelSt
 use Rattle.controller_table.specs.declared.channel_state.ChannelState.TheVariants.{Free, InUse, Releasing}
 use Rattle.controller_table.specs.declared.word.Word.{Word}
 use Rattle.controller_table.specs.declared.word.Word.TheVariants.{Nothing, Ping, Asks, OnChannel, Reports, OnConnection}
-use Rattle.controller_table.specs.Channels.{access_channel, assignment_offer, channel_in, channel_of_kind, first_free, free_channel, free_in, handover_offer, kind_of, request_offer}
-use Rattle.controller_table.specs.Controller.{Controller, Entry, Turn, turn, ignoring, entry_of, with_entry, channel_state, freed, has_number, holder, place_of, state_in, with_state}
+use Rattle.controller_table.specs.Channels.{access_channel, channel_in, channel_of_kind, first_free, free_channel, free_in, handover_offer, kind_of, request_offer}
+use Rattle.controller_table.specs.Controller.{Controller, Entry, Turn, turn, ignoring, entry_of, with_entry, channel_state, freed, has_number, place_of, state_in, with_state}
 use Rattle.controller_table.specs.Life.{by_fitting, concerning, concerning_too, entry_at, fits, frees, given, is_measured, may_open, measured, measures, new_entry, on_decision, on_freed, on_report, on_state, on_word, row_in, with_connection, with_report}
 use Rattle.controller_table.specs.Reports.{best, decision_over, decision_where, moving_to}
 use Rattle.dtap_codec.specs.declared.report.Report.{Report}
@@ -88,7 +87,7 @@ pub record IsHere (links : List Bool) (c : Controller) (e : Entry) : Type 0 wher
   pub below : e.connection.number < c.next_number
   pub linked : is_link_up links SWITCH_LINK ≡ true
 
-here_of : (c : Controller) (m : ℕ) (e : Entry) → Ready c → entry_of c m ≡ Some e → IsHere c.links c e
+pub here_of : (c : Controller) (m : ℕ) (e : Entry) → Ready c → entry_of c m ≡ Some e → IsHere c.links c e
 unfolding AllStand
 here_of c m e ready there = record {
   rising = ready.numbered.rising;
@@ -124,8 +123,11 @@ in_station p station reference cell (Some n) c is = ap (λ (d : Channel). d.stat
 first_free_is : (c : Controller) (station reference : ℕ) (kind : ChannelKind) (offer : Channel) → first_free c station reference kind ≡ Some offer → (is_link_up c.links station ≡ true) × (offer.station ≡ station)
 first_free_is c station reference kind offer is = elim (cases_Bool (is_link_up c.links station)) [
   | inr miss ↦ absurd (let none : None ≡ Some offer = sym (cond-false _ (free_channel c.settings c.channels station reference kind) None miss) ∙ is in cc)
-  | inl hit ↦ (hit, option_and_then_some (channel_of_kind c.settings c.channels station reference kind) (slice_get c.settings.cells (station - 1)) offer (sym (cond-true _ (free_channel c.settings c.channels station reference kind) None hit) ∙ is)
-      (λ cell there of. in_station c.settings station reference cell (free_in c.channels station kind cell) offer of))
+  | inl hit ↦ (
+    hit,
+    option_and_then_some (channel_of_kind c.settings c.channels station reference kind) (slice_get c.settings.cells (station - 1)) offer (sym (cond-true _ (free_channel c.settings c.channels station reference kind) None hit) ∙ is)
+        (λ cell there of. in_station c.settings station reference cell (free_in c.channels station kind cell) offer of),
+  )
 ]
 
 -- what serves after the row is one of the connection's
@@ -143,11 +145,11 @@ request_alive c s input offer own is =
 
 -- ---- rows of frames
 
-pub IsNoNack : Input → Type 0
+unfoldable pub IsNoNack : Input → Type 0
 IsNoNack (inputs.ActivationNack at) = ⊥
 IsNoNack _ = Unit {0}
 
-pub IsNoBreak : Input → Type 0
+unfoldable pub IsNoBreak : Input → Type 0
 IsNoBreak (inputs.StationDown station) = ⊥
 IsNoBreak _ = Unit {0}
 
@@ -162,11 +164,11 @@ switch_plain (inputs.StationDown station) is = absurd is
 switch_plain (inputs.ActivationNack at) is = absurd is
 switch_plain _ is = (tt, tt)
 
-no_break_of : (links : List Bool) (input : Input) → IsNoBreak input → (station : ℕ) → input ≡ inputs.StationDown station → is_link_up links station ≡ false
+pub no_break_of : (links : List Bool) (input : Input) → IsNoBreak input → (station : ℕ) → input ≡ inputs.StationDown station → is_link_up links station ≡ false
 unfolding IsNoBreak
 no_break_of links input none station is = let never : ⊥ = subst IsNoBreak is none in absurd never
 
-no_nack_of : (channels : States) (input : Input) → IsNoNack input → (at : Place) → input ≡ inputs.ActivationNack at → state_in channels at ≡ Free
+pub no_nack_of : (channels : States) (input : Input) → IsNoNack input → (at : Place) → input ≡ inputs.ActivationNack at → state_in channels at ≡ Free
 unfolding IsNoNack
 no_nack_of channels input none at is = let never : ⊥ = subst IsNoNack is none in absurd never
 
@@ -190,7 +192,7 @@ fitting_sends old new more c otherwise e input offer (Some r) is rising there fr
   outs = outs_up new e.connection.number r.outs (needs r refl).goes;
 }
 
-ignoring_sends : (c : Controller) → Uses c.links c.links c → Sends c.links c.links (ignoring c)
+pub ignoring_sends : (c : Controller) → Uses c.links c.links c → Sends c.links c.links (ignoring c)
 ignoring_sends c uses = record { uses = record { used = uses.used; blank = uses.blank; given = uses.given }; outs = tt }
 
 quiet_sends : (c : Controller) → Uses c.links c.links c → Sends c.links c.links (turn [] c)
@@ -355,7 +357,7 @@ decision_sends (Move cell) c e station here holds uses =
     (λ is_open d offered. let free = first_free_is c cell c.handovers (kind_of e.connection.serving.number) d offered in subst (IsAlive c.links) (sym free.1) (free.0, station cell refl)) tt (no_nack_of c.channels inputs.Move tt))
     uses (quiet_sends c uses)
 
-same_uses : (old new : List Bool) (c next : Controller) → next.channels ≡ c.channels → next.next_number ≡ c.next_number → ((n : ℕ) → connection_of next n ≡ connection_of c n) → Uses old new c → Uses old new next
+pub same_uses : (old new : List Bool) (c next : Controller) → next.channels ≡ c.channels → next.next_number ≡ c.next_number → ((n : ℕ) → connection_of next n ≡ connection_of c n) → Uses old new c → Uses old new next
 same_uses old new c next channels numbers same uses = record {
   used = λ at n up is. subst (λ (o : Option Connection). Contains (used_places o) at) (sym (same n)) (uses.used at n up (ap (λ (all : States). state_in all at) (sym channels) ∙ is));
   blank = λ at dead. ap (λ (all : States). state_in all at) channels ∙ uses.blank at dead;

@@ -4,6 +4,8 @@ ghost use Rattle.controller_laws.specs.Downlink.{DownlinkIsConserved};
 ghost use Rattle.controller_laws.specs.End.{IsThere, KeepsSilence, StaysSilent};
 ghost use Rattle.controller_laws.specs.History.{connection_of};
 ghost use Rattle.controller_laws.specs.Owning.{LinkedOf, OwnsOpen};
+ghost use Rattle.controller_laws.specs.Reach.{GoesToUp};
+ghost use Rattle.controller_laws.specs.Using.{AreUsed};
 ghost use Rattle.controller_table.specs.Controller.{is_up};
 ghost use Rattle.conn_messages.specs.declared.parameters.TheConstants.{SWITCH_LINK};
 ghost use Rattle.controller_laws.specs.Numbers.{IsNumbered};
@@ -45,4 +47,16 @@ pub fn channels_are_owned()
         → OwnsOpen (life p steps).next.channels (life p steps).next.links number (connection_of (life p steps).next number) }
     ensures switch { (p : Parameters) (steps : List Step) (number : ℕ) → 1 ≤ number
         → LinkedOf (is_up (life p steps).next SWITCH_LINK) (connection_of (life p steps).next number) }
+{}
+
+/// A channel is in use by a connection exactly where it is the serving channel or the target of the connection, which is open:
+/// so by one at most. One that is releasing was a connection's, which may be gone. Of a link that is down, or isn't there, and
+/// of the switch's, all channels are free.
+pub fn channels_are_used()
+    ensures { (p : Parameters) (steps : List Step) → AreAllowed p → AreUsed (life p steps).next }
+{}
+
+/// Each frame that a step puts goes to a link that is there and is up after the step: none to the link that it breaks.
+pub fn frames_go_to_links_that_are_up()
+    ensures { (p : Parameters) (steps : List Step) (s : Step) → AreAllowed p → GoesToUp (life p steps).next s }
 {}
