@@ -30,3 +30,5 @@ pub mod UsingRows
 pub mod UsingGoes
 pub mod UsingWords
 pub mod UsingLife
+pub mod SoundMessages
+pub mod SoundRows

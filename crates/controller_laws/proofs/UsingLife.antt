@@ -121,14 +121,14 @@ word_asked source frame = body_asks (carried source frame.stream) source frame.b
 
 -- ---- one connection after the other
 
-told_numbers : (input : Input) (c : Controller) (e : Entry) → (told input c e).next.next_number ≡ c.next_number
+pub told_numbers : (input : Input) (c : Controller) (e : Entry) → (told input c e).next.next_number ≡ c.next_number
 told_numbers input c e = by (row_in c e.connection input)
   where
     by : (o : Option Row) → (by_fitting (turn [] c) e o c).next.next_number ≡ c.next_number
     by None = refl
     by (Some r) = refl
 
-expiry_numbers : (o : Option Input) (c : Controller) (e : Entry) → (expires o c e).next.next_number ≡ c.next_number
+pub expiry_numbers : (o : Option Input) (c : Controller) (e : Entry) → (expires o c e).next.next_number ≡ c.next_number
 expiry_numbers None c e = refl
 expiry_numbers (Some input) c e = told_numbers input c e
 
@@ -150,7 +150,7 @@ each_sends old new f order leaves numbers keeps c (x ∷ xs) sorted here holds u
     let rest = each_sends old new f order leaves numbers keeps (f c x).next xs sorted.1 later one.0 one.1.uses in
     (rest.0, record { uses = rest.1.uses; outs = all_join (λ (out : Out). is_link_up new out.to ≡ true) (f c x).outs (each f (f c x).next xs).outs one.1.outs rest.1.outs })
 
-all_here : (c : Controller) (xs : List Entry) → Ready c → AllByRecursion (λ (x : Entry). entry_of c x.connection.number ≡ Some x) xs → AllByRecursion (IsHere c.links c) xs
+pub all_here : (c : Controller) (xs : List Entry) → Ready c → AllByRecursion (λ (x : Entry). entry_of c x.connection.number ≡ Some x) xs → AllByRecursion (IsHere c.links c) xs
 all_here c [] ready there = tt
 all_here c (x ∷ xs) ready there = (here_of c x.connection.number x ready there.0, all_here c xs ready there.1)
 
@@ -306,7 +306,7 @@ aged_places : (ms : ℕ) (o : Option Entry) → used_places (option_map (λ (e :
 aged_places ms None = refl
 aged_places ms (Some e) = refl
 
-aged_ready : (ms : ℕ) (c : Controller) → Ready c → Ready (all_aged ms c)
+pub aged_ready : (ms : ℕ) (c : Controller) → Ready c → Ready (all_aged ms c)
 unfolding AllStand
 aged_ready ms c ready = record {
   numbered = aged_numbered ms c ready.numbered;
@@ -387,7 +387,7 @@ new_free k at = by k at.station
     by (suc k) zero = free_at CHANNEL_NUMBERS at.number
     by (suc k) (suc station) = by k station
 
-life_ready : (p : Parameters) (steps : List Step) → AreAllowed p → Ready (life p steps).next
+pub life_ready : (p : Parameters) (steps : List Step) → AreAllowed p → Ready (life p steps).next
 unfolding life
 life_ready p steps allowed =
     let c : Controller = new_controller p in

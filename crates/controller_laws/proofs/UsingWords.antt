@@ -69,7 +69,7 @@ pub record Ready (c : Controller) : Type 0 where
 
 -- ---- an entry
 
-find_all : (P : Entry → Type 0) (test : Entry → Bool) (xs : List Entry) (e : Entry) → AllByRecursion P xs → find test xs ≡ Some e → P e
+pub find_all : (P : Entry → Type 0) (test : Entry → Bool) (xs : List Entry) (e : Entry) → AllByRecursion P xs → find test xs ≡ Some e → P e
 find_all P test [] e all is = absurd cc
 find_all P test (x ∷ xs) e all is = elim (cases_Bool (test x)) [
   | inl hit ↦
@@ -120,7 +120,7 @@ in_station p station reference cell (Some n) c is = ap (λ (d : Channel). d.stat
     of : (let o : Option Channel = Some (channel_in p station reference cell n) in o) ≡ Some c → channel_in p station reference cell n ≡ c
     of is = cc
 
-first_free_is : (c : Controller) (station reference : ℕ) (kind : ChannelKind) (offer : Channel) → first_free c station reference kind ≡ Some offer → (is_link_up c.links station ≡ true) × (offer.station ≡ station)
+pub first_free_is : (c : Controller) (station reference : ℕ) (kind : ChannelKind) (offer : Channel) → first_free c station reference kind ≡ Some offer → (is_link_up c.links station ≡ true) × (offer.station ≡ station)
 first_free_is c station reference kind offer is = elim (cases_Bool (is_link_up c.links station)) [
   | inr miss ↦ absurd (let none : None ≡ Some offer = sym (cond-false _ (free_channel c.settings c.channels station reference kind) None miss) ∙ is in cc)
   | inl hit ↦ (
