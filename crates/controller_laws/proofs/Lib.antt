@@ -32,3 +32,4 @@ pub mod UsingWords
 pub mod UsingLife
 pub mod SoundMessages
 pub mod SoundRows
+pub mod SoundLife

@@ -1,12 +1,12 @@
 -- The messages that rows put can be written, and are read as they were put.
-use Rattle.std.proofs.Common.{◌≡◌, ℕ, ◌+◌, ◌≤◌, ◌<◌, ◌==◌, ◌||◌, nat_lt, nat_le, nat_eq, Bool, true, false, cond, if◌then◌else◌, List, [], ◌∷◌, length, min, Option, Some, None, refl, sym, ap, ◌∙◌, arith}
+use Rattle.std.proofs.Common.{◌≡◌, ℕ, ◌+◌, ◌≤◌, ◌||◌, nat_lt, nat_le, nat_eq, Bool, true, false, cond, if◌then◌else◌, List, length, Option, Some, None, refl, ap, ◌∙◌, arith}
 use Rattle.std.proofs.lemmas.Bool.{ne_eqb}
-use Rattle.bssmap_codec.specs.declared.bssap.Bssap.TheVariants.{Management, Transfer}
+use Rattle.bssmap_codec.specs.declared.bssap.Bssap.TheVariants.{Management}
 use Rattle.bssmap_codec.specs.declared.bssmap.Bssmap.{Bssmap}
 use Rattle.bssmap_codec.specs.declared.bssmap.Bssmap.TheVariants as bssmap
 use Rattle.bssmap_codec.specs.declared.fault.InterfaceFault.TheVariants as interface
 use Rattle.bssmap_codec.specs.declared.values.RrCause.{RrCause}
-use Rattle.bssmap_codec.specs.BssapText.{bssap_text, bssap_write_fault, bssmap_size, bssmap_text, content_fault}
+use Rattle.bssmap_codec.specs.BssapText.{bssmap_size, content_fault}
 use Rattle.bssmap_codec.specs.Layer3.{IsLayer3, layer3_fault}
 use Rattle.bssmap_codec.specs.Reference.{IsReference}
 use Rattle.bssmap_codec.specs.SccpText.{size_fault}
@@ -15,14 +15,11 @@ use Rattle.bssmap_codec.proofs.BssapTexts.{size_is}
 use Rattle.conn_messages.specs.declared.channel.Change.{Change}
 use Rattle.conn_messages.specs.declared.channel.Change.TheVariants.{Assignment, Handover}
 use Rattle.conn_messages.specs.declared.channel.Channel.{Channel}
-use Rattle.conn_messages.specs.declared.message.Message.{Message}
-use Rattle.conn_messages.specs.declared.message.Message.TheVariants.{Data, Request}
 use Rattle.conn_messages.specs.declared.causes.TheConstants.{BETTER_CELL, BSS_NOT_EQUIPPED, CIPHERING_NOT_SUPPORTED}
 use Rattle.conn_messages.specs.declared.parameters.TheConstants.{FULL_RATE_MODE, HALF_RATE_MODE, SACCH_SAPI_3_DLCI, SDCCH_MODE, SDCCH_SAPI_3_DLCI}
 use Rattle.conn_messages.specs.Out.{IsCarried, IsSound}
-use Rattle.conn_messages.specs.StationMessage.{access_activation, activation, change_activation, change_command, channel_release, command, establish_request, handing, immediate_assign_command, mode_of, rf_channel_release}
-use Rattle.conn_messages.specs.SwitchMessage.{assignment_failure, cause_of, change_complete, cipher_mode_reject, clear_complete, clear_request, complete_layer3, dlci_on, management, release_complete, relaying, sapi_3_reject}
-use Rattle.dtap_codec.specs.declared.rr.RrMessage.{RrMessage}
+use Rattle.conn_messages.specs.StationMessage.{access_activation, activation, change_activation, change_command, channel_release, command, establish_request, handing, immediate_assign_command, rf_channel_release}
+use Rattle.conn_messages.specs.SwitchMessage.{assignment_failure, cause_of, change_complete, cipher_mode_reject, clear_complete, clear_request, complete_layer3, dlci_on, management, relaying, sapi_3_reject}
 use Rattle.dtap_codec.specs.declared.sapi.Sapi.{Sapi}
 use Rattle.dtap_codec.specs.declared.sapi.Sapi.TheVariants.{Zero, Three}
 use Rattle.dtap_codec.specs.RrText.{rr_text}

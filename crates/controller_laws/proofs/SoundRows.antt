@@ -1,5 +1,5 @@
 -- What every row puts can be written, and is read as it was put.
-use Rattle.std.proofs.Common.{◌≡◌, ℕ, zero, suc, ◌==◌, ◌&&◌, nat_le, Bool, true, false, if◌then◌else◌, List, [], ◌∷◌, ◌++◌, length, map, drop, filter, Option, Some, None, refl, sym, subst, ap}
+use Rattle.std.proofs.Common.{◌≡◌, ℕ, zero, suc, ◌==◌, ◌&&◌, nat_le, Bool, true, false, if◌then◌else◌, List, [], ◌∷◌, ◌++◌, length, map, drop, filter, Option, Some, None, refl, sym, subst}
 use Rattle.std.proofs.lemmas.Bool.{leb-true}
 use Rattle.std.specs.List.{AllByRecursion}
 use Rattle.bssmap_codec.specs.Layer3.{IsLayer3}
@@ -11,7 +11,6 @@ use Rattle.conn_messages.specs.declared.channel.Change.TheVariants.{Assignment, 
 use Rattle.conn_messages.specs.declared.channel.Channel.{Channel}
 use Rattle.conn_messages.specs.declared.channel.Place.{Place}
 use Rattle.conn_messages.specs.declared.message.Message.{Message}
-use Rattle.conn_messages.specs.declared.message.Message.TheVariants.{Station}
 use Rattle.conn_messages.specs.Out.{IsSound}
 use Rattle.conn_messages.specs.StationMessage.{handing, rf_channel_release}
 use Rattle.conn_messages.specs.SwitchMessage.{assignment_failure, change_complete, complete_layer3, clear_complete, release_complete, relaying}
@@ -28,7 +27,7 @@ use Rattle.conn_table.specs.declared.state.State.TheVariants.{WaitActivation, Wa
 use Rattle.conn_table.specs.Connection.{Connection, emptied, enter, first_channel, tenure_at, drain_at}
 use Rattle.conn_table.specs.Standing.{IsCarried, IsHeldTenure}
 use Rattle.conn_table.specs.Steps.{Row, row, ◌then◌, after_waiting, ask_for_held, end_outs, ending, hand_held, dropping, failing, link_up, without_station, begin, begin_outs, begin_waiting, waiting_outs, hold_down, hold_short_message, short_message, request_where, link_down, hold_up, relay_held, tenure_outs, leave, shifted, settled, settled_stage, resting_stage, resting, moved, request_for, done_at, may_begin}
-use Rattle.conn_table.specs.Streams.{OfRow, IsOpen, target_in}
+use Rattle.conn_table.specs.Streams.{OfRow, target_in}
 use Rattle.conn_table.specs.Table.{row_of, row_if, assign_immediately, command_to, refuse, nack_outs, access, release, complete, failure, failure_outs, speech_request, release_in, dtap_in, dtap_on_target, on_activation_ack, on_activation_nack, on_establish_indication, on_establish_confirm, on_release_indication, on_error_indication, on_connection_failure, on_dtap, on_complete, on_failure, on_release_ack, on_move, on_confirm, on_refused, on_released, on_downlink, on_assignment_request, on_cipher_mode_command, on_clear_command, on_expiry, on_drain_expiry, on_station_down, on_switch_down}
 use Rattle.controller_laws.proofs.SoundMessages.{IsSoundChannel, sound_assignment_failure, sound_change_activation, sound_cipher_reject, sound_clear_complete, sound_clear_request, sound_command, sound_complete, sound_establish, sound_handing, sound_immediate, sound_initial, sound_reject, sound_relaying, sound_release_command, sound_rf_release}
 use Rattle.dtap_codec.specs.declared.sapi.Sapi.{Sapi}

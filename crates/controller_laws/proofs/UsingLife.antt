@@ -107,13 +107,13 @@ body_asks connection_control source body is = switch_asks source (sccp_reading b
 body_asks link_management source body is = link_asks source body
 body_asks other source body is = tt
 
-radio_of : (a b c d : Bool) → (if a then link_management else if b then connection_control else if not c && d then radio_signalling else other) ≡ radio_signalling → c ≡ false
+pub radio_of : (a b c d : Bool) → (if a then link_management else if b then connection_control else if not c && d then radio_signalling else other) ≡ radio_signalling → c ≡ false
 radio_of true b c d is = absurd cc
 radio_of false true c d is = absurd cc
 radio_of false false true d is = absurd cc
 radio_of false false false d is = refl
 
-word_asked : (source : ℕ) (frame : Frame) → IsAskedOf source (word_of source frame)
+pub word_asked : (source : ℕ) (frame : Frame) → IsAskedOf source (word_of source frame)
 unfolding word_of
 word_asked source frame = body_asks (carried source frame.stream) source frame.body
     (λ is same. true≢false (sym (eq-eqb source SWITCH_LINK same)
@@ -352,7 +352,7 @@ linked_of : (up : Bool) (o : Option Connection) (s : Connection) → o ≡ Some 
 unfolding IsLinked
 linked_of up o s is linked = subst (IsLinked up) is linked
 
-ready_by : (c : Controller) → ((n : ℕ) → 1 ≤ n → Fits n c) → Holds c.links c → Uses c.links c.links c → Ready c
+pub ready_by : (c : Controller) → ((n : ℕ) → 1 ≤ n → Fits n c) → Holds c.links c → Uses c.links c.links c → Ready c
 unfolding AllFine
 ready_by c fits holds uses =
     let numbered = (fits 1 (omega arith)).numbered in
@@ -372,12 +372,25 @@ ready_by c fits holds uses =
 
 -- ---- a life
 
-runs : (c : Controller) (steps : List Step) → ((n : ℕ) → 1 ≤ n → Fits n c) → Holds c.links c → Uses c.links c.links c → Ready (each step c steps).next
+-- what is known after a step
+pub record IsAfter (c : Controller) : Type 0 where
+  pub fits : (n : ℕ) → 1 ≤ n → Fits n c
+  pub holds : Holds c.links c
+  pub uses : Uses c.links c.links c
+
+pub run_step : (c : Controller) (s : Step) → ((n : ℕ) → 1 ≤ n → Fits n c) → Holds c.links c → Uses c.links c.links c → IsAfter (step c s).next
 unfolding AllFine
-runs c [] fits holds uses = ready_by c fits holds uses
-runs c (s ∷ ss) fits holds uses =
+run_step c s fits holds uses =
     let numbered = (fits 1 (omega arith)).numbered in
-    runs (step c s).next ss (λ n from_one. step_fits n c s from_one (fits n from_one)) (step_holds c s numbered (fine_at c numbered (λ n from_one. (fits n from_one).fine)) holds) (step_sends c s (ready_by c fits holds uses)).uses
+    record {
+      fits = λ n from_one. step_fits n c s from_one (fits n from_one);
+      holds = step_holds c s numbered (fine_at c numbered (λ n from_one. (fits n from_one).fine)) holds;
+      uses = (step_sends c s (ready_by c fits holds uses)).uses;
+    }
+
+runs : (c : Controller) (steps : List Step) → ((n : ℕ) → 1 ≤ n → Fits n c) → Holds c.links c → Uses c.links c.links c → Ready (each step c steps).next
+runs c [] fits holds uses = ready_by c fits holds uses
+runs c (s ∷ ss) fits holds uses = let after = run_step c s fits holds uses in runs (step c s).next ss after.fits after.holds after.uses
 
 new_free : (k : ℕ) (at : Place) → state_in (replicate k free_channels) at ≡ Free
 new_free k at = by k at.station
@@ -387,16 +400,16 @@ new_free k at = by k at.station
     by (suc k) zero = free_at CHANNEL_NUMBERS at.number
     by (suc k) (suc station) = by k station
 
+pub new_uses : (p : Parameters) → Uses (new_controller p).links (new_controller p).links (new_controller p)
+new_uses p = record {
+  used = λ at n up is. (let both : Free ≡ InUse n = sym (new_free (length p.cells + 1) at) ∙ is in absurd cc);
+  blank = λ at dead. new_free (length p.cells + 1) at;
+  given = λ at n is. (let both : Free ≡ Releasing n = sym (new_free (length p.cells + 1) at) ∙ is in absurd cc);
+}
+
 pub life_ready : (p : Parameters) (steps : List Step) → AreAllowed p → Ready (life p steps).next
 unfolding life
-life_ready p steps allowed =
-    let c : Controller = new_controller p in
-    runs c steps (λ n from_one. new_fits n p) (new_holds p allowed)
-    (record {
-      used = λ at n up is. (let both : Free ≡ InUse n = sym (new_free (length p.cells + 1) at) ∙ is in absurd cc);
-      blank = λ at dead. new_free (length p.cells + 1) at;
-      given = λ at n is. (let both : Free ≡ Releasing n = sym (new_free (length p.cells + 1) at) ∙ is in absurd cc);
-    })
+life_ready p steps allowed = runs (new_controller p) steps (λ n from_one. new_fits n p) (new_holds p allowed) (new_uses p)
 
 -- ---- the laws
 

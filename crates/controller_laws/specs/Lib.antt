@@ -7,3 +7,4 @@ pub mod Owning
 pub mod Uplink
 pub mod Using
 pub mod Reach
+pub mod Sending

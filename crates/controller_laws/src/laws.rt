@@ -5,7 +5,9 @@ ghost use Rattle.controller_laws.specs.End.{IsThere, KeepsSilence, StaysSilent};
 ghost use Rattle.controller_laws.specs.History.{connection_of};
 ghost use Rattle.controller_laws.specs.Owning.{LinkedOf, OwnsOpen};
 ghost use Rattle.controller_laws.specs.Reach.{GoesToUp};
+ghost use Rattle.controller_laws.specs.Sending.{ComesInOctets, SendsMessages};
 ghost use Rattle.controller_laws.specs.Using.{AreUsed};
+ghost use Rattle.std.specs.List.{AllByRecursion};
 ghost use Rattle.controller_table.specs.Controller.{is_up};
 ghost use Rattle.conn_messages.specs.declared.parameters.TheConstants.{SWITCH_LINK};
 ghost use Rattle.controller_laws.specs.Numbers.{IsNumbered};
@@ -59,4 +61,11 @@ pub fn channels_are_used()
 /// Each frame that a step puts goes to a link that is there and is up after the step: none to the link that it breaks.
 pub fn frames_go_to_links_that_are_up()
     ensures { (p : Parameters) (steps : List Step) (s : Step) → AreAllowed p → GoesToUp (life p steps).next s }
+{}
+
+/// Each frame that a step puts has 2,048 octets at most, so none is refused; and whoever gets it reads the message that was
+/// put, or it is PONG. The octets of a frame that came are below 256.
+pub fn frames_are_read_as_put()
+    ensures { (p : Parameters) (steps : List Step) (s : Step) → AreAllowed p → AllByRecursion ComesInOctets steps → ComesInOctets s
+        → SendsMessages (life p steps).next s }
 {}
