@@ -1,6 +1,20 @@
-//! The workers at a link's device: what a reader puts into the inbox, and what a writer writes of its outbox.
+//! The workers at a link's device: what a reader puts into the inbox, and what a writer writes of its outbox. And the switch
+//! that tests use, at its end of a link.
 #![tactic(auto)]
 
-mod fault;
-
 pub use fault::IoFault;
+pub use gate::Gate;
+pub use pauses::Pauses;
+pub use reader::serve_reader;
+pub use switch::switch_worker;
+pub use writer::serve_writer;
+
+mod fault;
+mod framing;
+mod gate;
+mod gated_pass;
+mod pauses;
+mod reader;
+mod switch;
+mod writer;
+mod writing;
