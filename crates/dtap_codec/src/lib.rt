@@ -7,7 +7,7 @@ pub use message::{
     is_flow, pd_of,
 };
 pub use number::{Modulus, number_of, with_number, without_number};
-pub use report::{Neighbour, Report};
+pub use report::{Neighbour, REPORT_LENGTH, Report};
 pub use rr::{
     Arfcn, CellDescription, ChannelDescription, ChannelOctet, ColourCode, RrCause, RrMessage,
     TimingAdvance,

@@ -49,6 +49,13 @@ impl BaseEnd {
         self.station
     }
 
+    /// Whether a channel is active.
+    pub fn is_active(&self, channel: ChanNo) -> bool
+        ensures { result ≡ is_active self.now.active channel }
+    {
+        self.active.contains(&channel)
+    }
+
     /// Activates a channel: a CHANNEL ACTIVATION ACKNOWLEDGE with frame number 0 is made. `Busy` where it is active already.
     pub fn activate(&mut self, channel: ChanNo) -> Result<(), LinkFault>
         ensures ok { OnOk result (self.new ≡ after_activate self.old channel) }
@@ -148,12 +155,6 @@ impl BaseEnd {
         ensures { self.new ≡ after_take_down self.old }
     {
         self.messages.clear();
-    }
-
-    fn is_active(&self, channel: ChanNo) -> bool
-        ensures { result ≡ is_active self.now.active channel }
-    {
-        self.active.contains(&channel)
     }
 
     fn make(&mut self, message: Rsl) -> Result<(), Memory>

@@ -27,7 +27,7 @@ pub(crate) fn is_sendable(sapi: Sapi, message: &[u8]) -> bool
 
 /// Whether a connection may begin with this message: it has 1 to `INITIAL_LIMIT` octets and is of mobility management, with no
 /// number in it, or of radio resource management.
-pub(crate) fn is_initial(message: &[u8]) -> bool
+pub fn is_initial(message: &[u8]) -> bool
     ensures { result ≡ is_initial message.now }
 {
     let Some(protocol) = pd_of(message) else {

@@ -3,6 +3,7 @@
 #![tactic(auto)]
 
 pub use fault::MobileFault;
+pub use lawful::is_initial;
 pub use laws::{link_goes_on, numbers_run_on, repeats_at_most_one};
 pub use mobile_end::{MobileEnd, Place, Stage};
 

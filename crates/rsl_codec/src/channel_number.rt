@@ -55,6 +55,13 @@ impl ChanNo {
         }
     }
 
+    /// The RACH.
+    pub fn random_access() -> ChanNo
+        ensures { result ≡ RACH }
+    {
+        ChanNo { octet: RACH }
+    }
+
     /// The PCH and the AGCH, which have one number.
     pub fn access_grant() -> ChanNo
         ensures { result ≡ PCH_AND_AGCH }

@@ -1,4 +1,3 @@
-pub mod Takes
 pub mod FixedState
 pub mod Fixed
 pub mod WorldState

@@ -53,6 +53,7 @@ use Rattle.world_table.specs.Reading.{IsReadItem, AreRead}
 use Rattle.world_table.specs.Relay.{with_item, station_item, switch_item, target_in, after_base_push, after_handle, after_tick, after_break}
 use Rattle.link_model.specs.declared.fault.LinkFault.TheVariants.{Busy}
 use Rattle.std.specs.Result.{result_ok}
+use Rattle.world_table.specs.Sized.{HasSized}
 use Rattle.world_table.specs.Stations.{rsl_in, activated_unless, accepts, mobile_on, activated, link_answer, took, after_base_takes}
 use Rattle.world_table.specs.SwitchSide.{sccp_in, after_switch_takes, after_switch_does}
 use Rattle.world_table.specs.World.{Actors, Mobile, Spot, new_actors, stations_from, no_station, station_of, base_of, with_base, spot_at, with_spot, with_mobile, with_outbox, mobile_of, is_up, is_station_up, is_reached, is_active_at, tenure_at}
@@ -60,7 +61,7 @@ use Rattle.world_table.proofs.Honesty.{reached-up}
 use Rattle.world_table.proofs.Lawful.{IsOnChannel, IsOnChannelIf, read-lawful}
 use Rattle.world_table.proofs.Leads.{OfTaken, FromAir, Seats, and-left, and-right, only_if-leads, by_mobile-leads, connect-leads, air_up-leads, air_ack-leads, air_down-leads, air_down_lost-leads, move-leads, touch-leads, arrive-leads, return-leads, base_takes-leads, unless_last-leads, assigned-leads, handle-leads, turn-leads, switch_takes-leads, switch_took-leads, push-leads, does-leads, broken-leads, after-taken}
 use Rattle.world_table.proofs.Mobility.{back-all, behind-all, found-all}
-use Rattle.world_table.proofs.Sizing.{HasSized, lent-sized, link-sized, queue-sized, frame-sized, acked-sized, arrival-sized, sendable-sized, initial-sized}
+use Rattle.world_table.proofs.Sizing.{lent-sized, link-sized, queue-sized, frame-sized, acked-sized, arrival-sized, sendable-sized, initial-sized}
 use Rattle.world_table.proofs.Soundness.{IsSound, SoundEnd, Ends, sound-read, sound-tell, sound-activated, sound-released, sound-behind, active-lawful, ends-set, sound-request, sound-detection, sound-establishment, sound-initial, sound-data, sound-report, sound-answer}
 
 abbrev HasSizedEnd : Mobile → Type 0

@@ -26,14 +26,7 @@ use Rattle.mobile_end.specs.Mobile.{link_of, with_link, after_number, after_queu
 use Rattle.mobile_end.specs.MobileState.{MobileState}
 use Rattle.octets.specs.declared.limits.TheConstants.{MESSAGE_LIMIT, INITIAL_LIMIT}
 use Rattle.rsl_codec.specs.Rsl.{IsL3}
-
-pub record Sized (link : DataLinkState) : Type 0 where
-  pub waiting : AllByRecursion (λ message. IsL3 (Some message)) link.waiting
-  pub air : IsL3 (message_in link.air)
-
-pub record HasSized (mobile : MobileState) : Type 0 where
-  pub zero : Sized mobile.zero
-  pub three : Sized mobile.three
+use Rattle.world_table.specs.Sized.{Sized, HasSized}
 
 -- ---- links
 

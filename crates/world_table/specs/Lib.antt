@@ -11,3 +11,5 @@ pub mod Steps
 pub mod Pipe
 pub mod Lives
 pub mod Reading
+pub mod Sized
+pub mod Takes
