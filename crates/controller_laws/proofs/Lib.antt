@@ -33,3 +33,4 @@ pub mod UsingLife
 pub mod SoundMessages
 pub mod SoundRows
 pub mod SoundLife
+pub mod Concerning
