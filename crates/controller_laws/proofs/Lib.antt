@@ -34,3 +34,4 @@ pub mod SoundMessages
 pub mod SoundRows
 pub mod SoundLife
 pub mod Concerning
+mod UsedRows
