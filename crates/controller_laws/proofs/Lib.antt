@@ -39,3 +39,5 @@ pub mod UsingLife
 pub mod SoundMessages
 pub mod SoundRows
 pub mod SoundLife
+pub mod Concerning
+mod UsedRows

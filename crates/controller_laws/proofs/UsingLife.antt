@@ -388,9 +388,9 @@ run_step c s fits holds uses =
       uses = (step_sends c s (ready_by c fits holds uses)).uses;
     }
 
-runs : (c : Controller) (steps : List Step) → ((n : ℕ) → 1 ≤ n → Fits n c) → Holds c.links c → Uses c.links c.links c → Ready (each step c steps).next
-runs c [] fits holds uses = ready_by c fits holds uses
-runs c (s ∷ ss) fits holds uses = let after = run_step c s fits holds uses in runs (step c s).next ss after.fits after.holds after.uses
+runs : (c : Controller) (steps : List Step) → IsAfter c → IsAfter (each step c steps).next
+runs c [] now = now
+runs c (s ∷ ss) now = runs (step c s).next ss (run_step c s now.fits now.holds now.uses)
 
 new_free : (k : ℕ) (at : Place) → state_in (replicate k free_channels) at ≡ Free
 new_free k at = by k at.station
@@ -407,9 +407,12 @@ new_uses p = record {
   given = λ at n is. (let both : Free ≡ Releasing n = sym (new_free (length p.cells + 1) at) ∙ is in absurd cc);
 }
 
-pub life_ready : (p : Parameters) (steps : List Step) → AreAllowed p → Ready (life p steps).next
+pub life_after : (p : Parameters) (steps : List Step) → AreAllowed p → IsAfter (life p steps).next
 unfolding life
-life_ready p steps allowed = runs (new_controller p) steps (λ n from_one. new_fits n p) (new_holds p allowed) (new_uses p)
+life_after p steps allowed = runs (new_controller p) steps (record { fits = λ n from_one. new_fits n p; holds = new_holds p allowed; uses = new_uses p })
+
+pub life_ready : (p : Parameters) (steps : List Step) → AreAllowed p → Ready (life p steps).next
+life_ready p steps allowed = let now = life_after p steps allowed in ready_by (life p steps).next now.fits now.holds now.uses
 
 -- ---- the laws
 
@@ -432,10 +435,8 @@ in_use_by c links n at (Some s) owns there =
 use_one : (m n : ℕ) → InUse m ≡ InUse n → m ≡ n
 use_one m n is = cc
 
-pub life_uses : (p : Parameters) (steps : List Step) → AreAllowed p → AreUsed (life p steps).next
-life_uses p steps allowed =
-    let c : Controller = (life p steps).next in
-    let ready = life_ready p steps allowed in
+pub ready_uses : (c : Controller) → Ready c → AreUsed c
+ready_uses c ready =
     let by : (n : ℕ) (at : Place) → Contains (used_places (connection_of c n)) at → state_in c.channels at ≡ InUse n = λ n at there. in_use_by c c.links n at (connection_of c n) (ready.holds.each n) there in
     record {
       using = λ at n. (
@@ -450,3 +451,6 @@ life_uses p steps allowed =
       down = λ at down. ready.uses.blank at (λ alive. true≢false (sym alive.0 ∙ down));
       switch = λ number. ready.uses.blank (record { station = SWITCH_LINK; number = number }) (λ alive. alive.1 refl);
     }
+
+pub life_uses : (p : Parameters) (steps : List Step) → AreAllowed p → AreUsed (life p steps).next
+life_uses p steps allowed = ready_uses (life p steps).next (life_ready p steps allowed)

@@ -8,3 +8,4 @@ pub mod Uplink
 pub mod Using
 pub mod Reach
 pub mod Sending
+pub mod Concern

@@ -1,5 +1,6 @@
 ghost use Rattle.std.specs.Prelude.{ℕ, ◌≤◌, ◌<◌, List};
 ghost use Rattle.controller_laws.specs.Acts.{ActsOn};
+ghost use Rattle.controller_laws.specs.Concern.{FrameLeaves};
 ghost use Rattle.controller_laws.specs.Downlink.{DownlinkIsConserved};
 ghost use Rattle.controller_laws.specs.End.{IsThere, SilenceIsKept, StaysSilent};
 ghost use Rattle.controller_laws.specs.History.{connection_of};
@@ -14,6 +15,7 @@ ghost use Rattle.conn_messages.specs.declared.parameters.TheConstants.{SWITCH_LI
 ghost use Rattle.controller_laws.specs.Numbers.{IsNumbered};
 ghost use Rattle.controller_table.specs.declared.step.Step.{Step};
 ghost use Rattle.controller_table.specs.Life.{life};
+ghost use Rattle.ipa_framing.specs.declared.frame.Frame.{Frame as FrameValue};
 ghost use Rattle.settings.specs.Parameters.{AreAllowed, Parameters};
 
 /// Whatever comes, the numbers of the connections rise from 1 and are below that of the next one. It is a law on the
@@ -76,4 +78,11 @@ pub fn frames_go_to_links_that_are_up()
 pub fn frames_are_read_as_put()
     ensures { (p : Parameters) (steps : List Step) (s : Step) → AreAllowed p → AllByRecursion ComesInOctets steps → ComesInOctets s
         → SendsMessages (life p steps).next s }
+{}
+
+/// A frame concerns one connection at most: that of its channel or its reference, or the next one. Of any other the connection
+/// and its averages stay as they were, no frame is put for it, and the same channels are in use by it.
+pub fn others_are_left_alone()
+    ensures { (p : Parameters) (steps : List Step) (number source : ℕ) (frame : FrameValue) → AreAllowed p → 1 ≤ number
+        → FrameLeaves number (life p steps).next source frame }
 {}
