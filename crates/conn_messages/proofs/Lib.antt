@@ -1,4 +1,4 @@
-mod Readings
+pub mod Readings
 mod Rows
-mod Sizes
+pub mod Sizes
 pub mod UseReadings

@@ -24,7 +24,7 @@ use Rattle.conn_table.specs.Streams.{OfRow}
 
 -- ---- frames of one connection
 
-conn_of : (number : ℕ) (m : Message) → (out_of number m).conn ≡ number
+pub conn_of : (number : ℕ) (m : Message) → (out_of number m).conn ≡ number
 unfolding out_of
 conn_of number (Station station message) = refl
 conn_of number (Request message) = refl

@@ -97,7 +97,7 @@ unfolding IsCarriedIn
 in_carried c number (Take item) = with_carried (is_up c item.source) c number item.source item.what
 in_carried c number (Tick ms) = tt
 
-timer_carried : (input : Input) → IsTimer input → IsCarried input
+pub timer_carried : (input : Input) → IsTimer input → IsCarried input
 timer_carried inputs.Expiry timer = tt
 timer_carried inputs.DrainExpiry timer = tt
 timer_carried _ timer = absurd timer
@@ -107,7 +107,7 @@ IsLinkBreak inputs.SwitchDown = Unit {0}
 IsLinkBreak (inputs.StationDown station) = Unit {0}
 IsLinkBreak _ = ⊥
 
-break_carried : (input : Input) → IsLinkBreak input → IsCarried input
+pub break_carried : (input : Input) → IsLinkBreak input → IsCarried input
 break_carried inputs.SwitchDown is = tt
 break_carried (inputs.StationDown station) is = tt
 break_carried _ is = absurd is

@@ -30,4 +30,14 @@ pub mod UplinkLife
 mod UplinkRows
 pub mod SilenceLife
 pub mod UsualRows
-pub mod Seen
+pub mod Reaching
+pub mod UsingRows
+pub mod UsingGoes
+pub mod UsingWords
+pub mod UsingLife
+pub mod SoundMessages
+pub mod SoundRows
+pub mod SoundLife
+pub mod Concerning
+mod UsedRows
+pub mod SeenFrames

@@ -99,13 +99,13 @@ switch_shut (Live reference stage) s r is = shut_row _ r (λ there. there) is
 switch_shut (Closed clearing) s r is = shut_row _ r (λ there. there) is
 switch_shut Removed s r is = absurd cc
 
-timer_shut : (input : Input) → IsTimer input → (s : Connection) (offer : Option Channel) (r : Row) → row_of s input offer ≡ Some r → IsOpen r.next.state → ⊥
+pub timer_shut : (input : Input) → IsTimer input → (s : Connection) (offer : Option Channel) (r : Row) → row_of s input offer ≡ Some r → IsOpen r.next.state → ⊥
 unfolding row_of
 timer_shut inputs.Expiry timer s offer r is = expiry_shut s.state s r is
 timer_shut inputs.DrainExpiry timer s offer r is = drain_shut s.state s r is
 timer_shut _ timer s offer r is = absurd timer
 
-break_shut : (input : Input) → IsLinkBreak input → (s : Connection) (offer : Option Channel) (r : Row) → row_of s input offer ≡ Some r → IsOpen r.next.state → ⊥
+pub break_shut : (input : Input) → IsLinkBreak input → (s : Connection) (offer : Option Channel) (r : Row) → row_of s input offer ≡ Some r → IsOpen r.next.state → ⊥
 unfolding row_of
 break_shut inputs.SwitchDown break s offer r is = switch_shut s.state s r is
 break_shut (inputs.StationDown station) break s offer r is = station_shut s.state s station r is
@@ -113,7 +113,7 @@ break_shut _ break s offer r is = absurd break
 
 -- ---- one connection after the other
 
-told_holds : (links : List Bool) (c : Controller) (e : Entry) (input : Input) → ((s : Connection) (offer : Option Channel) (r : Row) → row_of s input offer ≡ Some r → IsOpen r.next.state → ⊥) → AreRising c.entries → entry_of c e.connection.number ≡ Some e → Stands e.connection → Holds links c → Holds links (told input c e).next
+pub told_holds : (links : List Bool) (c : Controller) (e : Entry) (input : Input) → ((s : Connection) (offer : Option Channel) (r : Row) → row_of s input offer ≡ Some r → IsOpen r.next.state → ⊥) → AreRising c.entries → entry_of c e.connection.number ≡ Some e → Stands e.connection → Holds links c → Holds links (told input c e).next
 told_holds links c e input shut rising there stands holds =
     fitting_holds links c (turn [] c) e input (request_offer c e.connection input) (row_in c e.connection input) refl rising there stands holds
     (λ r is is_open channel offered. absurd (shut e.connection (request_offer c e.connection input) r is is_open)) holds
@@ -128,7 +128,7 @@ each_holds links f order leaves keeps c (x ∷ xs) rising sorted there stand hol
     (λ y above found. leaves y.connection.number c x (λ same. absurd (omega arith)) ∙ found) sorted.0 there.1)
     stand.1 (keeps c x rising there.0 stand.0 holds)
 
-all_stand : (c : Controller) (xs : List Entry) → AllStand c → AllByRecursion (λ (x : Entry). entry_of c x.connection.number ≡ Some x) xs → AllByRecursion (λ (x : Entry). Stands x.connection) xs
+pub all_stand : (c : Controller) (xs : List Entry) → AllStand c → AllByRecursion (λ (x : Entry). entry_of c x.connection.number ≡ Some x) xs → AllByRecursion (λ (x : Entry). Stands x.connection) xs
 unfolding AllStand
 all_stand c [] stand there = tt
 all_stand c (x ∷ xs) stand there = (stand x.connection.number x there.0, all_stand c xs stand there.1)
@@ -271,7 +271,7 @@ break_owns b number next source up channels links row (Some s) after put is (res
 unfoldable pub AllFine : Controller → Type 0
 AllFine c = (n : ℕ) → IsFine (connection_of c n)
 
-fine_stand : (c : Controller) → AllFine c → AllStand c
+pub fine_stand : (c : Controller) → AllFine c → AllStand c
 unfolding AllFine AllStand IsFine
 fine_stand c fine m e there = (subst IsFine (ap (option_map (λ (x : Entry). x.connection)) there) (fine m)).1
 
@@ -318,15 +318,15 @@ what_holds true source whats.Down c numbered fine holds = break_holds source c n
 what_holds false source (whats.Frame frame) c numbered fine holds = record { shaped = holds.shaped; each = holds.each }
 what_holds false source whats.Down c numbered fine holds = record { shaped = holds.shaped; each = holds.each }
 
-expiry_holds : (links : List Bool) (o : Option Input) (c : Controller) (e : Entry) → IsDue o → AreRising c.entries → entry_of c e.connection.number ≡ Some e → Stands e.connection → Holds links c → Holds links (expires o c e).next
+pub expiry_holds : (links : List Bool) (o : Option Input) (c : Controller) (e : Entry) → IsDue o → AreRising c.entries → entry_of c e.connection.number ≡ Some e → Stands e.connection → Holds links c → Holds links (expires o c e).next
 expiry_holds links None c e due rising there stands holds = holds
 expiry_holds links (Some input) c e due rising there stands holds = told_holds links c e input (timer_shut input due) rising there stands holds
 
-aged_stand : (ms : ℕ) (xs : List Entry) → AllByRecursion (λ (x : Entry). Stands x.connection) xs → AllByRecursion (λ (x : Entry). Stands x.connection) (map (aged ms) xs)
+pub aged_stand : (ms : ℕ) (xs : List Entry) → AllByRecursion (λ (x : Entry). Stands x.connection) xs → AllByRecursion (λ (x : Entry). Stands x.connection) (map (aged ms) xs)
 aged_stand ms [] all = tt
 aged_stand ms (x ∷ xs) all = (pass_stands ms x.connection all.0, aged_stand ms xs all.1)
 
-aged_owns : (channels : States) (links : List Bool) (n ms : ℕ) (o : Option Entry) → OwnsOpen channels links n (option_map (λ (e : Entry). e.connection) o) → OwnsOpen channels links n (option_map (λ (e : Entry). e.connection) (option_map (aged ms) o))
+pub aged_owns : (channels : States) (links : List Bool) (n ms : ℕ) (o : Option Entry) → OwnsOpen channels links n (option_map (λ (e : Entry). e.connection) o) → OwnsOpen channels links n (option_map (λ (e : Entry). e.connection) (option_map (aged ms) o))
 aged_owns channels links n ms None owns = tt
 aged_owns channels links n ms (Some e) owns = owns
 

@@ -81,7 +81,7 @@ unused_free Free is = refl
 unused_free (InUse n) is = absurd (true≢false (sym is))
 unused_free (Releasing n) is = absurd (true≢false (sym is))
 
-found_one : (test : ℕ → Bool) (P : ℕ → Type 0) (xs : List ℕ) (n : ℕ) → AllByRecursion P xs → find test xs ≡ Some n → (test n ≡ true) × P n
+pub found_one : (test : ℕ → Bool) (P : ℕ → Type 0) (xs : List ℕ) (n : ℕ) → AllByRecursion P xs → find test xs ≡ Some n → (test n ≡ true) × P n
 found_one test P [] n all is = absurd cc
 found_one test P (x ∷ xs) n all is = elim (cases_Bool (test x)) [
   | inl hit ↦
@@ -90,7 +90,7 @@ found_one test P (x ∷ xs) n all is = elim (cases_Bool (test x)) [
   | inr miss ↦ found_one test P xs n all.1 (sym (cond-false _ (Some x) (find test xs) miss) ∙ is)
 ]
 
-all_some : {A : Type 0} (P : A → Type 0) (xs : List A) (i : ℕ) (x : A) → AllByRecursion P xs → slice_get xs i ≡ Some x → P x
+pub all_some : {A : Type 0} (P : A → Type 0) (xs : List A) (i : ℕ) (x : A) → AllByRecursion P xs → slice_get xs i ≡ Some x → P x
 all_some P [] i x all is = absurd cc
 all_some P (y ∷ ys) zero x all is = let same : y ≡ x = cc in subst P same all.0
 all_some P (y ∷ ys) (suc i) x all is = all_some P ys i x all.1 is

@@ -53,7 +53,7 @@ pub record Holds (links : List Bool) (c : Controller) : Type 0 where
 pub owns_entry : (links : List Bool) (c : Controller) (e : Entry) → entry_of c e.connection.number ≡ Some e → Holds links c → IsOpen e.connection.state → Owns c.channels links e.connection.number (roles_of e.connection)
 owns_entry links c e there holds = subst (OwnsOpen c.channels links e.connection.number) (ap (option_map (λ (x : Entry). x.connection)) there) (holds.each e.connection.number)
 
-changes_of : (s : Connection) (input : Input) (offer : Option Channel) (r : Row) → Stands s → row_of s input offer ≡ Some r → ChangesRoles s input offer r
+pub changes_of : (s : Connection) (input : Input) (offer : Option Channel) (r : Row) → Stands s → row_of s input offer ≡ Some r → ChangesRoles s input offer r
 changes_of s input offer r stands is = subst (ChangesRolesBy s input offer) is (ChangesRoles-row s input offer stands)
 
 -- ---- a row of a frame
@@ -81,10 +81,10 @@ assignment_offers c serving channel shaped is = offered_free c c.links serving.s
 ignoring_holds : (links : List Bool) (c : Controller) → Holds links c → Holds links (ignoring c).next
 ignoring_holds links c holds = record { shaped = holds.shaped; each = holds.each }
 
-at_number : (c : Controller) (m : ℕ) (e : Entry) → entry_of c m ≡ Some e → entry_of c e.connection.number ≡ Some e
+pub at_number : (c : Controller) (m : ℕ) (e : Entry) → entry_of c m ≡ Some e → entry_of c e.connection.number ≡ Some e
 at_number c m e there = subst (λ (n : ℕ). entry_of c n ≡ Some e) (sym (found_number m c.entries e there)) there
 
-concerning_holds : (c : Controller) (input : Input) (m : ℕ) (o : Option Entry) → entry_of c m ≡ o → AreRising c.entries → ((e : Entry) → o ≡ Some e → Stands e.connection) → Holds c.links c → Holds c.links (concerning input c o).next
+pub concerning_holds : (c : Controller) (input : Input) (m : ℕ) (o : Option Entry) → entry_of c m ≡ o → AreRising c.entries → ((e : Entry) → o ≡ Some e → Stands e.connection) → Holds c.links c → Holds c.links (concerning input c o).next
 concerning_holds c input m None there rising stands holds = ignoring_holds c.links c holds
 concerning_holds c input m (Some e) there rising stands holds =
     fitting_holds c.links c (ignoring c) e input (request_offer c e.connection input) (row_in c e.connection input) refl rising (at_number c m e there) (stands e refl) holds

@@ -307,7 +307,7 @@ what_numbered true source whats.Down c numbered =
     (each_numbered (told (break_of source)) (told_numbered (break_of source)) (with_down source c) c.entries (same_numbers c (with_down source c) refl refl numbered))
 what_numbered false source what c numbered = same_numbers c (ignoring c).next refl refl numbered
 
-aged_numbered : (ms : ℕ) (c : Controller) → IsNumbered c → IsNumbered (all_aged ms c)
+pub aged_numbered : (ms : ℕ) (c : Controller) → IsNumbered c → IsNumbered (all_aged ms c)
 aged_numbered ms c numbered = record {
   rising = aged_rising ms c.entries numbered.rising;
   below = aged_below ms c.next_number c.entries numbered.below;

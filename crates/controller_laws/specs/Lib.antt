@@ -5,3 +5,7 @@ pub mod History
 pub mod Numbers
 pub mod Owning
 pub mod Uplink
+pub mod Using
+pub mod Reach
+pub mod Sending
+pub mod Concern

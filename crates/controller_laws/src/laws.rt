@@ -1,15 +1,21 @@
 ghost use Rattle.std.specs.Prelude.{ℕ, ◌≤◌, ◌<◌, List};
 ghost use Rattle.controller_laws.specs.Acts.{ActsOn};
+ghost use Rattle.controller_laws.specs.Concern.{FrameLeaves};
 ghost use Rattle.controller_laws.specs.Downlink.{DownlinkIsConserved};
 ghost use Rattle.controller_laws.specs.End.{IsThere, SilenceIsKept, StaysSilent};
 ghost use Rattle.controller_laws.specs.History.{connection_of};
 ghost use Rattle.controller_laws.specs.Owning.{LinkedOf, OwnsOpen};
 ghost use Rattle.controller_laws.specs.Uplink.{UplinkIsConserved};
+ghost use Rattle.controller_laws.specs.Reach.{GoesToUp};
+ghost use Rattle.controller_laws.specs.Sending.{ComesInOctets, SendsMessages};
+ghost use Rattle.controller_laws.specs.Using.{AreUsed};
+ghost use Rattle.std.specs.List.{AllByRecursion};
 ghost use Rattle.controller_table.specs.Controller.{is_up};
 ghost use Rattle.conn_messages.specs.declared.parameters.TheConstants.{SWITCH_LINK};
 ghost use Rattle.controller_laws.specs.Numbers.{IsNumbered};
 ghost use Rattle.controller_table.specs.declared.step.Step.{Step};
 ghost use Rattle.controller_table.specs.Life.{life};
+ghost use Rattle.ipa_framing.specs.declared.frame.Frame.{Frame as FrameValue};
 ghost use Rattle.settings.specs.Parameters.{AreAllowed, Parameters};
 
 /// Whatever comes, the numbers of the connections rise from 1 and are below that of the next one. It is a law on the
@@ -53,4 +59,30 @@ pub fn channels_are_owned()
         → OwnsOpen (life p steps).next.channels (life p steps).next.links number (connection_of (life p steps).next number) }
     ensures switch { (p : Parameters) (steps : List Step) (number : ℕ) → 1 ≤ number
         → LinkedOf (is_up (life p steps).next SWITCH_LINK) (connection_of (life p steps).next number) }
+{}
+
+/// A channel is in use by a connection exactly where it is the serving channel or the target of the connection, which is open:
+/// so by one at most. One that is releasing was a connection's, which may be gone. Of a link that is down, or isn't there, and
+/// of the switch's, all channels are free.
+pub fn channels_are_used()
+    ensures { (p : Parameters) (steps : List Step) → AreAllowed p → AreUsed (life p steps).next }
+{}
+
+/// Each frame that a step puts goes to a link that is there and is up after the step: none to the link that it breaks.
+pub fn frames_go_to_links_that_are_up()
+    ensures { (p : Parameters) (steps : List Step) (s : Step) → AreAllowed p → GoesToUp (life p steps).next s }
+{}
+
+/// Each frame that a step puts has 2,048 octets at most, so none is refused; and whoever gets it reads the message that was
+/// put, or it is PONG. The octets of a frame that came are below 256.
+pub fn frames_are_read_as_put()
+    ensures { (p : Parameters) (steps : List Step) (s : Step) → AreAllowed p → AllByRecursion ComesInOctets steps → ComesInOctets s
+        → SendsMessages (life p steps).next s }
+{}
+
+/// A frame concerns one connection at most: that of its channel or its reference, or the next one. Of any other the connection
+/// and its averages stay as they were, no frame is put for it, and the same channels are in use by it.
+pub fn others_are_left_alone()
+    ensures { (p : Parameters) (steps : List Step) (number source : ℕ) (frame : FrameValue) → AreAllowed p → 1 ≤ number
+        → FrameLeaves number (life p steps).next source frame }
 {}

@@ -1,0 +1,23 @@
+-- What a frame leaves of a connection that it doesn't concern.
+use Rattle.std.specs.Prelude.{◌≡◌, ◌≢◌, ◌↔◌, ℕ, [], Some}
+use Rattle.conn_messages.specs.declared.channel.Place.{Place}
+use Rattle.controller_laws.specs.History.{outs_for}
+use Rattle.controller_table.specs.declared.channel_state.ChannelState.TheVariants.{InUse}
+use Rattle.controller_table.specs.declared.step.Step.TheVariants.{Take}
+use Rattle.controller_table.specs.Controller.{Controller, Turn, channel_state}
+use Rattle.controller_table.specs.Life.{step}
+use Rattle.controller_table.specs.Ownership.{Leaves, concerned}
+use Rattle.controller_table.specs.Reading.{word_of}
+use Rattle.ipa_framing.specs.declared.frame.Frame.{Frame}
+use Rattle.relay_items.specs.declared.What.TheVariants as whats
+
+-- Its connection and averages are as they were, nothing is put for it, and the same channels are in use by it.
+pub record IsLeft (number : ℕ) (c : Controller) (t : Turn) : Type 0 where
+  pub entry : Leaves number c t.next
+  pub outs : outs_for number t.outs ≡ []
+  pub channels : (at : Place) → channel_state t.next at ≡ InUse number ↔ channel_state c at ≡ InUse number
+
+-- a frame of a source
+abbrev pub FrameLeaves : ℕ → Controller → ℕ → Frame → Type 0
+FrameLeaves number c source frame =
+    concerned c (word_of source frame) ≢ Some number → IsLeft number c (step c (Take (record { source = source; what = whats.Frame frame })))
