@@ -12,3 +12,4 @@ pub mod One
 pub mod Planning
 mod Reporting
 mod Stepping
+pub mod LifeLaws

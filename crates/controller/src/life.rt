@@ -1,7 +1,13 @@
-ghost use Rattle.std.specs.Prelude.{◌≡◌, IfOk, OnOk};
-ghost use Rattle.controller_table.specs.Controller.{each, new_controller};
+ghost use Rattle.std.specs.Prelude.{ℕ, ◌≡◌, ◌≤◌, IfOk, OnOk};
+ghost use Rattle.controller_laws.specs.Downlink.{DownlinkIsConserved};
+ghost use Rattle.controller_laws.specs.End.{SilenceIsKept};
+ghost use Rattle.controller_laws.specs.History.{connection_of};
+ghost use Rattle.controller_laws.specs.Owning.{OwnsOpen};
+ghost use Rattle.controller_laws.specs.Uplink.{UplinkIsConserved};
+ghost use Rattle.controller_table.specs.Controller.{each, new_controller, turn};
 ghost use Rattle.controller_table.specs.Life as words;
 ghost use Rattle.controller.specs.Doing.{Turns};
+ghost use Rattle.settings.specs.Parameters.{AreAllowed};
 
 use crate::controller::Controller;
 use conn_fsm::Outputs;
@@ -10,14 +16,38 @@ use octets::Memory;
 use settings::Settings;
 use std::alloc::Global;
 
-/// A controller with these settings over a list of steps: what it is then, and what it put. An `Err` is want of memory.
-#[tactic(auto, unfolding(controller_table::specs::Life::life))]
+/// A controller with these settings over a list of steps: what it is then, and what it put, which are those of its life
+/// (`life`). So the laws of a life hold of them. An `Err` is want of memory.
 pub fn run(
     alloc: Global,
     settings: Settings,
     steps: Vec<Step>,
 ) -> Result<(Controller, Outputs), Memory>
-    ensures { IfOk result (λ both. (both.0 ≡ (words.life settings steps.items).next) × (both.1.outs ≡ (words.life settings steps.items).outs)) }
+    ensures life { IfOk result (λ both. (both.0 ≡ (words.life settings steps.items).next) × (both.1.outs ≡ (words.life settings steps.items).outs)) }
+
+    // Of each connection while it is open, and of each SAPI: what was relayed to the switch, then what is held, is what came on
+    // its channels; what was handed to the mobile, then what is held, is what the switch sent and wasn't rejected.
+    ensures uplink { IfOk result (λ both. (number : ℕ) → 1 ≤ number → UplinkIsConserved number settings steps.items (turn both.1.outs both.0)) }
+    ensures downlink { IfOk result (λ both. (number : ℕ) → 1 ≤ number → DownlinkIsConserved number settings steps.items (turn both.1.outs both.0)) }
+
+    // Nothing is handed while its channel changes, and nothing is relayed or handed once it is closed.
+    ensures silence { IfOk result (λ both. (number : ℕ) → 1 ≤ number → SilenceIsKept number settings steps.items (turn both.1.outs both.0)) }
+
+    // Its channels are its own.
+    ensures channels { IfOk result (λ both. (number : ℕ) → OwnsOpen both.0.channels both.0.links number (connection_of both.0 number)) }
+{
+    live(alloc, settings, steps)
+}
+
+// One step after the other.
+#[tactic(auto, unfolding(controller_table::specs::Life::life))]
+fn live(
+    alloc: Global,
+    settings: Settings,
+    steps: Vec<Step>,
+) -> Result<(Controller, Outputs), Memory>
+    ensures life { IfOk result (λ both. (both.0 ≡ (words.life settings steps.items).next) × (both.1.outs ≡ (words.life settings steps.items).outs)) }
+    ensures allowed { AreAllowed settings }
 {
     let mut controller = Controller::new(alloc, settings)?;
     let mut outputs = Outputs::new(alloc);

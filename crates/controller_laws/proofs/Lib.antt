@@ -30,7 +30,6 @@ pub mod UplinkLife
 mod UplinkRows
 pub mod SilenceLife
 pub mod UsualRows
-pub mod Seen
 pub mod Reaching
 pub mod UsingRows
 pub mod UsingGoes
@@ -41,3 +40,4 @@ pub mod SoundRows
 pub mod SoundLife
 pub mod Concerning
 mod UsedRows
+pub mod SeenFrames

@@ -489,3 +489,15 @@ unfolding life
 life_sends p steps s allowed octets own =
     (step_sound (each step (new_controller p) steps).next s own (life_ready p steps allowed)
     (sound_run (new_controller p) steps octets (λ n from_one. new_fits n p) (new_holds p allowed) (new_uses p) (new_sound p allowed))).sent
+
+sent_run : (c : Controller) (steps : List Step) → AllByRecursion ComesInOctets steps → ((n : ℕ) → 1 ≤ n → Fits n c) → Holds c.links c → Uses c.links c.links c → IsSoundAll c → AllByRecursion IsSent (each step c steps).outs
+sent_run c [] octets fits holds uses sound = tt
+sent_run c (s ∷ ss) octets fits holds uses sound =
+    let after = run_step c s fits holds uses in
+    let turn_sound = step_sound c s octets.0 (ready_by c fits holds uses) sound in
+    all_both IsSent (step c s).outs (each step (step c s).next ss).outs turn_sound.sent (sent_run (step c s).next ss octets.1 after.fits after.holds after.uses turn_sound.sound)
+
+-- all frames of a life
+pub life_sends_all : (p : Parameters) (steps : List Step) → AreAllowed p → AllByRecursion ComesInOctets steps → AllByRecursion IsSent (life p steps).outs
+unfolding life
+life_sends_all p steps allowed octets = sent_run (new_controller p) steps octets (λ n from_one. new_fits n p) (new_holds p allowed) (new_uses p) (new_sound p allowed)

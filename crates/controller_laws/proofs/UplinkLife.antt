@@ -4,6 +4,7 @@ use Rattle.std.specs.List.{flat_map}
 use Rattle.conn_messages.specs.declared.channel.Channel.{Channel}
 use Rattle.conn_messages.specs.declared.message.Message.{Message}
 use Rattle.conn_messages.specs.declared.parameters.TheConstants.{SWITCH_LINK}
+use Rattle.conn_messages.specs.Out.{outs_of}
 use Rattle.conn_messages.specs.StationMessage.{access_activation}
 use Rattle.conn_table.proofs.StandingSteps.{by_state}
 use Rattle.conn_table.specs.declared.state.Drain.{Drain}
@@ -13,12 +14,12 @@ use Rattle.conn_table.specs.declared.state.State.TheVariants.{WaitActivation, Wa
 use Rattle.conn_table.specs.Connection.{Connection, new_connection}
 use Rattle.conn_table.specs.Roles.{roles_of, target_channels, target_role}
 use Rattle.conn_table.specs.Standing.{Stands}
-use Rattle.conn_table.specs.Streams.{AreApart, IsOpen, relayed, still_of, target_in, undone, used_channels}
+use Rattle.conn_table.specs.Streams.{AreApart, IsOpen, OfRow, relayed, still_of, target_in, undone, used_channels}
 use Rattle.conn_table.specs.Timers.{after_pass}
 use Rattle.controller_laws.specs.Acts.{Acts, Brought, FitsNone, IsAged, brought_in, kept_in}
 use Rattle.controller_laws.specs.Acts.Acts.{ages, goes, opens, rests}
 use Rattle.controller_laws.specs.End.{IsThere}
-use Rattle.controller_laws.specs.History.{Moment, all_messages, connection_of, word_in}
+use Rattle.controller_laws.specs.History.{Moment, all_messages, connection_of, outs_for, word_in}
 use Rattle.controller_laws.specs.Owning.{Owns, OwnsOpen, used_in}
 use Rattle.controller_laws.specs.Uplink.{Tenure, UplinkIsConserved, after_moment, after_word, joined, service}
 use Rattle.controller_laws.proofs.Beside.{step_goes}
@@ -30,15 +31,18 @@ use Rattle.controller_laws.proofs.FollowingTable.{UpIn, row_up}
 use Rattle.controller_laws.proofs.Lives.{life_fits}
 use Rattle.controller_laws.proofs.OwningLife.{AllFine, fine_at, new_holds, step_holds}
 use Rattle.controller_laws.proofs.OwningWords.{Holds}
+use Rattle.controller_laws.proofs.SeenFrames.{forwarded_seen}
 use Rattle.controller_laws.proofs.Silence.{same_state}
+use Rattle.controller_laws.proofs.SoundLife.{life_sends_all}
 use Rattle.controller_laws.proofs.Switched.{IsBegun, some_begun, was}
 use Rattle.controller_laws.proofs.Tenures.{joined_none}
 use Rattle.controller_laws.proofs.Turns.{step_does}
+use Rattle.controller_laws.proofs.UsualRows.{AreUsual, PutsUsual, usual_join, usual_row}
 use Rattle.controller_table.specs.declared.step.Step.{Step}
 use Rattle.controller_table.specs.declared.word.Word.{Word}
-use Rattle.controller_table.specs.Controller.{Controller, Entry, each, entry_of, is_up, new_controller}
+use Rattle.controller_table.specs.Controller.{Controller, Entry, Turn, each, entry_of, is_up, new_controller}
 use Rattle.controller_table.specs.Life.{life, step}
-use Rattle.controller_table.specs.Views.{held_up_for}
+use Rattle.controller_table.specs.Views.{held_up, held_up_for}
 use Rattle.dtap_codec.specs.declared.sapi.Sapi.{Sapi}
 use Rattle.dtap_codec.specs.declared.sapi.Sapi.TheVariants.{Zero, Three}
 use Rattle.hold_queue.specs.ChainState.{Tenure as HeldTenure, empty_tenure, tenure_messages}
@@ -214,15 +218,49 @@ new_agrees : (number : ℕ) (p : Parameters) → AgreesUp number 1 [] [] (connec
 unfolding AgreesUp
 new_agrees number p = λ less. (refl, refl)
 
-pub life_conserves_up : (p : Parameters) (steps : List Step) (number : ℕ) → AreAllowed p → 1 ≤ number → UplinkIsConserved number p steps (life p steps)
+frames_in_life : (p : Parameters) (steps : List Step) (number : ℕ) (from_one : 1 ≤ number) → outs_for number (life p steps).outs ≡ outs_of number (all_messages (moments_of number (new_controller p) from_one (new_fits number p) steps))
 unfolding life
+frames_in_life p steps number from_one = frames_of number (new_controller p) from_one (new_fits number p) steps
+
+uplink_in_life : (p : Parameters) (steps : List Step) (number : ℕ) → AreAllowed p → (from_one : 1 ≤ number) → IsThere (connection_of (life p steps).next number) → (sapi : Sapi) →
+    relayed sapi (all_messages (moments_of number (new_controller p) from_one (new_fits number p) steps)) ++ held_up (life p steps).next number sapi ≡ joined sapi (service (moments_of number (new_controller p) from_one (new_fits number p) steps))
+unfolding life
+uplink_in_life p steps number allowed from_one there sapi =
+    let last : Controller = (each step (new_controller p) steps).next in
+    conserved number last.next_number (moments_of number (new_controller p) from_one (new_fits number p) steps) (entry_of last number) sapi (life_fits p steps number from_one).fine
+    (up_run number (new_controller p) from_one (λ n first. new_fits n p) (new_holds p allowed) [] [] steps (new_agrees number p)) there
+
+-- ---- what is read from the frames
+
+acts_usual : (number next : ℕ) (up : Bool) (brought : Brought) (before after : Option Connection) (put : List Message) → Acts number next up brought before put after → AreUsual put
+acts_usual number next up brought before after put (rests silent same none) = subst AreUsual (sym silent) tt
+acts_usual number next up brought before after put (ages old s is_time is aged silent same) = subst AreUsual (sym silent) tt
+acts_usual number next up brought before after put (opens begins linked channel request delay is_nothing none put_is same) = subst AreUsual (sym put_is) (tt, tt)
+acts_usual number next up brought before after put (goes old s input offer r is aged by fits put_is same) = subst AreUsual (sym put_is) (subst (OfRow PutsUsual) fits (usual_row s input offer))
+
+usual_run : (number : ℕ) (c : Controller) (from_one : 1 ≤ number) (fits : Fits number c) (steps : List Step) → AreUsual (all_messages (moments_of number c from_one fits steps))
+unfolding moments_of
+usual_run number c from_one fits [] = tt
+usual_run number c from_one fits (s ∷ ss) =
+    let does = step_does number c s from_one fits.numbered in
+    let next = step_fits number c s from_one fits in
+    usual_join does.put (all_messages (moments_of number (step c s).next from_one next ss))
+    (acts_usual number c.next_number (is_up c SWITCH_LINK) (brought_in c number s) (connection_of c number) (connection_of (step c s).next number) does.put does.acts)
+    (usual_run number (step c s).next from_one next ss)
+
+pub life_conserves_up : (p : Parameters) (steps : List Step) (number : ℕ) → AreAllowed p → 1 ≤ number → UplinkIsConserved number p steps (life p steps)
 life_conserves_up p steps number allowed from_one =
     let moments : List Moment = moments_of number (new_controller p) from_one (new_fits number p) steps in
-    let last : Controller = (each step (new_controller p) steps).next in
+    let whole : Turn = life p steps in
+    let frames = frames_in_life p steps number from_one in
+    let uplink = uplink_in_life p steps number allowed from_one in
     record {
       moments = moments;
       history = history_of number (new_controller p) from_one (new_fits number p) steps;
-      frames = frames_of number (new_controller p) from_one (new_fits number p) steps;
-      uplink = λ there sapi. conserved number last.next_number moments (entry_of last number) sapi (life_fits p steps number from_one).fine
-          (up_run number (new_controller p) from_one (λ n first. new_fits n p) (new_holds p allowed) [] [] steps (new_agrees number p)) there;
+      frames = frames;
+      uplink = uplink;
+      read = λ octets there sapi.
+          ap (λ (xs : List (List ℕ)). xs ++ held_up whole.next number sapi)
+          (forwarded_seen number whole.outs (all_messages moments) from_one frames (usual_run number (new_controller p) from_one (new_fits number p) steps) (life_sends_all p steps allowed octets) sapi)
+          ∙ uplink there sapi;
     }

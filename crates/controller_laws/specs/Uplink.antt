@@ -1,6 +1,6 @@
 -- The mobile's messages of a connection: those of its tenures.
 use Rattle.std.specs.Prelude.{◌≡◌, ℕ, ◌==◌, ◌&&◌, ◌||◌, not, Bool, true, false, if◌then◌else◌, List, [], ◌∷◌, ◌++◌, fold, map, Some}
-use Rattle.std.specs.List.{flat_map}
+use Rattle.std.specs.List.{AllByRecursion, flat_map}
 use Rattle.conn_messages.specs.declared.channel.Place.{Place}
 use Rattle.conn_messages.specs.declared.message.Message.{Message}
 use Rattle.conn_messages.specs.declared.message.Message.TheVariants.{Data}
@@ -15,10 +15,11 @@ use Rattle.controller_table.specs.declared.step.Step.{Step}
 use Rattle.controller_table.specs.declared.word.Word.{Word}
 use Rattle.controller_table.specs.declared.word.Word.TheVariants.{OnChannel}
 use Rattle.controller_table.specs.Controller.{Turn, new_controller}
-use Rattle.controller_table.specs.Views.{held_up}
+use Rattle.controller_table.specs.Views.{forwarded, held_up}
 use Rattle.controller_laws.specs.Downlink.{requests}
 use Rattle.controller_laws.specs.End.{IsThere}
 use Rattle.controller_laws.specs.History.{IsHistory, Moment, all_messages, connection_of, outs_for, word_in}
+use Rattle.controller_laws.specs.Sending.{ComesInOctets}
 use Rattle.dtap_codec.specs.declared.sapi.Sapi.{Sapi}
 use Rattle.dtap_codec.specs.declared.sapi.Sapi.TheVariants.{Zero, Three}
 use Rattle.settings.specs.Parameters.{Parameters}
@@ -118,10 +119,13 @@ messages_on sapi list = flat_map (passed_by sapi) list
 -- ---- the law
 
 -- There are messages, step by step, of which the connection's frames are, and while it is open, per SAPI, what was relayed, then
--- what is held, is what came on its tenures, in the order in which they came to serve.
+-- what is held, is what came on its tenures, in the order in which they came to serve. What was relayed is what is read from the
+-- frames to the switch, where what came was octets.
 pub record UplinkIsConserved (number : ℕ) (p : Parameters) (steps : List Step) (life : Turn) : Type 0 where
   pub moments : List Moment
   pub history : IsHistory number (new_controller p) steps moments
   pub frames : outs_for number life.outs ≡ outs_of number (all_messages moments)
   pub uplink : IsThere (connection_of life.next number) → (sapi : Sapi) →
       relayed sapi (all_messages moments) ++ held_up life.next number sapi ≡ joined sapi (service moments)
+  pub read : AllByRecursion ComesInOctets steps → IsThere (connection_of life.next number) → (sapi : Sapi) →
+      messages_on sapi (forwarded life.outs number) ++ held_up life.next number sapi ≡ joined sapi (service moments)

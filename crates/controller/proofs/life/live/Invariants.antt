@@ -2,7 +2,7 @@ use Rattle.std.specs.Vec.Iter.{into_iter_items}
 use Rattle.controller_table.specs.Controller.{each, new_controller}
 use Rattle.controller_table.specs.Life as words
 use Rattle.controller.proofs.Lives.{Ends}
-use Rattle.controller.proofs.life.run.Given as goal
+use Rattle.controller.proofs.life.live.Given as goal
 
 abbrev pub invariant-loop-step : goal.invariant-loop-step
 invariant-loop-step l =

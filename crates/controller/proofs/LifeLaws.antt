@@ -1,0 +1,36 @@
+-- The laws of a life hold of what is what it is.
+use Rattle.std.proofs.Common.{◌≡◌, ℕ, ◌≤◌, List, Result, Ok, Err, IfOk, sym, subst, ap, ◌∙◌}
+use Rattle.conn_messages.specs.declared.out.Out.{Out}
+use Rattle.controller_laws.specs.Downlink.{DownlinkIsConserved}
+use Rattle.controller_laws.specs.End.{SilenceIsKept}
+use Rattle.controller_laws.specs.History.{connection_of}
+use Rattle.controller_laws.specs.Owning.{OwnsOpen}
+use Rattle.controller_laws.specs.Uplink.{UplinkIsConserved}
+use Rattle.controller_laws.proofs.DownlinkLife.{life_conserves}
+use Rattle.controller_laws.proofs.OwningLife.{life_owns}
+use Rattle.controller_laws.proofs.SilenceLife.{life_is_silent}
+use Rattle.controller_laws.proofs.UplinkLife.{life_conserves_up}
+use Rattle.controller_table.specs.declared.step.Step.{Step}
+use Rattle.controller_table.specs.Controller.{Controller, turn}
+use Rattle.controller_table.specs.Life.{life}
+use Rattle.settings.specs.Parameters.{AreAllowed, Parameters}
+
+-- what follows from what an answer is
+pub if_so : {A E : Type 0} (P Q : A → Type 0) (r : Result A E) → ((x : A) → P x → Q x) → IfOk r P → IfOk r Q
+if_so P Q (Ok x) follows is = follows x is
+if_so P Q (Err e) follows is = tt
+
+pub lived : (p : Parameters) (steps : List Step) (c : Controller) (outs : List Out) → (c ≡ (life p steps).next) × (outs ≡ (life p steps).outs) → life p steps ≡ turn outs c
+lived p steps c outs is = ap (λ (os : List Out). turn os (life p steps).next) (sym is.1) ∙ ap (turn outs) (sym is.0)
+
+pub uplink_of : (p : Parameters) (steps : List Step) (c : Controller) (outs : List Out) → AreAllowed p → (c ≡ (life p steps).next) × (outs ≡ (life p steps).outs) → (number : ℕ) → 1 ≤ number → UplinkIsConserved number p steps (turn outs c)
+uplink_of p steps c outs allowed is number from_one = subst (UplinkIsConserved number p steps) (lived p steps c outs is) (life_conserves_up p steps number allowed from_one)
+
+pub downlink_of : (p : Parameters) (steps : List Step) (c : Controller) (outs : List Out) → (c ≡ (life p steps).next) × (outs ≡ (life p steps).outs) → (number : ℕ) → 1 ≤ number → DownlinkIsConserved number p steps (turn outs c)
+downlink_of p steps c outs is number from_one = subst (DownlinkIsConserved number p steps) (lived p steps c outs is) (life_conserves p steps number from_one)
+
+pub silence_of : (p : Parameters) (steps : List Step) (c : Controller) (outs : List Out) → (c ≡ (life p steps).next) × (outs ≡ (life p steps).outs) → (number : ℕ) → 1 ≤ number → SilenceIsKept number p steps (turn outs c)
+silence_of p steps c outs is number from_one = subst (SilenceIsKept number p steps) (lived p steps c outs is) (life_is_silent p steps number from_one)
+
+pub channels_of : (p : Parameters) (steps : List Step) (c : Controller) (outs : List Out) → AreAllowed p → (c ≡ (life p steps).next) × (outs ≡ (life p steps).outs) → (number : ℕ) → OwnsOpen c.channels c.links number (connection_of c number)
+channels_of p steps c outs allowed is number = subst (λ (d : Controller). OwnsOpen d.channels d.links number (connection_of d number)) (sym is.0) (life_owns p steps number allowed)

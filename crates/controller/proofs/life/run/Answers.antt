@@ -1,0 +1,14 @@
+use Rattle.controller.proofs.LifeLaws.{channels_of, downlink_of, if_so, silence_of, uplink_of}
+use Rattle.controller.proofs.life.run.Goals as goal
+
+pub returns-clause-uplink : goal.returns-clause-uplink
+returns-clause-uplink c = if_so _ _ c.live.result (λ both is. uplink_of c.args.settings c.args.steps.items both.0 both.1.outs c.live.ensures.allowed is) c.live.ensures.life
+
+pub returns-clause-downlink : goal.returns-clause-downlink
+returns-clause-downlink c = if_so _ _ c.live.result (λ both is. downlink_of c.args.settings c.args.steps.items both.0 both.1.outs is) c.live.ensures.life
+
+pub returns-clause-silence : goal.returns-clause-silence
+returns-clause-silence c = if_so _ _ c.live.result (λ both is. silence_of c.args.settings c.args.steps.items both.0 both.1.outs is) c.live.ensures.life
+
+pub returns-clause-channels : goal.returns-clause-channels
+returns-clause-channels c = if_so _ _ c.live.result (λ both is. channels_of c.args.settings c.args.steps.items both.0 both.1.outs c.live.ensures.allowed is) c.live.ensures.life
