@@ -21,3 +21,4 @@ pub mod Soundness
 mod StationRows
 pub mod Worlds
 pub mod Ticketing
+mod TicketRows
