@@ -35,3 +35,4 @@ pub mod SoundRows
 pub mod SoundLife
 pub mod Concerning
 mod UsedRows
+pub mod Keeping
