@@ -41,3 +41,4 @@ pub mod SoundLife
 pub mod Concerning
 mod UsedRows
 pub mod SeenFrames
+pub mod Keeping

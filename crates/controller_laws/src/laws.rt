@@ -81,7 +81,7 @@ pub fn frames_are_read_as_put()
 {}
 
 /// A frame concerns one connection at most: that of its channel or its reference, or the next one. Of any other the connection
-/// and its averages stay as they were, no frame is put for it, and the same channels are in use by it.
+/// and its averages stay as they were, no frame is put for it, and its channels stay as they were, in use or releasing.
 pub fn others_are_left_alone()
     ensures { (p : Parameters) (steps : List Step) (number source : ℕ) (frame : FrameValue) → AreAllowed p → 1 ≤ number
         → FrameLeaves number (life p steps).next source frame }

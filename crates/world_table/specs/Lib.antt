@@ -13,3 +13,4 @@ pub mod Lives
 pub mod Reading
 pub mod Sized
 pub mod Takes
+pub mod Tickets
