@@ -1,3 +1,4 @@
 pub mod Reading
 pub mod Gathering
 pub mod Answering
+mod Rows
