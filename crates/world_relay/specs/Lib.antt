@@ -1,0 +1,3 @@
+pub mod RelayState
+pub mod Links
+pub mod Relay
