@@ -1,0 +1,11 @@
+pub mod Spots
+pub mod Framing
+pub mod Projecting
+pub mod Seeing
+pub mod Apart
+pub mod AirUp
+pub mod Quiet
+pub mod OwnMobile
+pub mod OwnMoves
+pub mod MobileEvents
+pub mod BesideRelay

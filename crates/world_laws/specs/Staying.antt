@@ -1,0 +1,32 @@
+-- A connection stays lined up at an event.
+use Rattle.std.specs.Prelude.{◌≡◌, ℕ, Bool, true, false, List, Some}
+use Rattle.conn_table.specs.Connection.{Connection}
+use Rattle.settings.specs.Parameters.{Parameters}
+use Rattle.world_table.specs.declared.event.Event.{Event}
+use Rattle.world_table.specs.declared.event.Event.TheVariants.{BaseTakes, Handle, SwitchTakes, Tick, BaseDown}
+use Rattle.world_table.specs.Life.{actors_after, actors_after_all}
+use Rattle.world_table.specs.World.{Actors, Mobile, mobile_of, modulus_in, new_actors}
+use Rattle.world_laws.specs.Seated.{IsAlone, LinedUp}
+
+-- the mobile of this number and the connection are lined up
+pub record AreLinedUp (m : ℕ) (w : Actors) (mobile : ℕ) (s : Connection) : Type 0 where
+  pub one : Mobile
+  pub found : mobile_of w mobile ≡ Some one
+  pub lined : LinedUp m w one s
+
+-- The events in which neither the controller nor its outboxes take part, and no link breaks: what mobiles do, what stations take
+-- from them and give to the inbox, and what the switch does of its own.
+abbrev pub is_beside_relay : Event → Bool
+is_beside_relay (BaseTakes station) = false
+is_beside_relay Handle = false
+is_beside_relay SwitchTakes = false
+is_beside_relay (Tick ms) = false
+is_beside_relay (BaseDown source) = false
+is_beside_relay _ = true
+
+-- whatever happened before
+abbrev pub MobilesKeepLineUps : Parameters → List Event → Event → Type 0
+MobilesKeepLineUps settings events event =
+    (mobile : ℕ) (s : Connection) → is_beside_relay event ≡ true → IsAlone (actors_after_all (new_actors settings) events) mobile s
+    → AreLinedUp (modulus_in settings) (actors_after_all (new_actors settings) events) mobile s
+    → AreLinedUp (modulus_in settings) (actors_after (actors_after_all (new_actors settings) events) event) mobile s
