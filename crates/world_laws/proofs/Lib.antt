@@ -1,5 +1,6 @@
 pub mod Spots
 pub mod Framing
+pub mod Likening
 pub mod Projecting
 pub mod Seeing
 pub mod Apart
@@ -9,3 +10,6 @@ pub mod OwnMobile
 pub mod OwnMoves
 pub mod MobileEvents
 pub mod BesideRelay
+pub mod Sublists
+pub mod BaseTakes
+pub mod StationTakes

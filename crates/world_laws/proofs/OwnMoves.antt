@@ -55,7 +55,7 @@ use Rattle.world_laws.proofs.Seeing.{SameTenures, Sits-same, Leads-same, SeesSam
 
 -- ---- fewer commands on their way
 
-alive-fewer : {m : ℕ} (l : LineUp) (n : ℕ) → n ≤ l.commands → Alive m l → Alive m (record l { commands = n })
+pub alive-fewer : {m : ℕ} (l : LineUp) (n : ℕ) → n ≤ l.commands → Alive m l → Alive m (record l { commands = n })
 alive-fewer l n fewer alive = record {
   follows = alive.follows;
   first = alive.first;

@@ -1,5 +1,5 @@
 -- What is on its way up from a channel, as stations make messages and the inbox gets them.
-use Rattle.std.proofs.Common.{◌≡◌, ◌≢◌, ℕ, ◌==◌, nat_eq, Bool, true, false, cond, if◌then◌else◌, List, [], ◌∷◌, ◌++◌, unwrap_or, Option, Some, None, Result, Ok, refl, sym, ap, ◌∙◌, append_assoc, inl, inr, ◌⊎◌}
+use Rattle.std.proofs.Common.{◌≡◌, ◌≢◌, ℕ, ◌==◌, nat_eq, Bool, true, false, cond, if◌then◌else◌, List, [], ◌∷◌, ◌++◌, unwrap_or, Option, Some, None, Result, Ok, refl, subst, sym, ap, ◌∙◌, append_assoc, inl, inr, ◌⊎◌}
 use Rattle.std.specs.List.{flat_map}
 use Rattle.std.specs.Result.{result_ok}
 use Rattle.std.proofs.lemmas.Bool.{cases_Bool, eqb-true, eqb-false}
@@ -42,9 +42,10 @@ active-there w at active nowhere = absurd (impossible (sym (ap (λ (b : BaseStat
 pub coming-same : (w v : Actors) (at : Place) → v.inbox ≡ w.inbox → base_of v at.station ≡ base_of w at.station → coming_up v at ≡ coming_up w at
 coming-same w v at inbox base = ap (λ (items : List Item). flat_map (brings_in at) items ++ made_of at.number (base_of v at.station).messages) inbox ∙ ap (λ (b : BaseState). flat_map (brings_in at) w.inbox ++ made_of at.number b.messages) base
 
-pub coming-told : (w u : Actors) (station : ℕ) (at : Place) (base : BaseState) (messages : List Rsl) → at.station ≢ 0 → is_station_up w station ≡ true → SameEnds w u → u.inbox ≡ w.inbox → base.messages ≡ (base_of w station).messages ++ messages → IsMade w station at messages
+-- where the end has these messages more
+coming-more : (w u : Actors) (station : ℕ) (at : Place) (base : BaseState) (messages : List Rsl) → at.station ≢ 0 → is_station_up w station ≡ true → SameEnds w u → u.inbox ≡ w.inbox → made_of at.number (base_of (with_base station base u) station).messages ≡ made_of at.number (base_of w station).messages ++ made_of at.number messages
     → coming_up (with_base station base u) at ≡ coming_up w at ++ added_by at station messages
-coming-told w u station at base messages at_is up same inbox told made =
+coming-more w u station at base messages at_is up same inbox made_now =
     elim (cases_Bool (nat_eq station at.station)) [
       | inl here ↦ at_it (eqb-true station at.station here) ∙ ap (λ (b : Bool). coming_up w at ++ cond b (made_of at.number messages) []) (sym here)
       | inr other ↦
@@ -54,19 +55,6 @@ coming-told w u station at base messages at_is up same inbox told made =
       v : Actors
       v = with_base station base u
 
-      there : base_of v station ≡ base → made_of at.number (base_of v station).messages ≡ made_of at.number (base_of w station).messages ++ made_of at.number messages
-      there is = ap (λ (b : BaseState). made_of at.number b.messages) is ∙ ap (made_of at.number) told ∙ made-append at.number (base_of w station).messages messages
-
-      nowhere : base_of v station ≡ no_station.base → base_of w station ≡ no_station.base → IsMade w station at messages → made_of at.number (base_of v station).messages ≡ made_of at.number (base_of w station).messages ++ made_of at.number messages
-      nowhere now before (inl is) = absurd (is before)
-      nowhere now before (inr nothing) = ap (λ (b : BaseState). made_of at.number b.messages) (now ∙ sym before) ∙ sym (append-nil (made_of at.number (base_of w station).messages)) ∙ ap (λ (xs : List Brought). made_of at.number (base_of w station).messages ++ xs) (sym nothing)
-
-      made_now : made_of at.number (base_of v station).messages ≡ made_of at.number (base_of w station).messages ++ made_of at.number messages
-      made_now = elim (base-there u station base) [
-        | inl is ↦ there is
-        | inr is ↦ nowhere is.0 (sym (same station) ∙ is.1) made
-      ]
-
       at_it : station ≡ at.station → coming_up v at ≡ coming_up w at ++ made_of at.number messages
       at_it is =
           ap (λ (items : List Item). flat_map (brings_in at) items ++ made_of at.number (base_of v at.station).messages) inbox
@@ -74,6 +62,39 @@ coming-told w u station at base messages at_is up same inbox told made =
           ∙ ap (λ (xs : List Brought). flat_map (brings_in at) w.inbox ++ xs) made_now
           ∙ sym (append_assoc (flat_map (brings_in at) w.inbox) (made_of at.number (base_of w station).messages) (made_of at.number messages))
           ∙ ap (λ (n : ℕ). flat_map (brings_in at) w.inbox ++ made_of at.number (base_of w n).messages ++ made_of at.number messages) is
+
+told-there : (w : Actors) (v : Actors) (station : ℕ) (at : Place) (base : BaseState) (messages : List Rsl) → base.messages ≡ (base_of w station).messages ++ messages → base_of v station ≡ base → made_of at.number (base_of v station).messages ≡ made_of at.number (base_of w station).messages ++ made_of at.number messages
+told-there w v station at base messages told is = ap (λ (b : BaseState). made_of at.number b.messages) is ∙ ap (made_of at.number) told ∙ made-append at.number (base_of w station).messages messages
+
+pub coming-told : (w u : Actors) (station : ℕ) (at : Place) (base : BaseState) (messages : List Rsl) → at.station ≢ 0 → is_station_up w station ≡ true → SameEnds w u → u.inbox ≡ w.inbox → base.messages ≡ (base_of w station).messages ++ messages → IsMade w station at messages
+    → coming_up (with_base station base u) at ≡ coming_up w at ++ added_by at station messages
+coming-told w u station at base messages at_is up same inbox told made = coming-more w u station at base messages at_is up same inbox made_now where
+  v : Actors
+  v = with_base station base u
+
+  nowhere : base_of v station ≡ no_station.base → base_of w station ≡ no_station.base → IsMade w station at messages → made_of at.number (base_of v station).messages ≡ made_of at.number (base_of w station).messages ++ made_of at.number messages
+  nowhere now before (inl is) = absurd (is before)
+  nowhere now before (inr nothing) = ap (λ (b : BaseState). made_of at.number b.messages) (now ∙ sym before) ∙ sym (append-nil (made_of at.number (base_of w station).messages)) ∙ ap (λ (xs : List Brought). made_of at.number (base_of w station).messages ++ xs) (sym nothing)
+
+  made_now : made_of at.number (base_of v station).messages ≡ made_of at.number (base_of w station).messages ++ made_of at.number messages
+  made_now = elim (base-there u station base) [
+    | inl is ↦ told-there w v station at base messages told is
+    | inr is ↦ nowhere is.0 (sym (same station) ∙ is.1) made
+  ]
+
+-- the messages join what its station made, if it is there
+pub coming-told-or : (w u : Actors) (station : ℕ) (at : Place) (base : BaseState) (messages : List Rsl) → at.station ≢ 0 → is_station_up w station ≡ true → SameEnds w u → u.inbox ≡ w.inbox → base.messages ≡ (base_of w station).messages ++ messages
+    → (coming_up (with_base station base u) at ≡ coming_up w at ++ added_by at station messages) ⊎ (coming_up (with_base station base u) at ≡ coming_up w at)
+coming-told-or w u station at base messages at_is up same inbox told =
+    elim (base-there u station base) [
+      | inl is ↦ inl (coming-more w u station at base messages at_is up same inbox (told-there w (with_base station base u) station at base messages told is))
+      | inr is ↦ inr (coming-same w (with_base station base u) at inbox (ends is.0 is.1))
+    ] where
+      ends : base_of (with_base station base u) station ≡ no_station.base → base_of u station ≡ no_station.base → base_of (with_base station base u) at.station ≡ base_of w at.station
+      ends now before = elim (cases_Bool (nat_eq at.station station)) [
+        | inl here ↦ subst (λ (n : ℕ). base_of (with_base station base u) n ≡ base_of w n) (sym (eqb-true at.station station here)) (now ∙ sym before ∙ same station)
+        | inr other ↦ base-elsewhere u at.station station base at_is (up-right station w up).0 (eqb-false at.station station other) ∙ same at.station
+      ]
 
 -- messages that bring nothing
 pub coming-quiet : (w u : Actors) (station : ℕ) (at : Place) (base : BaseState) (messages : List Rsl) → at.station ≢ 0 → is_station_up w station ≡ true → SameEnds w u → u.inbox ≡ w.inbox → base.messages ≡ (base_of w station).messages ++ messages → made_of at.number messages ≡ []

@@ -1,5 +1,5 @@
 -- Where the mobile of a connection is, and who else is on the connection's channels.
-use Rattle.std.specs.Prelude.{◌≡◌, ◌≢◌, ℕ, true, false, List, [], Option, Some, None, Result, Ok}
+use Rattle.std.specs.Prelude.{◌≡◌, ◌≢◌, ℕ, true, false, List, [], ◌∷◌, Option, Some, None, Result, Ok}
 use Rattle.std.specs.List.{AllByRecursion}
 use Rattle.conn_messages.specs.declared.channel.Change.{Change}
 use Rattle.conn_messages.specs.declared.channel.Change.TheVariants.{Assignment, Handover}
@@ -20,7 +20,7 @@ use Rattle.world_table.specs.declared.seat.Command.{Command}
 use Rattle.world_table.specs.declared.seat.Seat.{Seat}
 use Rattle.world_table.specs.declared.seat.Seat.TheVariants.{On, Moving, Gone}
 use Rattle.world_table.specs.declared.seat.Tenure.{Tenure}
-use Rattle.world_table.specs.World.{Actors, Mobile, mobile_of, tenure_at, is_reached}
+use Rattle.world_table.specs.World.{Actors, Mobile, mobile_of, tenure_at, is_active_at, is_reached}
 use Rattle.world_laws.specs.GoingDown.{going_down}
 use Rattle.world_laws.specs.LineUps.{commanded_target, line_up}
 
@@ -72,6 +72,14 @@ abbrev pub IsAlone : Actors → ℕ → Connection → Type 0
 IsAlone w mobile s =
     (other : ℕ) (q : Mobile) (tenure : Tenure) (command : Option Command) → other ≢ mobile → mobile_of w other ≡ Some q → q.seat ≡ On tenure command
     → is_reached w tenure ≡ true → IsElsewhere (used_channels s) tenure.at
+
+-- its serving channel, and the target to which its mobile was commanded, are active at their stations
+abbrev pub commanded_channels : Option Target → List Channel
+commanded_channels None = []
+commanded_channels (Some target) = target.channel ∷ []
+
+abbrev pub AreActive : Actors → Connection → Type 0
+AreActive w s = AllByRecursion (λ c. is_active_at w (place_of c) ≡ true) (s.serving ∷ commanded_channels (commanded_target s.state))
 
 -- ---- a connection and its mobile, lined up
 

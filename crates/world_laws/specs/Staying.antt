@@ -6,7 +6,7 @@ use Rattle.world_table.specs.declared.event.Event.{Event}
 use Rattle.world_table.specs.declared.event.Event.TheVariants.{BaseTakes, Handle, SwitchTakes, Tick, BaseDown}
 use Rattle.world_table.specs.Life.{actors_after, actors_after_all}
 use Rattle.world_table.specs.World.{Actors, Mobile, mobile_of, modulus_in, new_actors}
-use Rattle.world_laws.specs.Seated.{IsAlone, LinedUp}
+use Rattle.world_laws.specs.Seated.{AreActive, IsAlone, LinedUp}
 
 -- the mobile of this number and the connection are lined up
 pub record AreLinedUp (m : ℕ) (w : Actors) (mobile : ℕ) (s : Connection) : Type 0 where
@@ -30,3 +30,10 @@ MobilesKeepLineUps settings events event =
     (mobile : ℕ) (s : Connection) → is_beside_relay event ≡ true → IsAlone (actors_after_all (new_actors settings) events) mobile s
     → AreLinedUp (modulus_in settings) (actors_after_all (new_actors settings) events) mobile s
     → AreLinedUp (modulus_in settings) (actors_after (actors_after_all (new_actors settings) events) event) mobile s
+
+-- whatever happened before, where its channels are active
+abbrev pub StationsKeepLineUps : Parameters → List Event → ℕ → Type 0
+StationsKeepLineUps settings events station =
+    (mobile : ℕ) (s : Connection) → AreActive (actors_after_all (new_actors settings) events) s
+    → AreLinedUp (modulus_in settings) (actors_after_all (new_actors settings) events) mobile s
+    → AreLinedUp (modulus_in settings) (actors_after (actors_after_all (new_actors settings) events) (BaseTakes station)) mobile s
