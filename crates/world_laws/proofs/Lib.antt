@@ -13,3 +13,4 @@ pub mod BesideRelay
 pub mod Sublists
 pub mod BaseTakes
 pub mod StationTakes
+mod LineUpRows
