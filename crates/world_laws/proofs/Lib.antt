@@ -14,3 +14,4 @@ pub mod Sublists
 pub mod BaseTakes
 pub mod StationTakes
 mod LineUpRows
+pub mod StillToCome
