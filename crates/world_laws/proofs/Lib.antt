@@ -15,3 +15,4 @@ pub mod BaseTakes
 pub mod StationTakes
 mod LineUpRows
 pub mod StillToCome
+pub mod SwitchTakes

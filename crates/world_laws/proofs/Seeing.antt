@@ -56,7 +56,7 @@ pub record SeesSame (w v : Actors) (s : Connection) : Type 0 where
   pub waiting : waiting_of v s.number ≡ waiting_of w s.number
   pub taken : taken_of v s.number ≡ taken_of w s.number
 
-none-same : (w v : Actors) (target : Option Target) → ((t : Target) → target ≡ Some t → going_down v (place_of t.channel) ≡ going_down w (place_of t.channel)) → NoneOn w target → NoneOn v target
+pub none-same : (w v : Actors) (target : Option Target) → ((t : Target) → target ≡ Some t → going_down v (place_of t.channel) ≡ going_down w (place_of t.channel)) → NoneOn w target → NoneOn v target
 none-same w v None same none = none
 none-same w v (Some target) same none = same target refl ∙ none
 
