@@ -46,7 +46,7 @@ use Rattle.world_table.specs.declared.limits.TheConstants.{MAX_TENURE}
 use Rattle.world_table.specs.declared.seat.Seat.{Seat}
 use Rattle.world_table.specs.declared.seat.Seat.TheVariants.{Asking, On, Moving, Gone}
 use Rattle.world_table.specs.declared.seat.Tenure.{Tenure}
-use Rattle.world_table.specs.Life.{event_after, actors_after}
+use Rattle.world_table.specs.Life.{event_after, actors_after, actors_after_all}
 use Rattle.world_table.specs.Mobiles.{may_send, sent_by, is_new, connected, told, channel_required, frame_in, signalling_brought, short_message_brought, framed, brought, hearing, remembering, controlled, reported, handover_detection, complete, failure, seated, reported_at, after_upper, after_connecting, after_air_up, after_air_ack, after_air_down, after_air_down_lost, after_move, after_touch, after_arriving, after_return, after_report}
 use Rattle.world_table.specs.Queues.{first_of, pushed, all_pushed}
 use Rattle.world_table.specs.Reading.{IsReadItem, AreRead}
@@ -64,12 +64,12 @@ use Rattle.world_table.proofs.Mobility.{back-all, behind-all, found-all}
 use Rattle.world_table.proofs.Sizing.{lent-sized, link-sized, queue-sized, frame-sized, acked-sized, arrival-sized, sendable-sized, initial-sized}
 use Rattle.world_table.proofs.Soundness.{IsSound, SoundEnd, Ends, sound-read, sound-tell, sound-activated, sound-released, sound-behind, active-lawful, ends-set, sound-request, sound-detection, sound-establishment, sound-initial, sound-data, sound-report, sound-answer}
 
-abbrev HasSizedEnd : Mobile → Type 0
+abbrev pub HasSizedEnd : Mobile → Type 0
 HasSizedEnd p = HasSized p.end
 
-record Good (w : Actors) : Type 0 where
-  ends : Ends w.stations
-  mobiles : AllByRecursion HasSizedEnd w.mobiles
+pub record Good (w : Actors) : Type 0 where
+  pub ends : Ends w.stations
+  pub mobiles : AllByRecursion HasSizedEnd w.mobiles
 
 good-mobile : (p : Mobile) (u : Actors) → HasSizedEnd p → Good u → Good (with_mobile p u)
 good-mobile p u sized good = record { ends = good.ends; mobiles = back-all HasSizedEnd p u.mobiles sized good.mobiles }
@@ -77,7 +77,7 @@ good-mobile p u sized good = record { ends = good.ends; mobiles = back-all HasSi
 good-base : (station : ℕ) (base : BaseState) (u : Actors) → SoundEnd base → Good u → Good (with_base station base u)
 good-base station base u sound good = record { ends = ends-set u.stations (station - 1) (record (station_of u station) { base = base }) sound good.ends; mobiles = good.mobiles }
 
-end-of : (u : Actors) (station : ℕ) → Good u → SoundEnd (base_of u station)
+pub end-of : (u : Actors) (station : ℕ) → Good u → SoundEnd (base_of u station)
 unfolding Ends
 end-of u station good = good.ends (station - 1)
 
@@ -198,7 +198,7 @@ rsl_in-lawful frame = by_stream (frame.stream == RSL_STREAM) where
 good-after : (w : Actors) (o : Option Actors) → Good w → OfTaken Good o → Good (unwrap_or o w)
 good-after w o good leads = after-taken Good o w leads good
 
-good-step : (w : Actors) (event : Event) → Good w → Good (actors_after w event)
+pub good-step : (w : Actors) (event : Event) → Good w → Good (actors_after w event)
 unfolding event_after FromAir OfTaken
 good-step w (Upper number sapi message) good = good-after w (after_upper w number sapi message) good
     (by_mobile-leads Good w number (sent_by w sapi message) (λ p found.
@@ -293,6 +293,13 @@ new-ends from k [] = record { channels = tt; made = tt }
 new-ends from zero (cell ∷ cells) = record { channels = tt; made = tt }
 new-ends from (suc k) (cell ∷ cells) = new-ends (from + 1) k cells
 
-pub AreRead-new : (settings : Parameters) (events : List Event) → AreRead settings events
+pub good-new : (settings : Parameters) → Good (new_actors settings)
 unfolding Ends
-AreRead-new settings events = read-all (new_actors settings) events (record { ends = λ k. new-ends 1 k settings.cells; mobiles = tt })
+good-new settings = record { ends = λ k. new-ends 1 k settings.cells; mobiles = tt }
+
+pub good-all : (w : Actors) (events : List Event) → Good w → Good (actors_after_all w events)
+good-all w [] good = good
+good-all w (event ∷ events) good = good-all (actors_after w event) events (good-step w event good)
+
+pub AreRead-new : (settings : Parameters) (events : List Event) → AreRead settings events
+AreRead-new settings events = read-all (new_actors settings) events (good-new settings)

@@ -1,0 +1,186 @@
+-- Connections stay lined up at every event in which the relay takes no part, whatever happened before.
+use Rattle.std.proofs.Common.{◌≡◌, ◌≢◌, ℕ, zero, suc, ◌-◌, nat_eq, Bool, true, false, if◌then◌else◌, cond, List, [], ◌∷◌, ◌++◌, find, unwrap_or, slice_set, slice_get, Option, Some, None, Ok, refl, ap, ◌∙◌, subst}
+use Rattle.std.specs.List.{AllByRecursion}
+use Rattle.std.proofs.lemmas.Bool.{eqb-false}
+use Rattle.bssmap_codec.specs.declared.bssap.Bssap.{Bssap}
+use Rattle.bssmap_codec.specs.declared.bssap.Bssap.TheVariants.{Transfer}
+use Rattle.bssmap_codec.specs.declared.sccp.Sccp.{Sccp}
+use Rattle.conn_messages.specs.declared.parameters.TheConstants.{SWITCH_LINK}
+use Rattle.conn_table.specs.Connection.{Connection}
+use Rattle.conn_table.specs.Streams.{used_channels}
+use Rattle.controller_table.specs.Controller.{place_of}
+use Rattle.link_model.specs.Base.{first_message, first_of_messages, after_next}
+use Rattle.msc_end.specs.declared.connection.Connection.{Connection as SwitchConnection}
+use Rattle.msc_end.specs.declared.connection.Stage.TheVariants.{Clearing}
+use Rattle.msc_end.specs.Switch.{after_clear, assignment_request, clear_command, connection_of, connections_after_clear, data_forms_on, dlci_for, with_stage}
+use Rattle.msc_end.specs.SwitchState.{SwitchState}
+use Rattle.rsl_codec.specs.declared.rsl.Rsl.{Rsl}
+use Rattle.rsl_codec.specs.RslReading.{rsl_reading}
+use Rattle.rsl_codec.specs.RslText.{rsl_text}
+use Rattle.settings.specs.Parameters.{Parameters}
+use Rattle.mobile_end.specs.Mobile.{new_mobile}
+use Rattle.mobile_end.specs.MobileState.{MobileState}
+use Rattle.mobile_end.proofs.Lives.{IsKept-calls}
+use Rattle.world_table.specs.declared.event.Event.{Event}
+use Rattle.world_table.specs.declared.event.Event.TheVariants.{Upper, Connect, AirUp, AirAck, AirDown, AirDownLost, Move, Touch, Arrive, Return, BaseTakes, BasePush, Handle, SwitchTakes, SwitchDoes, Tick, BaseDown, Report}
+use Rattle.world_table.specs.declared.event.SwitchAction.{SwitchAction}
+use Rattle.world_table.specs.declared.event.SwitchAction.TheVariants.{Assign, Clear, Dtap}
+use Rattle.world_table.specs.Life.{event_after, actors_after_all}
+use Rattle.world_table.specs.Relay.{station_item, switch_item, with_item, pushed_by_station, pushed_by_switch, after_base_push}
+use Rattle.world_table.specs.SwitchSide.{may_send_on, sent_on, is_layer_3, after_switch_does}
+use Rattle.world_table.specs.World.{Actors, Mobile, modulus_in, new_actors, base_of, with_base}
+use Rattle.world_table.specs.Lives.{Lives}
+use Rattle.world_table.proofs.Heard.{Good, end-of, good-new, good-all}
+use Rattle.world_table.proofs.Leads.{OfTaken, after-taken}
+use Rattle.world_table.proofs.Mobility.{MobilesLive-new}
+use Rattle.world_table.proofs.Soundness.{IsSound, sound-read}
+use Rattle.world_laws.specs.ComingUp.{coming_up}
+use Rattle.world_laws.specs.LineUps.{is_of_peer, taken_in, taken_of}
+use Rattle.world_laws.specs.Staying.{AreLinedUp, is_beside_relay, MobilesKeepLineUps}
+use Rattle.world_laws.proofs.Apart.{all-both}
+use Rattle.world_laws.proofs.MobileEvents.{Before, quiet-stays, upper-stays, ack-stays, frame-stays, heard-stays, lost-stays, move-stays, arrive-stays, return-stays, connect-stays, touch-stays, report-stays}
+use Rattle.world_laws.proofs.Projecting.{coming-pushed, coming-of_switch}
+use Rattle.world_laws.proofs.Quiet.{down-with_base, all-of}
+use Rattle.world_laws.proofs.Seeing.{SameTenures, SeesSame}
+use Rattle.world_laws.proofs.Spots.{tenure-with_base}
+
+-- ---- the first message that a station made goes to the inbox
+
+first-read : (messages : List Rsl) (message : Rsl) → AllByRecursion IsSound messages → first_of_messages messages ≡ Some message → rsl_reading (rsl_text message) ≡ Ok message
+first-read [] message all is = absurd cc
+first-read (first ∷ others) message all is = sound-read message (subst IsSound (some-same is) all.0) where
+  some-same : {a b : Rsl} → Some a ≡ Some b → a ≡ b
+  some-same {a} e = ap (λ (o : Option Rsl). unwrap_or o a) e
+
+sees-pushed : {w : Actors} {s : Connection} (station : ℕ) (message : Rsl) → AllByRecursion (λ c. c.station ≢ SWITCH_LINK) (used_channels s) → station ≢ SWITCH_LINK → first_message (base_of w station) ≡ Some message → rsl_reading (rsl_text message) ≡ Ok message
+    → SeesSame w (with_item (station_item station message) (with_base station (after_next (base_of w station)) w)) s
+unfolding SameTenures
+sees-pushed {w} {s} station message placed station_is first read = record {
+  coming = all-both (λ c. c.station ≢ SWITCH_LINK) (λ c. c.station ≢ SWITCH_LINK) (λ c. coming_up (with_item (station_item station message) (with_base station (after_next (base_of w station)) w)) (place_of c) ≡ coming_up w (place_of c)) (used_channels s)
+      (λ c c_is _. coming-pushed w station message (place_of c) c_is station_is first read) placed placed;
+  up = λ n. refl;
+  serving = down-with_base w station (after_next (base_of w station)) (place_of s.serving);
+  target = λ t is. down-with_base w station (after_next (base_of w station)) (place_of t.channel);
+  tenures = λ at. tenure-with_base w station (after_next (base_of w station)) at;
+  waiting = refl;
+  taken = refl;
+}
+
+-- what the switch made is of no station
+sees-switch_pushed : {w : Actors} {s : Connection} (first : Sccp) (others : List Sccp) → SeesSame w (with_item (switch_item first) (record w { switch_made = others })) s
+unfolding SameTenures
+sees-switch_pushed {w} {s} first others = record {
+  coming = all-of (λ c. coming_up (with_item (switch_item first) (record w { switch_made = others })) (place_of c) ≡ coming_up w (place_of c)) (used_channels s) (λ c. coming-of_switch w first others (place_of c));
+  up = λ n. refl;
+  serving = refl;
+  target = λ t is. refl;
+  tenures = λ at. refl;
+  waiting = refl;
+  taken = refl;
+}
+
+push-stays : {m : ℕ} {w : Actors} {mobile : ℕ} {p : Mobile} {s : Connection} (source : ℕ) → Good w → Before m w mobile p s → OfTaken (λ v. AreLinedUp m v mobile s) (after_base_push w source)
+unfolding OfTaken
+push-stays {m} {w} {mobile} {p} {s} source good h = by_source (nat_eq source SWITCH_LINK) refl where
+  of_switch : (made : List Sccp) → OfTaken (λ v. AreLinedUp m v mobile s) (pushed_by_switch made w)
+  of_switch [] = tt
+  of_switch (first ∷ others) = quiet-stays w (with_item (switch_item first) (record w { switch_made = others })) mobile p h.found refl (sees-switch_pushed first others) h.lined
+
+  of_station : source ≢ SWITCH_LINK → (o : Option Rsl) → first_message (base_of w source) ≡ o → OfTaken (λ v. AreLinedUp m v mobile s) (pushed_by_station source o w)
+  of_station is None first = tt
+  of_station is (Some message) first = quiet-stays w _ mobile p h.found refl (sees-pushed source message h.lined.placed is first (first-read (base_of w source).messages message (end-of w source good).made first)) h.lined
+
+  by_source : (b : Bool) → nat_eq source SWITCH_LINK ≡ b → OfTaken (λ v. AreLinedUp m v mobile s) (if b then pushed_by_switch w.switch_made w else pushed_by_station source (first_message (base_of w source)) w)
+  by_source true is = of_switch w.switch_made
+  by_source false is = of_station (eqb-false source SWITCH_LINK is) (first_message (base_of w source)) refl
+
+-- ---- the switch acts of its own
+
+-- clearing leaves what it took
+cleared-same : (number n : ℕ) (cs : List SwitchConnection) (c : SwitchConnection) → slice_get cs n ≡ Some c → taken_in (find (is_of_peer number) (slice_set cs n (with_stage c Clearing))) ≡ taken_in (find (is_of_peer number) cs)
+cleared-same number n [] c is = absurd cc
+cleared-same number zero (x ∷ cs) c is = subst (λ (y : SwitchConnection). taken_in (find (is_of_peer number) (with_stage y Clearing ∷ cs)) ≡ taken_in (find (is_of_peer number) (x ∷ cs))) (some-same is) (by_peer (is_of_peer number x)) where
+  some-same : {a b : SwitchConnection} → Some a ≡ Some b → a ≡ b
+  some-same {a} e = ap (λ (o : Option SwitchConnection). unwrap_or o a) e
+
+  by_peer : (b : Bool) → taken_in (cond b (Some (with_stage x Clearing)) (find (is_of_peer number) cs)) ≡ taken_in (cond b (Some x) (find (is_of_peer number) cs))
+  by_peer true = refl
+  by_peer false = refl
+cleared-same number (suc n) (x ∷ cs) c is = by_peer (is_of_peer number x) (cleared-same number n cs c is) where
+  by_peer : (b : Bool) → taken_in (find (is_of_peer number) (slice_set cs n (with_stage c Clearing))) ≡ taken_in (find (is_of_peer number) cs) → taken_in (cond b (Some x) (find (is_of_peer number) (slice_set cs n (with_stage c Clearing)))) ≡ taken_in (cond b (Some x) (find (is_of_peer number) cs))
+  by_peer true others = refl
+  by_peer false others = others
+
+clear-same : (number n : ℕ) (cs : List SwitchConnection) → taken_in (find (is_of_peer number) (connections_after_clear cs n (connection_of cs n))) ≡ taken_in (find (is_of_peer number) cs)
+clear-same number n cs = by_number (nat_eq n 0) where
+  by_connection : (o : Option SwitchConnection) → slice_get cs (n - 1) ≡ o → taken_in (find (is_of_peer number) (connections_after_clear cs n o)) ≡ taken_in (find (is_of_peer number) cs)
+  by_connection None is = refl
+  by_connection (Some c) is = cleared-same number (n - 1) cs c is
+
+  by_number : (b : Bool) → taken_in (find (is_of_peer number) (connections_after_clear cs n (if b then None else slice_get cs (n - 1)))) ≡ taken_in (find (is_of_peer number) cs)
+  by_number true = refl
+  by_number false = by_connection (slice_get cs (n - 1)) refl
+
+sees-switch_does : {w : Actors} {s : Connection} (next : SwitchState) (made : List Sccp) → taken_in (find (is_of_peer s.number) next.connections) ≡ taken_of w s.number → SeesSame w (record w { switch = next; switch_made = made }) s
+unfolding SameTenures
+sees-switch_does {w} {s} next made taken = record {
+  coming = all-of (λ c. coming_up w (place_of c) ≡ coming_up w (place_of c)) (used_channels s) (λ c. refl);
+  up = λ n. refl;
+  serving = refl;
+  target = λ t is. refl;
+  tenures = λ at. refl;
+  waiting = refl;
+  taken = taken;
+}
+
+does-stays : {m : ℕ} {w : Actors} {mobile : ℕ} {p : Mobile} {s : Connection} (action : SwitchAction) → Before m w mobile p s → OfTaken (λ v. AreLinedUp m v mobile s) (after_switch_does w action)
+unfolding OfTaken
+does-stays {m} {w} {mobile} {p} {s} action h = by_action action where
+  on : (connection : ℕ) (message : Bssap) (next : SwitchState) → taken_in (find (is_of_peer s.number) next.connections) ≡ taken_of w s.number → OfTaken (λ v. AreLinedUp m v mobile s) (sent_on w connection message next)
+  on connection message next taken = by_open (may_send_on w connection) where
+    by_open : (b : Bool) → OfTaken (λ v. AreLinedUp m v mobile s) (if b then Some (record w { switch = next; switch_made = w.switch_made ++ data_forms_on (connection_of w.switch.connections connection) message }) else None)
+    by_open true = quiet-stays w _ mobile p h.found refl (sees-switch_does next (w.switch_made ++ data_forms_on (connection_of w.switch.connections connection) message) taken) h.lined
+    by_open false = tt
+
+  by_action : (action : SwitchAction) → OfTaken (λ v. AreLinedUp m v mobile s) (after_switch_does w action)
+  by_action (Assign connection) = on connection assignment_request w.switch refl
+  by_action (Clear connection) = on connection clear_command (after_clear w.switch connection) (clear-same s.number connection w.switch.connections)
+  by_action (Dtap connection sapi message) = by_length (is_layer_3 message) where
+    by_length : (b : Bool) → OfTaken (λ v. AreLinedUp m v mobile s) (if b then sent_on w connection (Transfer (dlci_for sapi) message) w.switch else None)
+    by_length true = on connection (Transfer (dlci_for sapi) message) w.switch refl
+    by_length false = tt
+
+-- ---- each event
+
+beside-stays : {m : ℕ} {w : Actors} {mobile : ℕ} {p : Mobile} {s : Connection} (event : Event) → is_beside_relay event ≡ true → Good w → Before m w mobile p s → OfTaken (λ v. AreLinedUp m v mobile s) (event_after w event)
+unfolding event_after
+beside-stays (Upper number sapi message) beside good h = upper-stays number sapi message h
+beside-stays (Connect number station initial accepts) beside good h = connect-stays number station initial accepts h
+beside-stays (AirUp number sapi) beside good h = frame-stays number sapi h
+beside-stays (AirAck number sapi) beside good h = ack-stays number sapi h
+beside-stays (AirDown number) beside good h = heard-stays number h
+beside-stays (AirDownLost number) beside good h = lost-stays number h
+beside-stays (Move number) beside good h = move-stays number h
+beside-stays (Touch number) beside good h = touch-stays number h
+beside-stays (Arrive number) beside good h = arrive-stays number h
+beside-stays (Return number) beside good h = return-stays number h
+beside-stays (BasePush source) beside good h = push-stays source good h
+beside-stays (SwitchDoes action) beside good h = does-stays action h
+beside-stays (Report number report) beside good h = report-stays number report h
+beside-stays (BaseTakes station) beside good h = absurd cc
+beside-stays Handle beside good h = absurd cc
+beside-stays SwitchTakes beside good h = absurd cc
+beside-stays (Tick ms) beside good h = absurd cc
+beside-stays (BaseDown source) beside good h = absurd cc
+
+pub MobilesKeepLineUps-new : (settings : Parameters) (events : List Event) (event : Event) → MobilesKeepLineUps settings events event
+MobilesKeepLineUps-new settings events event mobile s beside alone lined =
+    let w : Actors = actors_after_all (new_actors settings) events in
+    let lives : Lives (modulus_in settings) lined.one = MobilesLive-new settings events mobile lined.one lined.found in
+    after-taken (λ v. AreLinedUp (modulus_in settings) v mobile s) (event_after w event) w
+    (beside-stays event beside (good-all (new_actors settings) events (good-new settings)) (record {
+      found = lined.found;
+      modulus = ap (λ (e : MobileState). e.modulus) lives.is ∙ (IsKept-calls (new_mobile (modulus_in settings)) lives.calls).modulus;
+      lined = lined.lined;
+      alone = alone;
+    })) lined

@@ -1,0 +1,86 @@
+-- The line-up stays where what it is seen by stays.
+use Rattle.std.proofs.Common.{◌≡◌, ℕ, ◌+◌, ◌&&◌, not, Bool, true, false, if◌then◌else◌, List, [], ◌∷◌, ◌++◌, length, Some, refl, ap, ◌∙◌}
+use Rattle.std.specs.List.{AllByRecursion}
+use Rattle.conn_messages.specs.declared.channel.Channel.{Channel}
+use Rattle.conn_messages.specs.declared.channel.Place.{Place}
+use Rattle.conn_table.specs.declared.state.Drain.{Drain}
+use Rattle.conn_table.specs.declared.state.Stage.TheVariants.{Preparing, Changing}
+use Rattle.conn_table.specs.declared.state.State.{State}
+use Rattle.conn_table.specs.declared.state.State.TheVariants.{Live}
+use Rattle.conn_table.specs.Connection.{Connection}
+use Rattle.conn_table.specs.Streams.{undone, target_in, used_channels}
+use Rattle.controller_table.specs.Controller.{place_of}
+use Rattle.hold_queue.specs.ChainState.{Tenure as Held}
+use Rattle.lineup.specs.ChangeStep.{ended}
+use Rattle.lineup.specs.LineUp.{Item, Tenure, Seat, flow}
+use Rattle.mobile_end.specs.DataLinkState.{DataLinkState}
+use Rattle.world_table.specs.declared.line.AirMessage.{AirMessage}
+use Rattle.world_table.specs.declared.seat.Seat.{Seat as MobileSeat}
+use Rattle.world_table.specs.World.{Mobile}
+use Rattle.world_laws.specs.LineUps.{seat_from, remembered, draining_tenure, old_tenure, old_tenures, serving_tenure, serving_hold, came, commanded_target, target_tenure, assembled, lined}
+
+-- ---- all of a list
+
+pub all-left : {X : Type 0} (P : X → Type 0) (xs ys : List X) → AllByRecursion P (xs ++ ys) → AllByRecursion P xs
+all-left P [] ys all = tt
+all-left P (x ∷ xs) ys all = (all.0, all-left P xs ys all.1)
+
+pub all-right : {X : Type 0} (P : X → Type 0) (xs ys : List X) → AllByRecursion P (xs ++ ys) → AllByRecursion P ys
+all-right P [] ys all = all
+all-right P (x ∷ xs) ys all = all-right P xs ys all.1
+
+pub all-map : {X : Type 0} (P Q : X → Type 0) (xs : List X) → ((x : X) → P x → Q x) → AllByRecursion P xs → AllByRecursion Q xs
+all-map P Q [] h all = tt
+all-map P Q (x ∷ xs) h all = (h x all.0, all-map P Q xs h all.1)
+
+-- ---- tenures
+
+-- what is on its way up is the same on these channels
+abbrev pub AreSame : (Place → List Item) → (Place → List Item) → List Channel → Type 0
+AreSame f g channels = AllByRecursion (λ c. f (place_of c) ≡ g (place_of c)) channels
+
+-- the same links are up
+abbrev pub AreUp : (ℕ → Bool) → (ℕ → Bool) → Type 0
+AreUp up up2 = (n : ℕ) → up n ≡ up2 n
+
+one-same : (f g : Place → List Item) (up up2 : ℕ → Bool) (d : Drain) (ds : List Drain) (hold : List (List ℕ)) → AreUp up up2 → AreSame f g (undone (d ∷ ds)) → (old_tenure f up d hold ≡ old_tenure g up2 d hold) × AreSame f g (undone ds)
+one-same f g up up2 d ds hold ups same = by_done d.is_done same where
+  by_done : (b : Bool) → AreSame f g (if b then undone ds else d.channel ∷ undone ds)
+      → ((if b then ended hold else draining_tenure (up d.channel.station) (f (place_of d.channel)) hold) ≡ (if b then ended hold else draining_tenure (up2 d.channel.station) (g (place_of d.channel)) hold)) × AreSame f g (undone ds)
+  by_done true all = (refl, all)
+  by_done false all = (ap (λ (items : List Item). draining_tenure (up d.channel.station) items hold) all.0 ∙ ap (λ (b : Bool). draining_tenure b (g (place_of d.channel)) hold) (ups d.channel.station), all.1)
+
+pub old-same : (f g : Place → List Item) (up up2 : ℕ → Bool) (ds : List Drain) (holds : List Held) → AreUp up up2 → AreSame f g (undone ds) → old_tenures f up ds holds ≡ old_tenures g up2 ds holds
+old-same f g up up2 [] holds ups same = refl
+old-same f g up up2 (d ∷ ds) [] ups same =
+    let a = one-same f g up up2 d ds [] ups same in
+    ap (λ (t : Tenure). t ∷ old_tenures f up ds []) a.0 ∙ ap (λ (ts : List Tenure). old_tenure g up2 d [] ∷ ts) (old-same f g up up2 ds [] ups a.1)
+old-same f g up up2 (d ∷ ds) (held ∷ others) ups same =
+    let a = one-same f g up up2 d ds held.zero ups same in
+    ap (λ (t : Tenure). t ∷ old_tenures f up ds others) a.0 ∙ ap (λ (ts : List Tenure). old_tenure g up2 d held.zero ∷ ts) (old-same f g up up2 ds others ups a.1)
+
+pub serving-same : (f g : Place → List Item) (up up2 : ℕ → Bool) (c : Channel) (hold : List (List ℕ)) → AreUp up up2 → f (place_of c) ≡ g (place_of c) → serving_tenure f up c hold ≡ serving_tenure g up2 c hold
+serving-same f g up up2 c hold ups same = ap (λ (items : List Item). record (serving_tenure g up c hold) { items = items }) same ∙ ap (λ (b : Bool). record (serving_tenure g up2 c hold) { is_lost = not b }) (ups c.station)
+
+pub target-same : (f g : Place → List Item) (up up2 : ℕ → Bool) (seat : Seat) (state : State) → AreUp up up2 → AreSame f g (target_in state) → target_tenure f up seat (commanded_target state) ≡ target_tenure g up2 seat (commanded_target state)
+target-same f g up up2 seat (Live reference (Changing target)) ups same =
+    ap (λ (items : List Item). record (target_tenure g up seat (Some target)) { items = items }) same.0 ∙ ap (λ (b : Bool). record (target_tenure g up2 seat (Some target)) { is_lost = not b && came seat }) (ups target.channel.station)
+target-same f g up up2 seat (Live reference (Preparing target)) ups same = refl
+target-same f g up up2 seat (Live reference _) ups same = refl
+target-same f g up up2 seat _ ups same = refl
+
+-- ---- line-ups
+
+pub assembled-same : {sent sent2 : List (List ℕ)} {link link2 : DataLinkState} {seat seat2 : Seat} (state : State) {commands commands2 : ℕ} {old old2 : List Tenure} {serving serving2 target target2 : Tenure} {out out2 taken taken2 : List (List ℕ)}
+    → sent ≡ sent2 → link ≡ link2 → seat ≡ seat2 → commands ≡ commands2 → old ≡ old2 → serving ≡ serving2 → target ≡ target2 → out ≡ out2 → taken ≡ taken2
+    → assembled sent link seat state commands old serving target out taken ≡ assembled sent2 link2 seat2 state commands2 old2 serving2 target2 out2 taken2
+assembled-same state a b c d e f g h i = rw (a, b, c, d, e, f, g, h, i) refl
+
+pub lined-same : (f g : Place → List Item) (up up2 : ℕ → Bool) (commands commands2 : List AirMessage) (out out2 taken taken2 : List (List ℕ)) (p q : Mobile) (s : Connection) → AreSame f g (used_channels s) → AreUp up up2 → commands ≡ commands2 → out ≡ out2 → taken ≡ taken2
+    → p.end.sent ≡ q.end.sent → p.end.zero ≡ q.end.zero → p.seat ≡ q.seat → lined f up commands out taken p s ≡ lined g up2 commands2 out2 taken2 q s
+lined-same f g up up2 commands commands2 out out2 taken taken2 p q s same ups same_commands same_out same_taken sent zero seat =
+    let rest : AreSame f g (s.serving ∷ target_in s.state) = all-right (λ c. f (place_of c) ≡ g (place_of c)) (undone s.draining) (s.serving ∷ target_in s.state) same in
+    assembled-same s.state sent zero (ap (seat_from s.serving) seat) (ap (λ (entries : List AirMessage). length entries + remembered p.seat) same_commands ∙ ap (λ (seat : MobileSeat). length commands2 + remembered seat) seat)
+    (old-same f g up up2 s.draining s.up.tenures ups (all-left (λ c. f (place_of c) ≡ g (place_of c)) (undone s.draining) (s.serving ∷ target_in s.state) same))
+    (serving-same f g up up2 s.serving (serving_hold s.draining s.up.tenures) ups rest.0)
+    (target-same f g up up2 (seat_from s.serving p.seat) s.state ups rest.1 ∙ ap (λ (seat : MobileSeat). target_tenure g up2 (seat_from s.serving seat) (commanded_target s.state)) seat) (ap flow same_out) (ap flow same_taken)

@@ -1,0 +1,18 @@
+pub mod Spots
+pub mod Framing
+pub mod Likening
+pub mod Projecting
+pub mod Seeing
+pub mod Apart
+pub mod AirUp
+pub mod Quiet
+pub mod OwnMobile
+pub mod OwnMoves
+pub mod MobileEvents
+pub mod BesideRelay
+pub mod Sublists
+pub mod BaseTakes
+pub mod StationTakes
+mod LineUpRows
+pub mod StillToCome
+pub mod SwitchTakes

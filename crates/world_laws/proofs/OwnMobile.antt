@@ -1,0 +1,92 @@
+-- What the mobile of a connection does keeps the connection lined up.
+use Rattle.std.proofs.Common.{◌≡◌, ℕ, ◌&&◌, ◌%◌, not, Bool, true, false, if◌then◌else◌, List, [], ◌∷◌, ◌++◌, length, Some, None, refl, sym, subst, inl, inr}
+use Rattle.std.specs.Option.{is_none}
+use Rattle.std.proofs.lemmas.Bool.{cases_Bool}
+use Rattle.conn_table.specs.Connection.{Connection}
+use Rattle.dtap_codec.specs.declared.sapi.Sapi.{Sapi}
+use Rattle.dtap_codec.specs.declared.sapi.Sapi.TheVariants.{Zero, Three}
+use Rattle.dtap_codec.specs.Message.{is_flow_message}
+use Rattle.dtap_codec.specs.Number.{with_number}
+use Rattle.lineup.specs.Alive.{Alive}
+use Rattle.lineup.specs.MobileStep.MobileStep.{sends_numbered, sends_other, acknowledged}
+use Rattle.lineup.proofs.Moving.{Alive-mobile}
+use Rattle.mobile_end.specs.declared.fault.MobileFault.TheVariants.{BadMessage}
+use Rattle.mobile_end.specs.declared.mobile_end.Place.{Place as Whereabouts}
+use Rattle.mobile_end.specs.declared.mobile_end.Place.TheVariants as places
+use Rattle.mobile_end.specs.declared.mobile_end.Stage.{Stage}
+use Rattle.mobile_end.specs.declared.mobile_end.Stage.TheVariants.{New, Connected}
+use Rattle.mobile_end.specs.Control.{is_control}
+use Rattle.mobile_end.specs.DataLink.{waits as waits_in, after_acknowledgement}
+use Rattle.mobile_end.specs.Lawful.{is_sendable, has_clear_number}
+use Rattle.mobile_end.specs.Mobile.{link_of, with_link, after_number, after_queue, refusal_before_connect, refusal_of_send, after_acked, after_acked_at}
+use Rattle.mobile_end.specs.MobileState.{MobileState}
+use Rattle.mobile_end.proofs.Lives.{is_sendable-clear}
+use Rattle.mobile_end.proofs.Numbering.{IsClear-flow}
+use Rattle.octets.specs.Refusal.{first_refusal}
+use Rattle.world_table.specs.World.{Actors, Mobile}
+use Rattle.world_laws.specs.LineUps.{commanded_target, line_up}
+use Rattle.world_laws.specs.Seated.{Sits, LinedUp}
+
+-- ---- the mobile's end changes where it sits
+
+pub LinedUp-end : {m : ℕ} {w : Actors} {p : Mobile} {s : Connection} (q : Mobile) → q.seat ≡ p.seat → Alive m (line_up w q s) → LinedUp m w p s → LinedUp m w q s
+LinedUp-end {m} {w} {p} {s} q seat alive lined = record {
+  alive = alive;
+  sits = subst (Sits w s.serving (commanded_target s.state)) (sym seat) lined.sits;
+  led = lined.led;
+  none_on_target = lined.none_on_target;
+  apart = lined.apart;
+  placed = lined.placed;
+}
+
+-- ---- its upper layers send
+
+sendable-of : (e : MobileState) (sapi : Sapi) (message : List ℕ) → is_none (refusal_of_send e sapi message) ≡ true → is_sendable sapi message ≡ true
+sendable-of e sapi message may = by_stage e.stage may where
+  by_stage : (stage : Stage) → is_none (first_refusal (refusal_before_connect stage) (if is_sendable sapi message then None else Some BadMessage)) ≡ true → is_sendable sapi message ≡ true
+  by_stage New is = absurd cc
+  by_stage Connected is = by_message (is_sendable sapi message) is where
+    by_message : (b : Bool) → is_none (if b then None else Some BadMessage) ≡ true → b ≡ true
+    by_message true is = refl
+    by_message false is = absurd cc
+
+-- the upper layers send no control message
+no-control : (message : List ℕ) → is_sendable Zero message ≡ true → is_control message ≡ false
+no-control [] is = refl
+no-control (first ∷ rest) is = by_kind (is_control (first ∷ rest)) refl where
+  three : (a b c d : Bool) → a && (b && not c) && d ≡ true → c ≡ true → ⊥
+  three true true true d is c = absurd cc
+  three true false true d is c = absurd cc
+  three false b true d is c = absurd cc
+  three a b false d is c = absurd cc
+
+  by_kind : (b : Bool) → is_control (first ∷ rest) ≡ b → is_control (first ∷ rest) ≡ false
+  by_kind false other = other
+  by_kind true control = absurd (three _ _ (is_control (first ∷ rest)) (has_clear_number (first ∷ rest)) is control)
+
+pub own-upper : {m : ℕ} {w : Actors} {p : Mobile} {s : Connection} (sapi : Sapi) (message : List ℕ) → p.end.modulus ≡ m → is_none (refusal_of_send p.end sapi message) ≡ true → LinedUp m w p s → LinedUp m w (record p { end = after_queue p.end sapi message }) s
+own-upper {m} {w} {p} {s} sapi message modulus may lined =
+    elim (cases_Bool (is_flow_message message)) [
+      | inl numbered ↦ as_is numbered (LinedUp-end (record p { end = after_number p.end message }) refl
+          (subst (λ (n : ℕ). Alive m (line_up w (record p { end = record p.end { sent = p.end.sent ++ message ∷ []; zero = waits_in p.end.zero (with_number (length p.end.sent % n) message) } }) s)) (sym modulus)
+          (Alive-mobile (sends_numbered (line_up w p s) message (IsClear-flow message (is_sendable-clear sapi message sendable) numbered)) lined.alive)) lined)
+      | inr other ↦ as_is other (by_sapi sapi sendable other)
+    ] where
+      sendable : is_sendable sapi message ≡ true
+      sendable = sendable-of p.end sapi message may
+
+      as_is : {b : Bool} → is_flow_message message ≡ b → LinedUp m w (record p { end = if b then after_number p.end message else with_link p.end sapi (waits_in (link_of p.end sapi) message) }) s → LinedUp m w (record p { end = after_queue p.end sapi message }) s
+      as_is is kept = subst (λ (b : Bool). LinedUp m w (record p { end = if b then after_number p.end message else with_link p.end sapi (waits_in (link_of p.end sapi) message) }) s) (sym is) kept
+
+      by_sapi : (sapi : Sapi) → is_sendable sapi message ≡ true → is_flow_message message ≡ false → LinedUp m w (record p { end = with_link p.end sapi (waits_in (link_of p.end sapi) message) }) s
+      by_sapi Zero may other = LinedUp-end (record p { end = with_link p.end Zero (waits_in p.end.zero message) }) refl (Alive-mobile (sends_other (line_up w p s) message other (no-control message may)) lined.alive) lined
+      by_sapi Three may other = LinedUp-end (record p { end = with_link p.end Three (waits_in p.end.three message) }) refl lined.alive lined
+
+-- ---- what the station took is acknowledged
+
+pub own-air_ack : {m : ℕ} {w : Actors} {p : Mobile} {s : Connection} (sapi : Sapi) → LinedUp m w p s → LinedUp m w (record p { end = after_acked p.end sapi }) s
+own-air_ack {m} {w} {p} {s} sapi lined = by_place p.end.place sapi where
+  by_place : (place : Whereabouts) (sapi : Sapi) → LinedUp m w (record p { end = after_acked_at place p.end sapi }) s
+  by_place places.OnChannel Zero = LinedUp-end (record p { end = with_link p.end Zero (after_acknowledgement p.end.zero) }) refl (Alive-mobile (acknowledged (line_up w p s)) lined.alive) lined
+  by_place places.OnChannel Three = LinedUp-end (record p { end = with_link p.end Three (after_acknowledgement p.end.three) }) refl lined.alive lined
+  by_place places.Moving sapi = lined

@@ -1,0 +1,112 @@
+-- A connection stays lined up where an event changes nothing that it is seen by.
+use Rattle.std.proofs.Common.{◌≡◌, ◌≢◌, ℕ, Bool, if◌then◌else◌, cond, List, [], ◌∷◌, find, unwrap_or, Option, Some, None, refl, sym, ap, ◌∙◌, subst, inl, inr}
+use Rattle.std.specs.List.{AllByRecursion}
+use Rattle.std.proofs.lemmas.Bool.{cases_Bool, eqb-true, ne_eqb, eq-eqb}
+use Rattle.conn_messages.specs.declared.channel.Channel.{Channel}
+use Rattle.conn_messages.specs.declared.channel.Place.{Place}
+use Rattle.conn_table.specs.declared.state.Target.{Target}
+use Rattle.conn_table.specs.Connection.{Connection}
+use Rattle.conn_table.specs.Streams.{used_channels}
+use Rattle.controller_table.specs.Controller.{place_of}
+use Rattle.lineup.specs.Alive.{Alive}
+use Rattle.world_table.specs.declared.line.AirMessage.{AirMessage}
+use Rattle.world_table.specs.declared.seat.Command.{Command}
+use Rattle.world_table.specs.declared.seat.Seat.{Seat}
+use Rattle.world_table.specs.declared.seat.Tenure.{Tenure}
+use Rattle.world_table.specs.World.{Actors, Mobile, is_station_up, tenure_at, has_number, put_back}
+use Rattle.world_laws.specs.ComingUp.{coming_up}
+use Rattle.world_laws.specs.GoingDown.{going_down}
+use Rattle.world_laws.specs.LineUps.{commanded_target, waiting_of, taken_of}
+use Rattle.world_laws.specs.Seated.{Remembers, Sits, Leads, NoneOn, LinedUp}
+use Rattle.world_laws.specs.Seated.Remembers.{nothing, told}
+use Rattle.world_laws.specs.Seated.Sits.{stays, came, between, gone}
+use Rattle.world_laws.specs.Seated.Leads.{leads}
+use Rattle.world_laws.proofs.Framing.{AreSame, AreUp, all-map, lined-same}
+
+-- ---- the present tenures are the same
+
+unfoldable pub SameTenures : Actors → Actors → Type 0
+SameTenures w v = (at : Place) → tenure_at v at ≡ tenure_at w at
+
+pub Remembers-same : {w v : Actors} {target : Option Target} {command : Option Command} → SameTenures w v → Remembers w target command → Remembers v target command
+unfolding SameTenures
+Remembers-same same nothing = nothing
+Remembers-same same (told {target} is) = told (is ∙ ap (λ (t : Tenure). record { change = target.change; target = t }) (sym (same (place_of target.channel))))
+
+pub Sits-same : {w v : Actors} {serving : Channel} {target : Option Target} {seat : Seat} → SameTenures w v → Sits w serving target seat → Sits v serving target seat
+unfolding SameTenures
+Sits-same {serving} same (stays is remembers) = stays (is ∙ sym (same (place_of serving))) (Remembers-same same remembers)
+Sits-same same (came {target} is) = came (is ∙ sym (same (place_of target.channel)))
+Sits-same {serving} same (between {target} from is) =
+    between (from ∙ sym (same (place_of serving))) (is ∙ ap (λ (t : Tenure). record { change = target.change; target = t }) (sym (same (place_of target.channel))))
+Sits-same same gone = gone
+
+pub Leads-same : {w v : Actors} {a : AirMessage} {target : Option Target} → SameTenures w v → Leads w a target → Leads v a target
+unfolding SameTenures
+Leads-same same (leads {target} is to) = leads is (to ∙ ap (λ (t : Tenure). Some t) (sym (same (place_of target.channel))))
+
+-- ---- what a connection is seen by
+
+pub record SeesSame (w v : Actors) (s : Connection) : Type 0 where
+  pub coming : AreSame (coming_up v) (coming_up w) (used_channels s)
+  pub up : AreUp (is_station_up v) (is_station_up w)
+  pub serving : going_down v (place_of s.serving) ≡ going_down w (place_of s.serving)
+  pub target : (t : Target) → commanded_target s.state ≡ Some t → going_down v (place_of t.channel) ≡ going_down w (place_of t.channel)
+  pub tenures : SameTenures w v
+  pub waiting : waiting_of v s.number ≡ waiting_of w s.number
+  pub taken : taken_of v s.number ≡ taken_of w s.number
+
+pub none-same : (w v : Actors) (target : Option Target) → ((t : Target) → target ≡ Some t → going_down v (place_of t.channel) ≡ going_down w (place_of t.channel)) → NoneOn w target → NoneOn v target
+none-same w v None same none = none
+none-same w v (Some target) same none = same target refl ∙ none
+
+pub LinedUp-same : {m : ℕ} {w v : Actors} {s : Connection} (p q : Mobile) → SeesSame w v s → q.end.sent ≡ p.end.sent → q.end.zero ≡ p.end.zero → q.seat ≡ p.seat → LinedUp m w p s → LinedUp m v q s
+LinedUp-same {m} {w} {v} {s} p q sees sent zero seat lined = record {
+  alive = subst (Alive m)
+      (sym (lined-same (coming_up v) (coming_up w) (is_station_up v) (is_station_up w) (going_down v (place_of s.serving)) (going_down w (place_of s.serving)) (waiting_of v s.number) (waiting_of w s.number) (taken_of v s.number) (taken_of w s.number) q p s
+      sees.coming sees.up sees.serving sees.waiting sees.taken sent zero seat)) lined.alive;
+  sits = subst (Sits v s.serving (commanded_target s.state)) (sym seat) (Sits-same sees.tenures lined.sits);
+  led = subst (AllByRecursion (λ a. Leads v a (commanded_target s.state))) (sym sees.serving)
+      (all-map (λ a. Leads w a (commanded_target s.state)) (λ a. Leads v a (commanded_target s.state)) (going_down w (place_of s.serving)) (λ a. Leads-same sees.tenures) lined.led);
+  none_on_target = none-same w v (commanded_target s.state) sees.target lined.none_on_target;
+  apart = lined.apart;
+  placed = lined.placed;
+}
+
+-- ---- mobiles by number
+
+pub found-number : (number : ℕ) (xs : List Mobile) (p : Mobile) → find (has_number number) xs ≡ Some p → p.number ≡ number
+found-number number [] p found = absurd cc
+found-number number (x ∷ xs) p found =
+    elim (cases_Bool (has_number number x)) [
+      | inl hit ↦ ap (λ (q : Mobile). q.number) (sym (some-same (sym (ap (λ (b : Bool). cond b (Some x) (find (has_number number) xs)) hit) ∙ found))) ∙ eqb-true x.number number hit
+      | inr miss ↦ found-number number xs p (sym (ap (λ (b : Bool). cond b (Some x) (find (has_number number) xs)) miss) ∙ found)
+    ] where
+      some-same : {a b : Mobile} → Some a ≡ Some b → a ≡ b
+      some-same {a} is = ap (λ (o : Option Mobile). unwrap_or o a) is
+
+-- one that is put back is found
+pub back-found : (q : Mobile) (xs : List Mobile) (p : Mobile) → find (has_number q.number) xs ≡ Some p → find (has_number q.number) (put_back q xs) ≡ Some q
+back-found q [] p found = absurd cc
+back-found q (x ∷ xs) p found =
+    elim (cases_Bool (has_number q.number x)) [
+      | inl hit ↦ ap (λ (b : Bool). find (has_number q.number) (cond b (q ∷ xs) (x ∷ put_back q xs))) hit ∙ ap (λ (b : Bool). cond b (Some q) (find (has_number q.number) xs)) (eq-eqb q.number q.number refl)
+      | inr miss ↦
+          ap (λ (b : Bool). find (has_number q.number) (cond b (q ∷ xs) (x ∷ put_back q xs))) miss
+          ∙ ap (λ (b : Bool). cond b (Some x) (find (has_number q.number) (put_back q xs))) miss
+          ∙ back-found q xs p (sym (ap (λ (b : Bool). cond b (Some x) (find (has_number q.number) xs)) miss) ∙ found)
+    ]
+
+-- and all others stay
+pub back-other : (q : Mobile) (xs : List Mobile) (number : ℕ) → q.number ≢ number → find (has_number number) (put_back q xs) ≡ find (has_number number) xs
+back-other q [] number differs = refl
+back-other q (x ∷ xs) number differs =
+    elim (cases_Bool (has_number q.number x)) [
+      | inl hit ↦
+          ap (λ (b : Bool). find (has_number number) (cond b (q ∷ xs) (x ∷ put_back q xs))) hit
+          ∙ ap (λ (b : Bool). cond b (Some q) (find (has_number number) xs)) (ne_eqb q.number number differs)
+          ∙ sym (ap (λ (b : Bool). cond b (Some x) (find (has_number number) xs)) (ne_eqb x.number number (λ is. differs (sym (eqb-true x.number q.number hit) ∙ is))))
+      | inr miss ↦
+          ap (λ (b : Bool). find (has_number number) (cond b (q ∷ xs) (x ∷ put_back q xs))) miss
+          ∙ ap (λ (o : Option Mobile). if has_number number x then Some x else o) (back-other q xs number differs)
+    ]

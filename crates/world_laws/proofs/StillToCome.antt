@@ -1,0 +1,152 @@
+-- What is on the line is what the connection has still to relay: what it holds, and what is on its way up from each channel.
+use Rattle.std.proofs.Common.{◌≡◌, ◌≢◌, ℕ, zero, suc, ◌+◌, ◌≤◌, ◌==◌, ◌&&◌, not, Bool, true, false, if◌then◌else◌, List, [], ◌∷◌, ◌++◌, length, filter, Option, Some, None, refl, sym, ap, ◌∙◌, subst, append_assoc, arith}
+use Rattle.std.specs.List.{AllByRecursion}
+use Rattle.std.proofs.lemmas.List.{append-nil}
+use Rattle.bssmap_codec.specs.Layer3.{IsLayer3}
+use Rattle.conn_messages.specs.declared.channel.Channel.{Channel}
+use Rattle.conn_messages.specs.declared.channel.Place.{Place}
+use Rattle.conn_table.specs.declared.input.Input.{Input}
+use Rattle.conn_table.specs.declared.state.Drain.{Drain}
+use Rattle.conn_table.specs.declared.state.Stage.TheVariants.{Preparing, Changing}
+use Rattle.conn_table.specs.declared.state.State.{State}
+use Rattle.conn_table.specs.declared.state.State.TheVariants.{Live}
+use Rattle.conn_table.specs.declared.state.Target.{Target}
+use Rattle.conn_table.specs.Connection.{Connection}
+use Rattle.conn_table.specs.Steps.{Row}
+use Rattle.conn_table.specs.Streams.{Future, IsOpen, KeepsUplink, from_input, of_target, relayed, still_of, still_to_relay, undone}
+use Rattle.controller_table.specs.Controller.{place_of}
+use Rattle.dtap_codec.specs.declared.sapi.Sapi.TheVariants.{Zero}
+use Rattle.hold_queue.specs.ChainState.{Tenure as Held}
+use Rattle.lineup.specs.ChangeStep.{ended}
+use Rattle.lineup.specs.LineUp.{Item, Tenure, Seat, flow, messages_in, part_of, parts_of}
+use Rattle.lineup.proofs.Lines.{flow-append}
+use Rattle.world_laws.specs.LineUps.{is_ended, draining_tenure, old_tenure, old_tenures, serving_hold, serving_tenure, commanded_target, target_tenure}
+use Rattle.world_laws.proofs.Framing.{all-left}
+
+-- ---- a list, up to where something is missing
+
+-- An empty message, which is none, stands for what is missing.
+abbrev pub mark : Bool → List (List ℕ)
+mark true = [] ∷ []
+mark false = []
+
+abbrev pub cut : List (List ℕ) → List (List ℕ)
+cut [] = []
+cut ([] ∷ xs) = []
+cut ((octet ∷ octets) ∷ xs) = (octet ∷ octets) ∷ cut xs
+
+abbrev AreLayer3 : List (List ℕ) → Type 0
+AreLayer3 xs = AllByRecursion IsLayer3 xs
+
+cut-front : (xs ys : List (List ℕ)) → AreLayer3 xs → cut (xs ++ ys) ≡ xs ++ cut ys
+cut-front [] ys all = refl
+cut-front ([] ∷ xs) ys all = absurd (none 0 refl all.0.0) where
+  none : (n : ℕ) → n ≡ 0 → 1 ≤ n → ⊥
+  none n is some = absurd (omega arith)
+cut-front ((octet ∷ octets) ∷ xs) ys all = ap (λ (zs : List (List ℕ)). (octet ∷ octets) ∷ zs) (cut-front xs ys all.1)
+
+cut-mark : (b : Bool) (ys : List (List ℕ)) → cut (mark b ++ ys) ≡ (if b then [] else cut ys)
+cut-mark true ys = refl
+cut-mark false ys = refl
+
+-- what is held, what is on its way, perhaps what is missing, and the rest
+cut-part : (hold messages : List (List ℕ)) (b : Bool) (rest : List (List ℕ)) → AreLayer3 hold → AreLayer3 messages → flow (cut (hold ++ ((messages ++ mark b) ++ rest))) ≡ (flow hold ++ flow messages) ++ (if b then [] else flow (cut rest))
+cut-part hold messages b rest held on_the_way =
+    ap flow (cut-front hold ((messages ++ mark b) ++ rest) held
+    ∙ ap (λ (xs : List (List ℕ)). hold ++ xs) (ap cut (append_assoc messages (mark b) rest) ∙ cut-front messages (mark b ++ rest) on_the_way ∙ ap (λ (xs : List (List ℕ)). messages ++ xs) (cut-mark b rest)))
+    ∙ flow-append hold (messages ++ (if b then [] else cut rest))
+    ∙ ap (λ (xs : List (List ℕ)). flow hold ++ xs) (flow-append messages (if b then [] else cut rest) ∙ ap (λ (xs : List (List ℕ)). flow messages ++ xs) (flow-if b))
+    ∙ sym (append_assoc (flow hold) (flow messages) (if b then [] else flow (cut rest))) where
+      flow-if : (b : Bool) → flow (if b then [] else cut rest) ≡ (if b then [] else flow (cut rest))
+      flow-if true = refl
+      flow-if false = refl
+
+-- ---- what may still come, by what is on its way up
+
+-- on an old channel
+abbrev AsOld : Future → (Place → List Item) → (ℕ → Bool) → Channel → Type 0
+AsOld future coming up c = (future (place_of c) ≡ messages_in (coming (place_of c)) ++ mark (not (up c.station) && not (is_ended (coming (place_of c))))) × AreLayer3 (messages_in (coming (place_of c)))
+
+-- on the serving channel
+abbrev AsServing : Future → (Place → List Item) → (ℕ → Bool) → Channel → Type 0
+AsServing future coming up c = (future (place_of c) ≡ messages_in (coming (place_of c)) ++ mark (not (up c.station))) × AreLayer3 (messages_in (coming (place_of c)))
+
+-- on the target, behind which nothing comes
+abbrev AsTarget : Future → (Place → List Item) → Option Target → Type 0
+AsTarget future coming None = Unit {0}
+AsTarget future coming (Some t) = (b : Bool) × (future (place_of t.channel) ≡ messages_in (coming (place_of t.channel)) ++ mark b) × AreLayer3 (messages_in (coming (place_of t.channel)))
+
+-- what is held is whole messages, in a tenure for each old channel and the serving one
+abbrev AreHeld : List Drain → List Held → Type 0
+AreHeld draining [] = ⊥
+AreHeld [] (t ∷ ts) = AreLayer3 t.zero
+AreHeld (d ∷ ds) (t ∷ ts) = AreLayer3 t.zero × AreHeld ds ts
+
+pub record StandsFor (future : Future) (coming : Place → List Item) (up : ℕ → Bool) (s : Connection) : Type 0 where
+  pub old : AllByRecursion (AsOld future coming up) (undone s.draining)
+  pub serving : AsServing future coming up s.serving
+  pub target : AsTarget future coming (commanded_target s.state)
+  pub held : AreHeld s.draining s.up.tenures
+
+-- ---- tenure by tenure
+
+old-part : (future : Future) (coming : Place → List Item) (up : ℕ → Bool) (d : Drain) (ds : List Drain) (hold rest : List (List ℕ)) (others : List Tenure) → AllByRecursion (AsOld future coming up) (undone (d ∷ ds)) → AreLayer3 hold → flow (cut rest) ≡ parts_of others
+    → (flow (cut (hold ++ ((if d.is_done then [] else future (place_of d.channel)) ++ rest))) ≡ parts_of (old_tenure coming up d hold ∷ others)) × AllByRecursion (AsOld future coming up) (undone ds)
+old-part future coming up d ds hold rest others stand held is = by_done d.is_done stand where
+  by_done : (b : Bool) → AllByRecursion (AsOld future coming up) (if b then undone ds else d.channel ∷ undone ds)
+      → (flow (cut (hold ++ ((if b then [] else future (place_of d.channel)) ++ rest))) ≡ parts_of ((if b then ended hold else draining_tenure (up d.channel.station) (coming (place_of d.channel)) hold) ∷ others)) × AllByRecursion (AsOld future coming up) (undone ds)
+  by_done true all = (cut-part hold [] false rest held tt ∙ ap (λ (xs : List (List ℕ)). (flow hold ++ []) ++ xs) is, all)
+  by_done false all = (ap (λ (xs : List (List ℕ)). flow (cut (hold ++ (xs ++ rest)))) all.0.0
+      ∙ cut-part hold (messages_in (coming (place_of d.channel))) (not (up d.channel.station) && not (is_ended (coming (place_of d.channel)))) rest held all.0.1
+      ∙ ap (λ (xs : List (List ℕ)). part_of (draining_tenure (up d.channel.station) (coming (place_of d.channel)) hold) ++ (if (not (up d.channel.station) && not (is_ended (coming (place_of d.channel)))) then [] else xs)) is, all.1)
+
+still-parts : (future : Future) (coming : Place → List Item) (up : ℕ → Bool) (serving : Channel) (ds : List Drain) (ts : List Held) (rest : List (List ℕ)) (others : List Tenure) → AllByRecursion (AsOld future coming up) (undone ds) → AsServing future coming up serving → AreHeld ds ts → flow (cut rest) ≡ parts_of others
+    → flow (cut (still_of Zero future serving ds ts ++ rest)) ≡ parts_of (old_tenures coming up ds ts ++ serving_tenure coming up serving (serving_hold ds ts) ∷ others)
+still-parts future coming up serving ds [] rest others stand is held behind = elim held [ ]
+still-parts future coming up serving [] (t ∷ ts) rest others stand is held behind =
+    ap (λ (xs : List (List ℕ)). flow (cut xs)) (append_assoc t.zero (future (place_of serving)) rest)
+    ∙ ap (λ (xs : List (List ℕ)). flow (cut (t.zero ++ (xs ++ rest)))) is.0
+    ∙ cut-part t.zero (messages_in (coming (place_of serving))) (not (up serving.station)) rest held is.1
+    ∙ ap (λ (xs : List (List ℕ)). part_of (serving_tenure coming up serving t.zero) ++ (if not (up serving.station) then [] else xs)) behind
+still-parts future coming up serving (d ∷ ds) (t ∷ ts) rest others stand is held behind =
+    let split = old-part future coming up d ds t.zero (still_of Zero future serving ds ts ++ rest) (old_tenures coming up ds ts ++ serving_tenure coming up serving (serving_hold ds ts) ∷ others) stand held.0
+        (still-parts future coming up serving ds ts rest others (tail d ds stand) is held.1 behind) in
+    ap (λ (xs : List (List ℕ)). flow (cut xs)) (append_assoc t.zero ((if d.is_done then [] else future (place_of d.channel)) ++ still_of Zero future serving ds ts) rest
+    ∙ ap (λ (xs : List (List ℕ)). t.zero ++ xs) (append_assoc (if d.is_done then [] else future (place_of d.channel)) (still_of Zero future serving ds ts) rest)) ∙ split.0 where
+      tail : (d : Drain) (ds : List Drain) → AllByRecursion (AsOld future coming up) (undone (d ∷ ds)) → AllByRecursion (AsOld future coming up) (undone ds)
+      tail d ds all = by_done d.is_done all where
+        by_done : (b : Bool) → AllByRecursion (AsOld future coming up) (if b then undone ds else d.channel ∷ undone ds) → AllByRecursion (AsOld future coming up) (undone ds)
+        by_done true all = all
+        by_done false all = all.1
+
+target-part : (future : Future) (coming : Place → List Item) (up : ℕ → Bool) (seat : Seat) (state : State) → AsTarget future coming (commanded_target state) → flow (cut (of_target future state)) ≡ parts_of (target_tenure coming up seat (commanded_target state) ∷ [])
+target-part future coming up seat (Live reference (Changing t)) stand =
+    ap (λ (xs : List (List ℕ)). flow (cut xs)) (stand.1 ∙ sym (append-nil (messages_in (coming (place_of t.channel)) ++ mark stand.0)))
+    ∙ cut-part [] (messages_in (coming (place_of t.channel))) stand.0 [] tt stand.2
+    ∙ ap (λ (xs : List (List ℕ)). ([] ++ flow (messages_in (coming (place_of t.channel)))) ++ xs) (either stand.0 ∙ sym (either _)) where
+      nothing_if : Bool → List (List ℕ)
+      nothing_if b = if b then [] else []
+
+      either : (b : Bool) → nothing_if b ≡ []
+      either true = refl
+      either false = refl
+target-part future coming up seat (Live reference (Preparing t)) stand = refl
+target-part future coming up seat (Live reference _) stand = refl
+target-part future coming up seat _ stand = refl
+
+-- The line behind the outbox is what is still to be relayed, up to where something is missing.
+pub parts-still : (future : Future) (coming : Place → List Item) (up : ℕ → Bool) (seat : Seat) (s : Connection) → StandsFor future coming up s
+    → parts_of (old_tenures coming up s.draining s.up.tenures ++ serving_tenure coming up s.serving (serving_hold s.draining s.up.tenures) ∷ target_tenure coming up seat (commanded_target s.state) ∷ []) ≡ flow (cut (still_to_relay Zero future s))
+parts-still future coming up seat s stands =
+    sym (still-parts future coming up s.serving s.draining s.up.tenures (of_target future s.state) (target_tenure coming up seat (commanded_target s.state) ∷ []) stands.old stands.serving stands.held (target-part future coming up seat s.state stands.target))
+
+-- So a row moves messages along the line: what it relays, and the line behind it, are the line before.
+pub row-line : (s : Connection) (input : Input) (r : Row) (future : Future) (before after : Place → List Item) (up : ℕ → Bool) (seat seat2 : Seat) → KeepsUplink Zero future s input r → IsOpen r.next.state → StandsFor (from_input Zero input future) before up s → StandsFor future after up r.next → AreLayer3 (relayed Zero r.outs)
+    → parts_of (old_tenures before up s.draining s.up.tenures ++ serving_tenure before up s.serving (serving_hold s.draining s.up.tenures) ∷ target_tenure before up seat (commanded_target s.state) ∷ [])
+    ≡ flow (relayed Zero r.outs) ++ parts_of (old_tenures after up r.next.draining r.next.up.tenures ++ serving_tenure after up r.next.serving (serving_hold r.next.draining r.next.up.tenures) ∷ target_tenure after up seat2 (commanded_target r.next.state) ∷ [])
+row-line s input r future before after up seat seat2 keeps stays was now whole =
+    parts-still (from_input Zero input future) before up seat s was
+    ∙ ap (λ (xs : List (List ℕ)). flow (cut xs)) (sym (keeps stays))
+    ∙ ap flow (cut-front (relayed Zero r.outs) (still_to_relay Zero future r.next) whole)
+    ∙ flow-append (relayed Zero r.outs) (cut (still_to_relay Zero future r.next))
+    ∙ ap (λ (xs : List (List ℕ)). flow (relayed Zero r.outs) ++ xs) (sym (parts-still future after up seat2 r.next now))

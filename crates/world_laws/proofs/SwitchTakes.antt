@@ -1,0 +1,127 @@
+-- The switch takes the first entry of its outbox: the connections stay lined up.
+use Rattle.std.proofs.Common.{◌≡◌, ◌≢◌, ℕ, zero, suc, ◌+◌, ◌==◌, ◌&&◌, not, nat_eq, Bool, true, false, if◌then◌else◌, cond, List, [], ◌∷◌, ◌++◌, length, filter, map, find, get_or, set, unwrap_or, Option, Some, None, refl, sym, ap, ◌∙◌, subst, append_assoc}
+use Rattle.std.specs.List.{AllByRecursion, flat_map}
+use Rattle.std.proofs.lemmas.List.{append-nil, map-append}
+use Rattle.bssmap_codec.specs.declared.sccp.Sccp.{Sccp}
+use Rattle.bssmap_codec.specs.SccpReading.{sccp_reading}
+use Rattle.conn_messages.specs.declared.channel.Channel.{Channel}
+use Rattle.conn_messages.specs.declared.channel.Place.{Place}
+use Rattle.conn_messages.specs.declared.out.Out.{Out}
+use Rattle.conn_messages.specs.declared.parameters.TheConstants.{SWITCH_LINK}
+use Rattle.conn_table.specs.declared.state.Target.{Target}
+use Rattle.conn_table.specs.Connection.{Connection}
+use Rattle.conn_table.specs.Streams.{undone, target_in, used_channels}
+use Rattle.controller_table.specs.declared.forwarded.Forwarded.{Forwarded}
+use Rattle.controller_table.specs.Controller.{place_of}
+use Rattle.controller_table.specs.Views.{to_switch, forwarded_by, forwarded}
+use Rattle.lineup.specs.Alive.{Alive}
+use Rattle.lineup.specs.LineUp.{LineUp, flow}
+use Rattle.lineup.specs.RelayStep.RelayStep.{switch_takes}
+use Rattle.lineup.proofs.Lines.{flow-append}
+use Rattle.lineup.proofs.Relaying.{Alive-relay}
+use Rattle.msc_end.specs.Switch.{after, replies}
+use Rattle.msc_end.specs.SwitchState.{SwitchState}
+use Rattle.settings.specs.Parameters.{Parameters}
+use Rattle.world_table.specs.declared.event.Event.{Event}
+use Rattle.world_table.specs.declared.event.Event.TheVariants.{SwitchTakes}
+use Rattle.world_table.specs.declared.line.AirMessage.{AirMessage}
+use Rattle.world_table.specs.declared.line.OutboxEntry.{OutboxEntry}
+use Rattle.world_table.specs.Life.{event_after, actors_after, actors_after_all}
+use Rattle.world_table.specs.SwitchSide.{sccp_in, switch_took, after_switch_takes}
+use Rattle.world_table.specs.World.{Actors, Mobile, Link, broken_link, link_of, new_actors, modulus_in, is_up, is_station_up, outbox_of, with_outbox, spot_at}
+use Rattle.world_table.proofs.Leads.{OfTaken, switch_takes-leads, after-taken}
+use Rattle.world_table.proofs.Outboxes.{changed_link}
+use Rattle.world_laws.specs.ComingUp.{coming_up}
+use Rattle.world_laws.specs.GoingDown.{leading_from_air, leading_from_outbox, going_down}
+use Rattle.world_laws.specs.LineUps.{commanded_target, waiting_of, is_of_peer, taken_in, taken_of, line_up}
+use Rattle.world_laws.specs.Seated.{Leads, LinedUp}
+use Rattle.world_laws.specs.Staying.{AreLinedUp, carried_for, DeliversFirst, SwitchKeepsLineUps}
+use Rattle.world_laws.proofs.Apart.{target-in}
+use Rattle.world_laws.proofs.Framing.{AreUp, all-right, all-map, lined-same}
+use Rattle.world_laws.proofs.Quiet.{all-of, ArePlaced}
+use Rattle.world_laws.proofs.Seeing.{SameTenures, Sits-same, Leads-same, none-same}
+use Rattle.world_laws.proofs.Spots.{set-same, set-apart}
+
+-- ---- the line moves
+
+-- some of what waits is taken
+alive-taken : {m : ℕ} (l : LineUp) (xs out taken : List (List ℕ)) → Alive m (record l { out = xs ++ out; taken = taken }) → Alive m (record l { out = out; taken = taken ++ xs })
+alive-taken {m} l [] out taken alive = subst (λ (ys : List (List ℕ)). Alive m (record l { out = out; taken = ys })) (sym (append-nil taken)) alive
+alive-taken {m} l (x ∷ xs) out taken alive =
+    subst (λ (ys : List (List ℕ)). Alive m (record l { out = out; taken = ys })) (append_assoc taken (x ∷ []) xs)
+    (alive-taken l xs out (taken ++ x ∷ []) (Alive-relay (switch_takes (record l { taken = taken }) x (xs ++ out)) alive))
+
+-- ---- what waits, entry by entry
+
+forwarded-first : (out : Out) (outs : List Out) (number : ℕ) → forwarded (out ∷ outs) number ≡ forwarded (out ∷ []) number ++ forwarded outs number
+unfolding forwarded
+forwarded-first out outs number = by_link (to_switch number out) where
+  by_link : (b : Bool) → flat_map (λ o. forwarded_by (sccp_reading o.frame.body)) (cond b (out ∷ filter (to_switch number) outs) (filter (to_switch number) outs))
+      ≡ flat_map (λ o. forwarded_by (sccp_reading o.frame.body)) (cond b (out ∷ []) []) ++ flat_map (λ o. forwarded_by (sccp_reading o.frame.body)) (filter (to_switch number) outs)
+  by_link true = ap (λ (fs : List Forwarded). fs ++ flat_map (λ o. forwarded_by (sccp_reading o.frame.body)) (filter (to_switch number) outs)) (sym (append-nil (forwarded_by (sccp_reading out.frame.body))))
+  by_link false = refl
+
+waiting-first : (w : Actors) (number : ℕ) (first : OutboxEntry) (others : List OutboxEntry) → is_up w SWITCH_LINK ≡ true → outbox_of w SWITCH_LINK ≡ first ∷ others → waiting_of w number ≡ carried_for number first.out ++ waiting_of (with_outbox SWITCH_LINK others w) number
+waiting-first w number first others up stood =
+    ap (λ (entries : List OutboxEntry). map (λ f. f.message) (forwarded (map (λ entry. entry.out) entries) number)) stood
+    ∙ ap (λ (fs : List Forwarded). map (λ f. f.message) fs) (forwarded-first first.out (map (λ entry. entry.out) others) number)
+    ∙ map-append (λ f. f.message) (forwarded (first.out ∷ []) number) (forwarded (map (λ entry. entry.out) others) number)
+    ∙ ap (λ (link : Link). carried_for number first.out ++ map (λ f. f.message) (forwarded (map (λ entry. entry.out) link.outbox) number))
+        (sym (changed_link w.links SWITCH_LINK (record (link_of w SWITCH_LINK) { outbox = others }) up))
+
+-- ---- the connection
+
+-- all but what waits and what the switch took is seen as before
+keeps-taking : {m : ℕ} {w : Actors} {s : Connection} (p : Mobile) (next : SwitchState) (made : List Sccp) (first : OutboxEntry) (others : List OutboxEntry) → is_up w SWITCH_LINK ≡ true → outbox_of w SWITCH_LINK ≡ first ∷ others
+    → taken_in (find (is_of_peer s.number) next.connections) ≡ taken_of w s.number ++ carried_for s.number first.out → LinedUp m w p s → LinedUp m (record (with_outbox SWITCH_LINK others w) { switch = next; switch_made = made }) p s
+unfolding SameTenures
+keeps-taking {m} {w} {s} p next made first others up stood takes kept = record {
+  alive = subst (Alive m) (sym (lined-same (coming_up v) (coming_up w) (is_station_up v) (is_station_up w) (going_down v (place_of s.serving)) (going_down w (place_of s.serving)) (waiting_of v s.number) (waiting_of v s.number) (taken_of v s.number) (taken_of v s.number) p p s
+      (all-of (λ c. coming_up w (place_of c) ≡ coming_up w (place_of c)) (used_channels s) (λ c. refl)) up_same (down_same s.serving placed_rest.0) refl refl refl refl refl)) alive_now;
+  sits = Sits-same same_tenures kept.sits;
+  led = subst (AllByRecursion (λ a. Leads v a (commanded_target s.state))) (sym (down_same s.serving placed_rest.0)) (all-map (λ a. Leads w a (commanded_target s.state)) (λ a. Leads v a (commanded_target s.state)) (going_down w (place_of s.serving)) (λ a. Leads-same same_tenures) kept.led);
+  none_on_target = none-same w v (commanded_target s.state) (λ t is. down_same t.channel (subst ArePlaced (target-in s.state t is) placed_rest.1).0) kept.none_on_target;
+  apart = kept.apart;
+  placed = kept.placed;
+} where
+  v : Actors
+  v = record (with_outbox SWITCH_LINK others w) { switch = next; switch_made = made }
+
+  x : List (List ℕ)
+  x = carried_for s.number first.out
+
+  now : LineUp
+  now = line_up w p s
+
+  same_tenures : SameTenures w v
+  same_tenures at = refl
+
+  flows_out : flow (waiting_of w s.number) ≡ flow x ++ flow (waiting_of v s.number)
+  flows_out = ap flow (waiting-first w s.number first others up stood) ∙ flow-append x (waiting_of v s.number)
+
+  down_same : (c : Channel) → c.station ≢ SWITCH_LINK → going_down v (place_of c) ≡ going_down w (place_of c)
+  down_same c c_is = ap (λ (link : Link). flat_map leading_from_air (spot_at w (place_of c)).air ++ flat_map (leading_from_outbox c.number) link.outbox) (set-apart w.links broken_link SWITCH_LINK c.station (record (link_of w SWITCH_LINK) { outbox = others }) c_is)
+
+  placed_rest : ArePlaced (s.serving ∷ target_in s.state)
+  placed_rest = all-right (λ c. c.station ≢ SWITCH_LINK) (undone s.draining) (s.serving ∷ target_in s.state) kept.placed
+
+  up_same : AreUp (is_station_up v) (is_station_up w)
+  up_same n = ap (λ (b : Bool). not (n == SWITCH_LINK) && b) (set-same (λ (link : Link). link.up) w.links broken_link SWITCH_LINK n (record (link_of w SWITCH_LINK) { outbox = others }) refl)
+
+  alive_now : Alive m (record now { out = flow (waiting_of v s.number); taken = flow (taken_of v s.number) })
+  alive_now = subst (λ (ys : List (List ℕ)). Alive m (record now { out = flow (waiting_of v s.number); taken = ys })) (sym (ap flow takes ∙ flow-append (taken_of w s.number) x))
+      (alive-taken now (flow x) (flow (waiting_of v s.number)) (flow (taken_of w s.number)) (subst (λ (ys : List (List ℕ)). Alive m (record now { out = ys; taken = flow (taken_of w s.number) })) flows_out kept.alive))
+
+-- ---- the event
+
+taking-keeps : {m : ℕ} {w : Actors} {mobile : ℕ} {s : Connection} (first : OutboxEntry) (others : List OutboxEntry) (o : Option Sccp) → is_up w SWITCH_LINK ≡ true → outbox_of w SWITCH_LINK ≡ first ∷ others → taken_of (switch_took o w) s.number ≡ taken_of w s.number ++ carried_for s.number first.out → AreLinedUp m w mobile s
+    → AreLinedUp m (switch_took o (with_outbox SWITCH_LINK others w)) mobile s
+taking-keeps {w} first others None up stood takes lined = record { one = lined.one; found = lined.found; lined = keeps-taking lined.one w.switch w.switch_made first others up stood takes lined.lined }
+taking-keeps {w} first others (Some message) up stood takes lined = record { one = lined.one; found = lined.found; lined = keeps-taking lined.one (after w.switch message) (w.switch_made ++ replies w.switch.connections message) first others up stood takes lined.lined }
+
+pub SwitchKeepsLineUps-new : (settings : Parameters) (events : List Event) → SwitchKeepsLineUps settings events
+unfolding event_after
+SwitchKeepsLineUps-new settings events mobile s delivers lined =
+    let w : Actors = actors_after_all (new_actors settings) events in
+    after-taken (λ v. AreLinedUp (modulus_in settings) v mobile s) (after_switch_takes w) w
+    (switch_takes-leads (λ v. AreLinedUp (modulus_in settings) v mobile s) w (λ first others up stood. taking-keeps first others (sccp_in first.out.frame) up stood (subst (DeliversFirst w s.number) stood delivers) lined)) lined

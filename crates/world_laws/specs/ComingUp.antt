@@ -1,0 +1,52 @@
+-- What is on its way up from a channel: what its station made and what stands in the inbox.
+use Rattle.std.specs.Prelude.{ℕ, ◌==◌, if◌then◌else◌, List, [], ◌∷◌, ◌++◌, Option, Some, None}
+use Rattle.std.specs.List.{flat_map}
+use Rattle.conn_messages.specs.declared.channel.Place.{Place}
+use Rattle.controller_table.specs.Reading.{sapi_of}
+use Rattle.dtap_codec.specs.declared.sapi.Sapi.{Sapi}
+use Rattle.dtap_codec.specs.declared.sapi.Sapi.TheVariants.{Zero}
+use Rattle.lineup.specs.LineUp.{Item as Brought}
+use Rattle.lineup.specs.LineUp.Item.{brought, released}
+use Rattle.relay_items.specs.declared.Item.{Item}
+use Rattle.relay_items.specs.declared.What.{What}
+use Rattle.relay_items.specs.declared.What.TheVariants as whats
+use Rattle.rsl_codec.specs.declared.rsl.Rsl.{Rsl}
+use Rattle.rsl_codec.specs.declared.rsl.Rsl.TheVariants.{EstablishIndication, DataIndication, RfChannelReleaseAck}
+use Rattle.world_table.specs.Stations.{rsl_in}
+use Rattle.world_table.specs.World.{Actors, base_of}
+
+-- a layer 3 message of SAPI 0
+abbrev pub of_main : Option Sapi → List ℕ → List Brought
+of_main (Some Zero) message = brought message ∷ []
+of_main _ message = []
+
+abbrev pub of_establishment : Option Sapi → Option (List ℕ) → List Brought
+of_establishment sapi None = []
+of_establishment sapi (Some message) = of_main sapi message
+
+-- what a station's message brings of a channel: a layer 3 message of its mobile, or the end of its tenure
+abbrev pub brings : ℕ → Rsl → List Brought
+brings channel (EstablishIndication e) = if e.channel == channel then of_establishment (sapi_of e.link) e.l3 else []
+brings channel (DataIndication d) = if d.channel == channel then of_main (sapi_of d.link) d.l3 else []
+brings channel (RfChannelReleaseAck number) = if number == channel then released ∷ [] else []
+brings channel _ = []
+
+abbrev pub brings_if : ℕ → Option Rsl → List Brought
+brings_if channel None = []
+brings_if channel (Some message) = brings channel message
+
+-- of an item of the inbox
+abbrev pub brings_by : Place → ℕ → What → List Brought
+brings_by at source (whats.Frame frame) = if source == at.station then brings_if at.number (rsl_in frame) else []
+brings_by at source whats.Down = []
+
+abbrev pub brings_in : Place → Item → List Brought
+brings_in at item = brings_by at item.source item.what
+
+-- what the station made of it
+abbrev pub made_of : ℕ → List Rsl → List Brought
+made_of channel messages = flat_map (brings channel) messages
+
+-- what stands in the inbox comes first
+abbrev pub coming_up : Actors → Place → List Brought
+coming_up w at = flat_map (brings_in at) w.inbox ++ made_of at.number (base_of w at.station).messages

@@ -1,0 +1,30 @@
+-- Which commands are on their way down on a channel: in its station's outbox, and among the messages for the air.
+use Rattle.std.specs.Prelude.{ℕ, ◌==◌, if◌then◌else◌, List, [], ◌∷◌, ◌++◌, Option, Some, None}
+use Rattle.std.specs.List.{flat_map}
+use Rattle.conn_messages.specs.declared.channel.Place.{Place}
+use Rattle.rsl_codec.specs.declared.rsl.Rsl.{Rsl}
+use Rattle.rsl_codec.specs.declared.rsl.Rsl.TheVariants.{DataRequest}
+use Rattle.world_table.specs.declared.line.AirMessage.{AirMessage}
+use Rattle.world_table.specs.declared.line.OutboxEntry.{OutboxEntry}
+use Rattle.world_table.specs.declared.seat.Tenure.{Tenure}
+use Rattle.world_table.specs.Stations.{rsl_in}
+use Rattle.world_table.specs.World.{Actors, spot_at, outbox_of}
+
+-- a message that leads to a tenure
+abbrev pub leading : List ℕ → Option Tenure → List AirMessage
+leading message None = []
+leading message (Some target) = record { message = message; target = Some target } ∷ []
+
+abbrev pub leading_from_air : AirMessage → List AirMessage
+leading_from_air a = leading a.message a.target
+
+abbrev pub leading_by : ℕ → Option Tenure → Option Rsl → List AirMessage
+leading_by channel target (Some (DataRequest d)) = if d.channel == channel then leading d.l3 target else []
+leading_by channel target _ = []
+
+abbrev pub leading_from_outbox : ℕ → OutboxEntry → List AirMessage
+leading_from_outbox channel entry = leading_by channel entry.target (rsl_in entry.out.frame)
+
+-- those for the air come first
+abbrev pub going_down : Actors → Place → List AirMessage
+going_down w at = flat_map leading_from_air (spot_at w at).air ++ flat_map (leading_from_outbox at.number) (outbox_of w at.station)

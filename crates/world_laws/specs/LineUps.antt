@@ -1,0 +1,151 @@
+-- The line-up of a connection in the world: what its mobile sent, where it stands on its way to the switch.
+use Rattle.std.specs.Prelude.{ℕ, ◌+◌, ◌==◌, ◌&&◌, not, Bool, true, false, if◌then◌else◌, List, [], ◌∷◌, length, map, find, Option, Some, None}
+use Rattle.conn_messages.specs.declared.channel.Channel.{Channel}
+use Rattle.conn_messages.specs.declared.channel.Place.{Place}
+use Rattle.conn_messages.specs.declared.parameters.TheConstants.{SWITCH_LINK}
+use Rattle.conn_table.specs.declared.state.Drain.{Drain}
+use Rattle.conn_table.specs.declared.state.Stage.TheVariants.{Changing}
+use Rattle.conn_table.specs.declared.state.State.{State}
+use Rattle.conn_table.specs.declared.state.State.TheVariants.{Live}
+use Rattle.conn_table.specs.declared.state.Target.{Target}
+use Rattle.conn_table.specs.Connection.{Connection, is_at}
+use Rattle.controller_table.specs.Controller.{place_of}
+use Rattle.controller_table.specs.Views.{forwarded}
+use Rattle.hold_queue.specs.ChainState.{Tenure as Held}
+use Rattle.lineup.specs.Alive.{some_lost}
+use Rattle.lineup.specs.ChangeStep.{ended}
+use Rattle.lineup.specs.LineUp.{Item, Tenure, Seat, LineUp, fresh, flow}
+use Rattle.lineup.specs.LineUp.Item.{brought, released}
+use Rattle.lineup.specs.LineUp.Seat.{on_serving, on_target, moving, gone}
+use Rattle.mobile_end.specs.DataLinkState.{DataLinkState}
+use Rattle.msc_end.specs.declared.connection.Connection.{Connection as SwitchConnection}
+use Rattle.world_table.specs.declared.line.AirMessage.{AirMessage}
+use Rattle.world_table.specs.declared.seat.Seat.{Seat as MobileSeat}
+use Rattle.world_table.specs.declared.seat.Seat.TheVariants.{Asking, On, Moving, Gone}
+use Rattle.world_table.specs.World.{Actors, Mobile, is_station_up, outbox_of}
+use Rattle.world_laws.specs.ComingUp.{coming_up}
+use Rattle.world_laws.specs.GoingDown.{going_down}
+
+-- ---- the mobile, seen from its connection
+
+-- one that asks for a channel is to come to the serving one
+abbrev pub seat_from : Channel → MobileSeat → Seat
+seat_from serving Asking = on_serving
+seat_from serving (On tenure command) = if is_at tenure.at serving then on_serving else on_target
+seat_from serving (Moving from command) = moving
+seat_from serving Gone = gone
+
+-- the command that it remembers
+abbrev pub remembered : MobileSeat → ℕ
+remembered (On tenure (Some command)) = 1
+remembered _ = 0
+
+-- ---- tenures
+
+abbrev pub is_ended : List Item → Bool
+is_ended [] = false
+is_ended (released ∷ items) = true
+is_ended (brought message ∷ items) = is_ended items
+
+-- an old channel may lack something where its link broke before its RF CHANNEL RELEASE ACK was on its way
+abbrev pub draining_tenure : Bool → List Item → List (List ℕ) → Tenure
+draining_tenure up items hold = record { hold = hold; items = items; is_lost = not up && not (is_ended items); is_done = false }
+
+abbrev pub old_tenure : (Place → List Item) → (ℕ → Bool) → Drain → List (List ℕ) → Tenure
+old_tenure coming up d hold = if d.is_done then ended hold else draining_tenure (up d.channel.station) (coming (place_of d.channel)) hold
+
+abbrev pub old_tenures : (Place → List Item) → (ℕ → Bool) → List Drain → List Held → List Tenure
+old_tenures coming up [] holds = []
+old_tenures coming up (d ∷ ds) [] = old_tenure coming up d [] ∷ old_tenures coming up ds []
+old_tenures coming up (d ∷ ds) (held ∷ others) = old_tenure coming up d held.zero ∷ old_tenures coming up ds others
+
+-- the tenure behind those of old channels
+abbrev pub serving_hold : List Drain → List Held → List (List ℕ)
+serving_hold draining [] = []
+serving_hold [] (held ∷ others) = held.zero
+serving_hold (d ∷ ds) (held ∷ others) = serving_hold ds others
+
+abbrev pub serving_tenure : (Place → List Item) → (ℕ → Bool) → Channel → List (List ℕ) → Tenure
+serving_tenure coming up c hold = record { hold = hold; items = coming (place_of c); is_lost = not (up c.station); is_done = false }
+
+-- the mobile came to the target, or is gone
+abbrev pub came : Seat → Bool
+came on_serving = false
+came on_target = true
+came moving = false
+came gone = true
+
+-- the target, to which the mobile is commanded
+abbrev pub commanded_target : State → Option Target
+commanded_target (Live reference (Changing target)) = Some target
+commanded_target _ = None
+
+abbrev pub target_tenure : (Place → List Item) → (ℕ → Bool) → Seat → Option Target → Tenure
+target_tenure coming up seat None = fresh
+target_tenure coming up seat (Some target) =
+    record { hold = []; items = coming (place_of target.channel); is_lost = not (up target.channel.station) && came seat; is_done = false }
+
+-- ---- the switch
+
+-- the messages of a connection that wait for it
+abbrev pub waiting_of : Actors → ℕ → List (List ℕ)
+waiting_of w number = map (λ f. f.message) (forwarded (map (λ entry. entry.out) (outbox_of w SWITCH_LINK)) number)
+
+abbrev pub is_of_peer : ℕ → SwitchConnection → Bool
+is_of_peer number c = c.peer == number
+
+abbrev pub taken_in : Option SwitchConnection → List (List ℕ)
+taken_in None = []
+taken_in (Some c) = c.reception.taken
+
+-- the messages that it took of the connection that the controller calls so
+abbrev pub taken_of : Actors → ℕ → List (List ℕ)
+taken_of w number = taken_in (find (is_of_peer number) w.switch.connections)
+
+-- ---- the line-up
+
+abbrev pub is_gone : Seat → Bool
+is_gone gone = true
+is_gone _ = false
+
+abbrev pub is_changing : Option Target → Bool
+is_changing None = false
+is_changing (Some target) = true
+
+abbrev pub is_confirmed : State → Bool
+is_confirmed (Live reference stage) = true
+is_confirmed _ = false
+
+abbrev pub is_intact : Seat → List Tenure → Tenure → Tenure → Bool
+is_intact seat old serving target = not (is_gone seat) && not (some_lost old) && not serving.is_lost && not target.is_lost
+
+abbrev pub assembled : List (List ℕ) → DataLinkState → Seat → State → ℕ → List Tenure → Tenure → Tenure → List (List ℕ) → List (List ℕ) → LineUp
+assembled sent link seat state commands old serving target out taken = record {
+  sent = sent;
+  link = link;
+  seat = seat;
+  is_intact = is_intact seat old serving target;
+  commands = commands;
+  is_changing = is_changing (commanded_target state);
+  is_confirmed = is_confirmed state;
+  old = old;
+  serving = serving;
+  target = target;
+  out = out;
+  taken = taken;
+}
+
+-- by what is on its way up from each channel and which links are up; by the commands on their way down, and by what waits for
+-- the switch and what it took
+abbrev pub lined : (Place → List Item) → (ℕ → Bool) → List AirMessage → List (List ℕ) → List (List ℕ) → Mobile → Connection → LineUp
+lined coming up commands out taken p s = assembled p.end.sent p.end.zero (seat_from s.serving p.seat) s.state
+    (length commands + remembered p.seat)
+    (old_tenures coming up s.draining s.up.tenures)
+    (serving_tenure coming up s.serving (serving_hold s.draining s.up.tenures))
+    (target_tenure coming up (seat_from s.serving p.seat) (commanded_target s.state))
+    (flow out)
+    (flow taken)
+
+-- of a mobile and its connection
+abbrev pub line_up : Actors → Mobile → Connection → LineUp
+line_up w p s = lined (coming_up w) (is_station_up w) (going_down w (place_of s.serving)) (waiting_of w s.number) (taken_of w s.number) p s

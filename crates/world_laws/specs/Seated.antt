@@ -1,0 +1,93 @@
+-- Where the mobile of a connection is, and who else is on the connection's channels.
+use Rattle.std.specs.Prelude.{◌≡◌, ◌≢◌, ℕ, true, false, List, [], ◌∷◌, Option, Some, None, Result, Ok}
+use Rattle.std.specs.List.{AllByRecursion}
+use Rattle.conn_messages.specs.declared.channel.Change.{Change}
+use Rattle.conn_messages.specs.declared.channel.Change.TheVariants.{Assignment, Handover}
+use Rattle.conn_messages.specs.declared.channel.Channel.{Channel}
+use Rattle.conn_messages.specs.declared.channel.Place.{Place}
+use Rattle.conn_messages.specs.declared.parameters.TheConstants.{SWITCH_LINK}
+use Rattle.conn_table.specs.declared.state.Target.{Target}
+use Rattle.conn_table.specs.Connection.{Connection, is_at}
+use Rattle.conn_table.specs.Streams.{AreApart, used_channels}
+use Rattle.controller_table.specs.Controller.{place_of}
+use Rattle.dtap_codec.specs.declared.rr.RrMessage.{RrMessage}
+use Rattle.dtap_codec.specs.declared.rr.RrMessage.TheVariants.{AssignmentCommand, HandoverCommand}
+use Rattle.dtap_codec.specs.declared.rr_fault.RrFault.{RrFault}
+use Rattle.dtap_codec.specs.RrReading.{rr_reading}
+use Rattle.lineup.specs.Alive.{Alive}
+use Rattle.world_table.specs.declared.line.AirMessage.{AirMessage}
+use Rattle.world_table.specs.declared.seat.Command.{Command}
+use Rattle.world_table.specs.declared.seat.Seat.{Seat}
+use Rattle.world_table.specs.declared.seat.Seat.TheVariants.{On, Moving, Gone}
+use Rattle.world_table.specs.declared.seat.Tenure.{Tenure}
+use Rattle.world_table.specs.World.{Actors, Mobile, mobile_of, tenure_at, is_active_at, is_reached}
+use Rattle.world_laws.specs.GoingDown.{going_down}
+use Rattle.world_laws.specs.LineUps.{commanded_target, line_up}
+
+-- ---- the mobile of the connection
+
+-- the command to a target, in its present tenure
+abbrev pub command_to : Actors → Target → Command
+command_to w target = record { change = target.change; target = tenure_at w (place_of target.channel) }
+
+-- no command, or that of the change under way
+pub data Remembers (w : Actors) : Option Target → Option Command → Type 0 where
+  nothing : {target : Option Target} → Remembers w target None
+  told : {target : Target} {command : Command} → command ≡ command_to w target → Remembers w (Some target) (Some command)
+
+-- It is on the serving channel; or it was commanded, and came to the target or is between both; or it is gone. All in the
+-- present tenures.
+pub data Sits (w : Actors) (serving : Channel) : Option Target → Seat → Type 0 where
+  stays : {target : Option Target} {tenure : Tenure} {command : Option Command} → tenure ≡ tenure_at w (place_of serving) → Remembers w target command →
+      Sits w serving target (On tenure command)
+  came : {target : Target} {tenure : Tenure} → tenure ≡ tenure_at w (place_of target.channel) → Sits w serving (Some target) (On tenure None)
+  between : {target : Target} {from : Tenure} {command : Command} → from ≡ tenure_at w (place_of serving) → command ≡ command_to w target →
+      Sits w serving (Some target) (Moving from command)
+  gone : {target : Option Target} → Sits w serving target Gone
+
+-- ---- the commands on their way to it
+
+abbrev pub change_in : Result RrMessage RrFault → Option Change
+change_in (Ok (AssignmentCommand channel)) = Some Assignment
+change_in (Ok (HandoverCommand cell channel reference)) = Some Handover
+change_in _ = None
+
+-- it leads to the target of the change under way
+pub data Leads (w : Actors) (a : AirMessage) : Option Target → Type 0 where
+  leads : {target : Target} → change_in (rr_reading a.message) ≡ Some target.change → a.target ≡ Some (tenure_at w (place_of target.channel)) → Leads w a (Some target)
+
+-- none on the target
+abbrev pub NoneOn : Actors → Option Target → Type 0
+NoneOn w None = Unit {0}
+NoneOn w (Some target) = going_down w (place_of target.channel) ≡ []
+
+-- ---- others
+
+-- none of these channels
+abbrev pub IsElsewhere : List Channel → Place → Type 0
+IsElsewhere channels at = AllByRecursion (λ c. is_at at c ≡ false) channels
+
+-- no other mobile is on a channel that the connection uses, in its present tenure
+abbrev pub IsAlone : Actors → ℕ → Connection → Type 0
+IsAlone w mobile s =
+    (other : ℕ) (q : Mobile) (tenure : Tenure) (command : Option Command) → other ≢ mobile → mobile_of w other ≡ Some q → q.seat ≡ On tenure command
+    → is_reached w tenure ≡ true → IsElsewhere (used_channels s) tenure.at
+
+-- its serving channel, and the target to which its mobile was commanded, are active at their stations
+abbrev pub commanded_channels : Option Target → List Channel
+commanded_channels None = []
+commanded_channels (Some target) = target.channel ∷ []
+
+abbrev pub AreActive : Actors → Connection → Type 0
+AreActive w s = AllByRecursion (λ c. is_active_at w (place_of c) ≡ true) (s.serving ∷ commanded_channels (commanded_target s.state))
+
+-- ---- a connection and its mobile, lined up
+
+pub record LinedUp (m : ℕ) (w : Actors) (p : Mobile) (s : Connection) : Type 0 where
+  pub alive : Alive m (line_up w p s)
+  pub sits : Sits w s.serving (commanded_target s.state) p.seat
+  pub led : AllByRecursion (λ a. Leads w a (commanded_target s.state)) (going_down w (place_of s.serving))
+  pub none_on_target : NoneOn w (commanded_target s.state)
+  pub apart : AreApart (used_channels s)
+  -- stations are numbered from 1
+  pub placed : AllByRecursion (λ c. c.station ≢ SWITCH_LINK) (used_channels s)

@@ -1,0 +1,64 @@
+-- A connection stays lined up at an event.
+use Rattle.std.specs.Prelude.{◌≡◌, ℕ, Bool, true, false, List, [], ◌∷◌, ◌++◌, map, Some}
+use Rattle.conn_messages.specs.declared.out.Out.{Out}
+use Rattle.conn_messages.specs.declared.parameters.TheConstants.{SWITCH_LINK}
+use Rattle.conn_table.specs.Connection.{Connection}
+use Rattle.controller_table.specs.Views.{forwarded}
+use Rattle.settings.specs.Parameters.{Parameters}
+use Rattle.world_table.specs.declared.event.Event.{Event}
+use Rattle.world_table.specs.declared.event.Event.TheVariants.{BaseTakes, Handle, SwitchTakes, Tick, BaseDown}
+use Rattle.world_table.specs.declared.line.OutboxEntry.{OutboxEntry}
+use Rattle.world_table.specs.SwitchSide.{sccp_in, switch_took}
+use Rattle.world_table.specs.Life.{actors_after, actors_after_all}
+use Rattle.world_table.specs.World.{Actors, Mobile, mobile_of, modulus_in, new_actors, outbox_of}
+use Rattle.world_laws.specs.LineUps.{taken_of}
+use Rattle.world_laws.specs.Seated.{AreActive, IsAlone, LinedUp}
+
+-- the mobile of this number and the connection are lined up
+pub record AreLinedUp (m : ℕ) (w : Actors) (mobile : ℕ) (s : Connection) : Type 0 where
+  pub one : Mobile
+  pub found : mobile_of w mobile ≡ Some one
+  pub lined : LinedUp m w one s
+
+-- The events in which neither the controller nor its outboxes take part, and no link breaks: what mobiles do, what stations take
+-- from them and give to the inbox, and what the switch does of its own.
+abbrev pub is_beside_relay : Event → Bool
+is_beside_relay (BaseTakes station) = false
+is_beside_relay Handle = false
+is_beside_relay SwitchTakes = false
+is_beside_relay (Tick ms) = false
+is_beside_relay (BaseDown source) = false
+is_beside_relay _ = true
+
+-- whatever happened before
+abbrev pub MobilesKeepLineUps : Parameters → List Event → Event → Type 0
+MobilesKeepLineUps settings events event =
+    (mobile : ℕ) (s : Connection) → is_beside_relay event ≡ true → IsAlone (actors_after_all (new_actors settings) events) mobile s
+    → AreLinedUp (modulus_in settings) (actors_after_all (new_actors settings) events) mobile s
+    → AreLinedUp (modulus_in settings) (actors_after (actors_after_all (new_actors settings) events) event) mobile s
+
+-- whatever happened before, where its channels are active
+abbrev pub StationsKeepLineUps : Parameters → List Event → ℕ → Type 0
+StationsKeepLineUps settings events station =
+    (mobile : ℕ) (s : Connection) → AreActive (actors_after_all (new_actors settings) events) s
+    → AreLinedUp (modulus_in settings) (actors_after_all (new_actors settings) events) mobile s
+    → AreLinedUp (modulus_in settings) (actors_after (actors_after_all (new_actors settings) events) (BaseTakes station)) mobile s
+
+-- ---- the switch takes
+
+-- what an entry carries of a connection's messages
+abbrev pub carried_for : ℕ → Out → List (List ℕ)
+carried_for number out = map (λ f. f.message) (forwarded (out ∷ []) number)
+
+-- The first entry that waits for the switch is taken as it was put: what it carries of a connection is the last that the switch
+-- took of it.
+abbrev pub DeliversFirst : Actors → ℕ → List OutboxEntry → Type 0
+DeliversFirst w number [] = Unit {0}
+DeliversFirst w number (first ∷ others) = taken_of (switch_took (sccp_in first.out.frame) w) number ≡ taken_of w number ++ carried_for number first.out
+
+-- whatever happened before, where the first entry is taken as it was put
+abbrev pub SwitchKeepsLineUps : Parameters → List Event → Type 0
+SwitchKeepsLineUps settings events =
+    (mobile : ℕ) (s : Connection) → DeliversFirst (actors_after_all (new_actors settings) events) s.number (outbox_of (actors_after_all (new_actors settings) events) SWITCH_LINK)
+    → AreLinedUp (modulus_in settings) (actors_after_all (new_actors settings) events) mobile s
+    → AreLinedUp (modulus_in settings) (actors_after (actors_after_all (new_actors settings) events) SwitchTakes) mobile s

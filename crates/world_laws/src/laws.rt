@@ -1,0 +1,22 @@
+ghost use Rattle.std.specs.Prelude.{ℕ, List};
+ghost use Rattle.settings.specs.Parameters.{Parameters};
+ghost use Rattle.world_table.specs.declared.event.Event.{Event as WorldEvent};
+ghost use Rattle.world_laws.specs.Staying.{MobilesKeepLineUps, StationsKeepLineUps, SwitchKeepsLineUps};
+
+/// Law: whatever events happened, a connection that is lined up with its mobile, and whose channels no other mobile is on, stays
+/// lined up at what mobiles do, at what stations take from them and give to the inbox, and at what the switch does of its own.
+/// It does nothing, as all here.
+pub fn mobiles_keep_line_ups()
+    ensures { (settings : Parameters) (events : List WorldEvent) (event : WorldEvent) → MobilesKeepLineUps settings events event }
+{}
+
+/// Law: and it stays lined up when a station takes the first entry of its outbox: when a message goes into the air or is lost, when
+/// a channel is activated or released, and when a mobile is assigned, where its own channels are active.
+pub fn stations_keep_line_ups()
+    ensures { (settings : Parameters) (events : List WorldEvent) (station : ℕ) → StationsKeepLineUps settings events station }
+{}
+
+/// Law: and it stays lined up when the switch takes what waits for it, where the first entry is taken as it was put.
+pub fn switch_keeps_line_ups()
+    ensures { (settings : Parameters) (events : List WorldEvent) → SwitchKeepsLineUps settings events }
+{}

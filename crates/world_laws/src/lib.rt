@@ -1,0 +1,7 @@
+//! Laws of the world with a controller: how the messages of each mobile are lined up on their way to the switch. It holds
+//! definitions and laws alone.
+#![tactic(auto)]
+
+pub use laws::{mobiles_keep_line_ups, stations_keep_line_ups, switch_keeps_line_ups};
+
+mod laws;
