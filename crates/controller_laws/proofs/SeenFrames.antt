@@ -41,7 +41,7 @@ use Rattle.conn_messages.specs.declared.parameters.TheConstants.{SWITCH_LINK}
 use Rattle.conn_messages.specs.Out.{IsReadOf, out_of, outs_of, station_out}
 use Rattle.conn_table.specs.Streams.{is_of, relayed, relayed_by}
 use Rattle.controller_laws.specs.History.{is_for, outs_for}
-use Rattle.controller_laws.specs.Uplink.{messages_on, passed_by}
+use Rattle.controller_laws.specs.Seen.{messages_on, passed_by}
 use Rattle.controller_laws.proofs.UsualRows.{AreUsual, IsUsual}
 use Rattle.controller_table.specs.declared.forwarded.Forwarded.{Forwarded}
 use Rattle.controller_table.specs.Views.{forwarded, forwarded_by, forwarded_in}

@@ -169,7 +169,7 @@ open_or Removed = inr (λ there. there)
 serving_other : (c : Controller) (n : ℕ) (roles : Roles) → Uses c.links c.links c → Owns c.channels c.links n roles → roles.serving.station ≢ SWITCH_LINK
 serving_other c n roles uses owns same = free≢use n (sym (uses.blank (place_of roles.serving) (λ alive. alive.1 same)) ∙ owns.using.0)
 
-right_put : (sapi : Sapi) (number : ℕ) (c : Controller) (o : Option Connection) (put : List Message) → Uses c.links c.links c → OwnsOpen c.channels c.links number o → GoToServing o put → ((IsThere o → ⊥) → HasNoStream put) → AllByRecursion (RightFor sapi) put
+pub right_put : (sapi : Sapi) (number : ℕ) (c : Controller) (o : Option Connection) (put : List Message) → Uses c.links c.links c → OwnsOpen c.channels c.links number o → GoToServing o put → ((IsThere o → ⊥) → HasNoStream put) → AllByRecursion (RightFor sapi) put
 right_put sapi number c None put uses owns serving over = right_none sapi put (serving sapi)
 right_put sapi number c (Some s) put uses owns serving over = elim (open_or s.state) [
   | inl there ↦ right_all sapi s.serving put (serving_other c number (roles_of s) uses (owns there)) serving

@@ -227,7 +227,7 @@ uplink_in_life p steps number allowed from_one there sapi =
 
 -- ---- what is read from the frames
 
-acts_usual : (number next : ℕ) (up : Bool) (brought : Brought) (before after : Option Connection) (put : List Message) → Acts number next up brought before put after → AreUsual put
+pub acts_usual : (number next : ℕ) (up : Bool) (brought : Brought) (before after : Option Connection) (put : List Message) → Acts number next up brought before put after → AreUsual put
 acts_usual number next up brought before after put (rests silent same none) = subst AreUsual (sym silent) tt
 acts_usual number next up brought before after put (ages old s is_time is aged silent same) = subst AreUsual (sym silent) tt
 acts_usual number next up brought before after put (opens begins linked channel request delay is_nothing none put_is same) = subst AreUsual (sym put_is) (tt, tt)
