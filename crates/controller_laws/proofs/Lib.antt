@@ -41,3 +41,5 @@ pub mod SoundLife
 pub mod Concerning
 mod UsedRows
 pub mod SeenFrames
+pub mod SeenStations
+pub mod DownlinkLaw
