@@ -6,7 +6,7 @@ use Rattle.controller_laws.specs.End.{SilenceIsKept}
 use Rattle.controller_laws.specs.History.{connection_of}
 use Rattle.controller_laws.specs.Owning.{OwnsOpen}
 use Rattle.controller_laws.specs.Uplink.{UplinkIsConserved}
-use Rattle.controller_laws.proofs.DownlinkLife.{life_conserves}
+use Rattle.controller_laws.proofs.DownlinkLaw.{life_conserves}
 use Rattle.controller_laws.proofs.OwningLife.{life_owns}
 use Rattle.controller_laws.proofs.SilenceLife.{life_is_silent}
 use Rattle.controller_laws.proofs.UplinkLife.{life_conserves_up}
