@@ -6,10 +6,15 @@ use Rattle.controller_laws.specs.End.{SilenceIsKept}
 use Rattle.controller_laws.specs.History.{connection_of}
 use Rattle.controller_laws.specs.Owning.{OwnsOpen}
 use Rattle.controller_laws.specs.Uplink.{UplinkIsConserved}
-use Rattle.controller_laws.proofs.DownlinkLife.{life_conserves}
+use Rattle.controller_laws.proofs.DownlinkLaw.{life_conserves}
 use Rattle.controller_laws.proofs.OwningLife.{life_owns}
 use Rattle.controller_laws.proofs.SilenceLife.{life_is_silent}
+use Rattle.controller_laws.proofs.SoundLife.{life_sends_all}
 use Rattle.controller_laws.proofs.UplinkLife.{life_conserves_up}
+use Rattle.controller_laws.proofs.UsingLife.{life_uses}
+use Rattle.controller_laws.specs.Sending.{ComesInOctets, IsSent}
+use Rattle.controller_laws.specs.Using.{AreUsed}
+use Rattle.std.specs.List.{AllByRecursion}
 use Rattle.controller_table.specs.declared.step.Step.{Step}
 use Rattle.controller_table.specs.Controller.{Controller, turn}
 use Rattle.controller_table.specs.Life.{life}
@@ -34,3 +39,9 @@ silence_of p steps c outs is number from_one = subst (SilenceIsKept number p ste
 
 pub channels_of : (p : Parameters) (steps : List Step) (c : Controller) (outs : List Out) → AreAllowed p → (c ≡ (life p steps).next) × (outs ≡ (life p steps).outs) → (number : ℕ) → OwnsOpen c.channels c.links number (connection_of c number)
 channels_of p steps c outs allowed is number = subst (λ (d : Controller). OwnsOpen d.channels d.links number (connection_of d number)) (sym is.0) (life_owns p steps number allowed)
+
+pub used_of : (p : Parameters) (steps : List Step) (c : Controller) (outs : List Out) → AreAllowed p → (c ≡ (life p steps).next) × (outs ≡ (life p steps).outs) → AreUsed c
+used_of p steps c outs allowed is = subst AreUsed (sym is.0) (life_uses p steps allowed)
+
+pub sent_of : (p : Parameters) (steps : List Step) (c : Controller) (outs : List Out) → AreAllowed p → (c ≡ (life p steps).next) × (outs ≡ (life p steps).outs) → AllByRecursion ComesInOctets steps → AllByRecursion IsSent outs
+sent_of p steps c outs allowed is octets = subst (AllByRecursion IsSent) (sym is.1) (life_sends_all p steps allowed octets)

@@ -1,9 +1,12 @@
 ghost use Rattle.std.specs.Prelude.{ℕ, ◌≡◌, ◌≤◌, IfOk, OnOk};
+ghost use Rattle.std.specs.List.{AllByRecursion};
 ghost use Rattle.controller_laws.specs.Downlink.{DownlinkIsConserved};
 ghost use Rattle.controller_laws.specs.End.{SilenceIsKept};
 ghost use Rattle.controller_laws.specs.History.{connection_of};
 ghost use Rattle.controller_laws.specs.Owning.{OwnsOpen};
+ghost use Rattle.controller_laws.specs.Sending.{ComesInOctets, IsSent};
 ghost use Rattle.controller_laws.specs.Uplink.{UplinkIsConserved};
+ghost use Rattle.controller_laws.specs.Using.{AreUsed};
 ghost use Rattle.controller_table.specs.Controller.{each, new_controller, turn};
 ghost use Rattle.controller_table.specs.Life as words;
 ghost use Rattle.controller.specs.Doing.{Turns};
@@ -33,8 +36,12 @@ pub fn run(
     // Nothing is handed while its channel changes, and nothing is relayed or handed once it is closed.
     ensures silence { IfOk result (λ both. (number : ℕ) → 1 ≤ number → SilenceIsKept number settings steps.items (turn both.1.outs both.0)) }
 
-    // Its channels are its own.
+    // Its channels are its own: a channel is in use by a connection exactly where the connection uses it.
     ensures channels { IfOk result (λ both. (number : ℕ) → OwnsOpen both.0.channels both.0.links number (connection_of both.0 number)) }
+    ensures used { IfOk result (λ both. AreUsed both.0) }
+
+    // Where what came was octets, each frame has 2,048 octets at most, and is read as the message that was put.
+    ensures sent { IfOk result (λ both. AllByRecursion ComesInOctets steps.items → AllByRecursion IsSent both.1.outs) }
 {
     live(alloc, settings, steps)
 }

@@ -6,7 +6,7 @@ use Rattle.conn_messages.specs.declared.out.Out.{Out}
 use Rattle.conn_messages.specs.Out.{outs_of}
 use Rattle.conn_messages.specs.declared.parameters.TheConstants.{SWITCH_LINK}
 use Rattle.controller_laws.specs.Acts.{brought_in}
-use Rattle.controller_laws.specs.Downlink.{ConservesDownlink, DownlinkIsConserved, Switched, nothing_switched, switched, with_moment}
+use Rattle.controller_laws.specs.Downlink.{ConservesDownlink, Switched, nothing_switched, switched, with_moment}
 use Rattle.controller_laws.specs.History.{IsHistory, Moment, all_messages, connection_of, outs_for}
 use Rattle.controller_laws.specs.Numbers.{IsBelow, IsNumbered}
 use Rattle.controller_laws.proofs.Acting.{outs_append, outs_of_append}
@@ -78,12 +78,12 @@ new_agrees : (sapi : Sapi) (number : ℕ) (p : Parameters) → AgreesDown sapi n
 unfolding AgreesDown
 new_agrees sapi number p = λ less. refl
 
-pub life_conserves : (p : Parameters) (steps : List Step) (number : ℕ) → 1 ≤ number → DownlinkIsConserved number p steps (life p steps)
+pub downlink_in_life : (p : Parameters) (steps : List Step) (number : ℕ) (from_one : 1 ≤ number) (sapi : Sapi) → ConservesDownlink (switched number sapi (moments_of number (new_controller p) from_one (new_fits number p) steps)) sapi (connection_of (life p steps).next number)
 unfolding life
-life_conserves p steps number from_one = record {
-  moments = moments_of number (new_controller p) from_one (new_fits number p) steps;
-  history = history_of number (new_controller p) from_one (new_fits number p) steps;
-  frames = frames_of number (new_controller p) from_one (new_fits number p) steps;
-  downlink = λ sapi. conserved sapi number (each step (new_controller p) steps).next.next_number (switched number sapi (moments_of number (new_controller p) from_one (new_fits number p) steps)) (connection_of (each step (new_controller p) steps).next number)
-      (agree_run sapi number (new_controller p) from_one (new_fits number p) nothing_switched steps (new_agrees sapi number p));
-}
+downlink_in_life p steps number from_one sapi =
+    conserved sapi number (each step (new_controller p) steps).next.next_number (switched number sapi (moments_of number (new_controller p) from_one (new_fits number p) steps)) (connection_of (each step (new_controller p) steps).next number)
+    (agree_run sapi number (new_controller p) from_one (new_fits number p) nothing_switched steps (new_agrees sapi number p))
+
+pub frames_in_life : (p : Parameters) (steps : List Step) (number : ℕ) (from_one : 1 ≤ number) → outs_for number (life p steps).outs ≡ outs_of number (all_messages (moments_of number (new_controller p) from_one (new_fits number p) steps))
+unfolding life
+frames_in_life p steps number from_one = frames_of number (new_controller p) from_one (new_fits number p) steps

@@ -42,3 +42,5 @@ pub mod Concerning
 mod UsedRows
 pub mod SeenFrames
 pub mod Keeping
+pub mod SeenStations
+pub mod DownlinkLaw

@@ -38,7 +38,7 @@ release_other m n is = cc
 use≢release : (m n : ℕ) → InUse m ≢ Releasing n
 use≢release m n is = cc
 
-free≢use : (n : ℕ) → Free ≢ InUse n
+pub free≢use : (n : ℕ) → Free ≢ InUse n
 free≢use n is = cc
 
 free≢release : (n : ℕ) → Free ≢ Releasing n

@@ -41,7 +41,7 @@ use Rattle.conn_messages.specs.declared.parameters.TheConstants.{SWITCH_LINK}
 use Rattle.conn_messages.specs.Out.{IsReadOf, out_of, outs_of, station_out}
 use Rattle.conn_table.specs.Streams.{is_of, relayed, relayed_by}
 use Rattle.controller_laws.specs.History.{is_for, outs_for}
-use Rattle.controller_laws.specs.Uplink.{messages_on, passed_by}
+use Rattle.controller_laws.specs.Seen.{messages_on, passed_by}
 use Rattle.controller_laws.proofs.UsualRows.{AreUsual, IsUsual}
 use Rattle.controller_table.specs.declared.forwarded.Forwarded.{Forwarded}
 use Rattle.controller_table.specs.Views.{forwarded, forwarded_by, forwarded_in}
@@ -54,10 +54,10 @@ use Rattle.rsl_codec.specs.declared.rsl.Rsl.{Rsl}
 goes_to_switch : Out → Bool
 goes_to_switch out = out.to == SWITCH_LINK
 
-goes_to_station : Out → Bool
+unfoldable pub goes_to_station : Out → Bool
 goes_to_station out = not (out.to == SWITCH_LINK)
 
-both_filters : (number : ℕ) (test : Out → Bool) (outs : List Out) → filter (λ out. (out.conn == number) && test out) outs ≡ filter test (outs_for number outs)
+pub both_filters : (number : ℕ) (test : Out → Bool) (outs : List Out) → filter (λ out. (out.conn == number) && test out) outs ≡ filter test (outs_for number outs)
 both_filters number test [] = refl
 both_filters number test (o ∷ os) = elim (cases_Bool (o.conn == number)) [
   | inl hit ↦ ap (λ (b : Bool). if b && test o then o ∷ filter (λ out. (out.conn == number) && test out) os else filter (λ out. (out.conn == number) && test out) os) hit
@@ -68,7 +68,7 @@ both_filters number test (o ∷ os) = elim (cases_Bool (o.conn == number)) [
       ∙ sym (ap (filter test) (cond-false _ (o ∷ outs_for number os) (outs_for number os) miss))
 ]
 
-filter_first : (test : Out → Bool) (o : Out) (os : List Out) → filter test (o ∷ os) ≡ filter test (o ∷ []) ++ filter test os
+pub filter_first : (test : Out → Bool) (o : Out) (os : List Out) → filter test (o ∷ os) ≡ filter test (o ∷ []) ++ filter test os
 filter_first test o os = by (test o)
   where
     by : (b : Bool) → (if b then o ∷ filter test os else filter test os) ≡ (if b then o ∷ [] else []) ++ filter test os
@@ -126,7 +126,7 @@ same_initial cell cell' initial initial' same =
     ∙ drop-append_seam cell' (0x17 ∷ length initial' ∷ (initial' ++ [])) in
     sym (append-nil initial) ∙ ap (drop 2) rest ∙ append-nil initial'
 
-apart : (a b : ℕ) → (a == b) ≡ false → a ≡ b → ⊥
+pub apart : (a b : ℕ) → (a == b) ≡ false → a ≡ b → ⊥
 apart a b differ same = true≢false (sym (eq-eqb a b same) ∙ differ)
 
 -- of the messages of BSSMAP one alone has the octet of its type
@@ -331,14 +331,14 @@ text_of number out from_one conn sent = elim sent.is [
   | inr pong_is ↦ absurd (let zero_is : 0 ≡ number = sym (ap (λ (o : Out). o.conn) pong_is) ∙ conn in omega arith)
 ]
 
-texts_of : (number : ℕ) (outs : List Out) → 1 ≤ number → AllByRecursion IsSent outs → AllByRecursion (IsText number) (outs_for number outs)
+pub texts_of : (number : ℕ) (outs : List Out) → 1 ≤ number → AllByRecursion IsSent outs → AllByRecursion (IsText number) (outs_for number outs)
 texts_of number [] from_one sent = tt
 texts_of number (o ∷ os) from_one sent = elim (cases_Bool (is_for number o)) [
   | inl hit ↦ subst (AllByRecursion (IsText number)) (sym (cond-true _ (o ∷ outs_for number os) (outs_for number os) hit)) (text_of number o from_one (eqb-true o.conn number hit) sent.0, texts_of number os from_one sent.1)
   | inr miss ↦ subst (AllByRecursion (IsText number)) (sym (cond-false _ (o ∷ outs_for number os) (outs_for number os) miss)) (texts_of number os from_one sent.1)
 ]
 
-texts_back : (number : ℕ) (ms : List Message) → AllByRecursion (IsText number) (outs_of number ms) → AllByRecursion (λ m. IsText number (out_of number m)) ms
+pub texts_back : (number : ℕ) (ms : List Message) → AllByRecursion (IsText number) (outs_of number ms) → AllByRecursion (λ m. IsText number (out_of number m)) ms
 texts_back number [] all = tt
 texts_back number (m ∷ ms) all = (all.0, texts_back number ms all.1)
 

@@ -121,14 +121,14 @@ abbrev pub IsSoundCell : CellParameters → Type 0
 IsSoundCell cell = AllByRecursion (λ (number : ℕ). is_channel number ≡ true) cell.channels
 
 -- all connections are sound, and all channels of the cells, and numbers have three octets
-record IsSoundAll (c : Controller) : Type 0 where
+pub record IsSoundAll (c : Controller) : Type 0 where
   each : (n : ℕ) → SoundOf (connection_of c n)
   cells : AllByRecursion IsSoundCell c.settings.cells
   next : c.next_number ≤ 2 ^ 24
 
-record SoundTurn (t : Turn) : Type 0 where
-  sound : IsSoundAll t.next
-  sent : AllByRecursion IsSent t.outs
+pub record SoundTurn (t : Turn) : Type 0 where
+  pub sound : IsSoundAll t.next
+  pub sent : AllByRecursion IsSent t.outs
 
 some_sound : (o : Option Connection) (s : Connection) → o ≡ Some s → SoundOf o → SoundParts s
 unfolding SoundOf
@@ -456,7 +456,7 @@ tick_sound ms c ready sound =
 
 -- ---- a step
 
-step_sound : (c : Controller) (s : Step) → ComesInOctets s → Ready c → IsSoundAll c → SoundTurn (step c s)
+pub step_sound : (c : Controller) (s : Step) → ComesInOctets s → Ready c → IsSoundAll c → SoundTurn (step c s)
 unfolding take
 step_sound c (Take item) octets ready sound = what_sound (is_up c item.source) item.source item.what c octets ready sound
 step_sound c (Tick ms) octets ready sound = tick_sound ms c ready sound
@@ -474,7 +474,7 @@ cells_of : (cells : List CellParameters) → AllByRecursion IsCell cells → All
 cells_of [] all = tt
 cells_of (cell ∷ cells) all = (channels_of cell.channels (recursion_from_All IsChannel cell.channels all.0.channels.each), cells_of cells all.1)
 
-new_sound : (p : Parameters) → AreAllowed p → IsSoundAll (new_controller p)
+pub new_sound : (p : Parameters) → AreAllowed p → IsSoundAll (new_controller p)
 unfolding SoundOf
 new_sound p allowed = record { each = λ n. tt; cells = cells_of p.cells (recursion_from_All IsCell p.cells allowed.cells.each); next = omega arith }
 

@@ -284,7 +284,7 @@ filter_append (x ∷ xs) ys = elim (cases_Bool (is_dtap x)) [
   | inr miss ↦ cond-false _ _ _ miss ∙ filter_append xs ys ∙ sym (ap (λ (zs : List (List ℕ)). zs ++ filter is_dtap ys) (cond-false _ _ _ miss))
 ]
 
-first_empty : (xs ys : List (List ℕ)) → xs ++ ys ≡ [] → xs ≡ []
+pub first_empty : (xs ys : List (List ℕ)) → xs ++ ys ≡ [] → xs ≡ []
 first_empty [] ys is = refl
 first_empty (x ∷ xs) ys is = absurd cc
 

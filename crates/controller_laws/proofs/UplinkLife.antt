@@ -4,7 +4,6 @@ use Rattle.std.specs.List.{flat_map}
 use Rattle.conn_messages.specs.declared.channel.Channel.{Channel}
 use Rattle.conn_messages.specs.declared.message.Message.{Message}
 use Rattle.conn_messages.specs.declared.parameters.TheConstants.{SWITCH_LINK}
-use Rattle.conn_messages.specs.Out.{outs_of}
 use Rattle.conn_messages.specs.StationMessage.{access_activation}
 use Rattle.conn_table.proofs.StandingSteps.{by_state}
 use Rattle.conn_table.specs.declared.state.Drain.{Drain}
@@ -19,11 +18,11 @@ use Rattle.conn_table.specs.Timers.{after_pass}
 use Rattle.controller_laws.specs.Acts.{Acts, Brought, FitsNone, IsAged, brought_in, kept_in}
 use Rattle.controller_laws.specs.Acts.Acts.{ages, goes, opens, rests}
 use Rattle.controller_laws.specs.End.{IsThere}
-use Rattle.controller_laws.specs.History.{Moment, all_messages, connection_of, outs_for, word_in}
+use Rattle.controller_laws.specs.History.{Moment, all_messages, connection_of, word_in}
 use Rattle.controller_laws.specs.Owning.{Owns, OwnsOpen, used_in}
 use Rattle.controller_laws.specs.Uplink.{Tenure, UplinkIsConserved, after_moment, after_word, joined, service}
 use Rattle.controller_laws.proofs.Beside.{step_goes}
-use Rattle.controller_laws.proofs.DownlinkLife.{begun_in, frames_of, history_of, moments_of}
+use Rattle.controller_laws.proofs.DownlinkLife.{begun_in, frames_in_life, history_of, moments_of}
 use Rattle.controller_laws.proofs.Fitting.{Fits, IsBreak, IsFine, aged_holds, fine_old, in_break, new_fits, step_fits}
 use Rattle.controller_laws.proofs.Following.{Follows}
 use Rattle.controller_laws.proofs.FollowingSteps.{AreOwn, SaysUp, rest_tenures, row_tenures, step_says, up_own, word_none}
@@ -218,10 +217,6 @@ new_agrees : (number : ℕ) (p : Parameters) → AgreesUp number 1 [] [] (connec
 unfolding AgreesUp
 new_agrees number p = λ less. (refl, refl)
 
-frames_in_life : (p : Parameters) (steps : List Step) (number : ℕ) (from_one : 1 ≤ number) → outs_for number (life p steps).outs ≡ outs_of number (all_messages (moments_of number (new_controller p) from_one (new_fits number p) steps))
-unfolding life
-frames_in_life p steps number from_one = frames_of number (new_controller p) from_one (new_fits number p) steps
-
 uplink_in_life : (p : Parameters) (steps : List Step) (number : ℕ) → AreAllowed p → (from_one : 1 ≤ number) → IsThere (connection_of (life p steps).next number) → (sapi : Sapi) →
     relayed sapi (all_messages (moments_of number (new_controller p) from_one (new_fits number p) steps)) ++ held_up (life p steps).next number sapi ≡ joined sapi (service (moments_of number (new_controller p) from_one (new_fits number p) steps))
 unfolding life
@@ -232,7 +227,7 @@ uplink_in_life p steps number allowed from_one there sapi =
 
 -- ---- what is read from the frames
 
-acts_usual : (number next : ℕ) (up : Bool) (brought : Brought) (before after : Option Connection) (put : List Message) → Acts number next up brought before put after → AreUsual put
+pub acts_usual : (number next : ℕ) (up : Bool) (brought : Brought) (before after : Option Connection) (put : List Message) → Acts number next up brought before put after → AreUsual put
 acts_usual number next up brought before after put (rests silent same none) = subst AreUsual (sym silent) tt
 acts_usual number next up brought before after put (ages old s is_time is aged silent same) = subst AreUsual (sym silent) tt
 acts_usual number next up brought before after put (opens begins linked channel request delay is_nothing none put_is same) = subst AreUsual (sym put_is) (tt, tt)

@@ -5,7 +5,8 @@ use Rattle.bssmap_codec.specs.declared.bssmap.Bssmap.TheVariants.{AssignmentComp
 use Rattle.conn_messages.specs.declared.message.Message.{Message}
 use Rattle.conn_messages.specs.declared.message.Message.TheVariants.{Request, Data}
 use Rattle.controller_laws.specs.History.{Moment, all_messages}
-use Rattle.controller_laws.specs.Uplink.{Tenure, joined, messages_on, service}
+use Rattle.controller_laws.specs.Uplink.{Tenure, joined, service}
+use Rattle.controller_laws.specs.Seen.{messages_on}
 use Rattle.controller_table.proofs.Lives.{down, eager_settings, from_station, from_switch}
 use Rattle.controller_table.proofs.OnLiterals.{on_literals}
 use Rattle.controller_table.specs.declared.step.Step.{Step}

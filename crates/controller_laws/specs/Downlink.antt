@@ -1,5 +1,6 @@
 -- The switch's messages of a connection: those that came, were rejected, were handed.
 use Rattle.std.specs.Prelude.{◌≡◌, ℕ, ◌==◌, ◌&&◌, ◌||◌, Bool, true, false, if◌then◌else◌, List, [], ◌∷◌, ◌++◌, filter, fold, Option, Some, None}
+use Rattle.std.specs.List.{AllByRecursion}
 use Rattle.conn_messages.specs.declared.message.Message.{Message}
 use Rattle.conn_messages.specs.declared.message.Message.TheVariants.{Request}
 use Rattle.conn_messages.specs.Out.{outs_of}
@@ -12,7 +13,9 @@ use Rattle.controller_table.specs.declared.word.Word.TheVariants.{OnConnection}
 use Rattle.controller_laws.specs.History.{IsHistory, Moment, all_messages, connection_of, outs_for, word_in}
 use Rattle.controller_table.specs.declared.step.Step.{Step}
 use Rattle.controller_table.specs.Controller.{Turn, new_controller}
-use Rattle.settings.specs.Parameters.{Parameters}
+use Rattle.controller_table.specs.Views.{handed as handed_in}
+use Rattle.controller_laws.specs.Sending.{ComesInOctets}
+use Rattle.settings.specs.Parameters.{AreAllowed, Parameters}
 use Rattle.dtap_codec.specs.declared.sapi.Sapi.{Sapi}
 use Rattle.dtap_codec.specs.declared.sapi.Sapi.TheVariants.{Zero, Three}
 use Rattle.hold_queue.specs.HoldState.{messages}
@@ -79,9 +82,11 @@ ConservesDownlink a sapi None = Unit {0}
 ConservesDownlink a sapi (Some s) = IsOpen s.state → a.handed ++ filter is_dtap (messages s.down sapi) ≡ a.received
 
 -- There are messages, step by step, of which the connection's frames are, and over them, per SAPI, what was handed, then what
--- is held, is what came and wasn't rejected.
+-- is held, is what came and wasn't rejected. What was handed is what is read from the frames to stations, where what came was
+-- octets.
 pub record DownlinkIsConserved (number : ℕ) (p : Parameters) (steps : List Step) (life : Turn) : Type 0 where
   pub moments : List Moment
   pub history : IsHistory number (new_controller p) steps moments
   pub frames : outs_for number life.outs ≡ outs_of number (all_messages moments)
   pub downlink : (sapi : Sapi) → ConservesDownlink (switched number sapi moments) sapi (connection_of life.next number)
+  pub read : AreAllowed p → AllByRecursion ComesInOctets steps → (sapi : Sapi) → handed_in life.outs number sapi ≡ (switched number sapi moments).handed

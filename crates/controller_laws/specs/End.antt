@@ -9,8 +9,11 @@ use Rattle.controller_laws.specs.History.{IsHistory, Moment, all_messages, conne
 use Rattle.controller_table.specs.declared.step.Step.{Step}
 use Rattle.controller_table.specs.Controller.{Controller, Turn, new_controller}
 use Rattle.controller_table.specs.Life.{step}
+use Rattle.controller_table.specs.Views.{forwarded, handed as handed_in}
+use Rattle.controller_laws.specs.Sending.{ComesInOctets}
+use Rattle.controller_laws.specs.Seen.{messages_on}
 use Rattle.dtap_codec.specs.declared.sapi.Sapi.{Sapi}
-use Rattle.settings.specs.Parameters.{Parameters}
+use Rattle.settings.specs.Parameters.{AreAllowed, Parameters}
 
 -- a connection that is open
 abbrev pub IsThere : Option Connection → Type 0
@@ -54,12 +57,21 @@ abbrev pub AllKeepSilence : ℕ → Controller → List Moment → Type 0
 AllKeepSilence number c [] = Unit {0}
 AllKeepSilence number c (m ∷ ms) = KeepsSilence number c m.taken m.messages × AllKeepSilence number (step c m.taken).next ms
 
--- There are messages, step by step, of which the connection's frames are, and each step keeps silence.
+-- what is read from each step's frames is what was relayed and handed by its messages
+abbrev pub AllAreRead : ℕ → Controller → List Moment → Type 0
+AllAreRead number c [] = Unit {0}
+AllAreRead number c (m ∷ ms) =
+    ((sapi : Sapi) → (messages_on sapi (forwarded (step c m.taken).outs number) ≡ relayed sapi m.messages) × (handed_in (step c m.taken).outs number sapi ≡ handed sapi m.messages))
+    × AllAreRead number (step c m.taken).next ms
+
+-- There are messages, step by step, of which the connection's frames are, and each step keeps silence. What they relay and hand is
+-- what is read from the frames, where what came was octets.
 pub record SilenceIsKept (number : ℕ) (p : Parameters) (steps : List Step) (life : Turn) : Type 0 where
   pub moments : List Moment
   pub history : IsHistory number (new_controller p) steps moments
   pub frames : outs_for number life.outs ≡ outs_of number (all_messages moments)
   pub silent : AllKeepSilence number (new_controller p) moments
+  pub read : AreAllowed p → AllByRecursion ComesInOctets steps → AllAreRead number (new_controller p) moments
 
 -- Nothing is handed or relayed in these steps.
 pub record StaysSilent (number : ℕ) (c : Controller) (steps : List Step) : Type 0 where

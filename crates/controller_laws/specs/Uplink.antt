@@ -1,6 +1,6 @@
 -- The mobile's messages of a connection: those of its tenures.
 use Rattle.std.specs.Prelude.{◌≡◌, ℕ, ◌==◌, ◌&&◌, ◌||◌, not, Bool, true, false, if◌then◌else◌, List, [], ◌∷◌, ◌++◌, fold, map, Some}
-use Rattle.std.specs.List.{AllByRecursion, flat_map}
+use Rattle.std.specs.List.{AllByRecursion}
 use Rattle.conn_messages.specs.declared.channel.Place.{Place}
 use Rattle.conn_messages.specs.declared.message.Message.{Message}
 use Rattle.conn_messages.specs.declared.message.Message.TheVariants.{Data}
@@ -10,7 +10,6 @@ use Rattle.bssmap_codec.specs.declared.bssmap.Bssmap.TheVariants.{AssignmentComp
 use Rattle.conn_table.specs.declared.input.Input.{Input}
 use Rattle.conn_table.specs.declared.input.Input.TheVariants as inputs
 use Rattle.conn_table.specs.Streams.{relayed}
-use Rattle.controller_table.specs.declared.forwarded.Forwarded.{Forwarded}
 use Rattle.controller_table.specs.declared.step.Step.{Step}
 use Rattle.controller_table.specs.declared.word.Word.{Word}
 use Rattle.controller_table.specs.declared.word.Word.TheVariants.{OnChannel}
@@ -19,6 +18,7 @@ use Rattle.controller_table.specs.Views.{forwarded, held_up}
 use Rattle.controller_laws.specs.Downlink.{requests}
 use Rattle.controller_laws.specs.End.{IsThere}
 use Rattle.controller_laws.specs.History.{IsHistory, Moment, all_messages, connection_of, outs_for, word_in}
+use Rattle.controller_laws.specs.Seen.{messages_on}
 use Rattle.controller_laws.specs.Sending.{ComesInOctets}
 use Rattle.dtap_codec.specs.declared.sapi.Sapi.{Sapi}
 use Rattle.dtap_codec.specs.declared.sapi.Sapi.TheVariants.{Zero, Three}
@@ -103,18 +103,6 @@ service moments = fold after_moment [] moments
 abbrev pub joined : Sapi → List Tenure → List (List ℕ)
 joined sapi [] = []
 joined sapi (serving ∷ old) = joined sapi old ++ of_sapi sapi serving
-
--- of those that were forwarded, the messages on a SAPI
-abbrev pub is_same_sapi : Sapi → Sapi → Bool
-is_same_sapi Zero Zero = true
-is_same_sapi Three Three = true
-is_same_sapi _ _ = false
-
-abbrev pub passed_by : Sapi → Forwarded → List (List ℕ)
-passed_by sapi f = if is_same_sapi sapi f.sapi then f.message ∷ [] else []
-
-abbrev pub messages_on : Sapi → List Forwarded → List (List ℕ)
-messages_on sapi list = flat_map (passed_by sapi) list
 
 -- ---- the law
 

@@ -32,7 +32,8 @@ pub fn steps_are_rows()
 
 /// While the mobile of a connection changes its channel nothing is handed to it, and nothing by the step that commands it
 /// to; what a step hands goes to the channel that serves after it. From the step that closes a connection on nothing is
-/// handed or relayed; after CLEAR COMPLETE only RLC is put, and nothing once the connection is gone.
+/// handed or relayed; after CLEAR COMPLETE only RLC is put, and nothing once the connection is gone. What a step relays and
+/// hands is what is read from its frames, with settings that are allowed and where what came was octets.
 pub fn silence_is_kept()
     ensures steps { (p : Parameters) (steps : List Step) (number : ℕ) → 1 ≤ number → SilenceIsKept number p steps (life p steps) }
     ensures end { (p : Parameters) (steps rest : List Step) (number : ℕ) → 1 ≤ number → number < (life p steps).next.next_number
@@ -40,7 +41,8 @@ pub fn silence_is_kept()
 {}
 
 /// Of each SAPI, what was handed to the mobile of a connection, then what is held for it, is what the switch sent from CC on,
-/// without what was rejected and without messages of radio resource management, as long as the connection is open.
+/// without what was rejected and without messages of radio resource management, as long as the connection is open. What was
+/// handed is what is read from the frames to stations, with settings that are allowed and where what came was octets.
 pub fn downlink_is_conserved()
     ensures { (p : Parameters) (steps : List Step) (number : ℕ) → 1 ≤ number → DownlinkIsConserved number p steps (life p steps) }
 {}
@@ -48,6 +50,7 @@ pub fn downlink_is_conserved()
 /// Of each SAPI, what was relayed of a connection to the switch, the initial message first, then what is held of it, is what
 /// came on its channels: of the first channel from the initial message on, of each next one from its COMPLETE on, until its
 /// release is acknowledged, channel after channel in the order in which they came to serve; as long as the connection is open.
+/// What was relayed is what is read from the frames to the switch, where what came was octets.
 pub fn uplink_is_conserved()
     ensures { (p : Parameters) (steps : List Step) (number : ℕ) → AreAllowed p → 1 ≤ number → UplinkIsConserved number p steps (life p steps) }
 {}

@@ -1,4 +1,4 @@
-use Rattle.controller.proofs.LifeLaws.{channels_of, downlink_of, if_so, silence_of, uplink_of}
+use Rattle.controller.proofs.LifeLaws.{channels_of, downlink_of, if_so, sent_of, silence_of, uplink_of, used_of}
 use Rattle.controller.proofs.life.run.Goals as goal
 
 pub returns-clause-uplink : goal.returns-clause-uplink
@@ -12,3 +12,9 @@ returns-clause-silence c = if_so _ _ c.live.result (λ both is. silence_of c.arg
 
 pub returns-clause-channels : goal.returns-clause-channels
 returns-clause-channels c = if_so _ _ c.live.result (λ both is. channels_of c.args.settings c.args.steps.items both.0 both.1.outs c.live.ensures.allowed is) c.live.ensures.life
+
+pub returns-clause-used : goal.returns-clause-used
+returns-clause-used c = if_so _ _ c.live.result (λ both is. used_of c.args.settings c.args.steps.items both.0 both.1.outs c.live.ensures.allowed is) c.live.ensures.life
+
+pub returns-clause-sent : goal.returns-clause-sent
+returns-clause-sent c = if_so _ _ c.live.result (λ both is. sent_of c.args.settings c.args.steps.items both.0 both.1.outs c.live.ensures.allowed is) c.live.ensures.life

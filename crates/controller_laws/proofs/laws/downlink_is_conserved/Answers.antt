@@ -1,4 +1,4 @@
-use Rattle.controller_laws.proofs.DownlinkLife.{life_conserves}
+use Rattle.controller_laws.proofs.DownlinkLaw.{life_conserves}
 use Rattle.controller_laws.proofs.laws.downlink_is_conserved.Goals as goal
 
 pub returns : goal.returns
