@@ -36,3 +36,4 @@ pub mod SoundLife
 pub mod Concerning
 mod UsedRows
 pub mod Keeping
+pub mod Placed

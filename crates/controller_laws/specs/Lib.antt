@@ -9,3 +9,4 @@ pub mod Using
 pub mod Reach
 pub mod Sending
 pub mod Concern
+pub mod Placing
