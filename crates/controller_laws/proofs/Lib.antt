@@ -44,3 +44,4 @@ pub mod SeenFrames
 pub mod Keeping
 pub mod SeenStations
 pub mod DownlinkLaw
+pub mod Placed

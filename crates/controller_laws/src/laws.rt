@@ -6,6 +6,7 @@ ghost use Rattle.controller_laws.specs.End.{IsThere, SilenceIsKept, StaysSilent}
 ghost use Rattle.controller_laws.specs.History.{connection_of};
 ghost use Rattle.controller_laws.specs.Owning.{LinkedOf, OwnsOpen};
 ghost use Rattle.controller_laws.specs.Uplink.{UplinkIsConserved};
+ghost use Rattle.controller_laws.specs.Placing.{KeepsToChannels};
 ghost use Rattle.controller_laws.specs.Reach.{GoesToUp};
 ghost use Rattle.controller_laws.specs.Sending.{ComesInOctets, SendsMessages};
 ghost use Rattle.controller_laws.specs.Using.{AreUsed};
@@ -88,4 +89,10 @@ pub fn frames_are_read_as_put()
 pub fn others_are_left_alone()
     ensures { (p : Parameters) (steps : List Step) (number source : ℕ) (frame : FrameValue) → AreAllowed p → 1 ≤ number
         → FrameLeaves number (life p steps).next source frame }
+{}
+
+/// What a step puts for a connection on a dedicated channel goes to one that is in use by it at that moment: one that it used
+/// before the step, or activated in it, and didn't release since. So it isn't another connection's.
+pub fn messages_keep_to_channels()
+    ensures { (p : Parameters) (steps : List Step) (s : Step) (number : ℕ) → AreAllowed p → 1 ≤ number → KeepsToChannels number (life p steps).next s }
 {}
