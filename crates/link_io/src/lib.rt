@@ -5,7 +5,7 @@
 pub use fault::IoFault;
 pub use gate::Gate;
 pub use pauses::Pauses;
-pub use reader::serve_reader;
+pub use reader::{frames_put_are_the_first, serve_reader};
 pub use switch::switch_worker;
 pub use writer::serve_writer;
 
