@@ -1,0 +1,76 @@
+//! The mark behind the last frame, put into each outbox.
+ghost use Rattle.std.specs.Prelude.{◌≡◌, ◌<◌, [], length, MatchResult, OnOk};
+ghost use Rattle.call_worker.specs.Going.{Ends, Goes, GoesPart, IsSettled, PutsEnd, Stands};
+ghost use Rattle.call_worker.specs.Seen.{seen};
+
+use crate::clock::Clock;
+use crate::limits::TICK_MS;
+use crate::pause::Pause;
+use crate::worker::Worker;
+use octets::Memory;
+use ruled_relay::{Line, Putter};
+use std::sync::Wait;
+
+impl<K: Clock> Worker<K> {
+    /// Puts the mark into each outbox. While one refuses it time is passed on and items are taken, as long as nothing can
+    /// come of them.
+    pub(crate) fn end_meanwhile<R: Wait>(&mut self, rt: &R) -> Result<(), Memory>
+        requires stands { Stands (seen K.told self.old) }
+        requires settled { IsSettled (seen K.told self.old) }
+        requires gathered { self.old.gathered < TICK_MS }
+        ensures goes { MatchResult result (λ _. Goes [] (seen K.told self.old) (seen K.told self.new)) (λ _. GoesPart (seen K.told self.old) (seen K.told self.new)) }
+        ensures settled { OnOk result (IsSettled (seen K.told self.new)) }
+        ensures gathered { OnOk result (self.new.gathered < TICK_MS) }
+        ensures ended { OnOk result (self.new.ended ≡ length self.new.putters.items) }
+    {
+        let mut pause = Pause::new();
+        for _ in rt.forever() {
+            self.put_ends(rt);
+            if self.ended == self.putters.len() {
+                return Ok(());
+            }
+            if self.controller.is_at_rest() {
+                self.turn(rt)?;
+            }
+            pause.rest(rt);
+        }
+        unreachable!()
+    }
+
+    /// Puts the mark into each outbox, and does nothing else meanwhile.
+    pub(crate) fn end_alone<R: Wait>(&mut self, rt: &R)
+        ensures ends { Ends (seen K.told self.old) (seen K.told self.new) }
+        ensures ended { self.new.ended ≡ length self.new.putters.items }
+    {
+        let mut pause = Pause::new();
+        for _ in rt.forever() {
+            self.put_ends(rt);
+            if self.ended == self.putters.len() {
+                return;
+            }
+            pause.rest(rt);
+        }
+        unreachable!()
+    }
+
+    // From the first outbox on that has no mark yet, until one refuses it.
+    fn put_ends<R: Wait>(&mut self, rt: &R)
+        ensures { Ends (seen K.told self.old) (seen K.told self.new) }
+    {
+        for link in self.ended..self.putters.len() {
+            if !put_end(rt, &mut self.putters[link]) {
+                return;
+            }
+            self.ended = link + 1;
+        }
+    }
+}
+
+// Whether the outbox took the mark.
+fn put_end<R: Wait>(rt: &R, putter: &mut Putter) -> bool
+    ensures { PutsEnd putter.old result putter.new }
+{
+    let put = putter.put(rt, Line::End);
+    putter.ring();
+    put.is_ok()
+}
