@@ -1,7 +1,8 @@
 -- The call worker on its way: what its calls do to it.
-use Rattle.std.specs.Prelude.{◌≡◌, ℕ, ◌+◌, ◌<◌, ◌≤◌, nat_lt, Bool, true, false, List, [], ◌∷◌, ◌++◌, length, slice_index_or}
+use Rattle.std.specs.Prelude.{◌≡◌, ℕ, ◌+◌, ◌<◌, ◌≤◌, nat_lt, ◌&&◌, not, Bool, true, false, List, [], ◌∷◌, ◌++◌, length, slice_index_or, slice_set}
 use mathlib.Core.Option.{some}
 use lib.ListN.{get_elem?}
+use Rattle.call_worker.specs.declared.limits.TheConstants.{TICK_MS}
 use Rattle.call_worker.specs.declared.mark.Mark.{Mark}
 use Rattle.call_worker.specs.Links.{AreSent, AreStepped, HasDown, is_given_up, lines}
 use Rattle.call_worker.specs.Steps.{frames_to, items_of, over, ticked, whats_of}
@@ -64,6 +65,15 @@ unmarked = record { added = false; down = false }
 abbrev pub mark_at : List Mark → ℕ → Mark
 mark_at ms link = slice_index_or ms link unmarked
 
+-- what is remembered once an item of this source was taken, a Down or another
+abbrev pub noted : Bool → ℕ → List Mark → List Mark
+noted false source ms = ms
+noted true source ms = slice_set ms source (record { added = (mark_at ms source).added; down = true })
+
+-- and once a Down of this source was added
+abbrev pub with_added : ℕ → List Mark → List Mark
+with_added source ms = slice_set ms source (record { added = true; down = (mark_at ms source).down })
+
 -- one link over all that came and went
 pub record Fits (ended : Bool) (p : PutterView) (m : Mark) (frames : List Frame) (stepped taken : List What) : Type 0 where
   pub carries : Carries ended p frames
@@ -81,11 +91,7 @@ ended_of s link = nat_lt link s.ended
 pub record DoesStep (s : Step) (old new : State) : Type 0 where
   pub controller : new.controller ≡ (words.step old.controller s).next
   pub sent : SendsAll (ended_of old) old.putters (words.step old.controller s).outs new.putters
-  pub desk : new.desk ≡ old.desk
-  pub marks : new.marks ≡ old.marks
-  pub ended : new.ended ≡ old.ended
-  pub told : new.told ≡ old.told
-  pub gathered : new.gathered ≡ old.gathered
+  pub kept : new ≡ record old { controller = new.controller; putters = new.putters }
 
 -- what fitted before fits with this behind it
 pub record GoesOn (old new : State) (link : ℕ) (frames : List Frame) (stepped taken : List What) (before after : PutterView) : Type 0 where
@@ -101,6 +107,7 @@ pub record Goes (last : List Item) (old new : State) : Type 0 where
   pub desk : HasTaken old.desk (items ++ last) new.desk
   pub time : new.told + old.gathered ≡ old.told + ticked steps + new.gathered
   pub count : length new.putters ≡ length old.putters
+  pub down : (link : ℕ) → (mark_at old.marks link).down ≡ true → (mark_at new.marks link).down ≡ true
   pub links : EachAt new.putters (λ link p.
       (before : PutterView) × (get_elem? old.putters link ≡ some before)
       × GoesOn old new link (frames_to link (over old.controller steps).outs) (whats_of link (items_of steps)) (whats_of link items) before p)
@@ -121,6 +128,10 @@ pub record Stands (s : State) : Type 0 where
 abbrev pub IsSettled : State → Type 0
 IsSettled s = EachAt s.putters (λ link p. is_given_up p ≡ true → (mark_at s.marks link).added ≡ true)
 
+-- the outbox was given up, and its link's Down wasn't added
+abbrev pub pends : PutterView → Mark → Bool
+pends p m = is_given_up p && not m.added
+
 -- the link is there, its outbox was given up, and its Down wasn't added
 pub record IsPending (s : State) (link : ℕ) : Type 0 where
   pub there : link < length s.putters
@@ -131,12 +142,20 @@ pub record IsPending (s : State) (link : ℕ) : Type 0 where
 abbrev pub AreAllDown : State → Type 0
 AreAllDown s = (link : ℕ) → link < length s.putters → (mark_at s.marks link).down ≡ true
 
+-- what holds once a Down of each source was taken
+pub record Finishes (s : State) : Type 0 where
+  pub settled : IsSettled s
+  pub down : AreAllDown s
+  pub gathered : s.gathered < TICK_MS
+
 -- nothing but the mark behind the last frame was put
 pub record Ends (old new : State) : Type 0 where
-  pub kept : new ≡ record { controller = old.controller; desk = old.desk; putters = new.putters; marks = old.marks; ended = new.ended; told = old.told; gathered = old.gathered }
-  pub goes : Goes [] old new
+  pub kept : new ≡ record old { putters = new.putters; ended = new.ended }
+  pub count : length new.putters ≡ length old.putters
+  pub links : EachAt new.putters (λ link p. (before : PutterView) × (get_elem? old.putters link ≡ some before) × GoesOn old new link [] [] [] before p)
+  pub settled : IsSettled old → IsSettled new
 
 -- the mark was put behind all that was put, or refused
 abbrev pub PutsEnd : PutterView → Bool → PutterView → Type 0
 PutsEnd old true new = (new.queue ≡ old.queue) × (new.refusals ≡ old.refusals) × (new.put ≡ old.put ++ marks.End ∷ [])
-PutsEnd old false new = (new.queue ≡ old.queue) × (new.refusals ≡ old.refusals) × (new.put ≡ old.put)
+PutsEnd old false new = new ≡ old

@@ -1,6 +1,6 @@
-ghost use Rattle.std.specs.Prelude.{◌≡◌, [], ◌<◌, length, MatchOption, MatchResult, OnOk, replicate, IfOk, vec_len};
+ghost use Rattle.std.specs.Prelude.{◌≡◌, [], ◌<◌, ◌↔◌, length, IsTrue, MatchResult, OnOk, replicate, IfOk, vec_len};
 ghost use Rattle.call_worker.specs.Call.{AreNew, IsMemory, Runs};
-ghost use Rattle.call_worker.specs.Going.{AreAllDown, Goes, GoesPart, IsSettled, Stands, unmarked};
+ghost use Rattle.call_worker.specs.Going.{AreAllDown, Finishes, Goes, GoesPart, IsSettled, Stands, unmarked};
 ghost use Rattle.call_worker.specs.Seen.{seen};
 
 use crate::clock::Clock;
@@ -63,6 +63,12 @@ pub fn call_worker<R: Wait, K: Clock + Drop>(
 
 impl<K: Clock> Worker<K> {
     fn relay<R: Wait>(&mut self, rt: &R) -> Result<(), Memory>
+        requires new { AreNew self.old.putters.items }
+        requires sources { length self.old.desk ≡ vec_len self.old.putters }
+        requires start { (self.old.marks.items ≡ []) × (self.old.ended ≡ 0) × (self.old.gathered ≡ 0) }
+        ensures goes { MatchResult result (λ _. Goes [] (seen K.told self.old) (seen K.told self.new)) (λ _. GoesPart (seen K.told self.old) (seen K.told self.new)) }
+        ensures finishes { OnOk result (Finishes (seen K.told self.new)) }
+        ensures ended { OnOk result (self.new.ended ≡ vec_len self.new.putters) }
     {
         self.marks = unmarked_links(self.alloc, self.putters.len())?;
         self.take_all(rt)?;
@@ -74,11 +80,9 @@ impl<K: Clock> Worker<K> {
         requires stands { Stands (seen K.told self.old) }
         requires settled { IsSettled (seen K.told self.old) }
         requires gathered { self.old.gathered < TICK_MS }
-        ensures stands { OnOk result (Stands (seen K.told self.new)) }
+        ensures stands { Stands (seen K.told self.new) }
         ensures goes { MatchResult result (λ _. Goes [] (seen K.told self.old) (seen K.told self.new)) (λ _. GoesPart (seen K.told self.old) (seen K.told self.new)) }
-        ensures settled { OnOk result (IsSettled (seen K.told self.new)) }
-        ensures gathered { OnOk result (self.new.gathered < TICK_MS) }
-        ensures down { OnOk result (AreAllDown (seen K.told self.new)) }
+        ensures finishes { OnOk result (Finishes (seen K.told self.new)) }
     {
         for _ in rt.forever() {
             if self.are_all_down() {

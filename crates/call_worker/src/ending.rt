@@ -1,10 +1,9 @@
 //! The mark behind the last frame, put into each outbox.
-ghost use Rattle.std.specs.Prelude.{◌≡◌, ◌<◌, [], length, MatchResult, OnOk};
-ghost use Rattle.call_worker.specs.Going.{Ends, Goes, GoesPart, IsSettled, PutsEnd, Stands};
+ghost use Rattle.std.specs.Prelude.{◌≡◌, [], length, MatchResult, OnOk, vec_len};
+ghost use Rattle.call_worker.specs.Going.{Ends, Finishes, Goes, GoesPart, PutsEnd, Stands};
 ghost use Rattle.call_worker.specs.Seen.{seen};
 
 use crate::clock::Clock;
-use crate::limits::TICK_MS;
 use crate::pause::Pause;
 use crate::worker::Worker;
 use octets::Memory;
@@ -16,12 +15,10 @@ impl<K: Clock> Worker<K> {
     /// come of them.
     pub(crate) fn end_meanwhile<R: Wait>(&mut self, rt: &R) -> Result<(), Memory>
         requires stands { Stands (seen K.told self.old) }
-        requires settled { IsSettled (seen K.told self.old) }
-        requires gathered { self.old.gathered < TICK_MS }
+        requires finishes { Finishes (seen K.told self.old) }
         ensures goes { MatchResult result (λ _. Goes [] (seen K.told self.old) (seen K.told self.new)) (λ _. GoesPart (seen K.told self.old) (seen K.told self.new)) }
-        ensures settled { OnOk result (IsSettled (seen K.told self.new)) }
-        ensures gathered { OnOk result (self.new.gathered < TICK_MS) }
-        ensures ended { OnOk result (self.new.ended ≡ length self.new.putters.items) }
+        ensures finishes { OnOk result (Finishes (seen K.told self.new)) }
+        ensures ended { OnOk result (self.new.ended ≡ vec_len self.new.putters) }
     {
         let mut pause = Pause::new();
         for _ in rt.forever() {
@@ -29,18 +26,35 @@ impl<K: Clock> Worker<K> {
             if self.ended == self.putters.len() {
                 return Ok(());
             }
-            if self.controller.is_at_rest() {
-                self.turn(rt)?;
-            }
+            self.turn_at_rest(rt)?;
             pause.rest(rt);
         }
         unreachable!()
     }
 
+    // Asks the clock, ticks and takes, where nothing can come of it.
+    fn turn_at_rest<R: Wait>(&mut self, rt: &R) -> Result<(), Memory>
+        requires sources { length self.old.desk ≡ length self.old.putters.items }
+        requires marks { length self.old.marks.items ≡ length self.old.putters.items }
+        requires finishes { Finishes (seen K.told self.old) }
+        ensures sources { length self.new.desk ≡ length self.new.putters.items }
+        ensures marks { length self.new.marks.items ≡ length self.new.putters.items }
+        ensures goes { MatchResult result (λ _. Goes [] (seen K.told self.old) (seen K.told self.new)) (λ _. GoesPart (seen K.told self.old) (seen K.told self.new)) }
+        ensures finishes { OnOk result (Finishes (seen K.told self.new)) }
+    {
+        if !self.controller.is_at_rest() {
+            return Ok(());
+        }
+        match self.turn(rt) {
+            Ok(_) => Ok(()),
+            Err(Memory) => Err(Memory),
+        }
+    }
+
     /// Puts the mark into each outbox, and does nothing else meanwhile.
     pub(crate) fn end_alone<R: Wait>(&mut self, rt: &R)
         ensures ends { Ends (seen K.told self.old) (seen K.told self.new) }
-        ensures ended { self.new.ended ≡ length self.new.putters.items }
+        ensures ended { self.new.ended ≡ vec_len self.new.putters }
     {
         let mut pause = Pause::new();
         for _ in rt.forever() {

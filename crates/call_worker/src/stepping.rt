@@ -1,19 +1,19 @@
 //! Steps of the controller: an item that was taken, time that has gathered, or the `Down` of a link that was given up.
-ghost use Rattle.std.specs.Prelude.{◌≡◌, ◌≢◌, ◌+◌, ◌≤◌, ◌<◌, [], true, false, min, length, slice_index, MatchOption, MatchResult, OnOk, OnErr};
-ghost use mathlib.Core.Option.{some};
-ghost use lib.ListN.{get_elem?};
-ghost use Rattle.ruled_relay.specs.Row.{HasAt};
-ghost use Rattle.call_worker.specs.Going.{AreAllDown, DoesStep, Goes, GoesPart, IsPending, IsSettled, Stands, mark_at};
+ghost use Rattle.std.specs.Prelude.{◌≡◌, ◌+◌, ◌<◌, ◌^◌, ◌↔◌, [], min, length, IsTrue, MatchOption, MatchResult, OnOk, OnErr, vec_len};
+ghost use Rattle.call_worker.specs.Going.{DoesStep, Goes, GoesPart, IsPending, IsSettled, SendsAll, Stands, not_ended, noted, pends, with_added};
 ghost use Rattle.call_worker.specs.Seen.{seen};
+ghost use Rattle.relay_items.specs.declared.What.TheVariants as whats;
 
 use crate::clock::Clock;
 use crate::limits::{OUTPUTS_A_RING, TICK_MS};
+use crate::mark::Mark;
 use crate::sending::{is_given_up, ring_all, send_all};
 use crate::worker::Worker;
 use conn_messages::Outputs;
 use controller_table::Step;
 use octets::Memory;
 use relay_items::{Item, What};
+use ruled_relay::Putter;
 use std::sync::Wait;
 
 impl<K: Clock> Worker<K> {
@@ -90,9 +90,7 @@ impl<K: Clock> Worker<K> {
         let source = usize::from(item.source);
         let is_down = is_down(&item.what);
         self.do_step(rt, Step::Take(item))?;
-        if is_down {
-            self.marks[source].down = true;
-        }
+        note(&mut self.marks, source, is_down);
         self.add_downs(rt)?;
         Ok(true)
     }
@@ -111,7 +109,7 @@ impl<K: Clock> Worker<K> {
             };
             let what = What::Down;
             self.do_step(rt, Step::Take(Item { source, what }))?;
-            self.marks[usize::from(source)].added = true;
+            note_added(&mut self.marks, usize::from(source));
         }
         unreachable!()
     }
@@ -122,8 +120,9 @@ impl<K: Clock> Worker<K> {
         ensures { MatchOption result (IsSettled (seen K.told self.now)) (λ link. IsPending (seen K.told self.now) link) }
     {
         for link in 0..self.desk.sources() {
-            let at = usize::from(link);
-            if is_given_up(&self.putters[at]) && !self.marks[at].added {
+            let putter = &self.putters[usize::from(link)];
+            let mark = self.marks[usize::from(link)];
+            if is_pending(putter, mark) {
                 return Some(link);
             }
         }
@@ -173,8 +172,30 @@ fn largest_tick(gathered: u64) -> u32
     gathered.min(u64::from(u32::MAX)) as u32
 }
 
+fn is_pending(putter: &Putter, mark: Mark) -> bool
+    ensures { result ≡ pends putter.now mark }
+{
+    is_given_up(putter) && !mark.added
+}
+
 fn is_down(what: &What) -> bool
     ensures { IsTrue result ↔ (what.now ≡ whats.Down) }
 {
     matches!(what, What::Down)
+}
+
+fn note(marks: &mut Vec<Mark>, source: usize, is_down: bool)
+    requires { source < vec_len marks.old }
+    ensures { marks.new.items ≡ noted is_down source marks.old.items }
+{
+    if is_down {
+        marks[source].down = true;
+    }
+}
+
+fn note_added(marks: &mut Vec<Mark>, source: usize)
+    requires { source < vec_len marks.old }
+    ensures { marks.new.items ≡ with_added source marks.old.items }
+{
+    marks[source].added = true;
 }
