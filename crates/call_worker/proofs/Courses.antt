@@ -28,13 +28,13 @@ pub taken_both : (a b c : Row) (xs ys : List Item) → HasTaken a xs b → HasTa
 taken_both a b c xs ys f g = (
   g.0 ∙ f.0,
   λ source e here.
-    let later = g.1 source e here in
-    let before = f.1 source later.0 later.1 in (
-      before.0,
-      before.1,
-      later.2 ∙ ap (λ ts. ts ++ whats_of source ys) before.2 ∙ append_assoc before.0.seen.taken (whats_of source xs) (whats_of source ys)
-      ∙ ap (λ ts. before.0.seen.taken ++ ts) (sym (whats_both source xs ys)),
-    ),
+      let later = g.1 source e here in
+      let before = f.1 source later.0 later.1 in (
+        before.0,
+        before.1,
+        later.2 ∙ ap (λ ts. ts ++ whats_of source ys) before.2 ∙ append_assoc before.0.seen.taken (whats_of source xs) (whats_of source ys)
+            ∙ ap (λ ts. before.0.seen.taken ++ ts) (sym (whats_both source xs ys)),
+      ),
 )
 
 -- ---- one link
@@ -44,11 +44,11 @@ pub on_both : (a b c : State) (link : ℕ) (fs fs' : List Frame) (ss ss' ts ts' 
 on_both a b c link fs fs' ss ss' ts ts' p q r f g = record {
   queue = g.queue ∙ f.queue;
   fits = λ fs₀ ss₀ ts₀ h.
-    let k = g.fits (fs₀ ++ fs) (ss₀ ++ ss) (ts₀ ++ ts) (f.fits fs₀ ss₀ ts₀ h) in
-    let R : List Frame → List What → List What → Type 0 = λ x y z. Fits (ended_of c link) r (mark_at c.marks link) x y z in
-    subst (λ x. R x (ss₀ ++ (ss ++ ss')) (ts₀ ++ (ts ++ ts'))) (append_assoc fs₀ fs fs')
-        (subst (λ y. R ((fs₀ ++ fs) ++ fs') y (ts₀ ++ (ts ++ ts'))) (append_assoc ss₀ ss ss')
-        (subst (λ z. R ((fs₀ ++ fs) ++ fs') ((ss₀ ++ ss) ++ ss') z) (append_assoc ts₀ ts ts') k));
+      let k = g.fits (fs₀ ++ fs) (ss₀ ++ ss) (ts₀ ++ ts) (f.fits fs₀ ss₀ ts₀ h) in
+      let R : List Frame → List What → List What → Type 0 = λ x y z. Fits (ended_of c link) r (mark_at c.marks link) x y z in
+      subst (λ x. R x (ss₀ ++ (ss ++ ss')) (ts₀ ++ (ts ++ ts'))) (append_assoc fs₀ fs fs')
+      (subst (λ y. R ((fs₀ ++ fs) ++ fs') y (ts₀ ++ (ts ++ ts'))) (append_assoc ss₀ ss ss')
+      (subst (λ z. R ((fs₀ ++ fs) ++ fs') ((ss₀ ++ ss) ++ ss') z) (append_assoc ts₀ ts ts') k));
 }
 
 -- ---- the whole
@@ -66,23 +66,23 @@ goes_both last a b c f g = record {
   items = f.items ++ g.items;
   desk =
       subst (λ is. HasTaken a.desk is c.desk) (ap (λ is. is ++ (g.items ++ last)) (append-nil f.items) ∙ sym (append_assoc f.items g.items last))
-          (taken_both a.desk b.desk c.desk (f.items ++ []) (g.items ++ last) f.desk g.desk);
+      (taken_both a.desk b.desk c.desk (f.items ++ []) (g.items ++ last) f.desk g.desk);
   time = let x = f.time in let y = g.time in let z = ticked_both f.steps g.steps in omega arith;
   count = g.count ∙ f.count;
   down = λ link h. g.down link (f.down link h);
   links = λ link r here.
-    let later = g.links link r here in
-    let before = f.links link later.0 later.1 in
-    let k = on_both a b c link (frames_to link (over a.controller f.steps).outs) (frames_to link (over b.controller g.steps).outs) (whats_of link (items_of f.steps)) (whats_of link (items_of g.steps)) (whats_of link f.items) (whats_of link g.items) before.0 later.0 r before.2 later.2 in
-    let R : List Frame → List What → List What → Type 0 = λ x y z. GoesOn a c link x y z before.0 r in
-    let xs = frames_to link (over a.controller f.steps).outs ++ frames_to link (over b.controller g.steps).outs in
-    let ys = whats_of link (items_of f.steps) ++ whats_of link (items_of g.steps) in (
-      before.0,
-      before.1,
-      subst (λ x. R x (whats_of link (items_of (f.steps ++ g.steps))) (whats_of link (f.items ++ g.items))) (frames_of_both a.controller link f.steps g.steps b.controller f.controller)
-          (subst (λ y. R xs y (whats_of link (f.items ++ g.items))) (sym (ap (λ is. whats_of link is) (items_both f.steps g.steps) ∙ whats_both link (items_of f.steps) (items_of g.steps)))
-          (subst (λ z. R xs ys z) (sym (whats_both link f.items g.items)) k)),
-    );
+      let later = g.links link r here in
+      let before = f.links link later.0 later.1 in
+      let k = on_both a b c link (frames_to link (over a.controller f.steps).outs) (frames_to link (over b.controller g.steps).outs) (whats_of link (items_of f.steps)) (whats_of link (items_of g.steps)) (whats_of link f.items) (whats_of link g.items) before.0 later.0 r before.2 later.2 in
+      let R : List Frame → List What → List What → Type 0 = λ x y z. GoesOn a c link x y z before.0 r in
+      let xs = frames_to link (over a.controller f.steps).outs ++ frames_to link (over b.controller g.steps).outs in
+      let ys = whats_of link (items_of f.steps) ++ whats_of link (items_of g.steps) in (
+        before.0,
+        before.1,
+        subst (λ x. R x (whats_of link (items_of (f.steps ++ g.steps))) (whats_of link (f.items ++ g.items))) (frames_of_both a.controller link f.steps g.steps b.controller f.controller)
+            (subst (λ y. R xs y (whats_of link (f.items ++ g.items))) (sym (ap (λ is. whats_of link is) (items_both f.steps g.steps) ∙ whats_both link (items_of f.steps) (items_of g.steps)))
+            (subst (λ z. R xs ys z) (sym (whats_both link f.items g.items)) k)),
+      );
 }
 
 pub goes_both_part : (a b c : State) → Goes [] a b → GoesPart b c → GoesPart a c
@@ -96,11 +96,11 @@ pub on_still : (old new : State) (link : ℕ) (p : PutterView) → new.ended ≡
 on_still old new link p ended mark = record {
   queue = refl;
   fits = λ fs ss ts f.
-    subst (λ (n : ℕ). Fits (nat_lt link n) p (mark_at new.marks link) (fs ++ []) (ss ++ []) (ts ++ [])) (sym ended)
-        (subst (λ m. Fits (ended_of old link) p m (fs ++ []) (ss ++ []) (ts ++ [])) (sym mark)
-        (subst (λ x. Fits (ended_of old link) p (mark_at old.marks link) x (ss ++ []) (ts ++ [])) (sym (append-nil fs))
-        (subst (λ y. Fits (ended_of old link) p (mark_at old.marks link) fs y (ts ++ [])) (sym (append-nil ss))
-        (subst (λ z. Fits (ended_of old link) p (mark_at old.marks link) fs ss z) (sym (append-nil ts)) f))));
+      subst (λ (n : ℕ). Fits (nat_lt link n) p (mark_at new.marks link) (fs ++ []) (ss ++ []) (ts ++ [])) (sym ended)
+      (subst (λ m. Fits (ended_of old link) p m (fs ++ []) (ss ++ []) (ts ++ [])) (sym mark)
+      (subst (λ x. Fits (ended_of old link) p (mark_at old.marks link) x (ss ++ []) (ts ++ [])) (sym (append-nil fs))
+      (subst (λ y. Fits (ended_of old link) p (mark_at old.marks link) fs y (ts ++ [])) (sym (append-nil ss))
+      (subst (λ z. Fits (ended_of old link) p (mark_at old.marks link) fs ss z) (sym (append-nil ts)) f))));
 }
 
 pub goes_still : (last : List Item) (old new : State) → new.controller ≡ old.controller → new.putters ≡ old.putters → new.ended ≡ old.ended

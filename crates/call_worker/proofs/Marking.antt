@@ -28,8 +28,8 @@ ends_both a b c f g = record {
   kept = g.kept ∙ ap (λ (s : State). record s { putters = c.putters; ended = c.ended }) f.kept;
   count = g.count ∙ f.count;
   links = λ link r here.
-    let later = g.links link r here in
-    let before = f.links link later.0 later.1 in (before.0, before.1, on_both a b c link [] [] [] [] [] [] before.0 later.0 r before.2 later.2);
+      let later = g.links link r here in
+      let before = f.links link later.0 later.1 in (before.0, before.1, on_both a b c link [] [] [] [] [] [] before.0 later.0 r before.2 later.2);
   settled = λ h. g.settled (f.settled h);
 }
 
@@ -50,12 +50,12 @@ goes_ends last a b c f g = record {
   count = g.count ∙ f.count;
   down = λ link h. ap (λ s. (mark_at s.marks link).down) g.kept ∙ f.down link h;
   links = λ link r here.
-    let later = g.links link r here in
-    let before = f.links link later.0 later.1 in (
-      before.0,
-      before.1,
-      on_ends a b c link (frames_to link (over a.controller f.steps).outs) (whats_of link (items_of f.steps)) (whats_of link f.items) before.0 later.0 r before.2 later.2,
-    );
+      let later = g.links link r here in
+      let before = f.links link later.0 later.1 in (
+        before.0,
+        before.1,
+        on_ends a b c link (frames_to link (over a.controller f.steps).outs) (whats_of link (items_of f.steps)) (whats_of link f.items) before.0 later.0 r before.2 later.2,
+      );
 }
 
 pub ends_part : (a b c : State) → GoesPart a b → Ends b c → GoesPart a c
@@ -90,34 +90,34 @@ ends_one old at p q is here puts =
       links = λ link r there.
           ⊎_elim
           (λ (h : (link ≡ at) × (q ≡ r)).
-            let was : nat_lt link old.ended ≡ false = let k = h.0 in grind (arith, nat_tests) in
-            let now : nat_lt link (at + 1) ≡ true = let k = h.0 in grind (arith, nat_tests) in (
-              p,
-              subst (λ i. get_elem? old.putters i ≡ some p) (sym h.0) here,
-              record {
-                queue = ap (λ y. y.queue) (sym h.1) ∙ puts.0;
-                fits = λ fs ss ts f.
+          let was : nat_lt link old.ended ≡ false = let k = h.0 in grind (arith, nat_tests) in
+          let now : nat_lt link (at + 1) ≡ true = let k = h.0 in grind (arith, nat_tests) in (
+            p,
+            subst (λ i. get_elem? old.putters i ≡ some p) (sym h.0) here,
+            record {
+              queue = ap (λ y. y.queue) (sym h.1) ∙ puts.0;
+              fits = λ fs ss ts f.
                   subst (λ b. Fits b r (mark_at old.marks link) (fs ++ []) (ss ++ []) (ts ++ [])) (sym now)
-                      (subst (λ y. Fits true y (mark_at old.marks link) (fs ++ []) (ss ++ []) (ts ++ [])) h.1
-                      (fits_marked p q (mark_at old.marks link) fs ss ts puts (subst (λ b. Fits b p (mark_at old.marks link) fs ss ts) was f)));
-              },
-            ))
+                  (subst (λ y. Fits true y (mark_at old.marks link) (fs ++ []) (ss ++ []) (ts ++ [])) h.1
+                  (fits_marked p q (mark_at old.marks link) fs ss ts puts (subst (λ b. Fits b p (mark_at old.marks link) fs ss ts) was f)));
+            },
+          ))
           (λ (h : (link ≢ at) × (get_elem? old.putters link ≡ some r)).
-            let same : nat_lt link (at + 1) ≡ nat_lt link old.ended = let k = h.0 in grind (arith, nat_tests) in (
-              r,
-              h.1,
-              let still = on_still old old link r refl refl in record {
-                queue = refl;
-                fits = λ fs ss ts f. subst (λ b. Fits b r (mark_at old.marks link) (fs ++ []) (ss ++ []) (ts ++ [])) (sym same) (still.fits fs ss ts f);
-              },
-            ))
+          let same : nat_lt link (at + 1) ≡ nat_lt link old.ended = let k = h.0 in grind (arith, nat_tests) in (
+            r,
+            h.1,
+            let still = on_still old old link r refl refl in record {
+              queue = refl;
+              fits = λ fs ss ts f. subst (λ b. Fits b r (mark_at old.marks link) (fs ++ []) (ss ++ []) (ts ++ [])) (sym same) (still.fits fs ss ts f);
+            },
+          ))
           (at_set old.putters at link q r there);
       settled = λ settled link r there up.
-        ⊎_elim
-        (λ (h : (link ≡ at) × (q ≡ r)).
+          ⊎_elim
+          (λ (h : (link ≡ at) × (q ≡ r)).
           settled link p (subst (λ i. get_elem? old.putters i ≡ some p) (sym h.0) here)
-              (sym (ap (λ n. nat_le MAX_REFUSALS n) puts.1) ∙ ap (λ y. is_given_up y) h.1 ∙ up))
-        (λ (h : (link ≢ at) × (get_elem? old.putters link ≡ some r)). settled link r h.1 up) (at_set old.putters at link q r there);
+          (sym (ap (λ n. nat_le MAX_REFUSALS n) puts.1) ∙ ap (λ y. is_given_up y) h.1 ∙ up))
+          (λ (h : (link ≢ at) × (get_elem? old.putters link ≡ some r)). settled link r h.1 up) (at_set old.putters at link q r there);
     }
 
 pub settled_by : (p : PutterView) → p.refusals ≡ 0 → is_given_up p ≡ true → ⊥

@@ -58,11 +58,11 @@ accepted old p new frame line is tried up puts =
       queue = ap (λ q. q.queue) puts ∙ tried.queue;
       stays = λ h. same ∙ tried.stays h;
       carries = λ past c.
-        let all : c.sent ≡ past = subst (λ b. AreSent b past c.sent) (not_before (is_given_up old) (is_given_up p) tried.stays up) c.first in record {
-          sent = c.sent ++ frame ∷ [];
-          put =
-              ap (λ q. q.put) puts ∙ ap (λ l. p.put ++ l ∷ []) is ∙ ap (λ ls. ls ++ marks.Frame frame ∷ []) (tried.put ∙ c.put ∙ append-nil (lines c.sent))
-              ∙ sym (append-nil (lines (c.sent ++ frame ∷ [])) ∙ map-append (λ f. marks.Frame f) c.sent (frame ∷ []));
-          first = subst (λ b. AreSent b (past ++ frame ∷ []) (c.sent ++ frame ∷ [])) (sym (same ∙ up)) (ap (λ fs. fs ++ frame ∷ []) all);
-        };
+          let all : c.sent ≡ past = subst (λ b. AreSent b past c.sent) (not_before (is_given_up old) (is_given_up p) tried.stays up) c.first in record {
+            sent = c.sent ++ frame ∷ [];
+            put =
+                ap (λ q. q.put) puts ∙ ap (λ l. p.put ++ l ∷ []) is ∙ ap (λ ls. ls ++ marks.Frame frame ∷ []) (tried.put ∙ c.put ∙ append-nil (lines c.sent))
+                ∙ sym (append-nil (lines (c.sent ++ frame ∷ [])) ∙ map-append (λ f. marks.Frame f) c.sent (frame ∷ []));
+            first = subst (λ b. AreSent b (past ++ frame ∷ []) (c.sent ++ frame ∷ [])) (sym (same ∙ up)) (ap (λ fs. fs ++ frame ∷ []) all);
+          };
     }

@@ -42,13 +42,13 @@ pub all_both : (ended : ℕ → Bool) (a b c : List PutterView) (xs ys : List Ou
 all_both ended a b c xs ys f g = record {
   count = g.count ∙ f.count;
   each = λ link r here.
-    let later = g.each link r here in
-    let before = f.each link later.0 later.1 in (
-      before.0,
-      before.1,
-      subst (λ fs. Sends (ended link) before.0 fs r) (sym (frames_both link xs ys))
-          (sends_both (ended link) before.0 later.0 r (frames_to link xs) (frames_to link ys) before.2 later.2),
-    );
+      let later = g.each link r here in
+      let before = f.each link later.0 later.1 in (
+        before.0,
+        before.1,
+        subst (λ fs. Sends (ended link) before.0 fs r) (sym (frames_both link xs ys))
+            (sends_both (ended link) before.0 later.0 r (frames_to link xs) (frames_to link ys) before.2 later.2),
+      );
 }
 
 -- nobody gets what goes to no link
@@ -56,8 +56,8 @@ pub sent_past : (putters : List PutterView) (out : Out) → length putters ≤ o
 sent_past putters out past = record {
   count = refl;
   each = λ link p here.
-    let h = within putters link p here in
-    (p, here, subst (λ fs. Sends false p fs p) (sym (frames_else link out (ne_eqb out.to link (λ e. absurd (omega arith))))) (sends_none false p));
+      let h = within putters link p here in
+      (p, here, subst (λ fs. Sends false p fs p) (sym (frames_else link out (ne_eqb out.to link (λ e. absurd (omega arith))))) (sends_none false p));
 }
 
 pub sent_at : (putters : List PutterView) (at : ℕ) (out : Out) (p q : PutterView) → at ≡ out.to → get_elem? putters at ≡ some p → Sends false p (out.frame ∷ []) q
@@ -65,18 +65,18 @@ pub sent_at : (putters : List PutterView) (at : ℕ) (out : Out) (p q : PutterVi
 sent_at putters at out p q is here sends = record {
   count = length_set putters at q;
   each = λ link r there.
-    ⊎_elim
-    (λ (h : (link ≡ at) × (q ≡ r)). (
-      p,
-      subst (λ i. get_elem? putters i ≡ some p) (sym h.0) here,
-      subst (λ fs. Sends false p fs r) (sym (frames_here link out (eq-eqb out.to link (sym (h.0 ∙ is))))) (subst (λ y. Sends false p (out.frame ∷ []) y) h.1 sends),
-    ))
-    (λ (h : (link ≢ at) × (get_elem? putters link ≡ some r)). (
-      r,
-      h.1,
-      subst (λ fs. Sends false r fs r) (sym (frames_else link out (ne_eqb out.to link (λ e. h.0 (sym (is ∙ e)))))) (sends_none false r),
-    ))
-    (at_set putters at link q r there);
+      ⊎_elim
+      (λ (h : (link ≡ at) × (q ≡ r)). (
+        p,
+        subst (λ i. get_elem? putters i ≡ some p) (sym h.0) here,
+        subst (λ fs. Sends false p fs r) (sym (frames_here link out (eq-eqb out.to link (sym (h.0 ∙ is))))) (subst (λ y. Sends false p (out.frame ∷ []) y) h.1 sends),
+      ))
+      (λ (h : (link ≢ at) × (get_elem? putters link ≡ some r)). (
+        r,
+        h.1,
+        subst (λ fs. Sends false r fs r) (sym (frames_else link out (ne_eqb out.to link (λ e. h.0 (sym (is ∙ e)))))) (sends_none false r),
+      ))
+      (at_set putters at link q r there);
 }
 
 -- one more of a list is done

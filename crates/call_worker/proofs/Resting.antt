@@ -32,4 +32,4 @@ rests c (Tick ms) h =
     let b = both (length c.entries == 0) (all_down c.links) h in
     let gone : map (words.aged ms) c.entries ≡ [] = ap (λ es. map (words.aged ms) es) (no_entries c.entries b.0) in
     subst (λ es. ((each words.timed (words.all_aged ms c) es).outs ≡ []) × (is_at_rest (each words.timed (words.all_aged ms c) es).next ≡ true)) (sym gone)
-        (refl, ap (λ (es : List Entry). (length es == 0) && all_down c.links) gone ∙ b.1)
+    (refl, ap (λ (es : List Entry). (length es == 0) && all_down c.links) gone ∙ b.1)

@@ -64,8 +64,8 @@ serves fault old new link steps frames items p q is_new none unended here ended 
     let room : link < length new.putters = within new.putters link q here in
     let no : nat_lt link 0 ≡ false = grind (arith, nat_tests) in
     let before : Fits (ended_of old link) p (mark_at old.marks link) [] [] [] =
-        subst (λ (n : ℕ). Fits (nat_lt link n) p (mark_at old.marks link) [] [] []) (sym unended)
-            (subst (λ ms. Fits (nat_lt link 0) p (mark_at ms link) [] [] []) (sym none) (subst (λ b. Fits b p unmarked [] [] []) (sym no) (fits_new p is_new))) in
+    subst (λ (n : ℕ). Fits (nat_lt link n) p (mark_at old.marks link) [] [] []) (sym unended)
+    (subst (λ ms. Fits (nat_lt link 0) p (mark_at ms link) [] [] []) (sym none) (subst (λ b. Fits b p unmarked [] [] []) (sym no) (fits_new p is_new))) in
     let f = goes.fits [] [] [] before in
     let m : Mark = mark_at new.marks link in
     let all : ended_of new link ≡ true = grind (arith, nat_tests) in
@@ -96,11 +96,11 @@ runs fault last old new fresh none unended start goes ended one no_last finishes
   tick = λ no. (finishes no).gathered;
   count = goes.count;
   links = λ link q here.
-    let p = goes.links link q here in (
-      p.0,
-      p.1,
-      serves fault old new link goes.steps (frames_to link (over old.controller goes.steps).outs) goes.items p.0 q (fresh link p.0 p.1) none unended here ended finishes p.2,
-    );
+      let p = goes.links link q here in (
+        p.0,
+        p.1,
+        serves fault old new link goes.steps (frames_to link (over old.controller goes.steps).outs) goes.items p.0 q (fresh link p.0 p.1) none unended here ended finishes p.2,
+      );
 }
 
 pub runs_whole : (old new : State) → AreNew old.putters → old.marks ≡ [] → old.ended ≡ 0 → old.gathered ≡ 0 → Goes [] old new → Finishes new → new.ended ≡ length new.putters

@@ -118,17 +118,17 @@ goes_ticked old c putters ms gathered next sent time = record {
   count = sent.count;
   down = λ link h. h;
   links = λ link q here.
-    let p = sent.each link q here in (
-      p.0,
-      p.1,
-      record {
-        queue = p.2.queue;
-        fits = λ fs ss ts f.
-          subst (λ x. Fits (ended_of old link) q (mark_at old.marks link) (fs ++ x) (ss ++ []) (ts ++ [])) (sym (frames_of_one old.controller (Tick ms) link))
+      let p = sent.each link q here in (
+        p.0,
+        p.1,
+        record {
+          queue = p.2.queue;
+          fits = λ fs ss ts f.
+              subst (λ x. Fits (ended_of old link) q (mark_at old.marks link) (fs ++ x) (ss ++ []) (ts ++ [])) (sym (frames_of_one old.controller (Tick ms) link))
               (fits_on (ended_of old link) p.0 q (mark_at old.marks link) (mark_at old.marks link) fs (frames_to link (words.step old.controller (Tick ms)).outs) ss ts (ss ++ []) (ts ++ [])
               p.2 f (stepped_more (mark_at old.marks link).added ss ts [] f.items) (λ h. p.2.stays (f.given_up h)) (λ h. down_more ts [] (f.down h)));
-      },
-    );
+        },
+      );
 }
 
 added_down : (source : ℕ) (ms : List Mark) (link : ℕ) → source < length ms → (mark_at (with_added source ms) link).down ≡ (mark_at ms link).down
@@ -152,37 +152,37 @@ goes_added old c putters source next sent pending room =
       count = sent.count;
       down = λ link h. added_down source old.marks link room ∙ h;
       links = λ link q here.
-        let p = sent.each link q here in (
-          p.0,
-          p.1,
-          record {
-            queue = p.2.queue;
-            fits = λ fs ss ts f.
-              let E : Bool = ended_of old link in
-              let m' : Mark = mark_at (with_added source old.marks) link in
-              let ws : List What = whats_of link (item ∷ []) in
-              let F : AreStepped m'.added (ss ++ ws) (ts ++ []) → (m'.added ≡ true → is_given_up q ≡ true) → (m'.down ≡ true → HasDown (ts ++ []))
+          let p = sent.each link q here in (
+            p.0,
+            p.1,
+            record {
+              queue = p.2.queue;
+              fits = λ fs ss ts f.
+                  let E : Bool = ended_of old link in
+                  let m' : Mark = mark_at (with_added source old.marks) link in
+                  let ws : List What = whats_of link (item ∷ []) in
+                  let F : AreStepped m'.added (ss ++ ws) (ts ++ []) → (m'.added ≡ true → is_given_up q ≡ true) → (m'.down ≡ true → HasDown (ts ++ []))
                   → Fits E q m' (fs ++ frames_to link (over old.controller (s ∷ [])).outs) (ss ++ ws) (ts ++ []) = λ a b d.
                   subst (λ x. Fits E q m' (fs ++ x) (ss ++ ws) (ts ++ [])) (sym (frames_of_one old.controller s link))
-                      (fits_on E p.0 q (mark_at old.marks link) m' fs (frames_to link (words.step old.controller s).outs) ss ts (ss ++ ws) (ts ++ []) p.2 f a b d) in
-              ⊎_elim
-              (λ (e : link ≡ source).
-                let now : m' ≡ m = there_now old.marks source link m e room in
-                let was : ss ≡ ts = subst (λ b. AreStepped b ss ts) (ap (λ i. (mark_at old.marks i).added) e ∙ pending.added) f.items in
-                F (subst (λ b. AreStepped b (ss ++ ws) (ts ++ [])) (sym (ap (λ y. y.added) now))
-                    (ts, [], refl, ap (λ xs. xs ++ ws) was ∙ ap (λ xs. ts ++ xs) (whats_here link item (sym e))))
-                (λ h. p.2.stays (pending.given_up link p.0 p.1 e))
-                (λ h. down_more ts [] (f.down (ap (λ i. (mark_at old.marks i).down) e ∙ sym (ap (λ y. y.down) now) ∙ h))))
-              (λ (e : link ≢ source).
-                let same : m' ≡ mark_at old.marks link = elsewhere old.marks source link m e in
-                F (subst (λ b. AreStepped b (ss ++ ws) (ts ++ [])) (sym (ap (λ y. y.added) same))
-                    (subst (λ xs. AreStepped (mark_at old.marks link).added (ss ++ xs) (ts ++ [])) (sym (whats_else link item (λ h. e (sym h))))
-                    (stepped_more (mark_at old.marks link).added ss ts [] f.items)))
-                (λ h. p.2.stays (f.given_up (sym (ap (λ y. y.added) same) ∙ h)))
-                (λ h. down_more ts [] (f.down (sym (ap (λ y. y.down) same) ∙ h))))
-              (same_or link source);
-          },
-        );
+                  (fits_on E p.0 q (mark_at old.marks link) m' fs (frames_to link (words.step old.controller s).outs) ss ts (ss ++ ws) (ts ++ []) p.2 f a b d) in
+                  ⊎_elim
+                  (λ (e : link ≡ source).
+                  let now : m' ≡ m = there_now old.marks source link m e room in
+                  let was : ss ≡ ts = subst (λ b. AreStepped b ss ts) (ap (λ i. (mark_at old.marks i).added) e ∙ pending.added) f.items in
+                  F (subst (λ b. AreStepped b (ss ++ ws) (ts ++ [])) (sym (ap (λ y. y.added) now))
+                  (ts, [], refl, ap (λ xs. xs ++ ws) was ∙ ap (λ xs. ts ++ xs) (whats_here link item (sym e))))
+                  (λ h. p.2.stays (pending.given_up link p.0 p.1 e))
+                  (λ h. down_more ts [] (f.down (ap (λ i. (mark_at old.marks i).down) e ∙ sym (ap (λ y. y.down) now) ∙ h))))
+                  (λ (e : link ≢ source).
+                  let same : m' ≡ mark_at old.marks link = elsewhere old.marks source link m e in
+                  F (subst (λ b. AreStepped b (ss ++ ws) (ts ++ [])) (sym (ap (λ y. y.added) same))
+                  (subst (λ xs. AreStepped (mark_at old.marks link).added (ss ++ xs) (ts ++ [])) (sym (whats_else link item (λ h. e (sym h))))
+                  (stepped_more (mark_at old.marks link).added ss ts [] f.items)))
+                  (λ h. p.2.stays (f.given_up (sym (ap (λ y. y.added) same) ∙ h)))
+                  (λ h. down_more ts [] (f.down (sym (ap (λ y. y.down) same) ∙ h))))
+                  (same_or link source);
+            },
+          );
     }
 
 -- ---- the desk
@@ -191,18 +191,18 @@ pub took_one : (old new : Row) (item : Item) → queues_of new ≡ queues_of old
 took_one old new item same takes = (
   same,
   λ source e here.
-    ⊎_elim
-    (λ (h : (source ≡ item.source) × (_ ≡ e)). (
-      takes.0,
-      subst (λ i. get_elem? old i ≡ some takes.0) (sym h.0) takes.1,
-      sym (ap (λ (y : EndView What). y.seen.taken) h.1) ∙ ap (λ xs. takes.0.seen.taken ++ xs) (sym (whats_here source item (sym h.0))),
-    ))
-    (λ (h : (source ≢ item.source) × (get_elem? old source ≡ some e)). (
-      e,
-      h.1,
-      sym (append-nil e.seen.taken) ∙ ap (λ xs. e.seen.taken ++ xs) (sym (whats_else source item (λ k. h.0 (sym k)))),
-    ))
-    (at_set old item.source source _ e (ap (λ r. get_elem? r source) (sym takes.2) ∙ here)),
+      ⊎_elim
+      (λ (h : (source ≡ item.source) × (_ ≡ e)). (
+        takes.0,
+        subst (λ i. get_elem? old i ≡ some takes.0) (sym h.0) takes.1,
+        sym (ap (λ (y : EndView What). y.seen.taken) h.1) ∙ ap (λ xs. takes.0.seen.taken ++ xs) (sym (whats_here source item (sym h.0))),
+      ))
+      (λ (h : (source ≢ item.source) × (get_elem? old source ≡ some e)). (
+        e,
+        h.1,
+        sym (append-nil e.seen.taken) ∙ ap (λ xs. e.seen.taken ++ xs) (sym (whats_else source item (λ k. h.0 (sym k)))),
+      ))
+      (at_set old item.source source _ e (ap (λ r. get_elem? r source) (sym takes.2) ∙ here)),
 )
 
 pub goes_taken : (old : State) (desk : Row) (c : Controller) (putters : List PutterView) (item : Item) (b : Bool) → queues_of desk ≡ queues_of old.desk → TakesItem old.desk item desk
@@ -217,31 +217,31 @@ goes_taken old desk c putters item b queues takes next sent is_down room = recor
   count = sent.count;
   down = λ link h. down_noted b item.source old.marks link room h;
   links = λ link q here.
-    let p = sent.each link q here in (
-      p.0,
-      p.1,
-      record {
-        queue = p.2.queue;
-        fits = λ fs ss ts f.
-          let E : Bool = ended_of old link in
-          let m : Mark = mark_at old.marks link in
-          let m' : Mark = mark_at (noted b item.source old.marks) link in
-          let ws : List What = whats_of link (item ∷ []) in
-          let same : m'.added ≡ m.added = noted_added b item.source old.marks link room in
-          subst (λ x. Fits E q m' (fs ++ x) (ss ++ ws) (ts ++ ws)) (sym (frames_of_one old.controller (Take item) link))
+      let p = sent.each link q here in (
+        p.0,
+        p.1,
+        record {
+          queue = p.2.queue;
+          fits = λ fs ss ts f.
+              let E : Bool = ended_of old link in
+              let m : Mark = mark_at old.marks link in
+              let m' : Mark = mark_at (noted b item.source old.marks) link in
+              let ws : List What = whats_of link (item ∷ []) in
+              let same : m'.added ≡ m.added = noted_added b item.source old.marks link room in
+              subst (λ x. Fits E q m' (fs ++ x) (ss ++ ws) (ts ++ ws)) (sym (frames_of_one old.controller (Take item) link))
               (fits_on E p.0 q m m' fs (frames_to link (words.step old.controller (Take item)).outs) ss ts (ss ++ ws) (ts ++ ws) p.2 f
               (subst (λ a. AreStepped a (ss ++ ws) (ts ++ ws)) (sym same) (stepped_more m.added ss ts ws f.items))
               (λ h. p.2.stays (f.given_up (sym same ∙ h)))
               (λ h.
-                ⊎_elim (λ (d : m.down ≡ true). down_more ts ws (f.down d))
-                (λ (d : (b ≡ true) × (link ≡ item.source)). let here : HasDown (ts ++ ws) = (
-                  ts,
-                  [],
-                  ap (λ xs. ts ++ xs) (whats_here link item (sym d.1) ∙ ap (λ w. w ∷ []) (is_down d.0)),
-                ) in here)
-                (noted_down b item.source old.marks link room h)));
-      },
-    );
+              ⊎_elim (λ (d : m.down ≡ true). down_more ts ws (f.down d))
+              (λ (d : (b ≡ true) × (link ≡ item.source)). let here : HasDown (ts ++ ws) = (
+                ts,
+                [],
+                ap (λ xs. ts ++ xs) (whats_here link item (sym d.1) ∙ ap (λ w. w ∷ []) (is_down d.0)),
+              ) in here)
+              (noted_down b item.source old.marks link room h)));
+        },
+      );
 }
 
 -- ---- what holds between calls
@@ -260,8 +260,8 @@ pub unended : (n : ℕ) (putters new : List PutterView) (outs : List Out) → n 
 unended n putters new outs none sent = record {
   count = sent.count;
   each = λ link q here.
-    let p = sent.each link q here in
-    let no : nat_lt link n ≡ false = grind (arith, nat_tests) in (p.0, p.1, subst (λ b. Sends b p.0 (frames_to link outs) q) (sym no) p.2);
+      let p = sent.each link q here in
+      let no : nat_lt link n ≡ false = grind (arith, nat_tests) in (p.0, p.1, subst (λ b. Sends b p.0 (frames_to link outs) q) (sym no) p.2);
 }
 
 -- ---- a step
@@ -353,10 +353,10 @@ not_pending s link at at' p m stands is is' room putter mark pends so_far k q th
     let e = stands.marks in
     ⊎_elim
     (λ (h : k ≡ link).
-      let here : get_elem? s.putters at ≡ some p = at_index s.putters at p (omega arith) putter in
-      let same : q ≡ p = same_putter s.putters at q p (subst (λ i. get_elem? s.putters i ≡ some q) (h ∙ sym is) there) here in
-      ap (λ i. (mark_at s.marks i).added) (h ∙ sym is') ∙ ap (λ y. y.added) (mark_here s.marks at' m (omega arith) mark)
-      ∙ and_false (is_given_up p) m.added pends (sym (ap (λ y. is_given_up y) same) ∙ up))
+    let here : get_elem? s.putters at ≡ some p = at_index s.putters at p (omega arith) putter in
+    let same : q ≡ p = same_putter s.putters at q p (subst (λ i. get_elem? s.putters i ≡ some q) (h ∙ sym is) there) here in
+    ap (λ i. (mark_at s.marks i).added) (h ∙ sym is') ∙ ap (λ y. y.added) (mark_here s.marks at' m (omega arith) mark)
+    ∙ and_false (is_given_up p) m.added pends (sym (ap (λ y. is_given_up y) same) ∙ up))
     (λ (h : k ≢ link). so_far k q there (omega arith) up) (same_or k link)
 
 pub all_settled : (s : State) (n : ℕ) → length s.putters ≤ n → IsSettledTo n s → IsSettled s

@@ -113,7 +113,8 @@ impl<K: Clock> Worker<K> {
         ensures { seen K.told self.new ≡ seen K.told self.old }
     {
         self.ring();
-        self.desk.wait(rt, Duration::from_millis(TICK_MS - self.gathered));
+        self.desk
+            .wait(rt, Duration::from_millis(TICK_MS - self.gathered));
     }
 }
 

@@ -26,12 +26,12 @@ returns-clause-runs g c =
       gathered = 0;
     } in
     elim c.match-relay.branch [
-      in-Ok w ↦
-        same_run g.K.Clock.told start c.match-relay.fault None c.match-relay.worker c.relay.new.self w.fault-is w.worker-is
-            (runs_whole start (seen g.K.Clock.told c.relay.new.self) c.requires.new c.new.ensures.items refl refl w.in-Ok.ensures.goes w.in-Ok.ensures.finishes
-            (let e = w.in-Ok.ensures.ended in omega (arith, c.relay.new.self.putters.ok.0)))
-    | in-Err w ↦
-        same_run g.K.Clock.told start c.match-relay.fault (Some faults.Memory) c.match-relay.worker w.end_alone.new.self w.fault-is w.worker-is
-            (runs_part faults.Memory start (seen g.K.Clock.told c.relay.new.self) (seen g.K.Clock.told w.end_alone.new.self) c.requires.new c.new.ensures.items refl refl w.in-Err.ensures.goes
-            w.end_alone.ensures.ends (let e = w.end_alone.ensures.ended in omega (arith, w.end_alone.new.self.putters.ok.0)))
+      | in-Ok w ↦
+          same_run g.K.Clock.told start c.match-relay.fault None c.match-relay.worker c.relay.new.self w.fault-is w.worker-is
+          (runs_whole start (seen g.K.Clock.told c.relay.new.self) c.requires.new c.new.ensures.items refl refl w.in-Ok.ensures.goes w.in-Ok.ensures.finishes
+          (let e = w.in-Ok.ensures.ended in omega (arith, c.relay.new.self.putters.ok.0)))
+      | in-Err w ↦
+          same_run g.K.Clock.told start c.match-relay.fault (Some faults.Memory) c.match-relay.worker w.end_alone.new.self w.fault-is w.worker-is
+          (runs_part faults.Memory start (seen g.K.Clock.told c.relay.new.self) (seen g.K.Clock.told w.end_alone.new.self) c.requires.new c.new.ensures.items refl refl w.in-Err.ensures.goes
+          w.end_alone.ensures.ends (let e = w.end_alone.ensures.ended in omega (arith, w.end_alone.new.self.putters.ok.0)))
     ]
