@@ -1,0 +1,8 @@
+pub mod Courses
+pub mod Histories
+pub mod Marking
+pub mod Outboxes
+pub mod Outputs
+pub mod Resting
+pub mod Runs
+pub mod Turns
