@@ -16,3 +16,5 @@ pub mod StationTakes
 mod LineUpRows
 pub mod StillToCome
 pub mod SwitchTakes
+pub mod Cutting
+pub mod Breaks

@@ -1,9 +1,14 @@
 -- A connection stays lined up at an event.
-use Rattle.std.specs.Prelude.{◌≡◌, ℕ, Bool, true, false, List, [], ◌∷◌, ◌++◌, map, Some}
+use Rattle.std.specs.Prelude.{◌≡◌, ◌≢◌, ℕ, Bool, true, false, List, [], ◌∷◌, ◌++◌, map, Some}
+use Rattle.std.specs.List.{AllByRecursion}
 use Rattle.conn_messages.specs.declared.out.Out.{Out}
 use Rattle.conn_messages.specs.declared.parameters.TheConstants.{SWITCH_LINK}
 use Rattle.conn_table.specs.Connection.{Connection}
+use Rattle.conn_table.specs.Streams.{undone}
+use Rattle.controller_table.specs.Controller.{place_of}
 use Rattle.controller_table.specs.Views.{forwarded}
+use Rattle.lineup.specs.LineUp.{Item}
+use Rattle.lineup.specs.LineUp.Item.{brought, released}
 use Rattle.settings.specs.Parameters.{Parameters}
 use Rattle.world_table.specs.declared.event.Event.{Event}
 use Rattle.world_table.specs.declared.event.Event.TheVariants.{BaseTakes, Handle, SwitchTakes, Tick, BaseDown}
@@ -11,6 +16,7 @@ use Rattle.world_table.specs.declared.line.OutboxEntry.{OutboxEntry}
 use Rattle.world_table.specs.SwitchSide.{sccp_in, switch_took}
 use Rattle.world_table.specs.Life.{actors_after, actors_after_all}
 use Rattle.world_table.specs.World.{Actors, Mobile, mobile_of, modulus_in, new_actors, outbox_of}
+use Rattle.world_laws.specs.ComingUp.{coming_up}
 use Rattle.world_laws.specs.LineUps.{taken_of}
 use Rattle.world_laws.specs.Seated.{AreActive, IsAlone, LinedUp}
 
@@ -62,3 +68,22 @@ SwitchKeepsLineUps settings events =
     (mobile : ℕ) (s : Connection) → DeliversFirst (actors_after_all (new_actors settings) events) s.number (outbox_of (actors_after_all (new_actors settings) events) SWITCH_LINK)
     → AreLinedUp (modulus_in settings) (actors_after_all (new_actors settings) events) mobile s
     → AreLinedUp (modulus_in settings) (actors_after (actors_after_all (new_actors settings) events) SwitchTakes) mobile s
+
+-- ---- the link of a station breaks
+
+-- an RF CHANNEL RELEASE ACK is the last of its channel
+abbrev pub EndsLast : List Item → Type 0
+EndsLast [] = Unit {0}
+EndsLast (released ∷ items) = items ≡ []
+EndsLast (brought message ∷ items) = EndsLast items
+
+-- on each old channel
+abbrev pub EndLast : Actors → Connection → Type 0
+EndLast w s = AllByRecursion (λ c. EndsLast (coming_up w (place_of c))) (undone s.draining)
+
+-- whatever happened before, where nothing comes behind the RF CHANNEL RELEASE ACKs
+abbrev pub StationBreaksKeepLineUps : Parameters → List Event → ℕ → Type 0
+StationBreaksKeepLineUps settings events station =
+    (mobile : ℕ) (s : Connection) → station ≢ SWITCH_LINK → EndLast (actors_after_all (new_actors settings) events) s
+    → AreLinedUp (modulus_in settings) (actors_after_all (new_actors settings) events) mobile s
+    → AreLinedUp (modulus_in settings) (actors_after (actors_after_all (new_actors settings) events) (BaseDown station)) mobile s
