@@ -18,3 +18,4 @@ pub mod StillToCome
 pub mod SwitchTakes
 pub mod Cutting
 pub mod Breaks
+pub mod Others
