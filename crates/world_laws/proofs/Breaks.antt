@@ -128,7 +128,7 @@ target-breaks-in : (before after : Place → List Item) (up now_up : ℕ → Boo
 target-breaks-in before after up now_up seat None broken none = cuts-itself (target_tenure before up seat None)
 target-breaks-in before after up now_up seat (Some t) broken none = target-breaks (up t.channel.station) (now_up t.channel.station) (before (place_of t.channel)) (after (place_of t.channel)) (came seat) none (broken t refl)
 
-target-came : (after : Place → List Item) (now_up : ℕ → Bool) (seat : Seat) (o : Option Target) → (target_tenure after now_up seat o).is_lost ≡ true → came seat ≡ true
+pub target-came : (after : Place → List Item) (now_up : ℕ → Bool) (seat : Seat) (o : Option Target) → (target_tenure after now_up seat o).is_lost ≡ true → came seat ≡ true
 target-came after now_up seat None is = absurd cc
 target-came after now_up seat (Some t) is = right (not (now_up t.channel.station)) (came seat) is where
   right : (a b : Bool) → a && b ≡ true → b ≡ true

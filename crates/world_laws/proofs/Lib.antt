@@ -19,3 +19,4 @@ pub mod SwitchTakes
 pub mod Cutting
 pub mod Breaks
 pub mod Others
+pub mod OwnRow
