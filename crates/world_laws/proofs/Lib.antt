@@ -16,3 +16,7 @@ pub mod StationTakes
 mod LineUpRows
 pub mod StillToCome
 pub mod SwitchTakes
+pub mod Cutting
+pub mod Breaks
+pub mod Others
+pub mod OwnRow

@@ -12,12 +12,13 @@ use Rattle.lineup.specs.LineUp.Seat.{on_serving, on_target, moving, gone}
 use Rattle.world_table.specs.declared.event.Event.{Event}
 use Rattle.world_table.specs.declared.event.Event.TheVariants.{Upper, Connect, AirUp, AirAck, AirDown, Move, Arrive, Return, BaseTakes, BasePush, Handle, SwitchTakes, SwitchDoes, BaseDown}
 use Rattle.world_table.specs.declared.event.SwitchAction.TheVariants.{Assign, Clear}
-use Rattle.world_table.specs.World.{World, new_world, mobile_of, tenure_at}
+use Rattle.world_table.specs.World.{World, new_world, mobile_of, outbox_of}
 use Rattle.world_table.proofs.Worlds.{on_literals, after_all}
 use Rattle.world_laws.specs.ComingUp.{coming_up}
 use Rattle.world_laws.specs.GoingDown.{going_down}
-use Rattle.world_laws.specs.LineUps.{line_up}
-use Rattle.world_laws.specs.Staying.{is_beside_relay}
+use Rattle.world_laws.specs.LineUps.{taken_of, line_up}
+use Rattle.controller_table.specs.Views.{forwarded}
+use Rattle.world_laws.specs.Staying.{is_beside_relay, carried_for}
 
 -- of a mobile and a connection of these numbers
 abbrev line_up_of : World → ℕ → ℕ → Option LineUp
@@ -167,3 +168,25 @@ of_another_station = refl
 
 beside : map is_beside_relay (Upper 1 Zero [] ∷ AirUp 1 Zero ∷ Move 1 ∷ BasePush 0 ∷ SwitchDoes (Clear 1) ∷ BaseTakes 1 ∷ Handle ∷ SwitchTakes ∷ BaseDown 1 ∷ []) ≡ true ∷ true ∷ true ∷ true ∷ true ∷ false ∷ false ∷ false ∷ false ∷ []
 beside = refl
+
+-- ---- the switch takes
+
+carries_its_own : map (λ entry. carried_for 1 entry.out) (outbox_of (told).actors 0) ≡ ((0x03 ∷ 0x45 ∷ []) ∷ []) ∷ ((0x09 ∷ 0x01 ∷ []) ∷ []) ∷ []
+unfolding on_literals forwarded
+carries_its_own = refl
+
+carries_of_no_other : map (λ entry. carried_for 2 entry.out) (outbox_of (told).actors 0) ≡ [] ∷ [] ∷ []
+unfolding on_literals forwarded
+carries_of_no_other = refl
+
+took_before : taken_of (told).actors 1 ≡ (0x05 ∷ 0x24 ∷ 0x71 ∷ []) ∷ []
+unfolding on_literals forwarded
+took_before = refl
+
+takes_what_it_carries : taken_of (after_all told (SwitchTakes ∷ [])).actors 1 ≡ (0x05 ∷ 0x24 ∷ 0x71 ∷ []) ∷ (0x03 ∷ 0x45 ∷ []) ∷ []
+unfolding on_literals forwarded
+takes_what_it_carries = refl
+
+takes_of_no_other : taken_of (after_all told (SwitchTakes ∷ [])).actors 2 ≡ []
+unfolding on_literals forwarded
+takes_of_no_other = refl

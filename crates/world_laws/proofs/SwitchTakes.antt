@@ -53,7 +53,7 @@ alive-taken {m} l (x ∷ xs) out taken alive =
 
 -- ---- what waits, entry by entry
 
-forwarded-first : (out : Out) (outs : List Out) (number : ℕ) → forwarded (out ∷ outs) number ≡ forwarded (out ∷ []) number ++ forwarded outs number
+pub forwarded-first : (out : Out) (outs : List Out) (number : ℕ) → forwarded (out ∷ outs) number ≡ forwarded (out ∷ []) number ++ forwarded outs number
 unfolding forwarded
 forwarded-first out outs number = by_link (to_switch number out) where
   by_link : (b : Bool) → flat_map (λ o. forwarded_by (sccp_reading o.frame.body)) (cond b (out ∷ filter (to_switch number) outs) (filter (to_switch number) outs))

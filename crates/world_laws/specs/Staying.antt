@@ -1,9 +1,17 @@
 -- A connection stays lined up at an event.
-use Rattle.std.specs.Prelude.{◌≡◌, ℕ, Bool, true, false, List, [], ◌∷◌, ◌++◌, map, Some}
+use Rattle.std.specs.Prelude.{◌≡◌, ◌≢◌, ℕ, Bool, true, false, List, [], ◌∷◌, ◌++◌, map, Option, Some, None}
+use Rattle.std.specs.List.{AllByRecursion}
+use Rattle.conn_messages.specs.declared.channel.Channel.{Channel}
 use Rattle.conn_messages.specs.declared.out.Out.{Out}
 use Rattle.conn_messages.specs.declared.parameters.TheConstants.{SWITCH_LINK}
 use Rattle.conn_table.specs.Connection.{Connection}
+use Rattle.conn_table.specs.Streams.{undone, used_channels}
+use Rattle.controller_table.specs.Life.{take, tick}
+use Rattle.controller_table.specs.Controller.{place_of}
 use Rattle.controller_table.specs.Views.{forwarded}
+use Rattle.lineup.specs.LineUp.{Item}
+use Rattle.lineup.specs.LineUp.Item.{brought, released}
+use Rattle.relay_items.specs.declared.Item.{Item as RelayItem}
 use Rattle.settings.specs.Parameters.{Parameters}
 use Rattle.world_table.specs.declared.event.Event.{Event}
 use Rattle.world_table.specs.declared.event.Event.TheVariants.{BaseTakes, Handle, SwitchTakes, Tick, BaseDown}
@@ -11,8 +19,12 @@ use Rattle.world_table.specs.declared.line.OutboxEntry.{OutboxEntry}
 use Rattle.world_table.specs.SwitchSide.{sccp_in, switch_took}
 use Rattle.world_table.specs.Life.{actors_after, actors_after_all}
 use Rattle.world_table.specs.World.{Actors, Mobile, mobile_of, modulus_in, new_actors, outbox_of}
-use Rattle.world_laws.specs.LineUps.{taken_of}
-use Rattle.world_laws.specs.Seated.{AreActive, IsAlone, LinedUp}
+use Rattle.world_table.specs.declared.seat.Tenure.{Tenure}
+use Rattle.world_table.specs.Relay.{entry_of, target_in}
+use Rattle.world_laws.specs.ComingUp.{brings_in, coming_up}
+use Rattle.world_laws.specs.GoingDown.{leading_from_outbox}
+use Rattle.world_laws.specs.LineUps.{commanded_target, taken_of}
+use Rattle.world_laws.specs.Seated.{commanded_channels, AreActive, IsAlone, LinedUp}
 
 -- the mobile of this number and the connection are lined up
 pub record AreLinedUp (m : ℕ) (w : Actors) (mobile : ℕ) (s : Connection) : Type 0 where
@@ -62,3 +74,51 @@ SwitchKeepsLineUps settings events =
     (mobile : ℕ) (s : Connection) → DeliversFirst (actors_after_all (new_actors settings) events) s.number (outbox_of (actors_after_all (new_actors settings) events) SWITCH_LINK)
     → AreLinedUp (modulus_in settings) (actors_after_all (new_actors settings) events) mobile s
     → AreLinedUp (modulus_in settings) (actors_after (actors_after_all (new_actors settings) events) SwitchTakes) mobile s
+
+-- ---- the link of a station breaks
+
+-- an RF CHANNEL RELEASE ACK is the last of its channel
+abbrev pub EndsLast : List Item → Type 0
+EndsLast [] = Unit {0}
+EndsLast (released ∷ items) = items ≡ []
+EndsLast (brought message ∷ items) = EndsLast items
+
+-- on each old channel
+abbrev pub EndLast : Actors → Connection → Type 0
+EndLast w s = AllByRecursion (λ c. EndsLast (coming_up w (place_of c))) (undone s.draining)
+
+-- whatever happened before, where nothing comes behind the RF CHANNEL RELEASE ACKs
+abbrev pub StationBreaksKeepLineUps : Parameters → List Event → ℕ → Type 0
+StationBreaksKeepLineUps settings events station =
+    (mobile : ℕ) (s : Connection) → station ≢ SWITCH_LINK → EndLast (actors_after_all (new_actors settings) events) s
+    → AreLinedUp (modulus_in settings) (actors_after_all (new_actors settings) events) mobile s
+    → AreLinedUp (modulus_in settings) (actors_after (actors_after_all (new_actors settings) events) (BaseDown station)) mobile s
+
+-- ---- the controller does what doesn't concern the connection
+
+-- An output isn't the connection's: it carries none of its messages to the switch, and no command on its channels.
+pub record IsForOthers (target : Option Tenure) (s : Connection) (out : Out) : Type 0 where
+  pub carries : carried_for s.number out ≡ []
+  pub leads : AllByRecursion (λ c. out.to ≡ c.station → leading_from_outbox c.number (entry_of target out) ≡ []) (s.serving ∷ commanded_channels (commanded_target s.state))
+
+-- nor is what came: it brings nothing on its channels
+abbrev pub BringsNothing : Connection → RelayItem → Type 0
+BringsNothing s item = AllByRecursion (λ c. brings_in (place_of c) item ≡ []) (used_channels s)
+
+-- the controller handles the first item of the inbox, whatever happened before
+abbrev pub IsOthers : Actors → Connection → List RelayItem → Type 0
+IsOthers w s [] = Unit {0}
+IsOthers w s (item ∷ items) = BringsNothing s item × AllByRecursion (IsForOthers (target_in w item.source item.what) s) (take item w.controller).outs
+
+abbrev pub RelayLeavesOthers : Parameters → List Event → Type 0
+RelayLeavesOthers settings events =
+    (mobile : ℕ) (s : Connection) → IsOthers (actors_after_all (new_actors settings) events) s (actors_after_all (new_actors settings) events).inbox
+    → AreLinedUp (modulus_in settings) (actors_after_all (new_actors settings) events) mobile s
+    → AreLinedUp (modulus_in settings) (actors_after (actors_after_all (new_actors settings) events) Handle) mobile s
+
+-- time passes for it
+abbrev pub TimeLeavesOthers : Parameters → List Event → ℕ → Type 0
+TimeLeavesOthers settings events ms =
+    (mobile : ℕ) (s : Connection) → AllByRecursion (IsForOthers None s) (tick ms (actors_after_all (new_actors settings) events).controller).outs
+    → AreLinedUp (modulus_in settings) (actors_after_all (new_actors settings) events) mobile s
+    → AreLinedUp (modulus_in settings) (actors_after (actors_after_all (new_actors settings) events) (Tick ms)) mobile s

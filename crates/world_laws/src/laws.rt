@@ -1,7 +1,7 @@
 ghost use Rattle.std.specs.Prelude.{ℕ, List};
 ghost use Rattle.settings.specs.Parameters.{Parameters};
 ghost use Rattle.world_table.specs.declared.event.Event.{Event as WorldEvent};
-ghost use Rattle.world_laws.specs.Staying.{MobilesKeepLineUps, StationsKeepLineUps, SwitchKeepsLineUps};
+ghost use Rattle.world_laws.specs.Staying.{MobilesKeepLineUps, RelayLeavesOthers, StationBreaksKeepLineUps, StationsKeepLineUps, SwitchKeepsLineUps, TimeLeavesOthers};
 
 /// Law: whatever events happened, a connection that is lined up with its mobile, and whose channels no other mobile is on, stays
 /// lined up at what mobiles do, at what stations take from them and give to the inbox, and at what the switch does of its own.
@@ -19,4 +19,17 @@ pub fn stations_keep_line_ups()
 /// Law: and it stays lined up when the switch takes what waits for it, where the first entry is taken as it was put.
 pub fn switch_keeps_line_ups()
     ensures { (settings : Parameters) (events : List WorldEvent) → SwitchKeepsLineUps settings events }
+{}
+
+/// Law: and it stays lined up when the link of a station breaks, up to where something of it is missing, where nothing comes behind
+/// the RF CHANNEL RELEASE ACKs of its old channels.
+pub fn station_breaks_keep_line_ups()
+    ensures { (settings : Parameters) (events : List WorldEvent) (station : ℕ) → StationBreaksKeepLineUps settings events station }
+{}
+
+/// Law: and it stays lined up when the controller handles an item, or time passes for it, where neither what came nor what is put
+/// is the connection's.
+pub fn relay_leaves_others()
+    ensures handled { (settings : Parameters) (events : List WorldEvent) → RelayLeavesOthers settings events }
+    ensures passed { (settings : Parameters) (events : List WorldEvent) (ms : ℕ) → TimeLeavesOthers settings events ms }
 {}

@@ -2,6 +2,9 @@
 //! definitions and laws alone.
 #![tactic(auto)]
 
-pub use laws::{mobiles_keep_line_ups, stations_keep_line_ups, switch_keeps_line_ups};
+pub use laws::{
+    mobiles_keep_line_ups, relay_leaves_others, station_breaks_keep_line_ups,
+    stations_keep_line_ups, switch_keeps_line_ups,
+};
 
 mod laws;

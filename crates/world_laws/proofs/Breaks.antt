@@ -1,0 +1,243 @@
+-- The link of a station breaks: the connections stay lined up, those that lose something up to where it is missing.
+use Rattle.std.proofs.Common.{◌≡◌, ◌≢◌, ℕ, zero, suc, ◌+◌, ◌-◌, ◌≤◌, ◌==◌, ◌&&◌, not, nat_eq, Bool, true, false, if◌then◌else◌, cond, List, [], ◌∷◌, ◌++◌, length, map, find, get_or, set, unwrap_or, Option, Some, None, refl, sym, ap, ◌∙◌, subst, append_assoc, inl, inr, ◌⊎◌, arith}
+use Rattle.std.specs.List.{AllByRecursion, flat_map}
+use Rattle.std.proofs.lemmas.Bool.{cases_Bool, eqb-true, eqb-false, ne_eqb}
+use Rattle.std.proofs.lemmas.Grind.{flat_map-append}
+use Rattle.std.proofs.lemmas.List.{append-nil}
+use Rattle.conn_messages.specs.declared.channel.Channel.{Channel}
+use Rattle.conn_messages.specs.declared.channel.Place.{Place}
+use Rattle.conn_messages.specs.declared.parameters.TheConstants.{SWITCH_LINK}
+use Rattle.conn_table.specs.declared.state.Drain.{Drain}
+use Rattle.conn_table.specs.declared.state.Target.{Target}
+use Rattle.conn_table.specs.Connection.{Connection}
+use Rattle.conn_table.specs.Streams.{undone, target_in, used_channels}
+use Rattle.controller_table.specs.Controller.{place_of}
+use Rattle.controller_table.specs.Views.{forwarded}
+use Rattle.hold_queue.specs.ChainState.{Tenure as Held}
+use Rattle.lineup.specs.Alive.{Alive, Stands}
+use Rattle.lineup.specs.Alive.Stays.{remains, left}
+use Rattle.lineup.specs.Alive.Stands.{rests, waits, leaves, arrives, returns}
+use Rattle.lineup.specs.ChangeStep.{ended}
+use Rattle.lineup.specs.LineUp.{Item, Tenure, Seat, flow, messages_in, controls_in, texts_in}
+use Rattle.lineup.specs.LineUp.Item.{brought, released}
+use Rattle.lineup.specs.LineUp.Seat.{on_serving, on_target, moving, gone}
+use Rattle.lineup.proofs.Lines.{messages_in-append, controls-front, texts-front, empty_list}
+use Rattle.link_model.specs.BaseState.{BaseState}
+use Rattle.link_model.specs.Base.{after_take_down}
+use Rattle.relay_items.specs.declared.Item.{Item as RelayItem}
+use Rattle.relay_items.specs.declared.What.TheVariants as whats
+use Rattle.settings.specs.Parameters.{Parameters}
+use Rattle.world_table.specs.declared.event.Event.{Event}
+use Rattle.world_table.specs.declared.event.Event.TheVariants.{BaseDown}
+use Rattle.world_table.specs.declared.line.AirMessage.{AirMessage}
+use Rattle.world_table.specs.declared.line.OutboxEntry.{OutboxEntry}
+use Rattle.world_table.specs.Life.{event_after, actors_after, actors_after_all}
+use Rattle.world_table.specs.Relay.{with_item, after_break}
+use Rattle.world_table.specs.World.{Actors, Mobile, Link, broken_link, with_link, link_of, new_actors, modulus_in, is_up, is_station_up, no_station, base_of, with_base, outbox_of, spot_at}
+use Rattle.world_table.proofs.Honesty.{base-elsewhere, base-there}
+use Rattle.world_table.proofs.Leads.{OfTaken, broken-leads, after-taken}
+use Rattle.world_laws.specs.ComingUp.{brings_in, made_of, coming_up}
+use Rattle.world_laws.specs.GoingDown.{leading_from_air, leading_from_outbox, going_down}
+use Rattle.world_laws.specs.LineUps.{seat_from, remembered, is_ended, draining_tenure, old_tenure, old_tenures, serving_hold, serving_tenure, came, commanded_target, target_tenure, is_changing, waiting_of, taken_of, assembled, line_up}
+use Rattle.world_laws.specs.Seated.{Leads, NoneOn, LinedUp}
+use Rattle.world_laws.specs.Staying.{AreLinedUp, EndsLast, StationBreaksKeepLineUps}
+use Rattle.world_laws.proofs.Apart.{target-in}
+use Rattle.world_laws.proofs.Cutting.{Cuts, AllCut, cuts-itself, Alive-cut}
+use Rattle.world_laws.proofs.Cutting.Cuts.{whole, breaks}
+use Rattle.world_laws.proofs.Framing.{AreUp, all-left, all-right, all-map, lined-same}
+use Rattle.world_laws.proofs.Quiet.{all-of, ArePlaced, down-with_base}
+use Rattle.world_laws.proofs.Seeing.{SameTenures, Sits-same, Leads-same}
+use Rattle.world_laws.proofs.Spots.{set-apart, tenure-with_base}
+use Rattle.world_laws.proofs.Sublists.{Sub, sub-itself, sub-none, sub-append, sub-flat_map, sub-length, sub-all, sub-nothing, set-related}
+
+-- ---- what is on its way up from one channel
+
+-- it stays, or the link breaks and a part of it is dropped
+pub data Breaks (up now_up : Bool) (was now : List Item) : Type 0 where
+  stays : now_up ≡ up → now ≡ was → Breaks up now_up was now
+  drops : (dropped : List Item) → up ≡ true → now_up ≡ false → was ≡ now ++ dropped → Breaks up now_up was now
+
+-- behind an RF CHANNEL RELEASE ACK nothing was
+none-behind : (items dropped : List Item) → is_ended items ≡ true → EndsLast (items ++ dropped) → dropped ≡ []
+none-behind [] dropped is last = absurd cc
+none-behind (released ∷ []) dropped is last = last
+none-behind (released ∷ item ∷ items) dropped is last = absurd cc
+none-behind (brought message ∷ items) dropped is last = none-behind items dropped is last
+
+draining-breaks : (up now_up : Bool) (was now : List Item) (hold : List (List ℕ)) → EndsLast was → Breaks up now_up was now → Cuts (draining_tenure up was hold) (draining_tenure now_up now hold)
+draining-breaks up now_up was now hold last (stays is same) = subst (λ (b : Bool). Cuts (draining_tenure up was hold) (draining_tenure b now hold)) (sym is) (subst (λ (items : List Item). Cuts (draining_tenure up was hold) (draining_tenure up items hold)) (sym same) (cuts-itself (draining_tenure up was hold)))
+draining-breaks up now_up was now hold last (drops dropped is down parts) = by_end (is_ended now) refl where
+  by_end : (b : Bool) → is_ended now ≡ b → Cuts (draining_tenure up was hold) (draining_tenure now_up now hold)
+  by_end false none = breaks (messages_in dropped) refl (ap messages_in parts ∙ messages_in-append now dropped) (ap (λ (b : Bool). not b && not (is_ended now)) down ∙ ap not none)
+  by_end true some =
+      let all : was ≡ now = parts ∙ ap (λ (xs : List Item). now ++ xs) (none-behind now dropped some (subst EndsLast parts last)) ∙ append-nil now in
+      whole refl (sym (ap (λ (items : List Item). flow (messages_in items)) all)) (let same = ap controls_in all in omega arith)
+      (ap (λ (b : Bool). not b && not (is_ended now)) down ∙ ap not some ∙ sym (ap (λ (b : Bool). not b && not (is_ended was)) is))
+
+serving-breaks : (up now_up : Bool) (was now : List Item) (hold : List (List ℕ)) → Breaks up now_up was now → Cuts (record { hold = hold; items = was; is_lost = not up; is_done = false }) (record { hold = hold; items = now; is_lost = not now_up; is_done = false })
+serving-breaks up now_up was now hold (stays is same) = whole refl (ap (λ (items : List Item). flow (messages_in items)) same) (let equal = ap controls_in same in omega arith) (ap not is)
+serving-breaks up now_up was now hold (drops dropped is down parts) = breaks (messages_in dropped) refl (ap messages_in parts ∙ messages_in-append now dropped) (ap not down)
+
+-- of a target that the mobile didn't come to nothing was on its way
+target-breaks : (up now_up : Bool) (was now : List Item) (there : Bool) → (there ≡ false → texts_in was ≡ 0) → Breaks up now_up was now → Cuts (record { hold = []; items = was; is_lost = not up && there; is_done = false }) (record { hold = []; items = now; is_lost = not now_up && there; is_done = false })
+target-breaks up now_up was now there none (stays is same) = whole refl (ap (λ (items : List Item). flow (messages_in items)) same) (let equal = ap controls_in same in omega arith) (ap (λ (b : Bool). not b && there) is)
+target-breaks up now_up was now true none (drops dropped is down parts) = breaks (messages_in dropped) refl (ap messages_in parts ∙ messages_in-append now dropped) (ap (λ (b : Bool). not b && true) down)
+target-breaks up now_up was now false none (drops dropped is down parts) =
+    let fewer = texts-front now dropped in
+    let all = ap texts_in parts in
+    let zero_before = none refl in
+    whole refl (empty_list (flow (messages_in now)) (omega arith) ∙ sym (empty_list (flow (messages_in was)) zero_before)) (let counts = ap controls_in parts in let front = controls-front now dropped in omega arith)
+    (ap (λ (b : Bool). not b && false) down ∙ sym (ap (λ (b : Bool). not b && false) is))
+
+-- ---- all tenures
+
+AllBreak : (Place → List Item) → (Place → List Item) → (ℕ → Bool) → (ℕ → Bool) → List Channel → Type 0
+AllBreak before after up now_up cs = AllByRecursion (λ c. Breaks (up c.station) (now_up c.station) (before (place_of c)) (after (place_of c))) cs
+
+AllEndLast : (Place → List Item) → List Channel → Type 0
+AllEndLast before cs = AllByRecursion (λ c. EndsLast (before (place_of c))) cs
+
+one-breaks : (before after : Place → List Item) (up now_up : ℕ → Bool) (d : Drain) (ds : List Drain) (hold : List (List ℕ)) → AllBreak before after up now_up (undone (d ∷ ds)) → AllEndLast before (undone (d ∷ ds))
+    → Cuts (old_tenure before up d hold) (old_tenure after now_up d hold) × (AllBreak before after up now_up (undone ds) × AllEndLast before (undone ds))
+unfolding AllBreak AllEndLast
+one-breaks before after up now_up d ds hold broken last = by_done d.is_done broken last where
+  by_done : (b : Bool) → AllBreak before after up now_up (if b then undone ds else d.channel ∷ undone ds) → AllEndLast before (if b then undone ds else d.channel ∷ undone ds)
+      → Cuts (if b then ended hold else draining_tenure (up d.channel.station) (before (place_of d.channel)) hold) (if b then ended hold else draining_tenure (now_up d.channel.station) (after (place_of d.channel)) hold) × (AllBreak before after up now_up (undone ds) × AllEndLast before (undone ds))
+  by_done true all last = (cuts-itself (ended hold), (all, last))
+  by_done false all last = (draining-breaks (up d.channel.station) (now_up d.channel.station) (before (place_of d.channel)) (after (place_of d.channel)) hold last.0 all.0, (all.1, last.1))
+
+old-breaks : (before after : Place → List Item) (up now_up : ℕ → Bool) (ds : List Drain) (holds : List Held) → AllBreak before after up now_up (undone ds) → AllEndLast before (undone ds) → AllCut (old_tenures before up ds holds) (old_tenures after now_up ds holds)
+old-breaks before after up now_up [] holds broken last = tt
+old-breaks before after up now_up (d ∷ ds) [] broken last = let a = one-breaks before after up now_up d ds [] broken last in (a.0, old-breaks before after up now_up ds [] a.1.0 a.1.1)
+old-breaks before after up now_up (d ∷ ds) (held ∷ others) broken last = let a = one-breaks before after up now_up d ds held.zero broken last in (a.0, old-breaks before after up now_up ds others a.1.0 a.1.1)
+
+-- nothing came of a target that the mobile didn't come to
+no-texts : {commands serving texts target link : ℕ} {seat : Seat} → came seat ≡ false → Stands true commands seat serving texts target link → texts ≡ 0
+no-texts away (waits here few none) = omega arith
+no-texts away (leaves none) = omega arith
+no-texts away (arrives remains none few) = absurd cc
+no-texts away (arrives left none few) = absurd cc
+no-texts away (returns here none few) = omega arith
+
+target-bare : (f : Place → List Item) (up : ℕ → Bool) (seat : Seat) (o : Option Target) {commands serving target link : ℕ} → Stands (is_changing o) commands seat serving (texts_in (target_tenure f up seat o).items) target link → came seat ≡ false → texts_in (target_tenure f up seat o).items ≡ 0
+target-bare f up seat None stands away = refl
+target-bare f up seat (Some t) stands away = no-texts away stands
+
+target-breaks-in : (before after : Place → List Item) (up now_up : ℕ → Bool) (seat : Seat) (o : Option Target) → ((t : Target) → o ≡ Some t → Breaks (up t.channel.station) (now_up t.channel.station) (before (place_of t.channel)) (after (place_of t.channel)))
+    → (came seat ≡ false → texts_in (target_tenure before up seat o).items ≡ 0) → Cuts (target_tenure before up seat o) (target_tenure after now_up seat o)
+target-breaks-in before after up now_up seat None broken none = cuts-itself (target_tenure before up seat None)
+target-breaks-in before after up now_up seat (Some t) broken none = target-breaks (up t.channel.station) (now_up t.channel.station) (before (place_of t.channel)) (after (place_of t.channel)) (came seat) none (broken t refl)
+
+pub target-came : (after : Place → List Item) (now_up : ℕ → Bool) (seat : Seat) (o : Option Target) → (target_tenure after now_up seat o).is_lost ≡ true → came seat ≡ true
+target-came after now_up seat None is = absurd cc
+target-came after now_up seat (Some t) is = right (not (now_up t.channel.station)) (came seat) is where
+  right : (a b : Bool) → a && b ≡ true → b ≡ true
+  right true b is = is
+  right false b is = absurd cc
+
+-- ---- the world
+
+abbrev broken_world : Actors → ℕ → Actors
+broken_world w station = with_item (record { source = station; what = whats.Down }) (with_base station (after_take_down (base_of (with_link station broken_link w) station)) (with_link station broken_link w))
+
+set-itself : (links : List Link) (n : ℕ) → get_or (set links n broken_link) n broken_link ≡ broken_link
+set-itself [] n = refl
+set-itself (link ∷ links) zero = refl
+set-itself (link ∷ links) (suc n) = set-itself links n
+
+nothing-made : (w : Actors) (station : ℕ) → (base_of (broken_world w station) station).messages ≡ []
+nothing-made w station = elim (base-there (with_link station broken_link w) station (after_take_down (base_of w station))) [
+  | inl is ↦ ap (λ (b : BaseState). b.messages) is
+  | inr nowhere ↦ ap (λ (b : BaseState). b.messages) nowhere.0
+]
+
+inbox-broken : (w : Actors) (station : ℕ) (at : Place) → flat_map (brings_in at) (broken_world w station).inbox ≡ flat_map (brings_in at) w.inbox
+inbox-broken w station at = flat_map-append (brings_in at) w.inbox (record { source = station; what = whats.Down } ∷ []) ∙ append-nil (flat_map (brings_in at) w.inbox)
+
+coming-broken : (w : Actors) (station : ℕ) (c : Channel) → c.station ≢ SWITCH_LINK → station ≢ SWITCH_LINK → is_up w station ≡ true → Breaks (is_station_up w c.station) (is_station_up (broken_world w station) c.station) (coming_up w (place_of c)) (coming_up (broken_world w station) (place_of c))
+coming-broken w station c c_is station_is up =
+    elim (cases_Bool (nat_eq c.station station)) [
+      | inl here ↦ drops (made_of c.number (base_of w c.station).messages) (is_there (eqb-true c.station station here)) (goes_down (eqb-true c.station station here)) (parts (eqb-true c.station station here))
+      | inr other ↦ stays (ap (λ (link : Link). not (c.station == SWITCH_LINK) && link.up) (set-apart w.links broken_link station c.station broken_link (eqb-false c.station station other)))
+          (ap (λ (xs : List Item). xs ++ made_of c.number (base_of (broken_world w station) c.station).messages) (inbox-broken w station (place_of c))
+          ∙ ap (λ (b : BaseState). flat_map (brings_in (place_of c)) w.inbox ++ made_of c.number b.messages) (base-elsewhere (with_link station broken_link w) c.station station (after_take_down (base_of w station)) c_is station_is (eqb-false c.station station other)))
+    ] where
+      is_there : c.station ≡ station → is_station_up w c.station ≡ true
+      is_there is = ap (λ (b : Bool). not b && is_up w c.station) (ne_eqb c.station 0 c_is) ∙ ap (is_up w) is ∙ up
+
+      goes_down : c.station ≡ station → is_station_up (broken_world w station) c.station ≡ false
+      goes_down is = ap (λ (b : Bool). not b && is_up (broken_world w station) c.station) (ne_eqb c.station 0 c_is) ∙ ap (is_up (broken_world w station)) is ∙ ap (λ (link : Link). link.up) (set-itself w.links station)
+
+      parts : c.station ≡ station → coming_up w (place_of c) ≡ coming_up (broken_world w station) (place_of c) ++ made_of c.number (base_of w c.station).messages
+      parts is = sym (ap (λ (xs : List Item). (xs ++ made_of c.number (base_of (broken_world w station) c.station).messages) ++ made_of c.number (base_of w c.station).messages) (inbox-broken w station (place_of c))
+          ∙ ap (λ (n : ℕ). (flat_map (brings_in (place_of c)) w.inbox ++ made_of c.number (base_of (broken_world w station) n).messages) ++ made_of c.number (base_of w c.station).messages) is
+          ∙ ap (λ (ms : List _). (flat_map (brings_in (place_of c)) w.inbox ++ made_of c.number ms) ++ made_of c.number (base_of w c.station).messages) (nothing-made w station)
+          ∙ ap (λ (xs : List Item). xs ++ made_of c.number (base_of w c.station).messages) (append-nil (flat_map (brings_in (place_of c)) w.inbox)))
+
+all-broken : (w : Actors) (station : ℕ) (cs : List Channel) → ArePlaced cs → station ≢ SWITCH_LINK → is_up w station ≡ true → AllBreak (coming_up w) (coming_up (broken_world w station)) (is_station_up w) (is_station_up (broken_world w station)) cs
+unfolding AllBreak
+all-broken w station [] placed station_is up = tt
+all-broken w station (c ∷ cs) placed station_is up = (coming-broken w station c placed.0 station_is up, all-broken w station cs placed.1 station_is up)
+
+down-broken : (w : Actors) (station : ℕ) (at : Place) → Sub (going_down (broken_world w station) at) (going_down w at)
+down-broken w station at =
+    subst (λ (entries : List AirMessage). Sub entries (going_down w at)) (sym (down-with_base (with_link station broken_link w) station (after_take_down (base_of w station)) at))
+    (sub-append (sub-itself (flat_map leading_from_air (spot_at w at).air)) (sub-flat_map (leading_from_outbox at.number)
+    (set-related (λ (a b : Link). Sub a.outbox b.outbox) (λ link. sub-itself link.outbox) w.links broken_link station at.station broken_link (sub-none (outbox_of w station)))))
+
+keeps-broken : {m : ℕ} {w : Actors} {s : Connection} (p : Mobile) (station : ℕ) → station ≢ SWITCH_LINK → is_up w station ≡ true → AllByRecursion (λ c. EndsLast (coming_up w (place_of c))) (undone s.draining) → LinedUp m w p s → LinedUp m (broken_world w station) p s
+unfolding SameTenures AllBreak AllEndLast
+keeps-broken {m} {w} {s} p station station_is up last kept = record {
+  alive = subst (Alive m) (sym now)
+      (Alive-cut p.end.sent p.end.zero sits s.state (length (going_down w (place_of s.serving)) + remembered p.seat) commands (old_tenures (coming_up w) (is_station_up w) s.draining s.up.tenures) (old_tenures (coming_up v) (is_station_up v) s.draining s.up.tenures)
+      (serving_tenure (coming_up w) (is_station_up w) s.serving hold) (serving_tenure (coming_up v) (is_station_up v) s.serving hold) (target_tenure (coming_up w) (is_station_up w) sits (commanded_target s.state)) (target_tenure (coming_up v) (is_station_up v) sits (commanded_target s.state))
+      (flow (waiting_of w s.number)) (flow (taken_of w s.number)) (let fewer = sub-length (down-broken w station (place_of s.serving)) in omega arith)
+      (old-breaks (coming_up w) (coming_up v) (is_station_up w) (is_station_up v) s.draining s.up.tenures (all-left (λ c. Breaks (is_station_up w c.station) (is_station_up v c.station) (coming_up w (place_of c)) (coming_up v (place_of c))) (undone s.draining) (s.serving ∷ target_in s.state) broken) last)
+      (serving-breaks (is_station_up w s.serving.station) (is_station_up v s.serving.station) (coming_up w (place_of s.serving)) (coming_up v (place_of s.serving)) hold rest.0)
+      (target-breaks-in (coming_up w) (coming_up v) (is_station_up w) (is_station_up v) sits (commanded_target s.state) of_target (target-bare (coming_up w) (is_station_up w) sits (commanded_target s.state) kept.alive.stands))
+      (target-came (coming_up v) (is_station_up v) sits (commanded_target s.state)) kept.alive);
+  sits = Sits-same same_tenures kept.sits;
+  led = all-map (λ a. Leads w a (commanded_target s.state)) (λ a. Leads v a (commanded_target s.state)) (going_down v (place_of s.serving)) (λ a. Leads-same same_tenures) (sub-all (λ a. Leads w a (commanded_target s.state)) (down-broken w station (place_of s.serving)) kept.led);
+  none_on_target = none_on (commanded_target s.state) kept.none_on_target;
+  apart = kept.apart;
+  placed = kept.placed;
+} where
+  v : Actors
+  v = broken_world w station
+
+  sits : Seat
+  sits = seat_from s.serving p.seat
+
+  hold : List (List ℕ)
+  hold = serving_hold s.draining s.up.tenures
+
+  commands : ℕ
+  commands = length (going_down v (place_of s.serving)) + remembered p.seat
+
+  same_tenures : SameTenures w v
+  same_tenures at = tenure-with_base (with_link station broken_link w) station (after_take_down (base_of w station)) at
+
+  broken : AllBreak (coming_up w) (coming_up v) (is_station_up w) (is_station_up v) (used_channels s)
+  broken = all-broken w station (used_channels s) kept.placed station_is up
+
+  rest : AllBreak (coming_up w) (coming_up v) (is_station_up w) (is_station_up v) (s.serving ∷ target_in s.state)
+  rest = all-right (λ c. Breaks (is_station_up w c.station) (is_station_up v c.station) (coming_up w (place_of c)) (coming_up v (place_of c))) (undone s.draining) (s.serving ∷ target_in s.state) broken
+
+  of_target : (t : Target) → commanded_target s.state ≡ Some t → Breaks (is_station_up w t.channel.station) (is_station_up v t.channel.station) (coming_up w (place_of t.channel)) (coming_up v (place_of t.channel))
+  of_target t is = (subst (AllBreak (coming_up w) (coming_up v) (is_station_up w) (is_station_up v)) (target-in s.state t is) rest.1).0
+
+  none_on : (o : Option Target) → NoneOn w o → NoneOn v o
+  none_on None none = none
+  none_on (Some t) none = sub-nothing (subst (Sub (going_down v (place_of t.channel))) none (down-broken w station (place_of t.channel)))
+
+  now : line_up v p s ≡ assembled p.end.sent p.end.zero sits s.state commands (old_tenures (coming_up v) (is_station_up v) s.draining s.up.tenures) (serving_tenure (coming_up v) (is_station_up v) s.serving hold) (target_tenure (coming_up v) (is_station_up v) sits (commanded_target s.state)) (flow (waiting_of w s.number)) (flow (taken_of w s.number))
+  now = lined-same (coming_up v) (coming_up v) (is_station_up v) (is_station_up v) (going_down v (place_of s.serving)) (going_down v (place_of s.serving)) (waiting_of v s.number) (waiting_of w s.number) (taken_of v s.number) (taken_of w s.number) p p s
+      (all-of (λ c. coming_up v (place_of c) ≡ coming_up v (place_of c)) (used_channels s) (λ c. refl)) (λ n. refl) refl
+      (ap (λ (link : Link). map (λ f. f.message) (forwarded (map (λ entry. entry.out) link.outbox) s.number)) (set-apart w.links broken_link station SWITCH_LINK broken_link (λ is. station_is (sym is)))) refl refl refl refl
+
+pub StationBreaksKeepLineUps-new : (settings : Parameters) (events : List Event) (station : ℕ) → StationBreaksKeepLineUps settings events station
+unfolding event_after
+StationBreaksKeepLineUps-new settings events station mobile s station_is last lined =
+    let w : Actors = actors_after_all (new_actors settings) events in
+    after-taken (λ v. AreLinedUp (modulus_in settings) v mobile s) (after_break w station) w
+    (broken-leads (λ v. AreLinedUp (modulus_in settings) v mobile s) w station (λ up is. absurd (station_is is)) (λ up _. record { one = lined.one; found = lined.found; lined = keeps-broken lined.one station station_is up last lined.lined })) lined

@@ -1,0 +1,187 @@
+-- A line that is cut where a link broke.
+use Rattle.std.proofs.Common.{◌≡◌, ℕ, ◌+◌, ◌≤◌, Bool, true, false, ◌||◌, ◌&&◌, not, if◌then◌else◌, cond, List, [], ◌∷◌, ◌++◌, length, refl, sym, ap, ◌∙◌, subst, append_assoc, length-append, arith}
+use Rattle.std.proofs.lemmas.List.{append-nil}
+use Rattle.conn_table.specs.declared.state.State.{State}
+use Rattle.lineup.specs.Alive.{Alive, FirstRelays, Stays, Condition, Follows, some_lost}
+use Rattle.lineup.specs.Alive.Stays.{remains, left}
+use Rattle.lineup.specs.Alive.Condition.{sound, left_the_cell, lost_old, lost_serving, lost_target}
+use Rattle.lineup.specs.LineUp.{Item, Tenure, Seat, LineUp, flow, messages_in, part_of, parts_of, controls_of, controls_in, texts_in}
+use Rattle.lineup.specs.LineUp.Seat.{on_serving, on_target, moving, gone}
+use Rattle.lineup.proofs.Following.{Follows-line, Follows-front}
+use Rattle.lineup.proofs.Lines.{flow-append, controls-append}
+use Rattle.lineup.proofs.Standing.{Stands-fewer}
+use Rattle.mobile_end.specs.DataLinkState.{DataLinkState}
+use Rattle.world_laws.specs.LineUps.{came, is_gone, is_confirmed, is_intact, assembled}
+
+-- ---- tenures
+
+-- The same on the line; or a part of it went, and nothing comes behind it.
+pub data Cuts (t u : Tenure) : Type 0 where
+  whole : u.hold ≡ t.hold → flow (messages_in u.items) ≡ flow (messages_in t.items) → controls_in u.items ≤ controls_in t.items → u.is_lost ≡ t.is_lost → Cuts t u
+  breaks : (dropped : List (List ℕ)) → u.hold ≡ t.hold → messages_in t.items ≡ messages_in u.items ++ dropped → u.is_lost ≡ true → Cuts t u
+
+abbrev pub AllCut : List Tenure → List Tenure → Type 0
+AllCut [] [] = Unit {0}
+AllCut (t ∷ ts) (u ∷ us) = Cuts t u × AllCut ts us
+AllCut _ _ = ⊥
+
+pub cuts-itself : (t : Tenure) → Cuts t t
+cuts-itself t = whole refl refl (omega arith) refl
+
+cuts-hold : {t u : Tenure} → Cuts t u → u.hold ≡ t.hold
+cuts-hold (whole hold messages controls lost) = hold
+cuts-hold (breaks dropped hold messages lost) = hold
+
+-- counts of a list and of its front
+front-controls : (xs ys : List (List ℕ)) → controls_of xs ≤ controls_of (xs ++ ys)
+front-controls xs ys = let both = controls-append xs ys in omega arith
+
+pub cuts-controls : {t u : Tenure} → Cuts t u → controls_in u.items ≤ controls_in t.items
+cuts-controls (whole hold messages controls lost) = controls
+cuts-controls {t} {u} (breaks dropped hold messages lost) = subst (λ (ms : List (List ℕ)). controls_of (messages_in u.items) ≤ controls_of ms) (sym messages) (front-controls (messages_in u.items) dropped)
+
+pub cuts-texts : {t u : Tenure} → Cuts t u → texts_in u.items ≤ texts_in t.items
+cuts-texts (whole hold messages controls lost) = let same = ap length messages in omega arith
+cuts-texts {t} {u} (breaks dropped hold messages lost) =
+    let all = ap (λ (ms : List (List ℕ)). length (flow ms)) messages ∙ ap length (flow-append (messages_in u.items) dropped) ∙ length-append (flow (messages_in u.items)) (flow dropped) in
+    omega arith
+
+-- ---- lines
+
+pub record CutLine (ts us : List Tenure) : Type 0 where
+  pub more : List (List ℕ)
+  pub parts : parts_of ts ≡ parts_of us ++ more
+  -- where nothing of it is missing, nothing went
+  pub none : some_lost us ≡ false → (more ≡ []) × (some_lost ts ≡ false)
+
+part-whole : (t u : Tenure) → u.hold ≡ t.hold → flow (messages_in u.items) ≡ flow (messages_in t.items) → part_of t ≡ part_of u
+part-whole t u hold messages = ap (λ (h : List (List ℕ)). flow h ++ flow (messages_in t.items)) (sym hold) ∙ ap (λ (ms : List (List ℕ)). flow u.hold ++ ms) (sym messages)
+
+pub cut-line : (ts us : List Tenure) → AllCut ts us → CutLine ts us
+cut-line [] [] all = record { more = []; parts = refl; none = λ is. (refl, refl) }
+cut-line [] (u ∷ us) all = elim all [ ]
+cut-line (t ∷ ts) [] all = elim all [ ]
+cut-line (t ∷ ts) (u ∷ us) all = by_cut all.0 (cut-line ts us all.1) where
+  by_cut : Cuts t u → CutLine ts us → CutLine (t ∷ ts) (u ∷ us)
+  by_cut (breaks dropped hold messages lost) rest = record {
+    more = flow dropped ++ (if t.is_lost then [] else parts_of ts);
+    parts = ap (λ (h : List (List ℕ)). (flow h ++ flow (messages_in t.items)) ++ (if t.is_lost then [] else parts_of ts)) (sym hold)
+        ∙ ap (λ (ms : List (List ℕ)). (flow u.hold ++ ms) ++ (if t.is_lost then [] else parts_of ts)) (ap flow messages ∙ flow-append (messages_in u.items) dropped)
+        ∙ ap (λ (xs : List (List ℕ)). xs ++ (if t.is_lost then [] else parts_of ts)) (sym (append_assoc (flow u.hold) (flow (messages_in u.items)) (flow dropped)))
+        ∙ append_assoc (part_of u) (flow dropped) (if t.is_lost then [] else parts_of ts)
+        ∙ ap (λ (xs : List (List ℕ)). xs ++ (flow dropped ++ (if t.is_lost then [] else parts_of ts))) (sym (append-nil (part_of u)) ∙ ap (λ (b : Bool). part_of u ++ (if b then [] else parts_of us)) (sym lost));
+    none = λ is. absurd (never (sym (ap (λ (b : Bool). b || some_lost us) lost) ∙ is));
+  } where
+    never : true ≡ false → ⊥
+    never h = absurd cc
+  by_cut (whole hold messages controls lost) rest = by_lost t.is_lost refl where
+    same : part_of t ≡ part_of u
+    same = part-whole t u hold messages
+
+    by_lost : (b : Bool) → t.is_lost ≡ b → CutLine (t ∷ ts) (u ∷ us)
+    by_lost true is = record {
+      more = [];
+      parts = ap (λ (x : Bool). part_of t ++ (if x then [] else parts_of ts)) is ∙ ap (λ (xs : List (List ℕ)). xs ++ []) same ∙ ap (λ (x : Bool). part_of u ++ (if x then [] else parts_of us)) (sym (lost ∙ is)) ∙ sym (append-nil (part_of u ++ (if u.is_lost then [] else parts_of us)));
+      none = λ none. absurd (never (sym (ap (λ (x : Bool). x || some_lost us) (lost ∙ is)) ∙ none));
+    } where
+      never : true ≡ false → ⊥
+      never h = absurd cc
+    by_lost false is = record {
+      more = rest.more;
+      parts = ap (λ (x : Bool). part_of t ++ (if x then [] else parts_of ts)) is ∙ ap (λ (xs : List (List ℕ)). xs ++ parts_of ts) same ∙ ap (λ (xs : List (List ℕ)). part_of u ++ xs) rest.parts ∙ sym (append_assoc (part_of u) (parts_of us) rest.more)
+          ∙ ap (λ (x : Bool). (part_of u ++ (if x then [] else parts_of us)) ++ rest.more) (sym (lost ∙ is));
+      none = λ none.
+          let behind = rest.none (sym (ap (λ (x : Bool). x || some_lost us) (lost ∙ is)) ∙ none) in
+          (behind.0, ap (λ (x : Bool). x || some_lost ts) is ∙ behind.1);
+    }
+
+pub behind-cut : (ts us xs ys : List Tenure) → AllCut ts us → AllCut xs ys → AllCut (ts ++ xs) (us ++ ys)
+behind-cut [] [] xs ys all more = more
+behind-cut (t ∷ ts) (u ∷ us) xs ys all more = (all.0, behind-cut ts us xs ys all.1 more)
+behind-cut [] (u ∷ us) xs ys all more = elim all [ ]
+behind-cut (t ∷ ts) [] xs ys all more = elim all [ ]
+
+first-cut : (confirmed : Bool) (ts us : List Tenure) (hold hold2 : List (List ℕ)) → AllCut ts us → hold2 ≡ hold → FirstRelays confirmed ts hold → FirstRelays confirmed us hold2
+first-cut confirmed [] [] hold hold2 all same first = λ is. same ∙ first is
+first-cut confirmed (t ∷ ts) (u ∷ us) hold hold2 all same first = cuts-hold all.0 ∙ first
+first-cut confirmed [] (u ∷ us) hold hold2 all same first = elim all [ ]
+first-cut confirmed (t ∷ ts) [] hold hold2 all same first = elim all [ ]
+
+-- ---- conditions
+
+-- by what is lost
+pub condition-of : (seat : Seat) (old serving target : Bool) → (target ≡ true → came seat ≡ true) → Condition seat old serving target (not (is_gone seat) && not old && not serving && not target)
+condition-of gone old serving target there = left_the_cell
+condition-of on_serving true serving target there = lost_old
+condition-of on_serving false true target there = lost_serving
+condition-of on_serving false false true there = absurd (never (there refl)) where
+  never : false ≡ true → ⊥
+  never h = absurd cc
+condition-of on_serving false false false there = sound
+condition-of on_target true serving target there = lost_old
+condition-of on_target false true target there = lost_serving
+condition-of on_target false false true there = lost_target remains
+condition-of on_target false false false there = sound
+condition-of moving true serving target there = lost_old
+condition-of moving false true target there = lost_serving
+condition-of moving false false true there = absurd (never (there refl)) where
+  never : false ≡ true → ⊥
+  never h = absurd cc
+condition-of moving false false false there = sound
+
+-- of the whole line
+some-behind : (ts us : List Tenure) → some_lost (ts ++ us) ≡ (some_lost ts || some_lost us)
+some-behind [] us = refl
+some-behind (t ∷ ts) us = by_lost t.is_lost (some-behind ts us) where
+  by_lost : (b : Bool) → some_lost (ts ++ us) ≡ (some_lost ts || some_lost us) → (b || some_lost (ts ++ us)) ≡ ((b || some_lost ts) || some_lost us)
+  by_lost true is = refl
+  by_lost false is = is
+
+intact-line : (seat : Seat) (old : List Tenure) (serving target : Tenure) → is_intact seat old serving target ≡ (not (is_gone seat) && not (some_lost (old ++ serving ∷ target ∷ [])))
+intact-line seat old serving target = by_all (not (is_gone seat)) (some_lost old) serving.is_lost target.is_lost ∙ ap (λ (b : Bool). not (is_gone seat) && not b) (sym (some-behind old (serving ∷ target ∷ []))) where
+  by_all : (g a b c : Bool) → (g && not a && not b && not c) ≡ (g && not (a || (b || (c || false))))
+  by_all true true b c = refl
+  by_all true false true c = refl
+  by_all true false false true = refl
+  by_all true false false false = refl
+  by_all false a b c = refl
+
+-- ---- the line-up
+
+pub Alive-cut : {m : ℕ} (sent : List (List ℕ)) (link : DataLinkState) (seat : Seat) (state : State) (commands commands2 : ℕ) (old old2 : List Tenure) (serving serving2 target target2 : Tenure) (out taken : List (List ℕ)) → commands2 ≤ commands → AllCut old old2 → Cuts serving serving2 → Cuts target target2
+    → (target2.is_lost ≡ true → came seat ≡ true) → Alive m (assembled sent link seat state commands old serving target out taken) → Alive m (assembled sent link seat state commands2 old2 serving2 target2 out taken)
+Alive-cut {m} sent link seat state commands commands2 old old2 serving serving2 target target2 out taken fewer all cut_serving cut_target there alive = record {
+  follows = by_intact (is_intact seat old2 serving2 target2) refl;
+  first = first-cut (is_confirmed state) old old2 serving.hold serving2.hold all (cuts-hold cut_serving) alive.first;
+  stands = Stands-fewer fewer (cuts-controls cut_serving) (cuts-texts cut_target) (cuts-controls cut_target) (omega arith) alive.stands;
+  condition = condition-of seat (some_lost old2) serving2.is_lost target2.is_lost there;
+  bare = cuts-hold cut_target ∙ alive.bare;
+} where
+  whole_line : CutLine (old ++ serving ∷ target ∷ []) (old2 ++ serving2 ∷ target2 ∷ [])
+  whole_line = cut-line (old ++ serving ∷ target ∷ []) (old2 ++ serving2 ∷ target2 ∷ []) (behind-cut old old2 (serving ∷ target ∷ []) (serving2 ∷ target2 ∷ []) all (cut_serving, (cut_target, tt)))
+
+  front : List (List ℕ)
+  front = flow taken ++ flow out
+
+  now : List (List ℕ)
+  now = front ++ parts_of (old2 ++ serving2 ∷ target2 ∷ [])
+
+  was : front ++ parts_of (old ++ serving ∷ target ∷ []) ≡ now ++ whole_line.more
+  was = ap (λ (xs : List (List ℕ)). front ++ xs) whole_line.parts ∙ sym (append_assoc front (parts_of (old2 ++ serving2 ∷ target2 ∷ [])) whole_line.more)
+
+  right : (a b : Bool) → a && b ≡ true → (a ≡ true) × (b ≡ true)
+  right true true is = (refl, refl)
+  right true false is = absurd cc
+  right false b is = absurd cc
+
+  not_is : (b : Bool) → not b ≡ true → b ≡ false
+  not_is false is = refl
+  not_is true is = absurd cc
+
+  by_intact : (b : Bool) → is_intact seat old2 serving2 target2 ≡ b → Follows m sent now link b
+  by_intact false is = Follows-front now whole_line.more was alive.follows
+  by_intact true is =
+      let both = right (not (is_gone seat)) (not (some_lost (old2 ++ serving2 ∷ target2 ∷ []))) (sym (intact-line seat old2 serving2 target2) ∙ is) in
+      let none = whole_line.none (not_is (some_lost (old2 ++ serving2 ∷ target2 ∷ [])) both.1) in
+      let intact : is_intact seat old serving target ≡ true = intact-line seat old serving target ∙ ap (λ (b : Bool). not (is_gone seat) && not b) none.1 ∙ ap (λ (b : Bool). b && true) both.0 in
+      subst (Follows m sent now link) intact (Follows-line (was ∙ ap (λ (xs : List (List ℕ)). now ++ xs) none.0 ∙ append-nil now) alive.follows)

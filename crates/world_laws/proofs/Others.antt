@@ -1,0 +1,154 @@
+-- What the controller does for others leaves a connection lined up.
+use Rattle.std.proofs.Common.{◌≡◌, ◌≢◌, ℕ, zero, suc, ◌+◌, ◌==◌, ◌&&◌, not, nat_eq, Bool, true, false, if◌then◌else◌, cond, List, [], ◌∷◌, ◌++◌, fold, filter, map, find, get_or, set, Option, Some, None, Contains, refl, sym, ap, ◌∙◌, subst, append_assoc, inl, inr}
+use Rattle.std.specs.List.{AllByRecursion, flat_map}
+use Rattle.std.proofs.lemmas.Bool.{cases_Bool, eqb-true, eqb-false}
+use Rattle.std.proofs.lemmas.Grind.{flat_map-append}
+use Rattle.std.proofs.lemmas.List.{append-nil, map-append}
+use Rattle.conn_messages.specs.declared.channel.Channel.{Channel}
+use Rattle.conn_messages.specs.declared.channel.Place.{Place}
+use Rattle.conn_messages.specs.declared.out.Out.{Out}
+use Rattle.conn_messages.specs.declared.parameters.TheConstants.{SWITCH_LINK}
+use Rattle.conn_table.specs.declared.state.Target.{Target}
+use Rattle.conn_table.specs.Connection.{Connection}
+use Rattle.conn_table.specs.Streams.{used_channels}
+use Rattle.controller_table.specs.declared.forwarded.Forwarded.{Forwarded}
+use Rattle.controller_table.specs.Controller.{Turn, place_of}
+use Rattle.controller_table.specs.Life.{take, tick}
+use Rattle.controller_table.specs.Views.{forwarded}
+use Rattle.lineup.specs.LineUp.{Item}
+use Rattle.relay_items.specs.declared.Item.{Item as RelayItem}
+use Rattle.settings.specs.Parameters.{Parameters}
+use Rattle.world_table.specs.declared.event.Event.{Event}
+use Rattle.world_table.specs.declared.event.Event.TheVariants.{Handle, Tick}
+use Rattle.world_table.specs.declared.line.AirMessage.{AirMessage}
+use Rattle.world_table.specs.declared.line.OutboxEntry.{OutboxEntry}
+use Rattle.world_table.specs.declared.seat.Tenure.{Tenure}
+use Rattle.world_table.specs.Life.{event_after, actors_after, actors_after_all}
+use Rattle.world_table.specs.Relay.{entry_of, joined_by, with_turn, target_in, handled, after_handle, after_tick}
+use Rattle.world_table.specs.World.{Actors, Link, broken_link, link_of, with_outbox, outbox_of, new_actors, modulus_in, has_number, is_up, is_station_up, base_of, spot_at}
+use Rattle.world_table.proofs.Leads.{OfTaken, handle-leads, after-taken}
+use Rattle.world_table.proofs.Outboxes.{changed_link}
+use Rattle.world_laws.specs.ComingUp.{brings_in, made_of, coming_up}
+use Rattle.world_laws.specs.GoingDown.{leading_from_air, leading_from_outbox, going_down}
+use Rattle.world_laws.specs.LineUps.{commanded_target, waiting_of}
+use Rattle.world_laws.specs.Seated.{commanded_channels, LinedUp}
+use Rattle.world_laws.specs.Staying.{AreLinedUp, carried_for, IsForOthers, BringsNothing, IsOthers, RelayLeavesOthers, TimeLeavesOthers}
+use Rattle.world_laws.proofs.Apart.{all-both}
+use Rattle.world_laws.proofs.Framing.{AreSame, all-map}
+use Rattle.world_laws.proofs.Quiet.{sees-itself}
+use Rattle.world_laws.proofs.Seeing.{SameTenures, SeesSame, LinedUp-same}
+use Rattle.world_laws.proofs.Spots.{set-same, set-apart}
+use Rattle.world_laws.proofs.SwitchTakes.{forwarded-first}
+
+-- ---- what waits for the switch
+
+forwarded-append : (outs more : List Out) (number : ℕ) → forwarded (outs ++ more) number ≡ forwarded outs number ++ forwarded more number
+unfolding forwarded
+forwarded-append [] more number = refl
+forwarded-append (out ∷ outs) more number =
+    forwarded-first out (outs ++ more) number ∙ ap (λ (fs : List Forwarded). forwarded (out ∷ []) number ++ fs) (forwarded-append outs more number)
+    ∙ sym (append_assoc (forwarded (out ∷ []) number) (forwarded outs number) (forwarded more number)) ∙ ap (λ (fs : List Forwarded). fs ++ forwarded more number) (sym (forwarded-first out outs number))
+
+abbrev waiting_in : List OutboxEntry → ℕ → List (List ℕ)
+waiting_in entries number = map (λ f. f.message) (forwarded (map (λ entry. entry.out) entries) number)
+
+entry-out : (target : Option Tenure) (out : Out) → (entry_of target out).out ≡ out
+entry-out None out = refl
+entry-out (Some tenure) out = refl
+
+waiting-same : (entries : List OutboxEntry) (target : Option Tenure) (out : Out) (number : ℕ) → carried_for number out ≡ [] → waiting_in (entries ++ entry_of target out ∷ []) number ≡ waiting_in entries number
+waiting-same entries target out number none =
+    ap (λ (outs : List Out). map (λ f. f.message) (forwarded outs number)) (map-append (λ (entry : OutboxEntry). entry.out) entries (entry_of target out ∷ []) ∙ ap (λ (o : Out). map (λ (entry : OutboxEntry). entry.out) entries ++ o ∷ []) (entry-out target out))
+    ∙ ap (λ (fs : List Forwarded). map (λ f. f.message) fs) (forwarded-append (map (λ entry. entry.out) entries) (out ∷ []) number)
+    ∙ map-append (λ (f : Forwarded). f.message) (forwarded (map (λ entry. entry.out) entries) number) (forwarded (out ∷ []) number)
+    ∙ ap (λ (ms : List (List ℕ)). waiting_in entries number ++ ms) none ∙ append-nil (waiting_in entries number)
+
+-- ---- one output
+
+joined-link : (u : Actors) (target : Option Tenure) (out : Out) (n : ℕ) {X : Type 0} (f : List OutboxEntry → X) → (out.to ≡ n → f (outbox_of u out.to ++ entry_of target out ∷ []) ≡ f (outbox_of u out.to)) → f (outbox_of (with_outbox out.to (outbox_of u out.to ++ entry_of target out ∷ []) u) n) ≡ f (outbox_of u n)
+joined-link u target out n f same =
+    elim (cases_Bool (nat_eq n out.to)) [
+      | inl here ↦ set-same (λ (link : Link). f link.outbox) u.links broken_link out.to n (record (link_of u out.to) { outbox = outbox_of u out.to ++ entry_of target out ∷ [] }) (same (sym (eqb-true n out.to here)))
+      | inr other ↦ ap (λ (link : Link). f link.outbox) (set-apart u.links broken_link out.to n (record (link_of u out.to) { outbox = outbox_of u out.to ++ entry_of target out ∷ [] }) (eqb-false n out.to other))
+    ]
+
+down-joined : (u : Actors) (target : Option Tenure) (out : Out) (c : Channel) → (out.to ≡ c.station → leading_from_outbox c.number (entry_of target out) ≡ []) → going_down (with_outbox out.to (outbox_of u out.to ++ entry_of target out ∷ []) u) (place_of c) ≡ going_down u (place_of c)
+down-joined u target out c none =
+    ap (λ (as_led : List AirMessage). flat_map leading_from_air (spot_at u (place_of c)).air ++ as_led)
+    (joined-link u target out c.station (flat_map (leading_from_outbox c.number)) (λ is. flat_map-append (leading_from_outbox c.number) (outbox_of u out.to) (entry_of target out ∷ [])
+    ∙ ap (λ (as_led : List AirMessage). flat_map (leading_from_outbox c.number) (outbox_of u out.to) ++ as_led) (append-nil (leading_from_outbox c.number (entry_of target out)) ∙ none is) ∙ append-nil (flat_map (leading_from_outbox c.number) (outbox_of u out.to))))
+
+sees-joined : {w u : Actors} {s : Connection} (target : Option Tenure) (out : Out) → IsForOthers target s out → SeesSame w u s → SeesSame w (joined_by target u out) s
+unfolding SameTenures
+sees-joined {w} {u} {s} target out others sees = by_link (is_up u out.to) where
+  v : Actors
+  v = with_outbox out.to (outbox_of u out.to ++ entry_of target out ∷ []) u
+
+  by_link : (b : Bool) → SeesSame w (if b then v else u) s
+  by_link false = sees
+  by_link true = record {
+    coming = sees.coming;
+    up = λ n. ap (λ (b : Bool). not (n == SWITCH_LINK) && b) (set-same (λ (link : Link). link.up) u.links broken_link out.to n (record (link_of u out.to) { outbox = outbox_of u out.to ++ entry_of target out ∷ [] }) refl) ∙ sees.up n;
+    serving = down-joined u target out s.serving others.leads.0 ∙ sees.serving;
+    target = λ t is. down-joined u target out t.channel (of_target t is) ∙ sees.target t is;
+    tenures = sees.tenures;
+    waiting = joined-link u target out SWITCH_LINK (λ (entries : List OutboxEntry). map (λ f. f.message) (forwarded (map (λ entry. entry.out) entries) s.number)) (λ is. waiting_same) ∙ sees.waiting;
+    taken = sees.taken;
+  } where
+    of_target : (t : Target) → commanded_target s.state ≡ Some t → out.to ≡ t.channel.station → leading_from_outbox t.channel.number (entry_of target out) ≡ []
+    of_target t is = (subst (λ (o : Option Target). AllByRecursion (λ c. out.to ≡ c.station → leading_from_outbox c.number (entry_of target out) ≡ []) (commanded_channels o)) is others.leads.1).0
+
+    waiting_same : map (λ f. f.message) (forwarded (map (λ entry. entry.out) (outbox_of u out.to ++ entry_of target out ∷ [])) s.number) ≡ map (λ f. f.message) (forwarded (map (λ entry. entry.out) (outbox_of u out.to)) s.number)
+    waiting_same = waiting-same (outbox_of u out.to) target out s.number others.carries
+
+sees-all : {w : Actors} {s : Connection} (target : Option Tenure) (outs : List Out) (u : Actors) → AllByRecursion (IsForOthers target s) outs → SeesSame w u s → SeesSame w (fold (joined_by target) u outs) s
+sees-all target [] u others sees = sees
+sees-all target (out ∷ outs) u others sees = sees-all target outs (joined_by target u out) others.1 (sees-joined target out others.0 sees)
+
+-- ---- the controller's turn
+
+sees-turn : {w u : Actors} {s : Connection} (target : Option Tenure) (t : Turn) → AllByRecursion (IsForOthers target s) t.outs → SeesSame w u s → SeesSame w (with_turn target t u) s
+unfolding SameTenures
+sees-turn {w} {u} {s} target t others sees =
+    sees-all target t.outs (record u { controller = t.next }) others (record { coming = sees.coming; up = sees.up; serving = sees.serving; target = sees.target; tenures = sees.tenures; waiting = sees.waiting; taken = sees.taken })
+
+-- the mobiles are as before
+turn-mobiles : (target : Option Tenure) (outs : List Out) (u : Actors) → (fold (joined_by target) u outs).mobiles ≡ u.mobiles
+turn-mobiles target [] u = refl
+turn-mobiles target (out ∷ outs) u = turn-mobiles target outs (joined_by target u out) ∙ one (is_up u out.to) where
+  one : (b : Bool) → (if b then with_outbox out.to (outbox_of u out.to ++ entry_of target out ∷ []) u else u).mobiles ≡ u.mobiles
+  one true = refl
+  one false = refl
+
+-- an item that brings nothing is handled
+sees-handled : {w : Actors} {s : Connection} (item : RelayItem) (items : List RelayItem) → w.inbox ≡ item ∷ items → BringsNothing s item → SeesSame w (record w { inbox = items }) s
+unfolding SameTenures
+sees-handled {w} {s} item items stood nothing = record {
+  coming = all-map (λ c. brings_in (place_of c) item ≡ []) (λ c. coming_up (record w { inbox = items }) (place_of c) ≡ coming_up w (place_of c)) (used_channels s) (λ c none. gone c none) nothing;
+  up = λ n. refl;
+  serving = refl;
+  target = λ t is. refl;
+  tenures = λ at. refl;
+  waiting = refl;
+  taken = refl;
+} where
+  gone : (c : Channel) → brings_in (place_of c) item ≡ [] → coming_up (record w { inbox = items }) (place_of c) ≡ coming_up w (place_of c)
+  gone c none = ap (λ (xs : List Item). (xs ++ flat_map (brings_in (place_of c)) items) ++ made_of c.number (base_of w c.station).messages) (sym none) ∙ ap (λ (xs : List RelayItem). flat_map (brings_in (place_of c)) xs ++ made_of c.number (base_of w c.station).messages) (sym stood)
+
+leaves : {m : ℕ} {w v : Actors} {mobile : ℕ} {s : Connection} → AreLinedUp m w mobile s → v.mobiles ≡ w.mobiles → SeesSame w v s → AreLinedUp m v mobile s
+leaves {mobile} lined same sees = record { one = lined.one; found = ap (λ (ms : List _). find (has_number mobile) ms) same ∙ lined.found; lined = LinedUp-same lined.one lined.one sees refl refl refl lined.lined }
+
+pub RelayLeavesOthers-new : (settings : Parameters) (events : List Event) → RelayLeavesOthers settings events
+unfolding event_after
+RelayLeavesOthers-new settings events mobile s others lined =
+    let w : Actors = actors_after_all (new_actors settings) events in
+    after-taken (λ v. AreLinedUp (modulus_in settings) v mobile s) (after_handle w) w
+    (handle-leads (λ v. AreLinedUp (modulus_in settings) v mobile s) w (λ item items stood.
+    let both : BringsNothing s item × AllByRecursion (IsForOthers (target_in w item.source item.what) s) (take item w.controller).outs = subst (IsOthers w s) stood others in
+    leaves lined (turn-mobiles (target_in w item.source item.what) (take item w.controller).outs _) (sees-turn (target_in w item.source item.what) (take item w.controller) both.1 (sees-handled item items stood both.0)))) lined
+
+pub TimeLeavesOthers-new : (settings : Parameters) (events : List Event) (ms : ℕ) → TimeLeavesOthers settings events ms
+unfolding event_after
+TimeLeavesOthers-new settings events ms mobile s others lined =
+    let w : Actors = actors_after_all (new_actors settings) events in
+    leaves lined (turn-mobiles None (tick ms w.controller).outs _) (sees-turn None (tick ms w.controller) others (sees-itself w s))

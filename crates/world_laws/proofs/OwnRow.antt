@@ -1,0 +1,105 @@
+-- A row of the table keeps its connection's line-up, where the change of channel stands as before and nothing more is missing.
+use Rattle.std.proofs.Common.{◌≡◌, ℕ, ◌+◌, Bool, true, false, ◌&&◌, not, if◌then◌else◌, cond, List, [], ◌∷◌, ◌++◌, length, filter, Option, Some, None, refl, sym, ap, ◌∙◌, subst, append_assoc, inl, inr}
+use Rattle.std.proofs.lemmas.Bool.{cases_Bool, cond-true, cond-false}
+use Rattle.std.proofs.lemmas.List.{append-nil}
+use Rattle.conn_messages.specs.declared.channel.Place.{Place}
+use Rattle.conn_table.specs.declared.state.Drain.{Drain}
+use Rattle.conn_table.specs.declared.state.State.{State}
+use Rattle.conn_table.specs.declared.state.State.TheVariants.{WaitActivation, WaitEstablish, WaitConfirm, Live, Closed, Removed}
+use Rattle.conn_table.specs.declared.state.Target.{Target}
+use Rattle.conn_table.specs.Connection.{Connection}
+use Rattle.conn_table.specs.Standing.{FirstIsEmpty, StandsBy, Stands as StandsAlone}
+use Rattle.controller_table.specs.Controller.{place_of}
+use Rattle.dtap_codec.specs.Message.{is_flow_message}
+use Rattle.hold_queue.specs.ChainState.{Tenure as Held}
+use Rattle.lineup.specs.Alive.{Alive, FirstRelays, Follows, Stands, some_lost}
+use Rattle.lineup.specs.Alive.Follows.{rises}
+use Rattle.lineup.specs.ChangeStep.{ended}
+use Rattle.lineup.specs.LineUp.{Item, Tenure, Seat, LineUp, flow, parts_of, controls_of, controls_in, texts_in}
+use Rattle.lineup.proofs.Following.{Follows-line, Follows-rise}
+use Rattle.lineup.proofs.Lines.{flow-append}
+use Rattle.mobile_end.specs.DataLink.{to_be_taken}
+use Rattle.mobile_end.specs.DataLinkState.{DataLinkState}
+use Rattle.world_laws.specs.LineUps.{draining_tenure, old_tenure, old_tenures, serving_hold, serving_tenure, commanded_target, target_tenure, is_changing, is_confirmed, is_intact, assembled}
+use Rattle.world_laws.proofs.Breaks.{target-came}
+use Rattle.world_laws.proofs.Cutting.{condition-of}
+
+-- ---- the oldest channel holds nothing
+
+old-hold : (coming : Place → List Item) (up : ℕ → Bool) (d : Drain) (hold : List (List ℕ)) → (old_tenure coming up d hold).hold ≡ hold
+old-hold coming up d hold = by_done d.is_done where
+  by_done : (b : Bool) → (if b then ended hold else draining_tenure (up d.channel.station) (coming (place_of d.channel)) hold).hold ≡ hold
+  by_done true = refl
+  by_done false = refl
+
+none-held : (draining : List Drain) (tenures : List Held) (coming : Place → List Item) (up : ℕ → Bool) → FirstIsEmpty tenures → FirstRelays true (old_tenures coming up draining tenures) (serving_hold draining tenures)
+none-held draining [] coming up first = elim first [ ]
+none-held [] (t ∷ ts) coming up first = λ _. ap (λ (held : Held). held.zero) first
+none-held (d ∷ ds) (t ∷ ts) coming up first = old-hold coming up d t.zero ∙ ap (λ (held : Held). held.zero) first
+
+-- before CC no channel drains
+none-drains : (tenures : List Held) (coming : Place → List Item) (up : ℕ → Bool) (draining : List Drain) → draining ≡ [] → FirstRelays false (old_tenures coming up draining tenures) (serving_hold draining tenures)
+none-drains tenures coming up [] none = λ is. absurd (never is) where
+  never : false ≡ true → ⊥
+  never h = absurd cc
+none-drains tenures coming up (d ∷ ds) none = absurd cc
+
+pub first-relays : (s : Connection) (coming : Place → List Item) (up : ℕ → Bool) → StandsAlone s → FirstRelays (is_confirmed s.state) (old_tenures coming up s.draining s.up.tenures) (serving_hold s.draining s.up.tenures)
+first-relays s coming up stands = by_state s.state stands.state where
+  by_state : (state : State) → StandsBy state s.draining s.down s.up.tenures s.link s.waits → FirstRelays (is_confirmed state) (old_tenures coming up s.draining s.up.tenures) (serving_hold s.draining s.up.tenures)
+  by_state WaitActivation by = none-drains s.up.tenures coming up s.draining by.0.none_drains
+  by_state WaitEstablish by = none-drains s.up.tenures coming up s.draining by.0.none_drains
+  by_state WaitConfirm by = none-drains s.up.tenures coming up s.draining by.none_drains
+  by_state (Live reference stage) by = none-held s.draining s.up.tenures coming up by.first
+  by_state (Closed clearing) by = none-drains s.up.tenures coming up s.draining by.none_drains
+  by_state Removed by = none-drains s.up.tenures coming up s.draining by.none_drains
+
+-- ---- the line
+
+flow-twice : (xs : List (List ℕ)) → flow (flow xs) ≡ flow xs
+flow-twice [] = refl
+flow-twice (x ∷ xs) =
+    elim (cases_Bool (is_flow_message x)) [
+      | inl is ↦
+          ap flow (cond-true (is_flow_message x) (x ∷ flow xs) (flow xs) is) ∙ cond-true (is_flow_message x) (x ∷ flow (flow xs)) (flow (flow xs)) is
+          ∙ ap (λ (ys : List (List ℕ)). x ∷ ys) (flow-twice xs) ∙ sym (cond-true (is_flow_message x) (x ∷ flow xs) (flow xs) is)
+      | inr other ↦ ap flow (cond-false (is_flow_message x) (x ∷ flow xs) (flow xs) other) ∙ flow-twice xs ∙ sym (cond-false (is_flow_message x) (x ∷ flow xs) (flow xs) other)
+    ]
+
+moved-line : (taken out relayed parts_before parts_after : List (List ℕ)) → parts_before ≡ flow relayed ++ parts_after → (flow taken ++ flow out) ++ parts_before ≡ (flow taken ++ flow (out ++ flow relayed)) ++ parts_after
+moved-line taken out relayed parts_before parts_after is =
+    ap (λ (xs : List (List ℕ)). (flow taken ++ flow out) ++ xs) is
+    ∙ sym (append_assoc (flow taken ++ flow out) (flow relayed) parts_after)
+    ∙ ap (λ (xs : List (List ℕ)). xs ++ parts_after) (append_assoc (flow taken) (flow out) (flow relayed)
+    ∙ ap (λ (xs : List (List ℕ)). flow taken ++ (flow out ++ xs)) (sym (flow-twice relayed)) ∙ ap (λ (xs : List (List ℕ)). flow taken ++ xs) (sym (flow-append out (flow relayed))))
+
+follows-moved : {m : ℕ} {sent xs ys : List (List ℕ)} {link : DataLinkState} {ok : Bool} (ok2 : Bool) → xs ≡ ys → (ok2 ≡ true → ok ≡ true) → Follows m sent xs link ok → Follows m sent ys link ok2
+follows-moved false same intact follows = let rise = Follows-rise (Follows-line same follows) in rises rise.0 rise.1
+follows-moved {m} {sent} {xs} {ys} {link} true same intact follows = subst (Follows m sent ys link) (intact refl) (Follows-line same follows)
+
+-- ---- the row
+
+-- what is seen of a connection before and after its row: the tenures
+pub record Rowed (s next : Connection) (seat seat2 : Seat) (before after : Place → List Item) (up : ℕ → Bool) (relayed : List (List ℕ)) : Type 0 where
+  -- what it relays, and the line behind it, are the line before
+  pub line : parts_of (old_tenures before up s.draining s.up.tenures ++ serving_tenure before up s.serving (serving_hold s.draining s.up.tenures) ∷ target_tenure before up seat (commanded_target s.state) ∷ [])
+      ≡ flow relayed ++ parts_of (old_tenures after up next.draining next.up.tenures ++ serving_tenure after up next.serving (serving_hold next.draining next.up.tenures) ∷ target_tenure after up seat2 (commanded_target next.state) ∷ [])
+  -- where nothing is missing after it, nothing was
+  pub intact : is_intact seat2 (old_tenures after up next.draining next.up.tenures) (serving_tenure after up next.serving (serving_hold next.draining next.up.tenures)) (target_tenure after up seat2 (commanded_target next.state)) ≡ true
+      → is_intact seat (old_tenures before up s.draining s.up.tenures) (serving_tenure before up s.serving (serving_hold s.draining s.up.tenures)) (target_tenure before up seat (commanded_target s.state)) ≡ true
+
+pub row-alive : {m : ℕ} (s next : Connection) (sent : List (List ℕ)) (link : DataLinkState) (seat seat2 : Seat) (commands commands2 : ℕ) (before after : Place → List Item) (up : ℕ → Bool) (relayed out taken : List (List ℕ)) → StandsAlone next → Rowed s next seat seat2 before after up relayed
+    → Stands (is_changing (commanded_target next.state)) commands2 seat2 (controls_in (after (place_of next.serving))) (texts_in (target_tenure after up seat2 (commanded_target next.state)).items) (controls_in (target_tenure after up seat2 (commanded_target next.state)).items) (controls_of (to_be_taken link))
+    → Alive m (assembled sent link seat s.state commands (old_tenures before up s.draining s.up.tenures) (serving_tenure before up s.serving (serving_hold s.draining s.up.tenures)) (target_tenure before up seat (commanded_target s.state)) out taken)
+    → Alive m (assembled sent link seat2 next.state commands2 (old_tenures after up next.draining next.up.tenures) (serving_tenure after up next.serving (serving_hold next.draining next.up.tenures)) (target_tenure after up seat2 (commanded_target next.state)) (out ++ flow relayed) taken)
+row-alive s next sent link seat seat2 commands commands2 before after up relayed out taken alone rowed stands alive = record {
+  follows = follows-moved (is_intact seat2 (old_tenures after up next.draining next.up.tenures) (serving_tenure after up next.serving (serving_hold next.draining next.up.tenures)) (target_tenure after up seat2 (commanded_target next.state)))
+      (moved-line taken out relayed _ _ rowed.line) rowed.intact alive.follows;
+  first = first-relays next after up alone;
+  stands = stands;
+  condition = condition-of seat2 (some_lost (old_tenures after up next.draining next.up.tenures)) (not (up next.serving.station)) (target_tenure after up seat2 (commanded_target next.state)).is_lost (target-came after up seat2 (commanded_target next.state));
+  bare = bare (commanded_target next.state);
+} where
+  bare : (o : Option Target) → (target_tenure after up seat2 o).hold ≡ []
+  bare None = refl
+  bare (Some t) = refl
