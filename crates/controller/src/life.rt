@@ -1,4 +1,4 @@
-ghost use Rattle.std.specs.Prelude.{ℕ, ◌≡◌, ◌≤◌, IfOk, OnOk};
+ghost use Rattle.std.specs.Prelude.{ℕ, ◌≡◌, ◌≤◌, IfOk, OnErr, OnOk};
 ghost use Rattle.std.specs.List.{AllByRecursion};
 ghost use Rattle.controller_laws.specs.Downlink.{DownlinkIsConserved};
 ghost use Rattle.controller_laws.specs.End.{SilenceIsKept};
@@ -9,11 +9,8 @@ ghost use Rattle.controller_laws.specs.Uplink.{UplinkIsConserved};
 ghost use Rattle.controller_laws.specs.Using.{AreUsed};
 ghost use Rattle.controller_table.specs.Controller.{each, new_controller, turn};
 ghost use Rattle.controller_table.specs.Life as words;
-ghost use Rattle.controller.specs.Doing.{Turns};
-ghost use Rattle.settings.specs.Parameters.{AreAllowed};
-ghost use Rattle.std.specs.Prelude.{◌≡◌, IfOk, OnErr, OnOk};
-ghost use Rattle.controller_table.specs.Controller.{each, new_controller};
 ghost use Rattle.controller.specs.Doing.{Stays, Turns};
+ghost use Rattle.settings.specs.Parameters.{AreAllowed};
 
 use crate::controller::Controller;
 use conn_fsm::Outputs;
