@@ -24,3 +24,4 @@ pub mod UplinkRows
 pub mod UplinkSteps
 pub mod UplinkTable
 pub mod UplinkTenures
+pub mod PutRows

@@ -5,3 +5,4 @@ pub mod Steps
 pub mod Streams
 pub mod Table
 pub mod Timers
+pub mod Putting

@@ -4,9 +4,10 @@ ghost use Rattle.rsl_codec.specs.declared.values.RequestReference.{RequestRefere
 ghost use Rattle.dtap_codec.specs.declared.sapi.Sapi.{Sapi};
 ghost use Rattle.conn_table.specs.declared.input.Input.{Input};
 ghost use Rattle.conn_table.specs.Connection.{Connection, new_connection};
+ghost use Rattle.conn_table.specs.Putting.{PutsOnOwn};
 ghost use Rattle.conn_table.specs.Roles.{ChangesRolesBy, IsNew, KeepsAccount, KeepsChannels, StaysApart};
 ghost use Rattle.conn_table.specs.Standing.{IsCarried, Stands};
-ghost use Rattle.conn_table.specs.Streams.{AreApart, IsFinal, IsSilent, KeepsDownlink, OfRow, used_channels};
+ghost use Rattle.conn_table.specs.Streams.{AreApart, IsFinal, IsOpen, IsSilent, KeepsDownlink, OfRow, used_channels};
 ghost use Rattle.conn_table.specs.Table.{row_of};
 
 /// What holds of every connection (`Stands`) holds of a new one, and of the next where a row fits. It is a law on the table:
@@ -50,4 +51,10 @@ pub fn roles_change()
 /// two may serve after it, and the last two may be its target. It does nothing.
 pub fn channels_are_kept()
     ensures { (s : Connection) (input : Input) (offer : Option Channel) → OfRow (KeepsChannels s offer) (row_of s input offer) }
+{}
+
+/// What a row puts for a channel goes to one that the connection uses at that moment: the serving channel or the target, or the
+/// offer from its activation on, and none of them from its release on. No message goes to an old channel. It does nothing.
+pub fn messages_go_to_own_channels()
+    ensures { (s : Connection) (input : Input) (offer : Option Channel) → Stands s → (IsOpen s.state → AreApart (used_channels s)) → OfRow (λ r. PutsOnOwn s r.outs) (row_of s input offer) }
 {}

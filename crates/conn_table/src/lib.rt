@@ -4,7 +4,7 @@
 pub use input::Input;
 pub use laws::{
     changing_is_silent, channels_are_kept, closing_is_final, downlink_is_kept, invariant_is_kept,
-    roles_change,
+    messages_go_to_own_channels, roles_change,
 };
 pub use limits::{DOWN_LIMIT, DRAIN_LIMIT, UP_LIMIT};
 pub use state::{Clearing, Drain, ShortMessageLink, Stage, State, Target};

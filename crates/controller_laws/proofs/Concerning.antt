@@ -11,7 +11,9 @@ use Rattle.controller_laws.specs.History.{connection_of, outs_for}
 use Rattle.controller_laws.specs.Using.{AreUsed, used_places}
 use Rattle.controller_laws.proofs.Acting.{outs_other}
 use Rattle.controller_laws.proofs.Entries.{found_number}
+use Rattle.controller_laws.proofs.Keeping.{Keeps, keeps_same, word_keeps}
 use Rattle.controller_laws.proofs.UsingLife.{life_after, ready_by, ready_uses, run_step}
+use Rattle.controller_laws.proofs.UsingWords.{Ready}
 use Rattle.controller_table.proofs.Others.{word_leaves}
 use Rattle.controller_table.specs.declared.channel_state.ChannelState.{ChannelState}
 use Rattle.controller_table.specs.declared.channel_state.ChannelState.TheVariants.{Free, InUse, Releasing}
@@ -105,6 +107,10 @@ frame_silent : (up : Bool) (n source : ℕ) (frame : Frame) (c : Controller) →
 frame_silent true n source frame c from_one differ = word_silent n source (word_of source frame) c from_one differ
 frame_silent false n source frame c from_one differ = refl
 
+frame_keeps : (up : Bool) (n source : ℕ) (frame : Frame) (c : Controller) → Ready c → concerned c (word_of source frame) ≢ Some n → Keeps n c.channels (on_what up source (whats.Frame frame) c).next.channels
+frame_keeps true n source frame c ready differ = word_keeps n source (word_of source frame) c differ ready
+frame_keeps false n source frame c ready differ = keeps_same n c.channels
+
 same_channels : (n : ℕ) (c next : Controller) → AreUsed c → AreUsed next → Leaves n c next → (at : Place) → channel_state next at ≡ InUse n ↔ channel_state c at ≡ InUse n
 same_channels n c next before after leaves at =
     let same : used_places (connection_of next n) ≡ used_places (connection_of c n) = ap (λ (o : Option Entry). used_places (option_map (λ (e : Entry). e.connection) o)) leaves in (
@@ -119,9 +125,12 @@ frame_leaves p steps n source frame allowed from_one differ =
     let s : Step = Take (record { source = source; what = whats.Frame frame }) in
     let now = life_after p steps allowed in
     let after = run_step c s now.fits now.holds now.uses in
+    let ready = ready_by c now.fits now.holds now.uses in
+    let keeps = frame_keeps (is_up c source) n source frame c ready differ in
     let leaves : Leaves n c (step c s).next = frame_entry (is_up c source) n source frame c differ in
     record {
       entry = leaves;
       outs = frame_silent (is_up c source) n source frame c from_one differ;
-      channels = same_channels n c (step c s).next (ready_uses c (ready_by c now.fits now.holds now.uses)) (ready_uses (step c s).next (ready_by (step c s).next after.fits after.holds after.uses)) leaves;
+      using = same_channels n c (step c s).next (ready_uses c ready) (ready_uses (step c s).next (ready_by (step c s).next after.fits after.holds after.uses)) leaves;
+      releasing = λ at. (λ is. keeps.was at is, λ is. keeps.still at is);
     }

@@ -43,3 +43,5 @@ mod UsedRows
 pub mod SeenFrames
 pub mod SeenStations
 pub mod DownlinkLaw
+pub mod Keeping
+pub mod Placed

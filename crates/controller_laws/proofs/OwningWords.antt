@@ -75,7 +75,7 @@ fitting_holds links c otherwise e input offer (Some r) is rising there stands ho
   each = by_row_owns links c e e input offer r rising there is (usual_row links c e input offer r there stands holds is (offers r refl)) (λ n differ. holds.each n);
 }
 
-assignment_offers : (c : Controller) (serving channel : Channel) → IsShaped c.settings c.channels → assignment_offer c serving ≡ Some channel → IsOffered c.channels c.links channel
+pub assignment_offers : (c : Controller) (serving channel : Channel) → IsShaped c.settings c.channels → assignment_offer c serving ≡ Some channel → IsOffered c.channels c.links channel
 assignment_offers c serving channel shaped is = offered_free c c.links serving.station 0 Tch channel refl shaped is
 
 ignoring_holds : (links : List Bool) (c : Controller) → Holds links c → Holds links (ignoring c).next
@@ -123,7 +123,7 @@ leaves_silent : (o : Option ℕ) (roles : Roles) → step_orders (leaves_at o) r
 leaves_silent None roles = refl
 leaves_silent (Some place) roles = refl
 
-freed_shaped : (at : Place) (c : Controller) → IsShaped c.settings c.channels → IsShaped c.settings (with_state at Free c.channels)
+pub freed_shaped : (at : Place) (c : Controller) → IsShaped c.settings c.channels → IsShaped c.settings (with_state at Free c.channels)
 freed_shaped at c shaped = shaped_set c.settings c.channels at Free shaped
 
 -- by RELEASE ACK

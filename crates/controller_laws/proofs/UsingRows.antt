@@ -189,7 +189,7 @@ set_use m n p at channels is = elim (set_or_not channels p at (InUse m)) [
   | inr kept ↦ sym kept ∙ is
 ]
 
-fold_release : (m n : ℕ) (at : Place) (channels : States) (ms : List Message) → state_in (fold (channels_after m) channels ms) at ≡ Releasing n → (n ≡ m) ⊎ (state_in channels at ≡ Releasing n)
+pub fold_release : (m n : ℕ) (at : Place) (channels : States) (ms : List Message) → state_in (fold (channels_after m) channels ms) at ≡ Releasing n → (n ≡ m) ⊎ (state_in channels at ≡ Releasing n)
 fold_release m n at channels [] is = inr is
 fold_release m n at channels (x ∷ xs) is = elim (fold_release m n at (channels_after m channels x) xs is) [
   | inl own ↦ inl own

@@ -217,7 +217,7 @@ freed_free channels at = by (state_in channels at) refl
     by (InUse n) is = state_here channels at Free (is_there channels at (λ free. (let both : Free ≡ InUse n = sym free ∙ is in absurd cc)))
     by (Releasing n) is = state_here channels at Free (is_there channels at (λ free. (let both : Free ≡ Releasing n = sym free ∙ is in absurd cc)))
 
-free_use : (at other : Place) (channels : States) (state : ChannelState) → state ≢ Free → state_in (with_state at Free channels) other ≡ state → state_in channels other ≡ state
+pub free_use : (at other : Place) (channels : States) (state : ChannelState) → state ≢ Free → state_in (with_state at Free channels) other ≡ state → state_in channels other ≡ state
 free_use at other channels state used is = elim (set_or_not channels at other Free) [
   | inl hit ↦ absurd (used (sym is ∙ hit))
   | inr same ↦ sym same ∙ is

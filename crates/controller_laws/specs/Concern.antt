@@ -2,7 +2,7 @@
 use Rattle.std.specs.Prelude.{◌≡◌, ◌≢◌, ◌↔◌, ℕ, [], Some}
 use Rattle.conn_messages.specs.declared.channel.Place.{Place}
 use Rattle.controller_laws.specs.History.{outs_for}
-use Rattle.controller_table.specs.declared.channel_state.ChannelState.TheVariants.{InUse}
+use Rattle.controller_table.specs.declared.channel_state.ChannelState.TheVariants.{InUse, Releasing}
 use Rattle.controller_table.specs.declared.step.Step.TheVariants.{Take}
 use Rattle.controller_table.specs.Controller.{Controller, Turn, channel_state}
 use Rattle.controller_table.specs.Life.{step}
@@ -11,11 +11,12 @@ use Rattle.controller_table.specs.Reading.{word_of}
 use Rattle.ipa_framing.specs.declared.frame.Frame.{Frame}
 use Rattle.relay_items.specs.declared.What.TheVariants as whats
 
--- Its connection and averages are as they were, nothing is put for it, and the same channels are in use by it.
+-- Its connection and averages are as they were, nothing is put for it, and its channels are as they were: in use, or releasing.
 pub record IsLeft (number : ℕ) (c : Controller) (t : Turn) : Type 0 where
   pub entry : Leaves number c t.next
   pub outs : outs_for number t.outs ≡ []
-  pub channels : (at : Place) → channel_state t.next at ≡ InUse number ↔ channel_state c at ≡ InUse number
+  pub using : (at : Place) → channel_state t.next at ≡ InUse number ↔ channel_state c at ≡ InUse number
+  pub releasing : (at : Place) → channel_state t.next at ≡ Releasing number ↔ channel_state c at ≡ Releasing number
 
 -- a frame of a source
 abbrev pub FrameLeaves : ℕ → Controller → ℕ → Frame → Type 0

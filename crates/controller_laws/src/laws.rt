@@ -6,6 +6,7 @@ ghost use Rattle.controller_laws.specs.End.{IsThere, SilenceIsKept, StaysSilent}
 ghost use Rattle.controller_laws.specs.History.{connection_of};
 ghost use Rattle.controller_laws.specs.Owning.{LinkedOf, OwnsOpen};
 ghost use Rattle.controller_laws.specs.Uplink.{UplinkIsConserved};
+ghost use Rattle.controller_laws.specs.Placing.{KeepsToChannels};
 ghost use Rattle.controller_laws.specs.Reach.{GoesToUp};
 ghost use Rattle.controller_laws.specs.Sending.{ComesInOctets, SendsMessages};
 ghost use Rattle.controller_laws.specs.Using.{AreUsed};
@@ -84,8 +85,14 @@ pub fn frames_are_read_as_put()
 {}
 
 /// A frame concerns one connection at most: that of its channel or its reference, or the next one. Of any other the connection
-/// and its averages stay as they were, no frame is put for it, and the same channels are in use by it.
+/// and its averages stay as they were, no frame is put for it, and its channels stay as they were, in use or releasing.
 pub fn others_are_left_alone()
     ensures { (p : Parameters) (steps : List Step) (number source : ℕ) (frame : FrameValue) → AreAllowed p → 1 ≤ number
         → FrameLeaves number (life p steps).next source frame }
+{}
+
+/// What a step puts for a connection on a dedicated channel goes to one that is in use by it at that moment: one that it used
+/// before the step, or activated in it, and didn't release since. So it isn't another connection's.
+pub fn messages_keep_to_channels()
+    ensures { (p : Parameters) (steps : List Step) (s : Step) (number : ℕ) → AreAllowed p → 1 ≤ number → KeepsToChannels number (life p steps).next s }
 {}

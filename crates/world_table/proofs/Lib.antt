@@ -20,3 +20,5 @@ pub mod Sizing
 pub mod Soundness
 mod StationRows
 pub mod Worlds
+pub mod Ticketing
+mod TicketRows

@@ -11,3 +11,4 @@ pub mod Steps
 pub mod Pipe
 pub mod Lives
 pub mod Reading
+pub mod Tickets

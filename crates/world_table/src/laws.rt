@@ -1,4 +1,4 @@
-ghost use Rattle.std.specs.Prelude.{List};
+ghost use Rattle.std.specs.Prelude.{ℕ, List};
 ghost use Rattle.settings.specs.Parameters.{Parameters};
 ghost use Rattle.world_table.specs.declared.event.Event.{Event as WorldEvent};
 ghost use Rattle.world_table.specs.Honest.{AreHonest};
@@ -6,7 +6,10 @@ ghost use Rattle.world_table.specs.Lives.{MobilesLive};
 ghost use Rattle.world_table.specs.Pipe.{ArePipes};
 ghost use Rattle.world_table.specs.Queues.{KeepsQueues};
 ghost use Rattle.world_table.specs.Reading.{AreRead};
+ghost use Rattle.world_table.specs.declared.seat.Tenure.{Tenure as TenureValue};
+ghost use Rattle.world_table.specs.Life.{actors_after_all};
 ghost use Rattle.world_table.specs.Steps.{LivesByTable};
+ghost use Rattle.world_table.specs.Tickets.{AllAreBy, AllSitBy, OneMobileEach, senders};
 ghost use Rattle.world_table.specs.World.{new_actors};
 
 /// Law: whatever events happen, each queue of the relay gives what was put there, in order.
@@ -43,4 +46,14 @@ pub fn mobiles_live_by_their_ends()
 /// that message.
 pub fn stations_are_read()
     ensures { (settings : Parameters) (events : List WorldEvent) → AreRead settings events }
+{}
+
+/// Law: let each tenure be one mobile's. As long as all that stations take agrees with it, whatever else happens, no mobile is on
+/// another's tenure, and in each tenure one mobile at most sends. What a station takes agrees where an IMMEDIATE ASSIGNMENT names
+/// the mobile of its channel's present tenure, and a command leads to a tenure of the mobile to which it is handed.
+pub fn mobiles_keep_to_their_tenures()
+    ensures seats { (settings : Parameters) (events : List WorldEvent) (owner : TenureValue → ℕ) → AllAreBy owner (new_actors settings) events
+        → AllSitBy owner (actors_after_all (new_actors settings) events) }
+    ensures senders { (settings : Parameters) (events : List WorldEvent) (owner : TenureValue → ℕ) → AllAreBy owner (new_actors settings) events
+        → OneMobileEach (senders (new_actors settings) events) }
 {}
