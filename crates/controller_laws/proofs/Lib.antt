@@ -44,4 +44,5 @@ pub mod SeenFrames
 pub mod Keeping
 pub mod SeenStations
 pub mod DownlinkLaw
+pub mod Keeping
 pub mod Placed
