@@ -37,3 +37,5 @@ pub mod Concerning
 mod UsedRows
 pub mod Keeping
 pub mod Placed
+pub mod Naming
+pub mod NamingLife

@@ -10,3 +10,4 @@ pub mod Reach
 pub mod Sending
 pub mod Concern
 pub mod Placing
+pub mod Naming
