@@ -25,3 +25,4 @@ pub mod UplinkSteps
 pub mod UplinkTable
 pub mod UplinkTenures
 pub mod PutRows
+mod PutOnRows

@@ -46,3 +46,5 @@ pub mod SeenStations
 pub mod DownlinkLaw
 pub mod Keeping
 pub mod Placed
+pub mod Naming
+pub mod NamingLife

@@ -11,3 +11,4 @@ pub mod Sending
 pub mod Concern
 pub mod Seen
 pub mod Placing
+pub mod Naming

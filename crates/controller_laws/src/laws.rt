@@ -4,6 +4,7 @@ ghost use Rattle.controller_laws.specs.Concern.{FrameLeaves};
 ghost use Rattle.controller_laws.specs.Downlink.{DownlinkIsConserved};
 ghost use Rattle.controller_laws.specs.End.{IsThere, SilenceIsKept, StaysSilent};
 ghost use Rattle.controller_laws.specs.History.{connection_of};
+ghost use Rattle.controller_laws.specs.Naming.{NamesItsMobile};
 ghost use Rattle.controller_laws.specs.Owning.{LinkedOf, OwnsOpen};
 ghost use Rattle.controller_laws.specs.Uplink.{UplinkIsConserved};
 ghost use Rattle.controller_laws.specs.Placing.{KeepsToChannels};
@@ -95,4 +96,10 @@ pub fn others_are_left_alone()
 /// before the step, or activated in it, and didn't release since. So it isn't another connection's.
 pub fn messages_keep_to_channels()
     ensures { (p : Parameters) (steps : List Step) (s : Step) (number : ℕ) → AreAllowed p → 1 ≤ number → KeepsToChannels number (life p steps).next s }
+{}
+
+/// An IMMEDIATE ASSIGNMENT that a step puts for a connection assigns its serving channel to the mobile of its request; and the
+/// request of a connection stays the same.
+pub fn assignments_name_their_mobile()
+    ensures { (p : Parameters) (steps : List Step) (s : Step) (number : ℕ) → 1 ≤ number → NamesItsMobile number (life p steps).next s }
 {}
