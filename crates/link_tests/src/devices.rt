@@ -1,7 +1,8 @@
-use link_io::Gate;
+use link_io::{Gate, IoFault};
 use octets::Memory;
 use std::alloc::Global;
 use std::io::{self, ErrorKind, Read, Write};
+use std::test::Fail;
 
 /// What one call of a device does.
 #[derive(Clone, Copy)]
@@ -112,3 +113,12 @@ impl Gate for Shut {
 
 /// The frame PING.
 pub(crate) const PING: &[u8] = &[0x00, 0x01, 0xfe, 0x00];
+
+/// What a test ends with where a worker wanted memory, and all else was right. With ample memory it doesn't come.
+pub(crate) fn ended(fault: Option<IoFault>) -> Result<(), Fail> {
+    match fault {
+        None => Ok(()),
+        Some(IoFault::Memory) => Err(Fail::new("a worker wanted memory")),
+        Some(_) => Err(Fail::new("another fault")),
+    }
+}

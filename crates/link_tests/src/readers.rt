@@ -1,6 +1,6 @@
 ghost use Rattle.std.specs.Prelude.{◌<◌};
 
-use crate::devices::{Call, PING, Shut, Source};
+use crate::devices::{Call, PING, Shut, Source, ended};
 use ipa_framing::CCM_STREAM;
 use link_io::{Gate, IoFault, serve_reader};
 use relay_items::{Item, What};
@@ -130,6 +130,28 @@ fn a_gate_that_is_shut_at_down_stands_in_place_of_the_fault(rt: HostRuntime) -> 
     assert!(rt; gate.asked == 3);
     assert!(rt; is_down_last(&rt, &mut desk));
     Ok(())
+}
+
+#[test]
+fn a_reader_that_wants_memory_puts_a_first_part(rt: HostRuntime) -> Result<(), Fail> {
+    let calls = [Call::Octets(PING); 3];
+    let (mut desk, _, fault) = read(&rt, rt.alloc(), &calls, OPEN, 10_000)?;
+    let mut frames = 0u32;
+    let mut down = false;
+    for _ in 0..4 {
+        match desk.take(&rt) {
+            Some(item) => {
+                assert!(rt; !down);
+                match item.what {
+                    What::Frame(_) => frames = frames.saturating_add(1),
+                    What::Down => down = true,
+                }
+            }
+            None => assert!(rt; down),
+        }
+    }
+    assert!(rt; down && (frames == 3 || fault.is_some()));
+    ended(fault)
 }
 
 /// Reads 100 frames into an inbox of one item.

@@ -1,4 +1,4 @@
-use crate::devices::{Call, Sink, Source};
+use crate::devices::{Call, Sink, Source, ended};
 use dtap_codec::Modulus;
 use link_io::switch_worker;
 use msc_end::MscEnd;
@@ -35,4 +35,22 @@ fn a_connection_request_is_confirmed(rt: HostRuntime) -> Result<(), Fail> {
     assert!(rt; sink.got.as_slice() == CONFIRM);
     assert!(rt; switch.taken(1).is_some());
     Ok(())
+}
+
+#[test]
+fn a_switch_that_wants_memory_writes_a_first_part(rt: HostRuntime) -> Result<(), Fail> {
+    let alloc = rt.alloc();
+    let got = Vec::with_capacity(alloc, 12)?;
+    let sink = Sink {
+        got,
+        ..Sink::new(alloc)
+    };
+    let switch = MscEnd::new(alloc, Modulus::Four);
+    let source = Source {
+        calls: &[Call::Octets(REQUEST)],
+    };
+    let (_, sink, _, fault) = switch_worker(alloc, source, sink, switch);
+    assert!(rt; CONFIRM.starts_with(sink.got.as_slice()));
+    assert!(rt; sink.got.as_slice() == CONFIRM || fault.is_some());
+    ended(fault)
 }

@@ -1,4 +1,4 @@
-use crate::devices::{PING, Sink};
+use crate::devices::{PING, Sink, ended};
 use ipa_framing::{CCM_STREAM, Frame};
 use link_io::{IoFault, serve_writer};
 use octets::Octets;
@@ -76,4 +76,19 @@ fn a_device_that_takes_nothing_fails(rt: HostRuntime) -> Result<(), Fail> {
     assert!(rt; matches!(fault, Some(IoFault::WriteFailed)));
     assert!(rt; sink.got.as_slice() == PING);
     Ok(())
+}
+
+#[test]
+fn a_writer_that_wants_memory_writes_a_first_part(rt: HostRuntime) -> Result<(), Fail> {
+    let alloc = rt.alloc();
+    let got = Vec::with_capacity(alloc, 8)?;
+    let sink = Sink {
+        got,
+        ..Sink::new(alloc)
+    };
+    let (sink, fault) = write(&rt, alloc, 2, sink)?;
+    let written = [0x00u8, 0x01, 0xfe, 0x00, 0x00, 0x01, 0xfe, 0x00];
+    assert!(rt; written.as_slice().starts_with(sink.got.as_slice()));
+    assert!(rt; sink.got.len() == 8 || fault.is_some());
+    ended(fault)
 }
