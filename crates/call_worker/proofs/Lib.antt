@@ -4,5 +4,6 @@ pub mod Marking
 pub mod Outboxes
 pub mod Outputs
 pub mod Resting
+mod Rows
 pub mod Runs
 pub mod Turns
