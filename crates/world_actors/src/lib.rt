@@ -1,0 +1,9 @@
+//! The world with a controller: its mobiles, its base stations, the controller with its queues, and the switch. Its contracts
+//! say that it is the world of `world_table`.
+#![tactic(auto)]
+
+pub use network::Network;
+
+mod network;
+mod queues;
+mod upper_layers;

@@ -1,0 +1,93 @@
+ghost use Rattle.std.specs.Prelude.{◌≡◌, IfOk, if◌then◌else◌};
+ghost use Rattle.dtap_codec.specs.Number.{count_of};
+ghost use Rattle.world_table.specs.World.{is_reached, is_station_up, is_up, modulus_in, new_actors};
+
+use conn_messages::SWITCH_LINK;
+use dtap_codec::Modulus;
+use octets::Memory;
+use settings::Settings;
+use std::alloc::Global;
+use std::marker::Model;
+use world_mobiles::Mobiles;
+use world_relay::Relay;
+use world_stations::Stations;
+use world_switch::Switch;
+use world_table::Tenure;
+
+/// The actors of a world with a controller. An event of an actor that can't take it changes nothing, and memory is wanted only for
+/// one that it can take.
+#[derive(Drop)]
+pub struct Network {
+    pub(crate) alloc: Global,
+    pub(crate) mobiles: Mobiles,
+    pub(crate) stations: Stations,
+    pub(crate) switch: Switch,
+    pub(crate) relay: Relay,
+}
+
+impl Model for Network {
+    ghost use Rattle.world_table.specs.World.{Actors};
+
+    ghost Value = { Actors };
+
+    ghost view = { λ n. record {
+      modulus = n.mobiles.modulus;
+      mobiles = n.mobiles.mobiles;
+      stations = n.stations;
+      switch = n.switch.switch;
+      switch_made = n.switch.made;
+      inbox = n.relay.inbox;
+      controller = n.relay.controller;
+      links = n.relay.links;
+    } };
+}
+
+impl Network {
+    /// The actors of these settings, in which nothing has happened.
+    pub fn new(alloc: Global, settings: Settings) -> Result<Network, Memory>
+        ensures { IfOk result (λ n. n ≡ new_actors settings) }
+    {
+        let modulus = modulus_of(&settings);
+        let stations = Stations::new(alloc, &settings)?;
+        let relay = Relay::new(alloc, settings)?;
+        Ok(Network {
+            alloc,
+            mobiles: Mobiles::new(alloc, modulus),
+            stations,
+            switch: Switch::new(alloc, modulus),
+            relay,
+        })
+    }
+
+    /// Whether the link of a source is up.
+    pub(crate) fn is_up(&self, source: u16) -> bool
+        ensures { result ≡ is_up self.now source }
+    {
+        self.relay.is_up(source)
+    }
+
+    /// Whether there is a station of this number, with a link that is up.
+    pub(crate) fn is_station_up(&self, station: u16) -> bool
+        ensures { result ≡ is_station_up self.now station }
+    {
+        station != SWITCH_LINK && self.is_up(station)
+    }
+
+    /// Whether it is the present tenure of its channel, and the station is up.
+    pub(crate) fn is_reached(&self, tenure: &Tenure) -> bool
+        ensures { result ≡ is_reached self.now tenure.now }
+    {
+        self.is_station_up(tenure.at.station) && self.stations.is_present(tenure)
+    }
+}
+
+// How many numbers the messages have, by the settings' network.
+fn modulus_of(settings: &Settings) -> Modulus
+    ensures { count_of result ≡ modulus_in settings.now }
+{
+    if settings.release98() {
+        Modulus::Two
+    } else {
+        Modulus::Four
+    }
+}

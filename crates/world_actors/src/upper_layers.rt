@@ -1,0 +1,71 @@
+ghost use Rattle.std.specs.Prelude.{◌≡◌, IfOk, IsSome, OnErr, true};
+ghost use Rattle.conn_messages.specs.declared.parameters.TheConstants.{SWITCH_LINK};
+ghost use Rattle.world_table.specs.Mobiles.{after_upper};
+ghost use Rattle.world_table.specs.SwitchSide.{after_switch_does, after_switch_takes};
+ghost use Rattle.world_table.specs.Takes.{Takes};
+ghost use Rattle.world_table.specs.World.{is_up};
+ghost use Rattle.world_table.specs.declared.event.SwitchAction.TheVariants as actions;
+
+use crate::Network;
+use conn_messages::SWITCH_LINK;
+use dtap_codec::Sapi;
+use octets::{MESSAGE_LIMIT, Memory};
+use world_table::SwitchAction;
+
+/// What mobiles' upper layers send, and what the switch takes and sends.
+impl Network {
+    /// The upper layers of a mobile send a message, where the mobile is on a channel or between two.
+    pub fn upper(&mut self, mobile: u8, sapi: Sapi, message: &[u8]) -> Result<bool, Memory>
+        ensures ok { IfOk result (λ taken. Takes self.old (after_upper self.old mobile sapi message.now) taken self.new) }
+        ensures memory { OnErr result (IsSome (after_upper self.old mobile sapi message.now)) }
+    {
+        self.mobiles.send(mobile, sapi, message)
+    }
+
+    /// The switch takes the first message of its outbox.
+    pub fn switch_takes(&mut self) -> Result<bool, Memory>
+        ensures ok { IfOk result (λ taken. Takes self.old (after_switch_takes self.old) taken self.new) }
+        ensures memory { OnErr result (IsSome (after_switch_takes self.old)) }
+    {
+        if !self.is_up(SWITCH_LINK) || self.relay.first_entry(SWITCH_LINK).is_none() {
+            return Ok(false);
+        }
+        match self.relay.take_entry(SWITCH_LINK) {
+            Some(entry) => {
+                self.switch.take(&entry.out.frame)?;
+                Ok(true)
+            }
+            None => Ok(false),
+        }
+    }
+
+    /// The switch acts of its own on one of its connections, where that is open. A message that it sends has 1 to 251 octets.
+    pub fn switch_does(&mut self, action: &SwitchAction) -> Result<bool, Memory>
+        ensures ok { IfOk result (λ taken. Takes self.old (after_switch_does self.old action.now) taken self.new) }
+        ensures memory { OnErr result (IsSome (after_switch_does self.old action.now)) }
+    {
+        if !self.is_up(SWITCH_LINK) {
+            return Ok(false);
+        }
+        match action {
+            SwitchAction::Assign(connection) => self.switch.assign(*connection),
+            SwitchAction::Clear(connection) => self.switch.clear(*connection),
+            SwitchAction::Dtap {
+                connection,
+                sapi,
+                message,
+            } => self.switch_sends(*connection, *sapi, message.as_slice()),
+        }
+    }
+
+    fn switch_sends(&mut self, connection: u32, sapi: Sapi, message: &[u8]) -> Result<bool, Memory>
+        requires { is_up self.old SWITCH_LINK ≡ true }
+        ensures ok { IfOk result (λ taken. Takes self.old (after_switch_does self.old (actions.Dtap connection sapi message.now)) taken self.new) }
+        ensures memory { OnErr result (IsSome (after_switch_does self.old (actions.Dtap connection sapi message.now))) }
+    {
+        if message.is_empty() || message.len() > MESSAGE_LIMIT {
+            return Ok(false);
+        }
+        self.switch.send(connection, sapi, message)
+    }
+}

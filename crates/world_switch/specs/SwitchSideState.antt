@@ -1,0 +1,8 @@
+-- The switch of a world, in plain lists: its end, and what it made.
+use Rattle.std.specs.Prelude.{List}
+use Rattle.bssmap_codec.specs.declared.sccp.Sccp.{Sccp}
+use Rattle.msc_end.specs.SwitchState.{SwitchState}
+
+pub record SwitchSideState : Type 0 where
+  pub switch : SwitchState
+  pub made : List Sccp

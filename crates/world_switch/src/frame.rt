@@ -1,0 +1,32 @@
+ghost use Rattle.std.specs.Prelude.{◌≡◌, IfOk};
+ghost use Rattle.std.specs.Result.{result_ok};
+ghost use Rattle.bssmap_codec.specs.SccpReading.{sccp_reading};
+ghost use Rattle.world_table.specs.SwitchSide.{sccp_in as message_in};
+ghost use Rattle.world_switch.specs.Written.{IsShortIn};
+
+use bssmap_codec::{InterfaceFault, Sccp, read_sccp};
+use ipa_framing::{Frame, SCCP_STREAM};
+use octets::Memory;
+use std::alloc::Global;
+
+/// The message of a frame of SCCP; none where it isn't read. Its user data have 255 octets at most.
+pub(crate) fn sccp_in(alloc: Global, frame: &Frame) -> Result<Option<Sccp>, Memory>
+    ensures message { IfOk result (λ message. message ≡ message_in frame.now) }
+    ensures short { IfOk result IsShortIn }
+{
+    if frame.stream != SCCP_STREAM {
+        return Ok(None);
+    }
+    read_message(alloc, frame.body.as_slice())
+}
+
+fn read_message(alloc: Global, octets: &[u8]) -> Result<Option<Sccp>, Memory>
+    ensures message { IfOk result (λ message. message ≡ result_ok (sccp_reading octets.now)) }
+    ensures short { IfOk result IsShortIn }
+{
+    match read_sccp(alloc, octets) {
+        Ok(message) => Ok(Some(message)),
+        Err(InterfaceFault::Memory) => Err(Memory),
+        Err(_) => Ok(None),
+    }
+}
