@@ -20,3 +20,6 @@ pub mod Cutting
 pub mod Breaks
 pub mod Others
 pub mod OwnRow
+pub mod OwnSteps
+pub mod OwnRowLaw
+mod StepRows

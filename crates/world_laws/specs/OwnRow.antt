@@ -1,0 +1,45 @@
+-- A row of the table keeps its connection's line-up.
+use Rattle.std.specs.Prelude.{◌≡◌, ℕ, Bool, List, ◌++◌, Option, Some}
+use Rattle.conn_messages.specs.declared.channel.Channel.{Channel}
+use Rattle.conn_messages.specs.declared.channel.Place.{Place}
+use Rattle.conn_table.specs.declared.input.Input.{Input}
+use Rattle.conn_table.specs.Connection.{Connection}
+use Rattle.conn_table.specs.Standing.{IsCarried, Stands}
+use Rattle.conn_table.specs.Steps.{Row}
+use Rattle.conn_table.specs.Streams.{AreApart, Ends, Future, IsOpen, from_input, relayed, used_channels}
+use Rattle.conn_table.specs.Table.{row_of}
+use Rattle.dtap_codec.specs.declared.sapi.Sapi.TheVariants.{Zero}
+use Rattle.lineup.specs.Alive.{Alive}
+use Rattle.lineup.specs.LineUp.{Item, Seat, LineUp, flow}
+use Rattle.mobile_end.specs.DataLinkState.{DataLinkState}
+use Rattle.world_laws.specs.LineUps.{old_tenures, serving_hold, serving_tenure, commanded_target, target_tenure, assembled}
+use Rattle.world_laws.specs.OwnStep.{OwnStep}
+use Rattle.world_laws.specs.ToCome.{AreLayer3, StandsFor}
+
+-- a mobile's messages on their way over a connection's channels, by what is on its way up from each
+abbrev pub over : (Place → List Item) → (ℕ → Bool) → Connection → List (List ℕ) → DataLinkState → Seat → ℕ → List (List ℕ) → List (List ℕ) → LineUp
+over coming up s sent link seat commands out taken = assembled sent link seat s.state commands (old_tenures coming up s.draining s.up.tenures)
+    (serving_tenure coming up s.serving (serving_hold s.draining s.up.tenures)) (target_tenure coming up seat (commanded_target s.state)) out taken
+
+-- The row that fits an input, by which the connection stays open: what is on its way up was one message more, the input's; and
+-- the row changes the roles of channels by a step that what is on its way allows.
+pub record DoesRow (s : Connection) (input : Input) (offer : Option Channel) (r : Row) (before after : Place → List Item) (up : ℕ → Bool) (commands commands2 : ℕ) (seat seat2 : Seat) : Type 0 where
+  pub fits : row_of s input offer ≡ Some r
+  pub stays_open : IsOpen r.next.state
+  pub stands : Stands s
+  pub carried : IsCarried input
+  pub apart : AreApart (used_channels s)
+  pub future : Future
+  pub ends : Ends future s.state input
+  pub was : StandsFor (from_input Zero input future) before up s
+  pub now : StandsFor future after up r.next
+  pub whole : AreLayer3 (relayed Zero r.outs)
+  pub step : OwnStep before after up s r.next commands commands2 seat seat2
+
+-- what it relays joins what waits for the switch
+abbrev pub RowKeepsLineUp : ℕ → Connection → Input → Option Channel → Row → Type 0
+RowKeepsLineUp m s input offer r =
+    (before after : Place → List Item) (up : ℕ → Bool) (commands commands2 : ℕ) (seat seat2 : Seat) (sent : List (List ℕ)) (link : DataLinkState) (out taken : List (List ℕ))
+    → DoesRow s input offer r before after up commands commands2 seat seat2
+    → Alive m (over before up s sent link seat commands out taken)
+    → Alive m (over after up r.next sent link seat2 commands2 (out ++ flow (relayed Zero r.outs)) taken)
