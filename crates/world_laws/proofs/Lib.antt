@@ -23,3 +23,4 @@ pub mod OwnRow
 pub mod OwnSteps
 pub mod OwnRowLaw
 mod StepRows
+pub mod RolesAfter
