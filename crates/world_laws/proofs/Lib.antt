@@ -24,3 +24,4 @@ pub mod OwnSteps
 pub mod OwnRowLaw
 mod StepRows
 pub mod RolesAfter
+pub mod OwnRoles

@@ -21,11 +21,11 @@ use Rattle.world_laws.specs.OwnStep.{lacks, some_lacks}
 
 -- ---- the roles after a row
 
-pub commanded_of : Option TargetRole → Option Target
+unfoldable pub commanded_of : Option TargetRole → Option Target
 commanded_of None = None
 commanded_of (Some t) = if t.is_commanded then Some t.target else None
 
-commanded-role : (state : State) → commanded_target state ≡ commanded_of (target_role state)
+pub commanded-role : (state : State) → commanded_target state ≡ commanded_of (target_role state)
 unfolding commanded_of
 commanded-role (Live reference (Changing target)) = refl
 commanded-role (Live reference (Preparing target)) = refl
@@ -68,7 +68,7 @@ still-lacks coming up (d ∷ ds) =
 abbrev pub AreReleased : (Place → List Item) → (Place → List Item) → (ℕ → Bool) → Place → List Drain → Type 0
 AreReleased before after up at ds = AllByRecursion (λ d. (is_at at d.channel ≡ true → lacks before up d ≡ false) × (is_at at d.channel ≡ false → lacks after up d ≡ lacks before up d)) ds
 
-both-false : (a b : Bool) → a || b ≡ false → (a ≡ false) × (b ≡ false)
+pub both-false : (a b : Bool) → a || b ≡ false → (a ≡ false) × (b ≡ false)
 both-false false b is = (refl, is)
 both-false true b is = absurd cc
 
