@@ -25,3 +25,4 @@ pub mod OwnRowLaw
 mod StepRows
 pub mod RolesAfter
 pub mod OwnRoles
+pub mod Opening

@@ -55,7 +55,7 @@ first-relays s coming up stands = by_state s.state stands.state where
 
 -- ---- the line
 
-flow-twice : (xs : List (List ℕ)) → flow (flow xs) ≡ flow xs
+pub flow-twice : (xs : List (List ℕ)) → flow (flow xs) ≡ flow xs
 flow-twice [] = refl
 flow-twice (x ∷ xs) =
     elim (cases_Bool (is_flow_message x)) [

@@ -1,5 +1,5 @@
 -- The channels of a connection after a row, by the step that the row does to their roles.
-use Rattle.std.proofs.Common.{◌≡◌, ℕ, zero, suc, Bool, true, false, ◌&&◌, ◌||◌, not, if◌then◌else◌, cond, List, [], ◌∷◌, ◌++◌, Option, Some, None, option_map, unwrap_or, refl, sym, ap, ◌∙◌, subst, inl, inr}
+use Rattle.std.proofs.Common.{◌≡◌, ℕ, suc, Bool, true, false, ◌&&◌, ◌||◌, not, if◌then◌else◌, cond, List, [], ◌∷◌, Option, Some, None, option_map, unwrap_or, refl, sym, ap, ◌∙◌, subst, inl, inr}
 use Rattle.std.specs.List.{AllByRecursion}
 use Rattle.std.proofs.lemmas.Bool.{cases_Bool}
 use Rattle.conn_messages.specs.declared.channel.Channel.{Channel}
@@ -11,7 +11,7 @@ use Rattle.conn_table.specs.declared.state.State.{State}
 use Rattle.conn_table.specs.declared.state.State.TheVariants.{Live}
 use Rattle.conn_table.specs.declared.state.Target.{Target}
 use Rattle.conn_table.specs.Connection.{Connection, is_at, drain_at}
-use Rattle.conn_table.specs.Roles.{TargetRole, Roles, RoleStep, target_role, roles_of, after_step, still_draining, with_target, MayBegin, GoesOn}
+use Rattle.conn_table.specs.Roles.{TargetRole, Roles, RoleStep, target_role, after_step, still_draining, with_target, MayBegin, GoesOn}
 use Rattle.conn_table.specs.Steps.{Row, done_at}
 use Rattle.controller_table.specs.Controller.{place_of}
 use Rattle.hold_queue.specs.HoldState.{HoldState}

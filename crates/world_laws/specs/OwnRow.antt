@@ -1,16 +1,22 @@
 -- A row of the table keeps its connection's line-up.
-use Rattle.std.specs.Prelude.{◌≡◌, ℕ, Bool, List, ◌++◌, Option, Some}
+use Rattle.std.specs.Prelude.{◌≡◌, ℕ, ◌+◌, Bool, List, [], ◌∷◌, ◌++◌, Option, Some}
 use Rattle.conn_messages.specs.declared.channel.Channel.{Channel}
 use Rattle.conn_messages.specs.declared.channel.Place.{Place}
 use Rattle.conn_table.specs.declared.input.Input.{Input}
+use Rattle.conn_table.specs.declared.state.State.TheVariants.{WaitConfirm}
 use Rattle.conn_table.specs.Connection.{Connection}
 use Rattle.conn_table.specs.Standing.{IsCarried, Stands}
 use Rattle.conn_table.specs.Steps.{Row}
 use Rattle.conn_table.specs.Streams.{AreApart, Ends, Future, IsOpen, from_input, relayed, used_channels}
 use Rattle.conn_table.specs.Table.{row_of}
 use Rattle.dtap_codec.specs.declared.sapi.Sapi.TheVariants.{Zero}
+use Rattle.controller_table.specs.Controller.{place_of}
+use Rattle.hold_queue.specs.ChainState.{empty_tenure}
 use Rattle.lineup.specs.Alive.{Alive}
-use Rattle.lineup.specs.LineUp.{Item, Seat, LineUp, flow}
+use Rattle.lineup.specs.LineUp.{Item, Seat, LineUp, flow, messages_in, controls_of, controls_in}
+use Rattle.lineup.specs.LineUp.Seat.{on_serving}
+use Rattle.mobile_end.specs.DataLink.{to_be_taken}
+use Rattle.mobile_end.specs.GoesOn.{GoesOn}
 use Rattle.mobile_end.specs.DataLinkState.{DataLinkState}
 use Rattle.world_laws.specs.LineUps.{old_tenures, serving_hold, serving_tenure, commanded_target, target_tenure, assembled}
 use Rattle.world_laws.specs.OwnStep.{OwnStep}
@@ -43,3 +49,17 @@ RowKeepsLineUp m s input offer r =
     → DoesRow s input offer r before after up commands commands2 seat seat2
     → Alive m (over before up s sent link seat commands out taken)
     → Alive m (over after up r.next sent link seat2 commands2 (out ++ flow (relayed Zero r.outs)) taken)
+
+-- The row that puts CR with the initial message: nothing is held, and the mobile's link goes on behind that message and what is
+-- on its way up behind it, where no COMPLETE or FAILURE is.
+pub record Opens (m : ℕ) (sent : List (List ℕ)) (link : DataLinkState) (initial : List ℕ) (coming : Place → List Item) (s : Connection) : Type 0 where
+  pub awaits : s.state ≡ WaitConfirm
+  pub none_drains : s.draining ≡ []
+  pub none_held : s.up.tenures ≡ empty_tenure ∷ []
+  pub goes_on : GoesOn m sent (flow (initial ∷ messages_in (coming (place_of s.serving)))) link
+  pub no_control : controls_in (coming (place_of s.serving)) + controls_of (to_be_taken link) ≡ 0
+
+-- the initial message waits for the switch
+abbrev pub OpeningLinesUp : ℕ → Type 0
+OpeningLinesUp m =
+    (sent : List (List ℕ)) (link : DataLinkState) (initial : List ℕ) (coming : Place → List Item) (up : ℕ → Bool) (s : Connection) → Opens m sent link initial coming s → Alive m (over coming up s sent link on_serving 0 (flow (initial ∷ [])) [])

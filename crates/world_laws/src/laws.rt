@@ -5,7 +5,7 @@ ghost use Rattle.conn_table.specs.Connection.{Connection};
 ghost use Rattle.conn_table.specs.Steps.{Row};
 ghost use Rattle.settings.specs.Parameters.{Parameters};
 ghost use Rattle.world_table.specs.declared.event.Event.{Event as WorldEvent};
-ghost use Rattle.world_laws.specs.OwnRow.{RowKeepsLineUp};
+ghost use Rattle.world_laws.specs.OwnRow.{OpeningLinesUp, RowKeepsLineUp};
 ghost use Rattle.world_laws.specs.Staying.{MobilesKeepLineUps, RelayLeavesOthers, StationBreaksKeepLineUps, StationsKeepLineUps, SwitchKeepsLineUps, TimeLeavesOthers};
 
 /// Law: whatever events happened, a connection that is lined up with its mobile, and whose channels no other mobile is on, stays
@@ -43,4 +43,9 @@ pub fn relay_leaves_others()
 /// its channels change their roles. What is on its way up is said as lists; the step is one that what is on its way allows.
 pub fn rows_keep_line_ups()
     ensures { (m : ℕ) (s : Connection) (input : Input) (offer : Option Channel) (r : Row) → RowKeepsLineUp m s input offer r }
+{}
+
+/// Law: a connection is lined up from the row on that puts CR with its initial message.
+pub fn opening_lines_up()
+    ensures { (m : ℕ) → OpeningLinesUp m }
 {}
