@@ -26,3 +26,4 @@ mod StepRows
 pub mod RolesAfter
 pub mod OwnRoles
 pub mod Opening
+pub mod InOrder

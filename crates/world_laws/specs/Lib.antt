@@ -6,3 +6,4 @@ pub mod Staying
 pub mod ToCome
 pub mod OwnStep
 pub mod OwnRow
+pub mod InOrder

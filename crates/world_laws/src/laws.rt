@@ -5,6 +5,8 @@ ghost use Rattle.conn_table.specs.Connection.{Connection};
 ghost use Rattle.conn_table.specs.Steps.{Row};
 ghost use Rattle.settings.specs.Parameters.{Parameters};
 ghost use Rattle.world_table.specs.declared.event.Event.{Event as WorldEvent};
+ghost use Rattle.world_table.specs.World.{Actors};
+ghost use Rattle.world_laws.specs.InOrder.{LineUpsAreInOrder};
 ghost use Rattle.world_laws.specs.OwnRow.{OpeningLinesUp, RowKeepsLineUp};
 ghost use Rattle.world_laws.specs.Staying.{MobilesKeepLineUps, RelayLeavesOthers, StationBreaksKeepLineUps, StationsKeepLineUps, SwitchKeepsLineUps, TimeLeavesOthers};
 
@@ -48,4 +50,10 @@ pub fn rows_keep_line_ups()
 /// Law: a connection is lined up from the row on that puts CR with its initial message.
 pub fn opening_lines_up()
     ensures { (m : ℕ) → OpeningLinesUp m }
+{}
+
+/// Law: of a connection that is lined up the switch accepted the first messages that its mobile's upper layers sent, once and in
+/// order, and judged no gap.
+pub fn line_ups_are_in_order()
+    ensures { (m : ℕ) (w : Actors) (mobile : ℕ) (s : Connection) → LineUpsAreInOrder m w mobile s }
 {}
