@@ -1,6 +1,6 @@
 -- The station of a channel takes a frame from the air: it joins the end of the line.
 use Rattle.std.proofs.Common.{◌≡◌, ◌≢◌, ℕ, ◌+◌, ◌==◌, ◌&&◌, not, Bool, true, false, if◌then◌else◌, cond, List, [], ◌∷◌, ◌++◌, length, Option, Some, None, refl, sym, ap, ◌∙◌, subst, inl}
-use Rattle.std.specs.List.{AllByRecursion, flat_map}
+use Rattle.std.specs.List.{AllByRecursion}
 use Rattle.std.proofs.lemmas.List.{append-nil}
 use Rattle.conn_messages.specs.declared.channel.Channel.{Channel}
 use Rattle.conn_messages.specs.declared.channel.Place.{Place}
@@ -32,17 +32,18 @@ use Rattle.world_table.specs.declared.seat.Command.{Command}
 use Rattle.world_table.specs.declared.seat.Seat.TheVariants.{On}
 use Rattle.world_table.specs.declared.seat.Tenure.{Tenure as ChannelTenure}
 use Rattle.world_table.specs.Mobiles.{frame_in, signalling_brought, framed, brought as brought_in_world}
-use Rattle.world_table.specs.World.{Actors, Mobile, Spot, is_station_up, outbox_of, base_of, with_base, is_reached}
+use Rattle.world_table.specs.World.{Actors, Mobile, is_station_up, base_of, with_base, is_reached}
 use Rattle.world_table.proofs.Honesty.{reached-up}
 use Rattle.world_laws.specs.ComingUp.{made_of, coming_up}
-use Rattle.world_laws.specs.GoingDown.{leading_from_air, leading_from_outbox, going_down}
+use Rattle.world_laws.specs.GoingDown.{going_down}
 use Rattle.world_laws.specs.LineUps.{seat_from, remembered, old_tenures, serving_hold, serving_tenure, commanded_target, target_tenure, waiting_of, taken_of, assembled, line_up}
 use Rattle.world_laws.specs.Seated.{Sits, Leads, NoneOn, LinedUp}
 use Rattle.world_laws.proofs.Apart.{all-both, is_at-station, AreOther, target-in, OnServing, OnTarget, on-serving, on-target, SitsOn, sits-on}
 use Rattle.world_laws.proofs.Apart.SitsOn.{serves, arrived}
 use Rattle.world_laws.proofs.Framing.{AreSame, all-left, all-right, old-same, serving-same, target-same, assembled-same}
 use Rattle.world_laws.proofs.Projecting.{active-there, coming-told}
-use Rattle.world_laws.proofs.Spots.{spot-with_base, tenure-with_base}
+use Rattle.world_laws.proofs.Quiet.{down-with_base}
+use Rattle.world_laws.proofs.Spots.{tenure-with_base}
 use Rattle.world_laws.proofs.Seeing.{SameTenures, Sits-same, Leads-same}
 
 -- ---- the frame
@@ -104,11 +105,6 @@ coming-there w p tenure frame c reached c_is there = air_up-coming w p tenure fr
 pub all-other : (w : Actors) (p : Mobile) (tenure : ChannelTenure) (frame : List ℕ) (cs : List Channel) → is_reached w tenure ≡ true → AllByRecursion (λ c. c.station ≢ SWITCH_LINK) cs → AreOther tenure.at cs → AreSame (coming_up (brought_in_world w p tenure.at Zero frame)) (coming_up w) cs
 all-other w p tenure frame cs reached placed others =
     all-both (λ c. c.station ≢ SWITCH_LINK) (λ c. is_at tenure.at c ≡ false) (λ c. coming_up (brought_in_world w p tenure.at Zero frame) (place_of c) ≡ coming_up w (place_of c)) cs (λ c c_is other. coming-other w p tenure frame c reached c_is other) placed others
-
--- ---- what stays
-
-pub down-with_base : (w : Actors) (station : ℕ) (base : BaseState) (at : Place) → going_down (with_base station base w) at ≡ going_down w at
-down-with_base w station base at = ap (λ (spot : Spot). flat_map leading_from_air spot.air ++ flat_map (leading_from_outbox at.number) (outbox_of w at.station)) (spot-with_base w station base at)
 
 -- ---- the mobile of the connection
 

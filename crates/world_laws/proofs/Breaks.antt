@@ -1,5 +1,5 @@
 -- The link of a station breaks: the connections stay lined up, those that lose something up to where it is missing.
-use Rattle.std.proofs.Common.{◌≡◌, ◌≢◌, ℕ, zero, suc, ◌+◌, ◌-◌, ◌≤◌, ◌==◌, ◌&&◌, not, nat_eq, Bool, true, false, if◌then◌else◌, cond, List, [], ◌∷◌, ◌++◌, length, map, find, get_or, set, unwrap_or, Option, Some, None, refl, sym, ap, ◌∙◌, subst, append_assoc, inl, inr, ◌⊎◌, arith}
+use Rattle.std.proofs.Common.{◌≡◌, ◌≢◌, ℕ, zero, suc, ◌+◌, ◌==◌, ◌&&◌, not, nat_eq, Bool, true, false, if◌then◌else◌, List, [], ◌∷◌, ◌++◌, length, map, get_or, set, Option, Some, None, refl, sym, ap, ◌∙◌, subst, inl, inr, arith}
 use Rattle.std.specs.List.{AllByRecursion, flat_map}
 use Rattle.std.proofs.lemmas.Bool.{cases_Bool, eqb-true, eqb-false, ne_eqb}
 use Rattle.std.proofs.lemmas.Grind.{flat_map-append}
@@ -16,26 +16,22 @@ use Rattle.controller_table.specs.Views.{forwarded}
 use Rattle.hold_queue.specs.ChainState.{Tenure as Held}
 use Rattle.lineup.specs.Alive.{Alive, Stands}
 use Rattle.lineup.specs.Alive.Stays.{remains, left}
-use Rattle.lineup.specs.Alive.Stands.{rests, waits, leaves, arrives, returns}
+use Rattle.lineup.specs.Alive.Stands.{waits, leaves, arrives, returns}
 use Rattle.lineup.specs.ChangeStep.{ended}
-use Rattle.lineup.specs.LineUp.{Item, Tenure, Seat, flow, messages_in, controls_in, texts_in}
+use Rattle.lineup.specs.LineUp.{Item, Seat, flow, messages_in, controls_in, texts_in}
 use Rattle.lineup.specs.LineUp.Item.{brought, released}
-use Rattle.lineup.specs.LineUp.Seat.{on_serving, on_target, moving, gone}
 use Rattle.lineup.proofs.Lines.{messages_in-append, controls-front, texts-front, empty_list}
 use Rattle.link_model.specs.BaseState.{BaseState}
 use Rattle.link_model.specs.Base.{after_take_down}
-use Rattle.relay_items.specs.declared.Item.{Item as RelayItem}
 use Rattle.relay_items.specs.declared.What.TheVariants as whats
 use Rattle.settings.specs.Parameters.{Parameters}
 use Rattle.world_table.specs.declared.event.Event.{Event}
-use Rattle.world_table.specs.declared.event.Event.TheVariants.{BaseDown}
 use Rattle.world_table.specs.declared.line.AirMessage.{AirMessage}
-use Rattle.world_table.specs.declared.line.OutboxEntry.{OutboxEntry}
-use Rattle.world_table.specs.Life.{event_after, actors_after, actors_after_all}
+use Rattle.world_table.specs.Life.{event_after, actors_after_all}
 use Rattle.world_table.specs.Relay.{with_item, after_break}
-use Rattle.world_table.specs.World.{Actors, Mobile, Link, broken_link, with_link, link_of, new_actors, modulus_in, is_up, is_station_up, no_station, base_of, with_base, outbox_of, spot_at}
+use Rattle.world_table.specs.World.{Actors, Mobile, Link, broken_link, with_link, new_actors, modulus_in, is_up, is_station_up, base_of, with_base, outbox_of, spot_at}
 use Rattle.world_table.proofs.Honesty.{base-elsewhere, base-there}
-use Rattle.world_table.proofs.Leads.{OfTaken, broken-leads, after-taken}
+use Rattle.world_table.proofs.Leads.{broken-leads, after-taken}
 use Rattle.world_laws.specs.ComingUp.{brings_in, made_of, coming_up}
 use Rattle.world_laws.specs.GoingDown.{leading_from_air, leading_from_outbox, going_down}
 use Rattle.world_laws.specs.LineUps.{seat_from, remembered, is_ended, draining_tenure, old_tenure, old_tenures, serving_hold, serving_tenure, came, commanded_target, target_tenure, is_changing, waiting_of, taken_of, assembled, line_up}
@@ -44,7 +40,7 @@ use Rattle.world_laws.specs.Staying.{AreLinedUp, EndsLast, StationBreaksKeepLine
 use Rattle.world_laws.proofs.Apart.{target-in}
 use Rattle.world_laws.proofs.Cutting.{Cuts, AllCut, cuts-itself, Alive-cut}
 use Rattle.world_laws.proofs.Cutting.Cuts.{whole, breaks}
-use Rattle.world_laws.proofs.Framing.{AreUp, all-left, all-right, all-map, lined-same}
+use Rattle.world_laws.proofs.Framing.{all-left, all-right, all-map, lined-same}
 use Rattle.world_laws.proofs.Quiet.{all-of, ArePlaced, down-with_base}
 use Rattle.world_laws.proofs.Seeing.{SameTenures, Sits-same, Leads-same}
 use Rattle.world_laws.proofs.Spots.{set-apart, tenure-with_base}

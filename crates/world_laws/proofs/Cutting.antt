@@ -1,11 +1,11 @@
 -- A line that is cut where a link broke.
-use Rattle.std.proofs.Common.{◌≡◌, ℕ, ◌+◌, ◌≤◌, Bool, true, false, ◌||◌, ◌&&◌, not, if◌then◌else◌, cond, List, [], ◌∷◌, ◌++◌, length, refl, sym, ap, ◌∙◌, subst, append_assoc, length-append, arith}
+use Rattle.std.proofs.Common.{◌≡◌, ℕ, ◌≤◌, Bool, true, false, ◌||◌, ◌&&◌, not, if◌then◌else◌, List, [], ◌∷◌, ◌++◌, length, refl, sym, ap, ◌∙◌, subst, append_assoc, length-append, arith}
 use Rattle.std.proofs.lemmas.List.{append-nil}
 use Rattle.conn_table.specs.declared.state.State.{State}
-use Rattle.lineup.specs.Alive.{Alive, FirstRelays, Stays, Condition, Follows, some_lost}
-use Rattle.lineup.specs.Alive.Stays.{remains, left}
+use Rattle.lineup.specs.Alive.{Alive, FirstRelays, Condition, Follows, some_lost}
+use Rattle.lineup.specs.Alive.Stays.{remains}
 use Rattle.lineup.specs.Alive.Condition.{sound, left_the_cell, lost_old, lost_serving, lost_target}
-use Rattle.lineup.specs.LineUp.{Item, Tenure, Seat, LineUp, flow, messages_in, part_of, parts_of, controls_of, controls_in, texts_in}
+use Rattle.lineup.specs.LineUp.{Tenure, Seat, flow, messages_in, part_of, parts_of, controls_of, controls_in, texts_in}
 use Rattle.lineup.specs.LineUp.Seat.{on_serving, on_target, moving, gone}
 use Rattle.lineup.proofs.Following.{Follows-line, Follows-front}
 use Rattle.lineup.proofs.Lines.{flow-append, controls-append}

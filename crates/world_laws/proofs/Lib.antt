@@ -20,3 +20,10 @@ pub mod Cutting
 pub mod Breaks
 pub mod Others
 pub mod OwnRow
+pub mod OwnSteps
+pub mod OwnRowLaw
+mod StepRows
+pub mod RolesAfter
+pub mod OwnRoles
+pub mod Opening
+pub mod InOrder

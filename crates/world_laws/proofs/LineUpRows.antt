@@ -1,16 +1,14 @@
 -- The line-up of a connection in worlds of literal events: an assignment, with a message on its way on each channel.
-use Rattle.std.proofs.Common.{◌≡◌, ℕ, true, false, List, [], ◌∷◌, map, Option, Some, None, option_map, refl}
+use Rattle.std.proofs.Common.{◌≡◌, ℕ, true, false, [], ◌∷◌, map, Option, Some, option_map, refl}
 use Rattle.std.specs.Option.{option_and_then}
-use Rattle.conn_messages.specs.declared.channel.Change.TheVariants.{Assignment}
 use Rattle.controller_table.specs.Controller.{place_at, entry_of}
 use Rattle.controller_table.proofs.Lives.{usual_settings}
 use Rattle.dtap_codec.specs.declared.sapi.Sapi.TheVariants.{Zero, Three}
-use Rattle.link_model.specs.declared.air_link.Air.TheVariants.{Given, Reached}
-use Rattle.lineup.specs.LineUp.{Item, LineUp, fresh, line}
+use Rattle.link_model.specs.declared.air_link.Air.TheVariants.{Reached}
+use Rattle.lineup.specs.LineUp.{LineUp, fresh, line}
 use Rattle.lineup.specs.LineUp.Item.{brought, released}
-use Rattle.lineup.specs.LineUp.Seat.{on_serving, on_target, moving, gone}
-use Rattle.world_table.specs.declared.event.Event.{Event}
-use Rattle.world_table.specs.declared.event.Event.TheVariants.{Upper, Connect, AirUp, AirAck, AirDown, Move, Arrive, Return, BaseTakes, BasePush, Handle, SwitchTakes, SwitchDoes, BaseDown}
+use Rattle.lineup.specs.LineUp.Seat.{on_serving, on_target, moving}
+use Rattle.world_table.specs.declared.event.Event.TheVariants.{Upper, Connect, AirUp, AirAck, AirDown, Move, Arrive, BaseTakes, BasePush, Handle, SwitchTakes, SwitchDoes, BaseDown}
 use Rattle.world_table.specs.declared.event.SwitchAction.TheVariants.{Assign, Clear}
 use Rattle.world_table.specs.World.{World, new_world, mobile_of, outbox_of}
 use Rattle.world_table.proofs.Worlds.{on_literals, after_all}

@@ -1,11 +1,10 @@
 -- What the controller does for others leaves a connection lined up.
-use Rattle.std.proofs.Common.{◌≡◌, ◌≢◌, ℕ, zero, suc, ◌+◌, ◌==◌, ◌&&◌, not, nat_eq, Bool, true, false, if◌then◌else◌, cond, List, [], ◌∷◌, ◌++◌, fold, filter, map, find, get_or, set, Option, Some, None, Contains, refl, sym, ap, ◌∙◌, subst, append_assoc, inl, inr}
+use Rattle.std.proofs.Common.{◌≡◌, ℕ, ◌==◌, ◌&&◌, not, nat_eq, Bool, true, false, if◌then◌else◌, List, [], ◌∷◌, ◌++◌, fold, map, find, Option, Some, None, refl, sym, ap, ◌∙◌, subst, append_assoc, inl, inr}
 use Rattle.std.specs.List.{AllByRecursion, flat_map}
 use Rattle.std.proofs.lemmas.Bool.{cases_Bool, eqb-true, eqb-false}
 use Rattle.std.proofs.lemmas.Grind.{flat_map-append}
 use Rattle.std.proofs.lemmas.List.{append-nil, map-append}
 use Rattle.conn_messages.specs.declared.channel.Channel.{Channel}
-use Rattle.conn_messages.specs.declared.channel.Place.{Place}
 use Rattle.conn_messages.specs.declared.out.Out.{Out}
 use Rattle.conn_messages.specs.declared.parameters.TheConstants.{SWITCH_LINK}
 use Rattle.conn_table.specs.declared.state.Target.{Target}
@@ -19,22 +18,19 @@ use Rattle.lineup.specs.LineUp.{Item}
 use Rattle.relay_items.specs.declared.Item.{Item as RelayItem}
 use Rattle.settings.specs.Parameters.{Parameters}
 use Rattle.world_table.specs.declared.event.Event.{Event}
-use Rattle.world_table.specs.declared.event.Event.TheVariants.{Handle, Tick}
 use Rattle.world_table.specs.declared.line.AirMessage.{AirMessage}
 use Rattle.world_table.specs.declared.line.OutboxEntry.{OutboxEntry}
 use Rattle.world_table.specs.declared.seat.Tenure.{Tenure}
-use Rattle.world_table.specs.Life.{event_after, actors_after, actors_after_all}
-use Rattle.world_table.specs.Relay.{entry_of, joined_by, with_turn, target_in, handled, after_handle, after_tick}
-use Rattle.world_table.specs.World.{Actors, Link, broken_link, link_of, with_outbox, outbox_of, new_actors, modulus_in, has_number, is_up, is_station_up, base_of, spot_at}
-use Rattle.world_table.proofs.Leads.{OfTaken, handle-leads, after-taken}
-use Rattle.world_table.proofs.Outboxes.{changed_link}
+use Rattle.world_table.specs.Life.{event_after, actors_after_all}
+use Rattle.world_table.specs.Relay.{entry_of, joined_by, with_turn, target_in, after_handle}
+use Rattle.world_table.specs.World.{Actors, Link, broken_link, link_of, with_outbox, outbox_of, new_actors, modulus_in, has_number, is_up, base_of, spot_at}
+use Rattle.world_table.proofs.Leads.{handle-leads, after-taken}
 use Rattle.world_laws.specs.ComingUp.{brings_in, made_of, coming_up}
 use Rattle.world_laws.specs.GoingDown.{leading_from_air, leading_from_outbox, going_down}
-use Rattle.world_laws.specs.LineUps.{commanded_target, waiting_of}
-use Rattle.world_laws.specs.Seated.{commanded_channels, LinedUp}
+use Rattle.world_laws.specs.LineUps.{commanded_target}
+use Rattle.world_laws.specs.Seated.{commanded_channels}
 use Rattle.world_laws.specs.Staying.{AreLinedUp, carried_for, IsForOthers, BringsNothing, IsOthers, RelayLeavesOthers, TimeLeavesOthers}
-use Rattle.world_laws.proofs.Apart.{all-both}
-use Rattle.world_laws.proofs.Framing.{AreSame, all-map}
+use Rattle.world_laws.proofs.Framing.{all-map}
 use Rattle.world_laws.proofs.Quiet.{sees-itself}
 use Rattle.world_laws.proofs.Seeing.{SameTenures, SeesSame, LinedUp-same}
 use Rattle.world_laws.proofs.Spots.{set-same, set-apart}

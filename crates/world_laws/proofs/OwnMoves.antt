@@ -51,7 +51,7 @@ use Rattle.world_laws.proofs.Framing.{AreSame, AreUp, all-right, all-map, lined-
 use Rattle.world_laws.proofs.OwnMobile.{LinedUp-end}
 use Rattle.world_laws.proofs.Quiet.{all-of, ArePlaced, coming-with_spot, sees-itself, sees-mobiles, sees-told, sees-spot}
 use Rattle.world_laws.proofs.Spots.{spot-elsewhere, spot-there, tenure-with_spot}
-use Rattle.world_laws.proofs.Seeing.{SameTenures, Sits-same, Leads-same, SeesSame, LinedUp-same}
+use Rattle.world_laws.proofs.Seeing.{SameTenures, Sits-same, Leads-same, none-same, SeesSame, LinedUp-same}
 
 -- ---- fewer commands on their way
 
@@ -107,10 +107,6 @@ record SeesBut (w v : Actors) (s : Connection) : Type 0 where
   waiting : waiting_of v s.number ≡ waiting_of w s.number
   taken : taken_of v s.number ≡ taken_of w s.number
 
-none-but : (w v : Actors) (target : Option Target) → ((t : Target) → target ≡ Some t → going_down v (place_of t.channel) ≡ going_down w (place_of t.channel)) → NoneOn w target → NoneOn v target
-none-but w v None same none = none
-none-but w v (Some target) same none = same target refl ∙ none
-
 lined-but : {m : ℕ} {w v : Actors} {s : Connection} {p : Mobile} (q : Mobile) → SeesBut w v s → Alive m (lined (coming_up w) (is_station_up w) (going_down v (place_of s.serving)) (waiting_of w s.number) (taken_of w s.number) q s) → Sits w s.serving (commanded_target s.state) q.seat
     → AllByRecursion (λ a. Leads w a (commanded_target s.state)) (going_down v (place_of s.serving)) → LinedUp m w p s → LinedUp m v q s
 lined-but {m} {w} {v} {s} {p} q sees alive sits led kept = record {
@@ -119,7 +115,7 @@ lined-but {m} {w} {v} {s} {p} q sees alive sits led kept = record {
       sees.coming sees.up refl sees.waiting sees.taken refl refl refl)) alive;
   sits = Sits-same sees.tenures sits;
   led = all-map (λ a. Leads w a (commanded_target s.state)) (λ a. Leads v a (commanded_target s.state)) (going_down v (place_of s.serving)) (λ a. Leads-same sees.tenures) led;
-  none_on_target = none-but w v (commanded_target s.state) sees.target kept.none_on_target;
+  none_on_target = none-same w v (commanded_target s.state) sees.target kept.none_on_target;
   apart = kept.apart;
   placed = kept.placed;
 }

@@ -1,7 +1,6 @@
 -- A row of the table keeps its connection's line-up, where the change of channel stands as before and nothing more is missing.
-use Rattle.std.proofs.Common.{◌≡◌, ℕ, ◌+◌, Bool, true, false, ◌&&◌, not, if◌then◌else◌, cond, List, [], ◌∷◌, ◌++◌, length, filter, Option, Some, None, refl, sym, ap, ◌∙◌, subst, append_assoc, inl, inr}
+use Rattle.std.proofs.Common.{◌≡◌, ℕ, Bool, true, false, not, if◌then◌else◌, List, [], ◌∷◌, ◌++◌, Option, Some, None, refl, sym, ap, ◌∙◌, subst, append_assoc, inl, inr}
 use Rattle.std.proofs.lemmas.Bool.{cases_Bool, cond-true, cond-false}
-use Rattle.std.proofs.lemmas.List.{append-nil}
 use Rattle.conn_messages.specs.declared.channel.Place.{Place}
 use Rattle.conn_table.specs.declared.state.Drain.{Drain}
 use Rattle.conn_table.specs.declared.state.State.{State}
@@ -15,7 +14,7 @@ use Rattle.hold_queue.specs.ChainState.{Tenure as Held}
 use Rattle.lineup.specs.Alive.{Alive, FirstRelays, Follows, Stands, some_lost}
 use Rattle.lineup.specs.Alive.Follows.{rises}
 use Rattle.lineup.specs.ChangeStep.{ended}
-use Rattle.lineup.specs.LineUp.{Item, Tenure, Seat, LineUp, flow, parts_of, controls_of, controls_in, texts_in}
+use Rattle.lineup.specs.LineUp.{Item, Seat, flow, parts_of, controls_of, controls_in, texts_in}
 use Rattle.lineup.proofs.Following.{Follows-line, Follows-rise}
 use Rattle.lineup.proofs.Lines.{flow-append}
 use Rattle.mobile_end.specs.DataLink.{to_be_taken}
@@ -56,7 +55,7 @@ first-relays s coming up stands = by_state s.state stands.state where
 
 -- ---- the line
 
-flow-twice : (xs : List (List ℕ)) → flow (flow xs) ≡ flow xs
+pub flow-twice : (xs : List (List ℕ)) → flow (flow xs) ≡ flow xs
 flow-twice [] = refl
 flow-twice (x ∷ xs) =
     elim (cases_Bool (is_flow_message x)) [

@@ -1,8 +1,7 @@
 -- What is on the line is what the connection has still to relay: what it holds, and what is on its way up from each channel.
-use Rattle.std.proofs.Common.{◌≡◌, ◌≢◌, ℕ, zero, suc, ◌+◌, ◌≤◌, ◌==◌, ◌&&◌, not, Bool, true, false, if◌then◌else◌, List, [], ◌∷◌, ◌++◌, length, filter, Option, Some, None, refl, sym, ap, ◌∙◌, subst, append_assoc, arith}
+use Rattle.std.proofs.Common.{◌≡◌, ℕ, ◌≤◌, ◌&&◌, not, Bool, true, false, if◌then◌else◌, List, [], ◌∷◌, ◌++◌, refl, sym, ap, ◌∙◌, append_assoc, arith}
 use Rattle.std.specs.List.{AllByRecursion}
 use Rattle.std.proofs.lemmas.List.{append-nil}
-use Rattle.bssmap_codec.specs.Layer3.{IsLayer3}
 use Rattle.conn_messages.specs.declared.channel.Channel.{Channel}
 use Rattle.conn_messages.specs.declared.channel.Place.{Place}
 use Rattle.conn_table.specs.declared.input.Input.{Input}
@@ -10,7 +9,6 @@ use Rattle.conn_table.specs.declared.state.Drain.{Drain}
 use Rattle.conn_table.specs.declared.state.Stage.TheVariants.{Preparing, Changing}
 use Rattle.conn_table.specs.declared.state.State.{State}
 use Rattle.conn_table.specs.declared.state.State.TheVariants.{Live}
-use Rattle.conn_table.specs.declared.state.Target.{Target}
 use Rattle.conn_table.specs.Connection.{Connection}
 use Rattle.conn_table.specs.Steps.{Row}
 use Rattle.conn_table.specs.Streams.{Future, IsOpen, KeepsUplink, from_input, of_target, relayed, still_of, still_to_relay, undone}
@@ -21,22 +19,14 @@ use Rattle.lineup.specs.ChangeStep.{ended}
 use Rattle.lineup.specs.LineUp.{Item, Tenure, Seat, flow, messages_in, part_of, parts_of}
 use Rattle.lineup.proofs.Lines.{flow-append}
 use Rattle.world_laws.specs.LineUps.{is_ended, draining_tenure, old_tenure, old_tenures, serving_hold, serving_tenure, commanded_target, target_tenure}
-use Rattle.world_laws.proofs.Framing.{all-left}
+use Rattle.world_laws.specs.ToCome.{AreLayer3, mark, AsOld, AsServing, AsTarget, AreHeld, StandsFor}
 
 -- ---- a list, up to where something is missing
-
--- An empty message, which is none, stands for what is missing.
-abbrev pub mark : Bool → List (List ℕ)
-mark true = [] ∷ []
-mark false = []
 
 abbrev pub cut : List (List ℕ) → List (List ℕ)
 cut [] = []
 cut ([] ∷ xs) = []
 cut ((octet ∷ octets) ∷ xs) = (octet ∷ octets) ∷ cut xs
-
-abbrev AreLayer3 : List (List ℕ) → Type 0
-AreLayer3 xs = AllByRecursion IsLayer3 xs
 
 cut-front : (xs ys : List (List ℕ)) → AreLayer3 xs → cut (xs ++ ys) ≡ xs ++ cut ys
 cut-front [] ys all = refl
@@ -61,33 +51,6 @@ cut-part hold messages b rest held on_the_way =
       flow-if true = refl
       flow-if false = refl
 
--- ---- what may still come, by what is on its way up
-
--- on an old channel
-abbrev AsOld : Future → (Place → List Item) → (ℕ → Bool) → Channel → Type 0
-AsOld future coming up c = (future (place_of c) ≡ messages_in (coming (place_of c)) ++ mark (not (up c.station) && not (is_ended (coming (place_of c))))) × AreLayer3 (messages_in (coming (place_of c)))
-
--- on the serving channel
-abbrev AsServing : Future → (Place → List Item) → (ℕ → Bool) → Channel → Type 0
-AsServing future coming up c = (future (place_of c) ≡ messages_in (coming (place_of c)) ++ mark (not (up c.station))) × AreLayer3 (messages_in (coming (place_of c)))
-
--- on the target, behind which nothing comes
-abbrev AsTarget : Future → (Place → List Item) → Option Target → Type 0
-AsTarget future coming None = Unit {0}
-AsTarget future coming (Some t) = (b : Bool) × (future (place_of t.channel) ≡ messages_in (coming (place_of t.channel)) ++ mark b) × AreLayer3 (messages_in (coming (place_of t.channel)))
-
--- what is held is whole messages, in a tenure for each old channel and the serving one
-abbrev AreHeld : List Drain → List Held → Type 0
-AreHeld draining [] = ⊥
-AreHeld [] (t ∷ ts) = AreLayer3 t.zero
-AreHeld (d ∷ ds) (t ∷ ts) = AreLayer3 t.zero × AreHeld ds ts
-
-pub record StandsFor (future : Future) (coming : Place → List Item) (up : ℕ → Bool) (s : Connection) : Type 0 where
-  pub old : AllByRecursion (AsOld future coming up) (undone s.draining)
-  pub serving : AsServing future coming up s.serving
-  pub target : AsTarget future coming (commanded_target s.state)
-  pub held : AreHeld s.draining s.up.tenures
-
 -- ---- tenure by tenure
 
 old-part : (future : Future) (coming : Place → List Item) (up : ℕ → Bool) (d : Drain) (ds : List Drain) (hold rest : List (List ℕ)) (others : List Tenure) → AllByRecursion (AsOld future coming up) (undone (d ∷ ds)) → AreLayer3 hold → flow (cut rest) ≡ parts_of others
@@ -96,9 +59,12 @@ old-part future coming up d ds hold rest others stand held is = by_done d.is_don
   by_done : (b : Bool) → AllByRecursion (AsOld future coming up) (if b then undone ds else d.channel ∷ undone ds)
       → (flow (cut (hold ++ ((if b then [] else future (place_of d.channel)) ++ rest))) ≡ parts_of ((if b then ended hold else draining_tenure (up d.channel.station) (coming (place_of d.channel)) hold) ∷ others)) × AllByRecursion (AsOld future coming up) (undone ds)
   by_done true all = (cut-part hold [] false rest held tt ∙ ap (λ (xs : List (List ℕ)). (flow hold ++ []) ++ xs) is, all)
-  by_done false all = (ap (λ (xs : List (List ℕ)). flow (cut (hold ++ (xs ++ rest)))) all.0.0
-      ∙ cut-part hold (messages_in (coming (place_of d.channel))) (not (up d.channel.station) && not (is_ended (coming (place_of d.channel)))) rest held all.0.1
-      ∙ ap (λ (xs : List (List ℕ)). part_of (draining_tenure (up d.channel.station) (coming (place_of d.channel)) hold) ++ (if (not (up d.channel.station) && not (is_ended (coming (place_of d.channel)))) then [] else xs)) is, all.1)
+  by_done false all = (
+    ap (λ (xs : List (List ℕ)). flow (cut (hold ++ (xs ++ rest)))) all.0.0
+        ∙ cut-part hold (messages_in (coming (place_of d.channel))) (not (up d.channel.station) && not (is_ended (coming (place_of d.channel)))) rest held all.0.1
+        ∙ ap (λ (xs : List (List ℕ)). part_of (draining_tenure (up d.channel.station) (coming (place_of d.channel)) hold) ++ (if (not (up d.channel.station) && not (is_ended (coming (place_of d.channel)))) then [] else xs)) is,
+    all.1,
+  )
 
 still-parts : (future : Future) (coming : Place → List Item) (up : ℕ → Bool) (serving : Channel) (ds : List Drain) (ts : List Held) (rest : List (List ℕ)) (others : List Tenure) → AllByRecursion (AsOld future coming up) (undone ds) → AsServing future coming up serving → AreHeld ds ts → flow (cut rest) ≡ parts_of others
     → flow (cut (still_of Zero future serving ds ts ++ rest)) ≡ parts_of (old_tenures coming up ds ts ++ serving_tenure coming up serving (serving_hold ds ts) ∷ others)
@@ -110,7 +76,7 @@ still-parts future coming up serving [] (t ∷ ts) rest others stand is held beh
     ∙ ap (λ (xs : List (List ℕ)). part_of (serving_tenure coming up serving t.zero) ++ (if not (up serving.station) then [] else xs)) behind
 still-parts future coming up serving (d ∷ ds) (t ∷ ts) rest others stand is held behind =
     let split = old-part future coming up d ds t.zero (still_of Zero future serving ds ts ++ rest) (old_tenures coming up ds ts ++ serving_tenure coming up serving (serving_hold ds ts) ∷ others) stand held.0
-        (still-parts future coming up serving ds ts rest others (tail d ds stand) is held.1 behind) in
+    (still-parts future coming up serving ds ts rest others (tail d ds stand) is held.1 behind) in
     ap (λ (xs : List (List ℕ)). flow (cut xs)) (append_assoc t.zero ((if d.is_done then [] else future (place_of d.channel)) ++ still_of Zero future serving ds ts) rest
     ∙ ap (λ (xs : List (List ℕ)). t.zero ++ xs) (append_assoc (if d.is_done then [] else future (place_of d.channel)) (still_of Zero future serving ds ts) rest)) ∙ split.0 where
       tail : (d : Drain) (ds : List Drain) → AllByRecursion (AsOld future coming up) (undone (d ∷ ds)) → AllByRecursion (AsOld future coming up) (undone ds)

@@ -1,14 +1,12 @@
 -- The switch takes the first entry of its outbox: the connections stay lined up.
-use Rattle.std.proofs.Common.{◌≡◌, ◌≢◌, ℕ, zero, suc, ◌+◌, ◌==◌, ◌&&◌, not, nat_eq, Bool, true, false, if◌then◌else◌, cond, List, [], ◌∷◌, ◌++◌, length, filter, map, find, get_or, set, unwrap_or, Option, Some, None, refl, sym, ap, ◌∙◌, subst, append_assoc}
+use Rattle.std.proofs.Common.{◌≡◌, ◌≢◌, ℕ, ◌==◌, ◌&&◌, not, Bool, true, false, cond, List, [], ◌∷◌, ◌++◌, filter, map, find, Option, Some, None, refl, sym, ap, ◌∙◌, subst, append_assoc}
 use Rattle.std.specs.List.{AllByRecursion, flat_map}
 use Rattle.std.proofs.lemmas.List.{append-nil, map-append}
 use Rattle.bssmap_codec.specs.declared.sccp.Sccp.{Sccp}
 use Rattle.bssmap_codec.specs.SccpReading.{sccp_reading}
 use Rattle.conn_messages.specs.declared.channel.Channel.{Channel}
-use Rattle.conn_messages.specs.declared.channel.Place.{Place}
 use Rattle.conn_messages.specs.declared.out.Out.{Out}
 use Rattle.conn_messages.specs.declared.parameters.TheConstants.{SWITCH_LINK}
-use Rattle.conn_table.specs.declared.state.Target.{Target}
 use Rattle.conn_table.specs.Connection.{Connection}
 use Rattle.conn_table.specs.Streams.{undone, target_in, used_channels}
 use Rattle.controller_table.specs.declared.forwarded.Forwarded.{Forwarded}
@@ -23,13 +21,11 @@ use Rattle.msc_end.specs.Switch.{after, replies}
 use Rattle.msc_end.specs.SwitchState.{SwitchState}
 use Rattle.settings.specs.Parameters.{Parameters}
 use Rattle.world_table.specs.declared.event.Event.{Event}
-use Rattle.world_table.specs.declared.event.Event.TheVariants.{SwitchTakes}
-use Rattle.world_table.specs.declared.line.AirMessage.{AirMessage}
 use Rattle.world_table.specs.declared.line.OutboxEntry.{OutboxEntry}
-use Rattle.world_table.specs.Life.{event_after, actors_after, actors_after_all}
+use Rattle.world_table.specs.Life.{event_after, actors_after_all}
 use Rattle.world_table.specs.SwitchSide.{sccp_in, switch_took, after_switch_takes}
 use Rattle.world_table.specs.World.{Actors, Mobile, Link, broken_link, link_of, new_actors, modulus_in, is_up, is_station_up, outbox_of, with_outbox, spot_at}
-use Rattle.world_table.proofs.Leads.{OfTaken, switch_takes-leads, after-taken}
+use Rattle.world_table.proofs.Leads.{switch_takes-leads, after-taken}
 use Rattle.world_table.proofs.Outboxes.{changed_link}
 use Rattle.world_laws.specs.ComingUp.{coming_up}
 use Rattle.world_laws.specs.GoingDown.{leading_from_air, leading_from_outbox, going_down}
@@ -67,7 +63,7 @@ waiting-first w number first others up stood =
     ∙ ap (λ (fs : List Forwarded). map (λ f. f.message) fs) (forwarded-first first.out (map (λ entry. entry.out) others) number)
     ∙ map-append (λ f. f.message) (forwarded (first.out ∷ []) number) (forwarded (map (λ entry. entry.out) others) number)
     ∙ ap (λ (link : Link). carried_for number first.out ++ map (λ f. f.message) (forwarded (map (λ entry. entry.out) link.outbox) number))
-        (sym (changed_link w.links SWITCH_LINK (record (link_of w SWITCH_LINK) { outbox = others }) up))
+    (sym (changed_link w.links SWITCH_LINK (record (link_of w SWITCH_LINK) { outbox = others }) up))
 
 -- ---- the connection
 

@@ -3,3 +3,7 @@ pub mod GoingDown
 pub mod LineUps
 pub mod Seated
 pub mod Staying
+pub mod ToCome
+pub mod OwnStep
+pub mod OwnRow
+pub mod InOrder

@@ -1,6 +1,13 @@
-ghost use Rattle.std.specs.Prelude.{ℕ, List};
+ghost use Rattle.std.specs.Prelude.{ℕ, List, Option};
+ghost use Rattle.conn_messages.specs.declared.channel.Channel.{Channel};
+ghost use Rattle.conn_table.specs.declared.input.Input.{Input};
+ghost use Rattle.conn_table.specs.Connection.{Connection};
+ghost use Rattle.conn_table.specs.Steps.{Row};
 ghost use Rattle.settings.specs.Parameters.{Parameters};
 ghost use Rattle.world_table.specs.declared.event.Event.{Event as WorldEvent};
+ghost use Rattle.world_table.specs.World.{Actors};
+ghost use Rattle.world_laws.specs.InOrder.{LineUpsAreInOrder};
+ghost use Rattle.world_laws.specs.OwnRow.{OpeningLinesUp, RowKeepsLineUp};
 ghost use Rattle.world_laws.specs.Staying.{MobilesKeepLineUps, RelayLeavesOthers, StationBreaksKeepLineUps, StationsKeepLineUps, SwitchKeepsLineUps, TimeLeavesOthers};
 
 /// Law: whatever events happened, a connection that is lined up with its mobile, and whose channels no other mobile is on, stays
@@ -32,4 +39,21 @@ pub fn station_breaks_keep_line_ups()
 pub fn relay_leaves_others()
     ensures handled { (settings : Parameters) (events : List WorldEvent) → RelayLeavesOthers settings events }
     ensures passed { (settings : Parameters) (events : List WorldEvent) (ms : ℕ) → TimeLeavesOthers settings events ms }
+{}
+
+/// Law: a row of the table by which a connection stays open keeps it lined up: what it relays joins what waits for the switch, and
+/// its channels change their roles. What is on its way up is said as lists; the step is one that what is on its way allows.
+pub fn rows_keep_line_ups()
+    ensures { (m : ℕ) (s : Connection) (input : Input) (offer : Option Channel) (r : Row) → RowKeepsLineUp m s input offer r }
+{}
+
+/// Law: a connection is lined up from the row on that puts CR with its initial message.
+pub fn opening_lines_up()
+    ensures { (m : ℕ) → OpeningLinesUp m }
+{}
+
+/// Law: of a connection that is lined up the switch accepted the first messages that its mobile's upper layers sent, once and in
+/// order, and judged no gap.
+pub fn line_ups_are_in_order()
+    ensures { (m : ℕ) (w : Actors) (mobile : ℕ) (s : Connection) → LineUpsAreInOrder m w mobile s }
 {}

@@ -1,0 +1,21 @@
+-- What the switch accepts of a connection that is lined up is in order.
+use Rattle.std.proofs.Common.{◌≡◌, ℕ, List, [], ◌∷◌, ◌++◌, ap, ◌∙◌, subst, append_assoc}
+use Rattle.conn_table.specs.Connection.{Connection}
+use Rattle.dtap_codec.specs.Places.{Rise}
+use Rattle.lineup.specs.LineUp.{LineUp, flow, parts_of, line}
+use Rattle.lineup.specs.Order.{coming}
+use Rattle.lineup.proofs.Following.{Follows-rise}
+use Rattle.lineup.proofs.Ordering.{IsInOrder-rise}
+use Rattle.world_table.specs.World.{Actors}
+use Rattle.world_laws.specs.InOrder.{LineUpsAreInOrder}
+use Rattle.world_laws.specs.LineUps.{taken_of, line_up}
+use Rattle.world_laws.proofs.OwnRow.{flow-twice}
+
+pub LineUpsAreInOrder-new : (m : ℕ) (w : Actors) (mobile : ℕ) (s : Connection) → LineUpsAreInOrder m w mobile s
+LineUpsAreInOrder-new m w mobile s two lined =
+    let l : LineUp = line_up w lined.one s in
+    let rise = Follows-rise lined.lined.alive.follows in
+    let same : line l ≡ flow (taken_of w s.number) ++ coming l =
+    ap (λ (xs : List (List ℕ)). xs ++ flow l.out ++ parts_of (l.old ++ l.serving ∷ l.target ∷ [])) (flow-twice (taken_of w s.number))
+    ∙ append_assoc (flow (taken_of w s.number)) (flow l.out) (parts_of (l.old ++ l.serving ∷ l.target ∷ [])) in
+    IsInOrder-rise (taken_of w s.number) (coming l) two (subst (λ (xs : List (List ℕ)). Rise m lined.one.end.sent 0 xs rise.0) same rise.1)

@@ -1,0 +1,160 @@
+-- How a change of channel stands after a row, by what the row does to the roles of channels.
+use Rattle.std.proofs.Common.{◌≡◌, ℕ, Bool, true, false, ◌&&◌, ◌||◌, not, if◌then◌else◌, List, [], ◌∷◌, length, Option, Some, None, refl, sym, ap, ◌∙◌, subst, arith}
+use Rattle.conn_messages.specs.declared.channel.Place.{Place}
+use Rattle.conn_table.specs.declared.state.Drain.{Drain}
+use Rattle.conn_table.specs.declared.state.Target.{Target}
+use Rattle.conn_table.specs.Connection.{Connection}
+use Rattle.controller_table.specs.Controller.{place_of}
+use Rattle.hold_queue.specs.ChainState.{Tenure as Held}
+use Rattle.lineup.specs.Alive.{Stands, Stays, some_lost}
+use Rattle.lineup.specs.Alive.Stays.{remains, left}
+use Rattle.lineup.specs.ChangeStep.{after_complete, ended}
+use Rattle.lineup.specs.LineUp.{Item, Seat, flow, controls_of, controls_in, texts_in}
+use Rattle.lineup.specs.LineUp.Seat.{on_serving, on_target, moving, gone}
+use Rattle.lineup.proofs.Standing.{Stands-fewer, Stands-commands, Stands-completes, Stands-goes_back}
+use Rattle.world_laws.specs.OwnStep.{lacks, some_lacks, target_items, OwnStep}
+use Rattle.world_laws.specs.OwnStep.OwnStep.{stays, tells, completes, goes_back}
+use Rattle.world_laws.specs.LineUps.{is_ended, draining_tenure, old_tenure, old_tenures, came, is_gone, commanded_target, target_tenure, is_changing}
+
+-- ---- whether something is missing, whatever is held
+
+one-lacks : (coming : Place → List Item) (up : ℕ → Bool) (d : Drain) (hold : List (List ℕ)) → (old_tenure coming up d hold).is_lost ≡ lacks coming up d
+one-lacks coming up d hold = by_done d.is_done where
+  by_done : (b : Bool) → (if b then ended hold else draining_tenure (up d.channel.station) (coming (place_of d.channel)) hold).is_lost ≡ (if b then false else (not (up d.channel.station) && not (is_ended (coming (place_of d.channel)))))
+  by_done true = refl
+  by_done false = refl
+
+pub old-lacks : (coming : Place → List Item) (up : ℕ → Bool) (ds : List Drain) (ts : List Held) → some_lost (old_tenures coming up ds ts) ≡ some_lacks coming up ds
+old-lacks coming up [] ts = refl
+old-lacks coming up (d ∷ ds) [] = ap (λ (b : Bool). b || some_lost (old_tenures coming up ds [])) (one-lacks coming up d []) ∙ ap (λ (b : Bool). lacks coming up d || b) (old-lacks coming up ds [])
+old-lacks coming up (d ∷ ds) (t ∷ ts) = ap (λ (b : Bool). b || some_lost (old_tenures coming up ds ts)) (one-lacks coming up d t.zero) ∙ ap (λ (b : Bool). lacks coming up d || b) (old-lacks coming up ds ts)
+
+-- ---- counts of the target
+
+target-texts : (coming : Place → List Item) (up : ℕ → Bool) (seat : Seat) (o : Option Target) → texts_in (target_tenure coming up seat o).items ≡ texts_in (target_items coming o)
+target-texts coming up seat None = refl
+target-texts coming up seat (Some t) = refl
+
+target-controls : (coming : Place → List Item) (up : ℕ → Bool) (seat : Seat) (o : Option Target) → controls_in (target_tenure coming up seat o).items ≡ controls_in (target_items coming o)
+target-controls coming up seat None = refl
+target-controls coming up seat (Some t) = refl
+
+-- by counts alone
+abbrev pub StandsWith : Option Target → ℕ → Seat → ℕ → (Place → List Item) → ℕ → Type 0
+StandsWith o commands seat serving coming link = Stands (is_changing o) commands seat serving (texts_in (target_items coming o)) (controls_in (target_items coming o)) link
+
+counted : {before after : Place → List Item} {up : ℕ → Bool} {s next : Connection} {commands commands2 : ℕ} {seat seat2 : Seat} (link : ℕ) → OwnStep before after up s next commands commands2 seat seat2
+    → StandsWith (commanded_target s.state) commands seat (controls_in (before (place_of s.serving))) before link → StandsWith (commanded_target next.state) commands2 seat2 (controls_in (after (place_of next.serving))) after link
+counted {before} {after} {s} {next} {commands} {commands2} {seat} link (stays serving same fewer texts controls told covers) stands =
+    subst (λ (o : Option Target). StandsWith o commands2 seat (controls_in (after (place_of next.serving))) after link) (sym same)
+    (let moved = ap (λ (c : _). controls_in (after (place_of c))) serving in Stands-fewer told (omega arith) texts controls (omega arith) stands)
+counted {before} {after} {s} {next} {commands} {commands2} {seat} link (tells serving none t to fewer nothing told covers) stands =
+    subst (λ (o : Option Target). StandsWith o commands2 seat (controls_in (after (place_of next.serving))) after link) (sym to)
+    (let moved = ap (λ (c : _). controls_in (after (place_of c))) serving in
+    let texts = ap (λ (ms : List (List ℕ)). length (flow ms)) nothing in
+    let controls = ap controls_of nothing in
+    Stands-fewer told (omega arith) (omega arith) (omega arith) (omega arith) (Stands-commands (subst (λ (o : Option Target). StandsWith o commands seat (controls_in (before (place_of s.serving))) before link) none stands)))
+counted {before} {after} {s} {next} {commands} {commands2} {seat} link (completes t was now serving more told covers) stands =
+    subst (λ (o : Option Target). StandsWith o commands2 (after_complete seat) (controls_in (after (place_of next.serving))) after link) (sym now)
+    (let moved = ap (λ (c : _). controls_in (after (place_of c))) serving in
+    Stands-fewer told (omega arith) (omega arith) (omega arith) (omega arith) (Stands-completes more (subst (λ (o : Option Target). StandsWith o commands seat (controls_in (before (place_of s.serving))) before link) was stands)))
+counted {before} {after} {s} {next} {commands} {commands2} {seat} link (goes_back t was now serving more told covers) stands =
+    subst (λ (o : Option Target). StandsWith o commands2 seat (controls_in (after (place_of next.serving))) after link) (sym now)
+    (let moved = ap (λ (c : _). controls_in (after (place_of c))) serving in
+    let back = Stands-goes_back more (subst (λ (o : Option Target). StandsWith o commands seat (controls_in (before (place_of s.serving))) before link) was stands) in
+    Stands-fewer told (omega arith) (omega arith) (omega arith) (omega arith) back.1)
+
+pub step-stands : {before after : Place → List Item} {up : ℕ → Bool} {s next : Connection} {commands commands2 : ℕ} {seat seat2 : Seat} (link : ℕ) → OwnStep before after up s next commands commands2 seat seat2
+    → Stands (is_changing (commanded_target s.state)) commands seat (controls_in (before (place_of s.serving))) (texts_in (target_tenure before up seat (commanded_target s.state)).items) (controls_in (target_tenure before up seat (commanded_target s.state)).items) link
+    → Stands (is_changing (commanded_target next.state)) commands2 seat2 (controls_in (after (place_of next.serving))) (texts_in (target_tenure after up seat2 (commanded_target next.state)).items) (controls_in (target_tenure after up seat2 (commanded_target next.state)).items) link
+step-stands {before} {after} {up} {s} {next} {seat} {seat2} link step stands =
+    let a = target-texts before up seat (commanded_target s.state) in
+    let b = target-controls before up seat (commanded_target s.state) in
+    let c = target-texts after up seat2 (commanded_target next.state) in
+    let d = target-controls after up seat2 (commanded_target next.state) in
+    Stands-fewer (omega arith) (omega arith) (omega arith) (omega arith) (omega arith)
+    (counted link step (Stands-fewer (omega arith) (omega arith) (omega arith) (omega arith) (omega arith) stands))
+
+-- the counts of a line-up
+pub stands-counted : (coming : Place → List Item) (up : ℕ → Bool) (seat : Seat) (s : Connection) {commands serving : ℕ} (link : ℕ)
+    → Stands (is_changing (commanded_target s.state)) commands seat serving (texts_in (target_tenure coming up seat (commanded_target s.state)).items) (controls_in (target_tenure coming up seat (commanded_target s.state)).items) link
+    → StandsWith (commanded_target s.state) commands seat serving coming link
+stands-counted coming up seat s link stands =
+    let a = target-texts coming up seat (commanded_target s.state) in
+    let b = target-controls coming up seat (commanded_target s.state) in
+    Stands-fewer (omega arith) (omega arith) (omega arith) (omega arith) (omega arith) stands
+
+-- ---- what is missing
+
+pub record NoneMissing (seat : Seat) (old serving target : Bool) : Type 0 where
+  pub here : is_gone seat ≡ false
+  pub old_none : old ≡ false
+  pub serving_none : serving ≡ false
+  pub target_none : target ≡ false
+
+pub none-missing : (seat : Seat) (old serving target : Bool) → not (is_gone seat) && not old && not serving && not target ≡ true → NoneMissing seat old serving target
+none-missing seat old serving target is = by_all (is_gone seat) old serving target refl refl refl refl is where
+  by_all : (g a b c : Bool) → is_gone seat ≡ g → old ≡ a → serving ≡ b → target ≡ c → not g && not a && not b && not c ≡ true → NoneMissing seat old serving target
+  by_all false false false false e f h i is = record { here = e; old_none = f; serving_none = h; target_none = i }
+  by_all true a b c e f h i is = absurd cc
+  by_all false true b c e f h i is = absurd cc
+  by_all false false true c e f h i is = absurd cc
+  by_all false false false true e f h i is = absurd cc
+
+pub missing-none : (seat : Seat) (old serving target : Bool) → NoneMissing seat old serving target → not (is_gone seat) && not old && not serving && not target ≡ true
+missing-none seat old serving target none = rw (none.here, none.old_none, none.serving_none, none.target_none) refl
+
+-- a target that isn't given up lacks nothing
+target-lost : (coming after : Place → List Item) (up : ℕ → Bool) (seat : Seat) (o : Option Target) → (target_tenure after up seat o).is_lost ≡ (target_tenure coming up seat o).is_lost
+target-lost coming after up seat None = refl
+target-lost coming after up seat (Some t) = refl
+
+gone-complete : (seat : Seat) → is_gone (after_complete seat) ≡ is_gone seat
+gone-complete on_serving = refl
+gone-complete on_target = refl
+gone-complete moving = refl
+gone-complete gone = refl
+
+either-false : (a b : Bool) → a ≡ false → a && b ≡ false
+either-false false b is = refl
+either-false true b is = absurd cc
+
+-- FAILURE comes from the serving channel: the mobile isn't on the target
+not-came : {seat : Seat} → Stays on_serving seat → is_gone seat ≡ false → came seat ≡ false
+not-came remains here = refl
+not-came left here = absurd cc
+
+lost-away : (coming : Place → List Item) (up : ℕ → Bool) (seat : Seat) (o : Option Target) → came seat ≡ false → (target_tenure coming up seat o).is_lost ≡ false
+lost-away coming up seat None away = refl
+lost-away coming up seat (Some t) away = both (not (up t.channel.station)) away where
+  both : (a : Bool) → came seat ≡ false → a && came seat ≡ false
+  both true is = is
+  both false is = refl
+
+pub step-intact : {before after : Place → List Item} {up : ℕ → Bool} {s next : Connection} {commands commands2 link : ℕ} {seat seat2 : Seat} → OwnStep before after up s next commands commands2 seat seat2
+    → StandsWith (commanded_target s.state) commands seat (controls_in (before (place_of s.serving))) before link
+    → NoneMissing seat2 (some_lacks after up next.draining) (not (up next.serving.station)) (target_tenure after up seat2 (commanded_target next.state)).is_lost → NoneMissing seat (some_lacks before up s.draining) (not (up s.serving.station)) (target_tenure before up seat (commanded_target s.state)).is_lost
+step-intact {before} {after} {up} {s} {next} {seat} (stays serving same fewer texts controls told covers) stands none = record {
+  here = none.here;
+  old_none = covers none.old_none;
+  serving_none = ap (λ (c : _). not (up c.station)) (sym serving) ∙ none.serving_none;
+  target_none = target-lost after before up seat (commanded_target s.state) ∙ ap (λ (o : Option Target). (target_tenure after up seat o).is_lost) (sym same) ∙ none.target_none;
+}
+step-intact {before} {up} {s} {seat} (tells serving no_target t to fewer nothing told covers) stands none = record {
+  here = none.here;
+  old_none = covers none.old_none;
+  serving_none = ap (λ (c : _). not (up c.station)) (sym serving) ∙ none.serving_none;
+  target_none = ap (λ (o : Option Target). (target_tenure before up seat o).is_lost) no_target;
+}
+step-intact {before} {up} {s} {seat} (completes t was now serving more told covers) stands none = record {
+  here = sym (gone-complete seat) ∙ none.here;
+  old_none = (covers none.old_none).0;
+  serving_none = (covers none.old_none).1;
+  target_none = ap (λ (o : Option Target). (target_tenure before up seat o).is_lost) was ∙ either-false (not (up t.channel.station)) (came seat) (ap (λ (c : _). not (up c.station)) (sym serving) ∙ none.serving_none);
+}
+step-intact {before} {up} {s} {commands} {link} {seat} (goes_back t was now serving more told covers) stands none = record {
+  here = none.here;
+  old_none = covers none.old_none;
+  serving_none = ap (λ (c : _). not (up c.station)) (sym serving) ∙ none.serving_none;
+  target_none = lost-away before up seat (commanded_target s.state) (not-came (Stands-goes_back more (subst (λ (o : Option Target). StandsWith o commands seat (controls_in (before (place_of s.serving))) before link) was stands)).0 none.here);
+}

@@ -1,0 +1,118 @@
+-- The channels of a connection after a row, by the step that the row does to their roles.
+use Rattle.std.proofs.Common.{◌≡◌, ℕ, suc, Bool, true, false, ◌&&◌, ◌||◌, not, if◌then◌else◌, cond, List, [], ◌∷◌, Option, Some, None, option_map, unwrap_or, refl, sym, ap, ◌∙◌, subst, inl, inr}
+use Rattle.std.specs.List.{AllByRecursion}
+use Rattle.std.proofs.lemmas.Bool.{cases_Bool}
+use Rattle.conn_messages.specs.declared.channel.Channel.{Channel}
+use Rattle.conn_messages.specs.declared.channel.Place.{Place}
+use Rattle.conn_table.specs.declared.input.Input.{Input}
+use Rattle.conn_table.specs.declared.state.Drain.{Drain}
+use Rattle.conn_table.specs.declared.state.Stage.TheVariants.{Preparing, Changing}
+use Rattle.conn_table.specs.declared.state.State.{State}
+use Rattle.conn_table.specs.declared.state.State.TheVariants.{Live}
+use Rattle.conn_table.specs.declared.state.Target.{Target}
+use Rattle.conn_table.specs.Connection.{Connection, is_at, drain_at}
+use Rattle.conn_table.specs.Roles.{TargetRole, Roles, RoleStep, target_role, after_step, still_draining, with_target, MayBegin, GoesOn}
+use Rattle.conn_table.specs.Steps.{Row, done_at}
+use Rattle.controller_table.specs.Controller.{place_of}
+use Rattle.hold_queue.specs.HoldState.{HoldState}
+use Rattle.lineup.specs.LineUp.{Item}
+use Rattle.world_laws.specs.LineUps.{is_ended, commanded_target}
+use Rattle.world_laws.specs.OwnStep.{lacks, some_lacks}
+
+-- ---- the roles after a row
+
+unfoldable pub commanded_of : Option TargetRole → Option Target
+commanded_of None = None
+commanded_of (Some t) = if t.is_commanded then Some t.target else None
+
+pub commanded-role : (state : State) → commanded_target state ≡ commanded_of (target_role state)
+unfolding commanded_of
+commanded-role (Live reference (Changing target)) = refl
+commanded-role (Live reference (Preparing target)) = refl
+commanded-role (Live reference _) = refl
+commanded-role _ = refl
+
+pub record ChannelsAfter (next : Connection) (roles : Roles) : Type 0 where
+  pub serving : next.serving ≡ roles.serving
+  pub draining : next.draining ≡ roles.draining
+  pub target : commanded_target next.state ≡ commanded_of roles.target
+
+begun-roles : (begun : Option Target) (input : Input) (offer : Option Channel) (roles : Roles) → MayBegin begun input offer roles
+    → ((with_target begun roles).serving ≡ roles.serving) × ((with_target begun roles).draining ≡ roles.draining) × (commanded_of (with_target begun roles).target ≡ commanded_of roles.target)
+unfolding commanded_of
+begun-roles None input offer roles may = (refl, refl, refl)
+begun-roles (Some target) input offer roles may = (refl, refl, sym (ap commanded_of may.2))
+
+-- a change that begins leaves them, as its mobile isn't commanded yet
+pub channels-after : (step : RoleStep) (before : Roles) (down : HoldState) (input : Input) (offer : Option Channel) (r : Row) → GoesOn step before down input offer r → ChannelsAfter r.next (after_step step before)
+channels-after step before down input offer r goes =
+    let begun = begun-roles goes.begun input offer (after_step step before) goes.may in
+    record {
+      serving = ap (λ (roles : Roles). roles.serving) goes.roles ∙ begun.0;
+      draining = ap (λ (roles : Roles). roles.draining) goes.roles ∙ begun.1;
+      target = commanded-role r.next.state ∙ ap (λ (roles : Roles). commanded_of roles.target) goes.roles ∙ begun.2;
+    }
+
+-- ---- an old channel is released, and leaves
+
+-- those that leave lack nothing
+pub still-lacks : (coming : Place → List Item) (up : ℕ → Bool) (ds : List Drain) → some_lacks coming up (still_draining ds) ≡ some_lacks coming up ds
+still-lacks coming up [] = refl
+still-lacks coming up (d ∷ ds) =
+    elim (cases_Bool d.is_done) [
+      | inl done ↦ ap (λ (b : Bool). some_lacks coming up (cond b (still_draining ds) (d ∷ ds))) done ∙ still-lacks coming up ds ∙ ap (λ (b : Bool). (cond b false (not (up d.channel.station) && not (is_ended (coming (place_of d.channel))))) || some_lacks coming up ds) (sym done)
+      | inr drains ↦ ap (λ (b : Bool). some_lacks coming up (cond b (still_draining ds) (d ∷ ds))) drains
+    ]
+
+-- Of the channel that is released all came; of the others as much is missing as before.
+abbrev pub AreReleased : (Place → List Item) → (Place → List Item) → (ℕ → Bool) → Place → List Drain → Type 0
+AreReleased before after up at ds = AllByRecursion (λ d. (is_at at d.channel ≡ true → lacks before up d ≡ false) × (is_at at d.channel ≡ false → lacks after up d ≡ lacks before up d)) ds
+
+pub both-false : (a b : Bool) → a || b ≡ false → (a ≡ false) × (b ≡ false)
+both-false false b is = (refl, is)
+both-false true b is = absurd cc
+
+-- where nothing was released the list is as it was
+same-lacks : (before after : Place → List Item) (up : ℕ → Bool) (at : Place) (ds : List Drain) → AreReleased before after up at ds → some_lacks after up ds ≡ false → some_lacks before up ds ≡ false
+same-lacks before after up at [] released none = refl
+same-lacks before after up at (d ∷ ds) released none =
+    let both = both-false (lacks after up d) (some_lacks after up ds) none in
+    ap (λ (b : Bool). b || some_lacks before up ds) (elim (cases_Bool (is_at at d.channel)) [
+      | inl here ↦ released.0.0 here
+      | inr other ↦ sym (released.0.1 other) ∙ both.0
+    ]) ∙ same-lacks before after up at ds released.1 both.1
+
+pub done-lacks : (before after : Place → List Item) (up : ℕ → Bool) (at : Place) (place : ℕ) (ds : List Drain) → drain_at at ds ≡ Some place → AreReleased before after up at ds → some_lacks after up (done_at place ds) ≡ false → some_lacks before up ds ≡ false
+done-lacks before after up at place [] found released none = absurd cc
+done-lacks before after up at place (d ∷ ds) found released none =
+    elim (cases_Bool (is_at at d.channel && not d.is_done)) [
+      | inl here ↦ first here (some-same (sym (ap (λ (b : Bool). cond b (Some 0) (option_map (λ place. suc place) (drain_at at ds))) here) ∙ found)) none
+      | inr other ↦ behind (drain_at at ds) refl (sym (ap (λ (b : Bool). cond b (Some 0) (option_map (λ place. suc place) (drain_at at ds))) other) ∙ found) (λ later is. done-lacks before after up at later ds is released.1)
+    ] where
+      some-same : {a b : ℕ} → Some a ≡ Some b → a ≡ b
+      some-same {a} e = ap (λ (o : Option ℕ). unwrap_or o a) e
+
+      left : (a b : Bool) → a && b ≡ true → a ≡ true
+      left true b is = refl
+      left false b is = absurd cc
+
+      first : is_at at d.channel && not d.is_done ≡ true → 0 ≡ place → some_lacks after up (done_at place (d ∷ ds)) ≡ false → some_lacks before up (d ∷ ds) ≡ false
+      first here is none =
+          ap (λ (b : Bool). b || some_lacks before up ds) (released.0.0 (left (is_at at d.channel) (not d.is_done) here))
+          ∙ same-lacks before after up at ds released.1 (subst (λ (n : ℕ). some_lacks after up (done_at n (d ∷ ds)) ≡ false) (sym is) none)
+
+      one : lacks after up d ≡ false → lacks before up d ≡ false
+      one none = elim (cases_Bool (is_at at d.channel)) [
+        | inl here ↦ released.0.0 here
+        | inr other ↦ sym (released.0.1 other) ∙ none
+      ]
+
+      behind : (o : Option ℕ) → drain_at at ds ≡ o → option_map (λ place. suc place) o ≡ Some place → ((later : ℕ) → drain_at at ds ≡ Some later → some_lacks after up (done_at later ds) ≡ false → some_lacks before up ds ≡ false) → some_lacks before up (d ∷ ds) ≡ false
+      behind None is place_is rest = absurd cc
+      behind (Some later) is place_is rest =
+          let both = both-false (lacks after up d) (some_lacks after up (done_at later ds)) (subst (λ (n : ℕ). some_lacks after up (done_at n (d ∷ ds)) ≡ false) (sym (some-same place_is)) none) in
+          ap (λ (b : Bool). b || some_lacks before up ds) (one both.0) ∙ rest later is both.1
+
+-- so a channel that leaves, leaves nothing missing behind
+pub leaves-covers : (before after : Place → List Item) (up : ℕ → Bool) (at : Place) (place : ℕ) (ds : List Drain) → drain_at at ds ≡ Some place → AreReleased before after up at ds → some_lacks after up (still_draining (done_at place ds)) ≡ false → some_lacks before up ds ≡ false
+leaves-covers before after up at place ds found released none = done-lacks before after up at place ds found released (sym (still-lacks after up (done_at place ds)) ∙ none)

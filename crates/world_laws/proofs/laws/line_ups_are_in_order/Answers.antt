@@ -1,0 +1,5 @@
+use Rattle.world_laws.proofs.InOrder.{LineUpsAreInOrder-new}
+use Rattle.world_laws.proofs.laws.line_ups_are_in_order.Goals as goal
+
+pub returns : goal.returns
+returns c = LineUpsAreInOrder-new

@@ -1,0 +1,11 @@
+-- What the switch accepts of a connection that is lined up.
+use Rattle.std.specs.Prelude.{ℕ, ◌≤◌}
+use Rattle.conn_table.specs.Connection.{Connection}
+use Rattle.lineup.specs.Order.{IsInOrder, coming}
+use Rattle.world_table.specs.World.{Actors}
+use Rattle.world_laws.specs.LineUps.{taken_of, line_up}
+use Rattle.world_laws.specs.Staying.{AreLinedUp}
+
+-- The switch accepted the first messages that its mobile's upper layers sent, once and in order, and judged no gap.
+abbrev pub LineUpsAreInOrder : ℕ → Actors → ℕ → Connection → Type 0
+LineUpsAreInOrder m w mobile s = 2 ≤ m → (lined : AreLinedUp m w mobile s) → IsInOrder m lined.one.end.sent (taken_of w s.number) (coming (line_up w lined.one s))

@@ -1,0 +1,49 @@
+-- What may still come of a connection's messages, by what is on its way up from its channels.
+use Rattle.std.specs.Prelude.{◌≡◌, ℕ, ◌&&◌, not, Bool, true, false, List, [], ◌∷◌, ◌++◌, Option, Some, None}
+use Rattle.std.specs.List.{AllByRecursion}
+use Rattle.bssmap_codec.specs.Layer3.{IsLayer3}
+use Rattle.conn_messages.specs.declared.channel.Channel.{Channel}
+use Rattle.conn_messages.specs.declared.channel.Place.{Place}
+use Rattle.conn_table.specs.declared.state.Drain.{Drain}
+use Rattle.conn_table.specs.declared.state.Target.{Target}
+use Rattle.conn_table.specs.Connection.{Connection}
+use Rattle.conn_table.specs.Streams.{Future, undone}
+use Rattle.controller_table.specs.Controller.{place_of}
+use Rattle.hold_queue.specs.ChainState.{Tenure as Held}
+use Rattle.lineup.specs.LineUp.{Item, messages_in}
+use Rattle.world_laws.specs.LineUps.{is_ended, commanded_target}
+
+abbrev pub AreLayer3 : List (List ℕ) → Type 0
+AreLayer3 messages = AllByRecursion IsLayer3 messages
+
+-- An empty message, which is none, stands for what is missing.
+abbrev pub mark : Bool → List (List ℕ)
+mark true = [] ∷ []
+mark false = []
+
+-- ---- what may still come, by what is on its way up
+
+-- on an old channel
+abbrev pub AsOld : Future → (Place → List Item) → (ℕ → Bool) → Channel → Type 0
+AsOld future coming up c = (future (place_of c) ≡ messages_in (coming (place_of c)) ++ mark (not (up c.station) && not (is_ended (coming (place_of c))))) × AreLayer3 (messages_in (coming (place_of c)))
+
+-- on the serving channel
+abbrev pub AsServing : Future → (Place → List Item) → (ℕ → Bool) → Channel → Type 0
+AsServing future coming up c = (future (place_of c) ≡ messages_in (coming (place_of c)) ++ mark (not (up c.station))) × AreLayer3 (messages_in (coming (place_of c)))
+
+-- on the target, behind which nothing comes
+abbrev pub AsTarget : Future → (Place → List Item) → Option Target → Type 0
+AsTarget future coming None = Unit {0}
+AsTarget future coming (Some t) = (b : Bool) × (future (place_of t.channel) ≡ messages_in (coming (place_of t.channel)) ++ mark b) × AreLayer3 (messages_in (coming (place_of t.channel)))
+
+-- what is held is whole messages, in a tenure for each old channel and the serving one
+abbrev pub AreHeld : List Drain → List Held → Type 0
+AreHeld draining [] = ⊥
+AreHeld [] (t ∷ ts) = AreLayer3 t.zero
+AreHeld (d ∷ ds) (t ∷ ts) = AreLayer3 t.zero × AreHeld ds ts
+
+pub record StandsFor (future : Future) (coming : Place → List Item) (up : ℕ → Bool) (s : Connection) : Type 0 where
+  pub old : AllByRecursion (AsOld future coming up) (undone s.draining)
+  pub serving : AsServing future coming up s.serving
+  pub target : AsTarget future coming (commanded_target s.state)
+  pub held : AreHeld s.draining s.up.tenures
