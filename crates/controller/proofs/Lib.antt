@@ -11,4 +11,5 @@ mod Moves
 pub mod One
 pub mod Planning
 mod Reporting
+mod TurnRows
 mod Stepping
