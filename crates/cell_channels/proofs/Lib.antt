@@ -1,1 +1,2 @@
 mod Follows
+mod Rows

@@ -10,6 +10,7 @@ use Rattle.conn_table.specs.declared.state.State.{State}
 use Rattle.conn_table.specs.declared.state.State.TheVariants.{WaitActivation, WaitEstablish, WaitConfirm, Live, Closed, Removed}
 use Rattle.conn_table.specs.Steps.{Row}
 use Rattle.conn_table.specs.Table.{row_of}
+use Rattle.controller_table.proofs.Entries.{Found, found as found_at, put_back_all}
 use Rattle.controller_table.specs.Controller.{Entry, has_number, put_back, remaining}
 use Rattle.controller_table.specs.Life.{aged, entry_after, new_entry, with_report}
 use Rattle.dtap_codec.specs.declared.report.Report.{Report}
@@ -32,38 +33,8 @@ all_map : (P : Entry → Type 0) (f : Entry → Entry) → ((e : Entry) → P e 
 all_map P f keeps [] all = tt
 all_map P f keeps (e ∷ es) all = (keeps e all.0, all_map P f keeps es all.1)
 
-all_remaining : (P : Entry → Type 0) (state : State) (e : Entry) (es : List Entry) → P e → AllByRecursion P es → AllByRecursion P (remaining state e ++ es)
-all_remaining P Removed e es holds all = all
-all_remaining P WaitActivation e es holds all = (holds, all)
-all_remaining P WaitEstablish e es holds all = (holds, all)
-all_remaining P WaitConfirm e es holds all = (holds, all)
-all_remaining P (Live reference stage) e es holds all = (holds, all)
-all_remaining P (Closed clearing) e es holds all = (holds, all)
-
-all_back : (P : Entry → Type 0) (e : Entry) (es : List Entry) → P e → AllByRecursion P es → AllByRecursion P (put_back e es)
-all_back P e [] holds all = tt
-all_back P e (x ∷ xs) holds all =
-    elim (cases_Bool (has_number e.connection.number x)) [
-      | inl hit ↦
-          subst (λ b. AllByRecursion P (if b then remaining e.connection.state e ++ xs else x ∷ put_back e xs)) (sym hit) (all_remaining P e.connection.state e xs holds all.1)
-      | inr miss ↦
-          subst (λ b. AllByRecursion P (if b then remaining e.connection.state e ++ xs else x ∷ put_back e xs)) (sym miss) (all.0, all_back P e xs holds all.1)
-    ]
-
-found_kept : (P : Entry → Type 0) (n : ℕ) (es : List Entry) (e : Entry) → AllByRecursion P es → find (has_number n) es ≡ Some e → P e × (e.connection.number ≡ n)
-found_kept P n [] e all found = absurd cc
-found_kept P n (x ∷ xs) e all found =
-    elim (cases_Bool (has_number n x)) [
-      | inl hit ↦
-          let is : x ≡ e = same x e (sym (ap (λ b. if b then Some x else find (has_number n) xs) hit) ∙ found) in
-          (subst P is all.0, subst (λ (y : Entry). y.connection.number ≡ n) is (eqb-true x.connection.number n hit))
-      | inr miss ↦ found_kept P n xs e all.1 (sym (ap (λ b. if b then Some x else find (has_number n) xs) miss) ∙ found)
-    ] where
-      same : (a b : Entry) → Some a ≡ Some b → a ≡ b
-      same a b is = cc
-
 pub find_kept : (p : Parameters) (n : ℕ) (es : List Entry) → AreKept p es → ForSome (find (has_number n) es) (IsKept p)
-find_kept p n es kept = λ e found. (found_kept (IsKept p) n es e kept.each found).0
+find_kept p n es kept = λ e found. (found_at (IsKept p) n es e kept.each found).holds
 
 -- ---- numbers rise
 
@@ -88,9 +59,9 @@ rising_back e old (x ∷ xs) found rising =
           (rising_remaining e.connection.state e xs (subst (λ (k : ℕ). AllByRecursion (IsAbove k) xs) (eqb-true x.connection.number e.connection.number hit) rising.0) rising.1)
       | inr miss ↦
           let behind : find (has_number e.connection.number) xs ≡ Some old = sym (ap (λ b. if b then Some x else find (has_number e.connection.number) xs) miss) ∙ found in
-          let has : IsAbove x.connection.number old × (old.connection.number ≡ e.connection.number) = found_kept (IsAbove x.connection.number) e.connection.number xs old rising.0 behind in
+          let has : Found (IsAbove x.connection.number) e.connection.number old = found_at (IsAbove x.connection.number) e.connection.number xs old rising.0 behind in
           subst (λ b. AreRising (if b then remaining e.connection.state e ++ xs else x ∷ put_back e xs)) (sym miss) (
-            all_back (IsAbove x.connection.number) e xs (subst (λ (k : ℕ). x.connection.number < k) has.1 has.0) rising.0,
+            put_back_all (IsAbove x.connection.number) e xs (subst (λ (k : ℕ). x.connection.number < k) has.is has.holds) rising.0,
             rising_back e old xs behind rising.1,
           )
     ]
@@ -125,7 +96,7 @@ all_aged_kept p ms es kept = record { each = all_map (IsKept p) (aged ms) (aged_
 
 put_back_kept : (p : Parameters) (e old : Entry) (n : ℕ) (es : List Entry) → AreKept p es → find (has_number n) es ≡ Some old → e.connection.number ≡ n → IsKept p e → AreKept p (put_back e es)
 put_back_kept p e old n es kept found number holds = record {
-  each = all_back (IsKept p) e es holds kept.each;
+  each = put_back_all (IsKept p) e es holds kept.each;
   rising = rising_back e old es (subst (λ (k : ℕ). find (has_number k) es ≡ Some old) (sym number) found) kept.rising;
 }
 
@@ -136,8 +107,8 @@ row_kept p e (Some r) n es kept found number holds = put_back_kept p (entry_afte
 found_row_kept : (p : Parameters) (e : Entry) (input : Input) (offer : Option Channel) (n : ℕ) (es : List Entry) → AreKept p es → IsOffer p offer → find (has_number n) es ≡ Some e →
     AreKept p (all_after p es e (row_of e.connection input offer))
 found_row_kept p e input offer n es kept offered found =
-    let has : IsKept p e × (e.connection.number ≡ n) = found_kept (IsKept p) n es e kept.each found in
-    row_kept p e (row_of e.connection input offer) n es kept found (number_after p e input offer has.0 offered ∙ has.1) (kept_after p e input offer has.0 offered)
+    let has : Found (IsKept p) n e = found_at (IsKept p) n es e kept.each found in
+    row_kept p e (row_of e.connection input offer) n es kept found (number_after p e input offer has.holds offered ∙ has.is) (kept_after p e input offer has.holds offered)
 
 steps_kept_at : (p : Parameters) (o : Option Entry) (n : ℕ) (input : Input) (offer : Option Channel) (fits : Bool) (old new : List Entry) (outs outs_after : List Out) → AreKept p old → IsOffer p offer →
     find (has_number n) old ≡ o → StepsFor p o input offer fits old new outs outs_after → AreKept p new
@@ -170,8 +141,8 @@ report_kept p number report e kept =
 reports_kept_at : (p : Parameters) (o : Option Entry) (n number : ℕ) (report : Report) (es : List Entry) → AreKept p es → find (has_number n) es ≡ o → AreKept p (all_with_report number report o es)
 reports_kept_at p None n number report es kept found = kept
 reports_kept_at p (Some e) n number report es kept found =
-    let has : IsKept p e × (e.connection.number ≡ n) = found_kept (IsKept p) n es e kept.each found in
-    put_back_kept p (with_report number report e) e n es kept found has.1 (report_kept p number report e has.0)
+    let has : Found (IsKept p) n e = found_at (IsKept p) n es e kept.each found in
+    put_back_kept p (with_report number report e) e n es kept found has.is (report_kept p number report e has.holds)
 
 pub reports_kept : (p : Parameters) (n number : ℕ) (report : Report) (es : List Entry) → AreKept p es → AreKept p (all_with_report number report (find (has_number n) es) es)
 reports_kept p n number report es kept = reports_kept_at p (find (has_number n) es) n number report es kept refl

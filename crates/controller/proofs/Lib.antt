@@ -11,5 +11,6 @@ mod Moves
 pub mod One
 pub mod Planning
 mod Reporting
+mod TurnRows
 mod Stepping
 pub mod LifeLaws

@@ -13,7 +13,7 @@ use Rattle.controller_table.specs.Life.{by_fitting, by_row, entry_after, measure
 use Rattle.controller_table.specs.Reports.{decision_over}
 use Rattle.controller.specs.Reporting.{decided_in, measured_in}
 use Rattle.controller.proofs.Moves.{Goes, goes_on}
-use Rattle.controller.proofs.Stepping.{FoundIn, NumberOf, found_in, put_back_all}
+use Rattle.controller_table.proofs.Entries.{FoundIn, NumberOf, found_in, put_back_all}
 use Rattle.controller.proofs.Reporting.{found_again, report_behind_row}
 use Rattle.dtap_codec.specs.declared.report.Report.{Report}
 use Rattle.ho_decision.specs.declared.decision.Decision.{Decision}

@@ -9,8 +9,6 @@ use Rattle.conn_messages.specs.declared.message.Message.{Message}
 use Rattle.conn_messages.specs.declared.out.Out.{Out}
 use Rattle.conn_messages.specs.Out.{IsSound, outs_of}
 use Rattle.conn_table.specs.declared.input.Input.{Input}
-use Rattle.conn_table.specs.declared.state.State.{State}
-use Rattle.conn_table.specs.declared.state.State.TheVariants.{WaitActivation, WaitEstablish, WaitConfirm, Live, Closed, Removed}
 use Rattle.conn_table.specs.Steps.{Row}
 use Rattle.conn_table.specs.Table.{row_of}
 use Rattle.connections.specs.Entries.{IsBelow}
@@ -20,6 +18,7 @@ use Rattle.controller.specs.Many.{IsReadyFor, IsRow}
 use Rattle.controller.proofs.Dues.{no_offer}
 use Rattle.controller_table.specs.Controller.{Controller, Entry, turn, has_number, entry_of, put_back, remaining}
 use Rattle.controller_table.specs.Life.{aged, by_fitting, concerning_too, entry_after}
+use Rattle.controller_table.proofs.Entries.{remaining_all}
 use Rattle.controller_table.proofs.Others.{found_number}
 use Rattle.settings.specs.Parameters.{Parameters}
 
@@ -63,14 +62,6 @@ room_for p o plan made old new row ready done = ap length (made_at p o plan made
 
 -- ---- the next number stays above all
 
-below_remaining : (next : ℕ) (state : State) (e : Entry) (es : List Entry) → IsBelow next e → AllByRecursion (IsBelow next) es → AllByRecursion (IsBelow next) (remaining state e ++ es)
-below_remaining next Removed e es is all = all
-below_remaining next WaitActivation e es is all = (is, all)
-below_remaining next WaitEstablish e es is all = (is, all)
-below_remaining next WaitConfirm e es is all = (is, all)
-below_remaining next (Live reference stage) e es is all = (is, all)
-below_remaining next (Closed clearing) e es is all = (is, all)
-
 -- an entry is put in the place of the one with its number
 pub below_back : (next : ℕ) (e : Entry) (es : List Entry) → AllByRecursion (IsBelow next) es → AllByRecursion (IsBelow next) (put_back e es)
 below_back next e [] all = tt
@@ -78,7 +69,7 @@ below_back next e (x ∷ xs) all =
     elim (cases_Bool (has_number e.connection.number x)) [
       | inl hit ↦
           subst (λ b. AllByRecursion (IsBelow next) (if b then remaining e.connection.state e ++ xs else x ∷ put_back e xs)) (sym hit)
-          (below_remaining next e.connection.state e xs (subst (λ (n : ℕ). n < next) (eqb-true x.connection.number e.connection.number hit) all.0) all.1)
+          (remaining_all (IsBelow next) e.connection.state e xs (subst (λ (n : ℕ). n < next) (eqb-true x.connection.number e.connection.number hit) all.0) all.1)
       | inr miss ↦ subst (λ b. AllByRecursion (IsBelow next) (if b then remaining e.connection.state e ++ xs else x ∷ put_back e xs)) (sym miss) (all.0, below_back next e xs all.1)
     ]
 

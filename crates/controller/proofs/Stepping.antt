@@ -1,6 +1,5 @@
 -- A connection's row, done in the controller.
-use Rattle.std.proofs.Common.{◌≡◌, ℕ, ◌+◌, ◌-◌, ◌%◌, ◌<◌, take, rules, count_by, Bool, true, cond, List, [], ◌∷◌, ◌++◌, drop, fold, find, length, Option, Some, None, sym, subst, ap, ◌∙◌, inl, inr}
-use Rattle.std.proofs.lemmas.Bool.{cases_Bool, eqb-true}
+use Rattle.std.proofs.Common.{◌≡◌, ℕ, ◌+◌, ◌-◌, ◌%◌, ◌<◌, take, rules, count_by, Bool, true, List, [], ◌++◌, drop, fold, find, length, Option, Some, None, sym, subst, ap, ◌∙◌}
 use Rattle.std.proofs.Math.Seq.{drop-append_seam, take-length}
 use Rattle.std.proofs.lemmas.List.{length-drop}
 use Rattle.std.specs.List.{AllByRecursion}
@@ -10,17 +9,16 @@ use Rattle.conn_messages.specs.declared.message.Message.{Message}
 use Rattle.conn_messages.specs.declared.out.Out.{Out}
 use Rattle.conn_messages.specs.ChannelUse.{use_by}
 use Rattle.conn_messages.specs.Out.{IsSound, outs_of}
-use Rattle.conn_table.specs.declared.state.State.{State}
-use Rattle.conn_table.specs.declared.state.State.TheVariants.{WaitActivation, WaitEstablish, WaitConfirm, Live, Closed, Removed}
 use Rattle.conn_table.specs.declared.input.Input.{Input}
 use Rattle.conn_table.specs.Steps.{Row}
 use Rattle.conn_table.specs.Streams.{OfRow}
 use Rattle.conn_table.specs.Table.{row_of}
 use Rattle.connections.specs.Entries.{IsBelow}
 use Rattle.connections.specs.Steps.{DoesRow, StepsFor, all_after}
+use Rattle.controller_table.proofs.Entries.{FoundIn, NumberOf, found_in, number_of_found, put_back_all}
 use Rattle.controller_table.proofs.Numbers.{keeps_number}
 use Rattle.controller_table.specs.declared.channel_state.ChannelState.{ChannelState}
-use Rattle.controller_table.specs.Controller.{Controller, Entry, channels_after, entry_of, has_number, put_back, remaining, turn}
+use Rattle.controller_table.specs.Controller.{Controller, Entry, channels_after, entry_of, has_number, put_back, turn}
 use Rattle.controller_table.specs.Life.{begins_handover, by_fitting, by_row, entry_after}
 use Rattle.settings.specs.Parameters.{Parameters}
 use Rattle.controller.specs.Doing.{Turns, by_offer, following}
@@ -37,50 +35,6 @@ row_turns c after e r entries outs outs_after same_entries same_outs sound follo
       ∙ ap (λ (es : List Entry). following e.connection.number r.outs (record c { entries = es })) same_entries,
   same_outs,
 )
-
--- ---- numbers
-
--- the entry that is found has the number
-abbrev pub NumberOf : ℕ → Option Entry → Type 0
-NumberOf number None = Unit {0}
-NumberOf number (Some e) = e.connection.number ≡ number
-
--- what holds of all holds of the one that is found, which has the number
-pub record Found (P : Entry → Type 0) (number : ℕ) (e : Entry) : Type 0 where
-  pub holds : P e
-  pub is : e.connection.number ≡ number
-
-abbrev pub FoundIn : (Entry → Type 0) → ℕ → Option Entry → Type 0
-FoundIn P number None = Unit {0}
-FoundIn P number (Some e) = Found P number e
-
-pub found_in : (P : Entry → Type 0) (number : ℕ) (es : List Entry) → AllByRecursion P es → FoundIn P number (find (has_number number) es)
-found_in P number [] all = tt
-found_in P number (x ∷ xs) all =
-    elim (cases_Bool (has_number number x)) [
-      | inl hit ↦ subst (FoundIn P number) (sym (ap (λ b. cond b (Some x) (find (has_number number) xs)) hit)) (record { holds = all.0; is = eqb-true x.connection.number number hit })
-      | inr miss ↦ subst (FoundIn P number) (sym (ap (λ b. cond b (Some x) (find (has_number number) xs)) miss)) (found_in P number xs all.1)
-    ]
-
-pub found : (P : Entry → Type 0) (number : ℕ) (es : List Entry) (e : Entry) → AllByRecursion P es → find (has_number number) es ≡ Some e → Found P number e
-found P number es e all is = subst (FoundIn P number) is (found_in P number es all)
-
--- an entry is put back among others
-remaining_all : (P : Entry → Type 0) (state : State) (e : Entry) (xs : List Entry) → P e → AllByRecursion P xs → AllByRecursion P (remaining state e ++ xs)
-remaining_all P Removed e xs one all = all
-remaining_all P WaitActivation e xs one all = (one, all)
-remaining_all P WaitEstablish e xs one all = (one, all)
-remaining_all P WaitConfirm e xs one all = (one, all)
-remaining_all P (Live reference stage) e xs one all = (one, all)
-remaining_all P (Closed clearing) e xs one all = (one, all)
-
-pub put_back_all : (P : Entry → Type 0) (e : Entry) (xs : List Entry) → P e → AllByRecursion P xs → AllByRecursion P (put_back e xs)
-put_back_all P e [] one all = tt
-put_back_all P e (x ∷ xs) one all =
-    elim (cases_Bool (has_number e.connection.number x)) [
-      | inl hit ↦ subst (AllByRecursion P) (sym (ap (λ b. cond b (remaining e.connection.state e ++ xs) (x ∷ put_back e xs)) hit)) (remaining_all P e.connection.state e xs one all.1)
-      | inr miss ↦ subst (AllByRecursion P) (sym (ap (λ b. cond b (remaining e.connection.state e ++ xs) (x ∷ put_back e xs)) miss)) (all.0, put_back_all P e xs one all.1)
-    ]
 
 -- ---- a step of the connections, in the controller
 
@@ -114,14 +68,6 @@ step_case : (p : Parameters) (c after : Controller) (number : ℕ) (o : Option E
 step_case p c after number None input offer fits entries outs outs_after same is fitting steps follows = absurd (cc)
 step_case p c after number (Some e) input offer fits entries outs outs_after same is fitting steps follows =
     row_case p c after e number (row_of e.connection input offer) entries outs outs_after same is (sym steps.0 ∙ fitting) steps.1 follows
-
-pub number_of_found : (number : ℕ) (es : List Entry) → NumberOf number (find (has_number number) es)
-number_of_found number [] = tt
-number_of_found number (x ∷ xs) =
-    elim (cases_Bool (has_number number x)) [
-      | inl hit ↦ subst (NumberOf number) (sym (ap (λ b. cond b (Some x) (find (has_number number) xs)) hit)) (eqb-true x.connection.number number hit)
-      | inr miss ↦ subst (NumberOf number) (sym (ap (λ b. cond b (Some x) (find (has_number number) xs)) miss)) (number_of_found number xs)
-    ]
 
 pub step_turns : (p : Parameters) (c after : Controller) (number : ℕ) (input : Input) (offer : Option Channel) (fits : Bool) (entries : List Entry) (outs outs_after : List Out)
     → p ≡ c.settings → fits ≡ true → StepsFor p (entry_of c number) input offer fits c.entries entries outs outs_after

@@ -2,6 +2,7 @@ mod AccessRows
 mod ChangeRows
 pub mod Decides
 mod DrainRows
+pub mod Entries
 mod LinkRows
 pub mod Lives
 pub mod Numbers

@@ -18,6 +18,7 @@ use Rattle.controller_table.specs.Controller.{Controller, Entry, Turn, turn, ign
 use Rattle.controller_table.specs.Life.{by_row, by_fitting, row_in, concerning, concerning_too, entry_after, given, may_open, new_entry, frees, entry_at, on_freed, on_state, measures, on_decision, measured, with_report, on_report, on_word, told, aged, all_aged, on_expiry, expiry, timed}
 use Rattle.controller_table.specs.Ownership.{concerned, Leaves}
 use Rattle.controller_table.specs.Reports.{decision_over}
+use Rattle.controller_table.proofs.Entries.{NumberOf, number_of_found}
 use Rattle.controller_table.proofs.Numbers.{Keeps, keeps_number}
 use Rattle.dtap_codec.specs.declared.report.Report.{Report}
 use Rattle.ho_decision.specs.declared.decision.Decision.{Decision}
@@ -25,21 +26,6 @@ use Rattle.ho_decision.specs.declared.decision.Decision.TheVariants.{Stay, Move}
 use Rattle.rsl_codec.specs.declared.values.RequestReference.{RequestReference}
 
 -- ---- entries
-
-IsOf : ℕ → Option Entry → Type 0
-IsOf number None = Unit {0}
-IsOf number (Some e) = e.connection.number ≡ number
-
-found_is_of : (number : ℕ) (entries : List Entry) → IsOf number (find (has_number number) entries)
-unfolding IsOf
-found_is_of number [] = tt
-found_is_of number (x ∷ xs) =
-    elim (cases_Bool (has_number number x)) [
-      | inl hit ↦ subst_found number (cond (has_number number x) (Some x) (find (has_number number) xs)) (Some x) (ap (λ b. cond b (Some x) (find (has_number number) xs)) hit) (eqb-true x.connection.number number hit)
-      | inr miss ↦ subst_found number (cond (has_number number x) (Some x) (find (has_number number) xs)) (find (has_number number) xs) (ap (λ b. cond b (Some x) (find (has_number number) xs)) miss) (found_is_of number xs)
-    ] where
-      subst_found : (n : ℕ) (a b : Option Entry) → a ≡ b → IsOf n b → IsOf n a
-      subst_found n a b e h = subst (λ o. IsOf n o) (sym e) h
 
 passed_over : (m : ℕ) (e : Entry) (xs : List Entry) → m ≢ e.connection.number → find (has_number m) (e ∷ xs) ≡ find (has_number m) xs
 passed_over m e xs other = ap (λ b. cond b (Some e) (find (has_number m) xs)) (ne_eqb e.connection.number m (λ same. other (sym same)))
@@ -79,27 +65,24 @@ fitting_leaves : (m : ℕ) (otherwise : Turn) (e : Entry) (r : Option Row) (c : 
 fitting_leaves m otherwise e None c stays keeps other = stays
 fitting_leaves m otherwise e (Some r) c stays keeps other = row_leaves m e r c keeps other
 
-concerning_leaves : (m : ℕ) (input : Input) (c : Controller) (number : ℕ) (o : Option Entry) → IsOf number o → m ≢ number → Leaves m c (concerning input c o).next
-unfolding IsOf
+concerning_leaves : (m : ℕ) (input : Input) (c : Controller) (number : ℕ) (o : Option Entry) → NumberOf number o → m ≢ number → Leaves m c (concerning input c o).next
 concerning_leaves m input c number None is other = refl
 concerning_leaves m input c number (Some e) is other = fitting_leaves m (ignoring c) e (row_in c e.connection input) c refl (keeps_number e.connection input _) (λ same. other (same ∙ is))
 
-concerning_too_leaves : (m : ℕ) (input : Input) (c : Controller) (number : ℕ) (o : Option Entry) → IsOf number o → m ≢ number → Leaves m c (concerning_too input c o).next
-unfolding IsOf
+concerning_too_leaves : (m : ℕ) (input : Input) (c : Controller) (number : ℕ) (o : Option Entry) → NumberOf number o → m ≢ number → Leaves m c (concerning_too input c o).next
 concerning_too_leaves m input c number None is other = refl
 concerning_too_leaves m input c number (Some e) is other = fitting_leaves m (turn [] c) e (row_in c e.connection input) c refl (keeps_number e.connection input _) (λ same. other (same ∙ is))
 
 -- the entry that is found has that number, and a step of it leaves the others
 pub found_number : (number : ℕ) (entries : List Entry) (e : Entry) → find (has_number number) entries ≡ Some e → e.connection.number ≡ number
-unfolding IsOf
-found_number number entries e found = subst (λ o. IsOf number o) found (found_is_of number entries)
+found_number number entries e found = subst (λ o. NumberOf number o) found (number_of_found number entries)
 
 pub found_leaves : (m number : ℕ) (input : Input) (c : Controller) → m ≢ number → Leaves m c (concerning_too input c (entry_of c number)).next
-found_leaves m number input c other = concerning_too_leaves m input c number (entry_of c number) (found_is_of number c.entries) other
+found_leaves m number input c other = concerning_too_leaves m input c number (entry_of c number) (number_of_found number c.entries) other
 
 -- ---- frames
 
-freed_leaves : (m : ℕ) (b : Bool) (at : Place) (input : Input) (c : Controller) (n : ℕ) (o : Option Entry) → IsOf n o → m ≢ n → Leaves m c (on_freed b at input c o).next
+freed_leaves : (m : ℕ) (b : Bool) (at : Place) (input : Input) (c : Controller) (n : ℕ) (o : Option Entry) → NumberOf n o → m ≢ n → Leaves m c (on_freed b at input c o).next
 freed_leaves m true at input c n o is other = concerning_too_leaves m input (freed at c) n o is other
 freed_leaves m false at input c n o is other = concerning_leaves m input c n o is other
 
@@ -114,9 +97,9 @@ is_other m n other same = other (ap (λ k. Some k) (sym same))
 channel_leaves : (m : ℕ) (at : Place) (input : Input) (c : Controller) (state : ChannelState) → holder state ≢ Some m → Leaves m c (on_state state at input c (entry_at c state)).next
 channel_leaves m at input c Free other = freed_none_leaves m (frees Free None input) at input c
 channel_leaves m at input c (InUse n) other =
-    freed_leaves m (frees (InUse n) (entry_of c n) input) at input c n (entry_of c n) (found_is_of n c.entries) (is_other m n other)
+    freed_leaves m (frees (InUse n) (entry_of c n) input) at input c n (entry_of c n) (number_of_found n c.entries) (is_other m n other)
 channel_leaves m at input c (Releasing n) other =
-    freed_leaves m (frees (Releasing n) (entry_of c n) input) at input c n (entry_of c n) (found_is_of n c.entries) (is_other m n other)
+    freed_leaves m (frees (Releasing n) (entry_of c n) input) at input c n (entry_of c n) (number_of_found n c.entries) (is_other m n other)
 
 given_leaves : (m : ℕ) (c : Controller) (request : RequestReference) (delay : ℕ) (o : Option Channel) → m ≢ c.next_number → Leaves m c (given c request delay o).next
 given_leaves m c request delay None other = refl
@@ -135,15 +118,14 @@ measured_leaves m number report c e other =
     decision_leaves m (decision_over (with_report number report e).averages.settings (with_report number report e).averages.reports number) (with_entry (with_report number report e) c) (with_report number report e) other
     ∙ back_over m (with_report number report e) c.entries other
 
-report_leaves : (m : ℕ) (at : Place) (number : ℕ) (report : Report) (c : Controller) (n : ℕ) (o : Option Entry) → IsOf n o → m ≢ n → Leaves m c (on_report at number report c o).next
-unfolding IsOf
+report_leaves : (m : ℕ) (at : Place) (number : ℕ) (report : Report) (c : Controller) (n : ℕ) (o : Option Entry) → NumberOf n o → m ≢ n → Leaves m c (on_report at number report c o).next
 report_leaves m at number report c n None is other = refl
 report_leaves m at number report c n (Some e) is other = asked_leaves m (measures at e) c (measured number report c e) (measured_leaves m number report c e (λ same. other (same ∙ is)))
 
 report_on_leaves : (m : ℕ) (at : Place) (number : ℕ) (report : Report) (c : Controller) (state : ChannelState) → holder state ≢ Some m → Leaves m c (on_report at number report c (entry_at c state)).next
 report_on_leaves m at number report c Free other = refl
-report_on_leaves m at number report c (InUse n) other = report_leaves m at number report c n (entry_of c n) (found_is_of n c.entries) (is_other m n other)
-report_on_leaves m at number report c (Releasing n) other = report_leaves m at number report c n (entry_of c n) (found_is_of n c.entries) (is_other m n other)
+report_on_leaves m at number report c (InUse n) other = report_leaves m at number report c n (entry_of c n) (number_of_found n c.entries) (is_other m n other)
+report_on_leaves m at number report c (Releasing n) other = report_leaves m at number report c n (entry_of c n) (number_of_found n c.entries) (is_other m n other)
 
 pub word_leaves : (m source : ℕ) (word : Word) (c : Controller) → concerned c word ≢ Some m → Leaves m c (on_word source word c).next
 word_leaves m source Nothing c other = refl
@@ -153,7 +135,7 @@ word_leaves m source (Asks request delay) c other =
 word_leaves m source (OnChannel at input) c other = channel_leaves m at input c (channel_state c at) other
 word_leaves m source (Reports at number report) c other = report_on_leaves m at number report c (channel_state c at) other
 word_leaves m source (OnConnection number input) c other =
-    concerning_leaves m input c number (entry_of c number) (found_is_of number c.entries) (λ same. other (ap (λ n. Some n) (sym same)))
+    concerning_leaves m input c number (entry_of c number) (number_of_found number c.entries) (λ same. other (ap (λ n. Some n) (sym same)))
 
 -- ---- breaks and time: one connection after the other
 

@@ -6,7 +6,7 @@ use Rattle.controller_table.specs.Controller.{Controller, Turn, entry_of, has_nu
 use Rattle.controller.specs.contracts.controller.Controller.{the_view}
 use Rattle.controller.specs.Reporting.{decided_in}
 use Rattle.controller.proofs.Measuring.{added, measured_there, report_stays_below}
-use Rattle.controller.proofs.Stepping.{number_of_found}
+use Rattle.controller_table.proofs.Entries.{number_of_found}
 use Rattle.controller.proofs.controller.Controller.measure.Goals as goal
 
 pub invariant_of-self : goal.invariant_of-self

@@ -1,0 +1,245 @@
+-- What a call makes of the controller and of the outputs, and what comes to its connections, against literal values.
+use Rattle.std.proofs.Common.{◌≡◌, ℕ, true, false, List, [], ◌∷◌, map, replicate, Some, None, refl, sym, ap, arith}
+use Rattle.conn_messages.specs.declared.channel.Change.TheVariants.{Assignment, Handover}
+use Rattle.conn_messages.specs.declared.channel.Channel.{Channel}
+use Rattle.conn_messages.specs.declared.out.Out.{Out}
+use Rattle.conn_table.specs.declared.input.Input.TheVariants as inputs
+use Rattle.conn_table.specs.declared.state.Stage.TheVariants.{Preparing, Changing, Draining}
+use Rattle.conn_table.specs.declared.state.State.TheVariants.{WaitActivation, WaitEstablish, WaitConfirm, Live}
+use Rattle.conn_table.specs.Connection.{Connection}
+use Rattle.connections.specs.Entries.{ConnectionsState}
+use Rattle.controller_table.specs.Controller.{Controller, Entry, new_controller, place_at, turn}
+use Rattle.controller_table.specs.Life.{new_entry, pong, step}
+use Rattle.controller_table.proofs.Lives.{on_stream, usual_settings}
+use Rattle.controller_table.proofs.OnLiterals.{on_literals}
+use Rattle.controller.specs.declared.many.Cause.TheVariants.{Time, Break}
+use Rattle.controller.specs.Doing.{Stays, Turns, by_offer, fits_in, fits_with}
+use Rattle.controller.specs.Many.{AreReady, Due, IsReadyFor, all_due, due, due_of}
+use Rattle.controller.specs.Offers.{HasCell, awaits, may_begin}
+use Rattle.controller.specs.Standing.{IsStanding}
+use Rattle.dtap_codec.specs.declared.sapi.Sapi.TheVariants.{Zero}
+use Rattle.ho_decision.specs.declared.decision.Decision.TheVariants.{Stay, Move}
+
+abbrev fresh : Controller
+fresh = new_controller usual_settings
+
+abbrev counted : Controller
+counted = record fresh { ignored = 1 }
+
+abbrev first : List Out → ℕ
+first [] = 0
+first (out ∷ outs) = out.to
+
+one_is_not_two : ◌≡◌ {A = ℕ} 1 2 → ⊥
+one_is_not_two same = omega (arith, same)
+
+none_is_not_one : ◌≡◌ {A = ℕ} 0 1 → ⊥
+none_is_not_one same = omega (arith, same)
+
+one_is_not_none : ◌≡◌ {A = ℕ} 1 0 → ⊥
+one_is_not_none same = omega (arith, same)
+
+-- ---- a turn: its frames stand behind what was put, and the controller is the turn's
+
+puts_behind : Turns (turn (pong 1 ∷ []) counted) fresh counted (pong 2 ∷ []) (pong 2 ∷ pong 1 ∷ [])
+puts_behind = (refl, refl)
+
+puts_nothing_in_front : Turns (turn (pong 1 ∷ []) counted) fresh counted (pong 2 ∷ []) (pong 1 ∷ pong 2 ∷ []) → ⊥
+puts_nothing_in_front turns = one_is_not_two (ap first turns.1)
+
+keeps_what_was_put : Turns (turn (pong 1 ∷ []) counted) fresh counted (pong 2 ∷ []) (pong 1 ∷ []) → ⊥
+keeps_what_was_put turns = one_is_not_two (ap first turns.1)
+
+drops_no_frame : Turns (turn (pong 1 ∷ []) counted) fresh counted [] [] → ⊥
+drops_no_frame turns = none_is_not_one (ap first turns.1)
+
+is_the_turns : Turns (turn [] counted) fresh fresh [] [] → ⊥
+is_the_turns turns = none_is_not_one (ap (λ (c : Controller). c.ignored) turns.0)
+
+-- a PING of station 2, behind a frame for station 1
+answers_behind : Turns (step fresh (on_stream 2 0xfe (0x00 ∷ []))) fresh fresh (pong 1 ∷ []) (pong 1 ∷ pong 2 ∷ [])
+unfolding on_literals
+answers_behind = (refl, refl)
+
+-- ---- a refusal: all is as before
+
+is_as_before : Stays counted counted (pong 2 ∷ []) (pong 2 ∷ [])
+is_as_before = (refl, refl)
+
+counts_no_refusal : Stays fresh counted [] [] → ⊥
+counts_no_refusal stays = one_is_not_none (ap (λ (c : Controller). c.ignored) stays.0)
+
+puts_nothing_when_refused : Stays fresh fresh [] (pong 1 ∷ []) → ⊥
+puts_nothing_when_refused stays = one_is_not_none (ap first stays.1)
+
+drops_nothing_when_refused : Stays fresh fresh (pong 1 ∷ []) [] → ⊥
+drops_nothing_when_refused stays = none_is_not_one (ap first stays.1)
+
+-- ---- connections with these numbers, on 41 of cell 1
+
+abbrev channel : ℕ → ℕ → Channel
+channel station number = record {
+  station = station;
+  number = number;
+  cell = 0x00 ∷ 0x00 ∷ 0xf1 ∷ 0x10 ∷ 0x00 ∷ 0x01 ∷ 0x00 ∷ 0x01 ∷ [];
+  description = record { arfcn = 20; ncc = 1; bcc = 1 };
+  reference = record { 0 = 0 };
+}
+
+abbrev entry : ℕ → Entry
+entry number = new_entry usual_settings number (channel 1 0x41) (record { access = 0x7f; frame = 0x0102 }) 5
+
+abbrev connection : ℕ → Connection
+connection number = (entry number).connection
+
+-- to 0A of cell 2
+abbrev handed_over : Connection
+handed_over = record (connection 7) { state = Live 0x800001 (Preparing (record { change = Handover; channel = channel 2 0x0a })) }
+
+abbrev commanded : Connection
+commanded = record (connection 7) { state = Live 0x800001 (Changing (record { change = Assignment; channel = channel 2 0x0a })) }
+
+-- ---- whether a row fits
+
+waits_for_its_channel : fits_in fresh (inputs.ActivationAck (place_at 1 0x41)) (Some (entry 7)) ≡ true
+unfolding on_literals
+waits_for_its_channel = refl
+
+waits_for_no_clear : fits_in fresh inputs.ClearCommand (Some (entry 7)) ≡ false
+unfolding on_literals
+waits_for_no_clear = refl
+
+fits_nobody : fits_in fresh inputs.SwitchDown None ≡ false
+fits_nobody = refl
+
+fits_nobody_with_an_offer : fits_with inputs.Move (Some (channel 2 0x41)) None ≡ false
+fits_nobody_with_an_offer = refl
+
+moves_nobody : by_offer inputs.Move (Some (channel 2 0x41)) counted None ≡ turn [] counted
+moves_nobody = refl
+
+-- a connection that isn't confirmed yet doesn't move
+moves_no_new_one : by_offer inputs.Move (Some (channel 2 0x41)) counted (Some (entry 7)) ≡ turn [] counted
+unfolding on_literals
+moves_no_new_one = refl
+
+-- ---- which inputs a change may begin with, or after
+
+begins_or_ends_a_change : map may_begin (inputs.AssignmentRequest true ∷ inputs.AssignmentRequest false ∷ inputs.Complete (place_at 1 0x41) Assignment (record { 0 = 0 })
+    ∷ inputs.Failure (place_at 1 0x41) Handover (record { 0 = 3 }) ∷ inputs.ActivationNack (place_at 1 0x41) ∷ inputs.ReleaseAck (place_at 1 0x41) ∷ inputs.Move ∷ [])
+    ≡ replicate 7 true
+begins_or_ends_a_change = refl
+
+begins_with_nothing_else : map may_begin (inputs.ActivationAck (place_at 1 0x41) ∷ inputs.EstablishIndication (place_at 1 0x41) Zero None
+    ∷ inputs.EstablishConfirm (place_at 1 0x41) Zero ∷ inputs.ReleaseIndication (place_at 1 0x41) Zero ∷ inputs.ErrorIndication (place_at 1 0x41) Zero
+    ∷ inputs.ConnectionFailure (place_at 1 0x41) ∷ inputs.Dtap (place_at 1 0x41) Zero (5 ∷ []) ∷ inputs.ConnectionConfirm 0x800001 ∷ inputs.ConnectionRefused
+    ∷ inputs.Released 0x800001 ∷ inputs.Downlink Zero (5 ∷ []) ∷ inputs.CipherModeCommand ∷ inputs.ClearCommand ∷ inputs.Expiry ∷ inputs.DrainExpiry
+    ∷ inputs.StationDown 1 ∷ inputs.SwitchDown ∷ [])
+    ≡ replicate 17 false
+begins_with_nothing_else = refl
+
+-- ---- whose activation is waited for: the access channel's, then the target's
+
+awaits_access : map (awaits WaitActivation (connection 7)) (place_at 1 0x41 ∷ place_at 1 0x49 ∷ place_at 2 0x41 ∷ []) ≡ true ∷ false ∷ false ∷ []
+awaits_access = refl
+
+awaits_target : map (awaits handed_over.state handed_over) (place_at 2 0x0a ∷ place_at 1 0x0a ∷ place_at 1 0x41 ∷ []) ≡ true ∷ false ∷ false ∷ []
+awaits_target = refl
+
+awaits_none_once_commanded : awaits commanded.state commanded (place_at 2 0x0a) ≡ false
+awaits_none_once_commanded = refl
+
+awaits_none_once_assigned : awaits WaitEstablish (connection 7) (place_at 1 0x41) ≡ false
+awaits_none_once_assigned = refl
+
+-- ---- cells are numbered from 1
+
+no_cell_before_the_first : HasCell (Move 0) → ⊥
+no_cell_before_the_first has = omega (arith, has)
+
+moves_to_the_first : HasCell (Move 1)
+moves_to_the_first = omega arith
+
+stays_where_it_is : HasCell Stay
+stays_where_it_is = tt
+
+-- ---- what is due: T3101 is 3 seconds, T3103 and T3107 are 5, the drain time is 2
+
+before_its_time : due (Time 2999) usual_settings.timers (connection 7) ≡ None
+before_its_time = refl
+
+at_its_time : due (Time 3000) usual_settings.timers (connection 7) ≡ Some inputs.Expiry
+at_its_time = refl
+
+-- the time that passed already counts
+after_some_time : due (Time 1) usual_settings.timers (record handed_over { waited = 4999 }) ≡ Some inputs.Expiry
+after_some_time = refl
+
+has_no_timer : due (Time 4294967295) usual_settings.timers (record (connection 7) { state = WaitConfirm }) ≡ None
+has_no_timer = refl
+
+abbrev draining : Connection
+draining = record (connection 7) { state = Live 0x800001 Draining; draining = record { channel = channel 1 0x49; is_done = false } ∷ []; drained = 1000 }
+
+drains_on : due (Time 999) usual_settings.timers draining ≡ None
+drains_on = refl
+
+drains_too_long : due (Time 1000) usual_settings.timers draining ≡ Some inputs.DrainExpiry
+drains_too_long = refl
+
+-- where both expire the state's timer comes first
+expires_first : due (Time 5000) usual_settings.timers (record draining { state = handed_over.state }) ≡ Some inputs.Expiry
+expires_first = refl
+
+station_breaks : due (Break 2) usual_settings.timers (connection 7) ≡ Some (inputs.StationDown 2)
+station_breaks = refl
+
+switch_breaks : due (Break 0) usual_settings.timers (connection 7) ≡ Some inputs.SwitchDown
+switch_breaks = refl
+
+-- planned for the connection as it was before the time passed
+is_planned_before : due_of (Time 3000) usual_settings.timers (connection 7) ≡ record { number = 7; was = connection 7; input = inputs.Expiry } ∷ []
+is_planned_before = refl
+
+is_not_planned : due_of (Time 2999) usual_settings.timers (connection 7) ≡ []
+is_not_planned = refl
+
+abbrev break_due : ℕ → Due
+break_due number = record { number = number; was = connection number; input = inputs.SwitchDown }
+
+all_are_planned : all_due (Break 0) usual_settings.timers (entry 7 ∷ entry 9 ∷ []) ≡ break_due 7 ∷ break_due 9 ∷ []
+all_are_planned = refl
+
+-- ---- a plan is carried out for the connection that it is for
+
+ready_when_aged : IsReadyFor (connection 7) (Some (record (entry 7) { connection = record (connection 7) { waited = 3000 } }))
+ready_when_aged = refl
+
+ready_for_nobody : IsReadyFor (connection 7) None → ⊥
+ready_for_nobody ready = ready
+
+ready_for_another : IsReadyFor (record (connection 7) { number = 1 }) (Some (record (entry 7) { connection = record (connection 7) { number = 2 } })) → ⊥
+ready_for_another ready = one_is_not_two (ap (λ (s : Connection). s.number) (sym ready))
+
+ready_twice : AreReady (break_due 7 ∷ break_due 7 ∷ []) (entry 7 ∷ []) → ⊥
+ready_twice ready = ready.1.0 refl
+
+-- ---- the next number is above all others, up to 24 bits; a link for each cell and one
+
+abbrev one_connection : ConnectionsState
+one_connection = record { settings = usual_settings; entries = entry 7 ∷ [] }
+
+stands : IsStanding usual_settings one_connection (true ∷ false ∷ true ∷ []) 8
+stands = record { settings = refl; links = refl; below = (omega arith, tt); numbers = omega arith }
+
+stands_at_the_end : IsStanding usual_settings one_connection (true ∷ false ∷ true ∷ []) 16777216
+stands_at_the_end = record { settings = refl; links = refl; below = (omega arith, tt); numbers = omega arith }
+
+number_given_already : IsStanding usual_settings one_connection (true ∷ false ∷ true ∷ []) 7 → ⊥
+number_given_already standing = omega (arith, standing.below.0)
+
+number_of_25_bits : IsStanding usual_settings one_connection (true ∷ false ∷ true ∷ []) 16777217 → ⊥
+number_of_25_bits standing = omega (arith, standing.numbers)
+
+link_is_missing : IsStanding usual_settings one_connection (true ∷ true ∷ []) 8 → ⊥
+link_is_missing standing = omega (arith, standing.links)
