@@ -44,7 +44,6 @@ pub mod SeenFrames
 pub mod Keeping
 pub mod SeenStations
 pub mod DownlinkLaw
-pub mod Keeping
 pub mod Placed
 pub mod Naming
 pub mod NamingLife
