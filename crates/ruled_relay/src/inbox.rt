@@ -154,6 +154,13 @@ impl SourcePass {
         }
     }
 
+    /// The source whose items it puts.
+    pub fn source(&self) -> u16
+        ensures { result ≡ self.now.source }
+    {
+        self.source
+    }
+
     /// Wakes the thread that waits at the desk.
     pub fn ring(&self) {
         self.bell.ring();

@@ -1,0 +1,18 @@
+//! The workers at a link's device: what a reader puts into the inbox, and what a writer writes of its outbox. And the switch
+//! that tests use, at its end of a link.
+#![tactic(auto)]
+
+pub use fault::IoFault;
+pub use gate::Gate;
+pub use pauses::Pauses;
+pub use reader::serve_reader;
+pub use writer::serve_writer;
+
+mod fault;
+mod framing;
+mod gate;
+mod gated_pass;
+mod pauses;
+mod reader;
+mod writer;
+mod writing;

@@ -1,0 +1,93 @@
+ghost use Rattle.std.specs.Prelude.{◌≡◌};
+ghost use Rattle.link_io.specs.Reading.{PutsAll, PutsDown, PutsWhole, Serves};
+
+use crate::framing::{BLOCK, MOST_READS, read_on};
+use crate::gated_pass::{GatedPass, put_once_there_is_room};
+use crate::{Gate, IoFault};
+use ipa_framing::Framer;
+use ruled_relay::{SourcePass, What};
+use std::alloc::Global;
+use std::io::Read;
+use std::sync::Wait;
+
+/// Reads the octets of a link to their end and puts the frames that they are cut into, as items of the pass's source;
+/// then puts `Down`. An item that there is no room for is put once there is. Gives all back, and why it ended before the
+/// end of the octets.
+///
+/// `ReadFailed`: a read failed, other than by an interruption, or there were 2^40 reads. `FrameFault`: a frame has a body of
+/// more than 2,048 octets. `Memory`: there was none for a frame. `GateShut`: the gate refused an item `limit` times in a
+/// row; where that item was `Down`, it stands in place of an earlier fault. `Down` is put all the same, and the gate isn't
+/// asked again.
+pub fn serve_reader<I: Read, G: Gate, R: Wait>(
+    rt: &R,
+    alloc: Global,
+    mut reader: I,
+    gate: G,
+    pass: SourcePass,
+    limit: u32,
+) -> (I, G, SourcePass, Option<IoFault>)
+    ensures { Serves (I.remaining reader) (I.remaining result.0) limit (G.refused gate) (G.refused result.1) pass result.2 result.3 }
+{
+    let mut gated = GatedPass { gate, pass, limit };
+    let read = put_all(rt, alloc, &mut reader, &mut gated);
+    let fault = put_down(rt, &mut gated, read.err());
+    let GatedPass { gate, pass, .. } = gated;
+    (reader, gate, pass, fault)
+}
+
+/// Puts `Down`, and gives the fault that the reader ends with.
+fn put_down<G: Gate, R: Wait>(
+    rt: &R,
+    gated: &mut GatedPass<G>,
+    fault: Option<IoFault>,
+) -> Option<IoFault>
+    ensures { PutsDown gated.old.limit (G.refused gated.old.gate) (G.refused gated.new.gate) gated.old.pass gated.new.pass fault result }
+{
+    let fault = match fault {
+        Some(IoFault::GateShut) => fault,
+        _ => match gated.ask(rt) {
+            Ok(()) => fault,
+            Err(shut) => Some(shut),
+        },
+    };
+    put_once_there_is_room(rt, &mut gated.pass, What::Down);
+    gated.pass.ring();
+    fault
+}
+
+/// Puts the frames of a link until there are no octets left to be read.
+fn put_all<I: Read, G: Gate, R: Wait>(
+    rt: &R,
+    alloc: Global,
+    reader: &mut I,
+    gated: &mut GatedPass<G>,
+) -> Result<(), IoFault>
+    ensures puts { PutsAll (I.remaining reader.old) (I.remaining reader.new) gated.old.limit (G.refused gated.old.gate) (G.refused gated.new.gate) gated.old.pass gated.new.pass result }
+    ensures same { gated.new.limit ≡ gated.old.limit }
+{
+    let mut framer = Framer::new(alloc);
+    let mut block = [0; BLOCK];
+    for _ in 0..MOST_READS {
+        if !read_on(reader, &mut block, &mut framer)? {
+            return Ok(());
+        }
+        put_frames(rt, &mut framer, gated)?;
+        gated.pass.ring();
+    }
+    Err(IoFault::ReadFailed)
+}
+
+/// Puts the frames that the framer holds whole.
+fn put_frames<G: Gate, R: Wait>(
+    rt: &R,
+    framer: &mut Framer,
+    gated: &mut GatedPass<G>,
+) -> Result<(), IoFault>
+    ensures puts { PutsWhole framer.old framer.new gated.old.limit (G.refused gated.old.gate) (G.refused gated.new.gate) gated.old.pass gated.new.pass result }
+    ensures same { gated.new.limit ≡ gated.old.limit }
+{
+    while let Some(frame) = framer.next()? {
+        gated.put(rt, What::Frame(frame))?;
+    }
+    Ok(())
+}
