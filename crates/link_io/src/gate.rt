@@ -1,8 +1,8 @@
-/// What decides whether a reader may put what it has read. Programs that want all to be put let each item through.
+/// What decides whether a reader may put what it has read. Where all is to be put, it lets each item through.
 pub trait Gate {
-    /// How often in a row it has refused.
     ghost use Rattle.std.specs.Prelude.{◌≡◌, ℕ, ◌+◌, MatchBool};
 
+    // How often in a row it has refused.
     ghost refused: { Self → ℕ };
 
     /// Whether the next item of the source may be put.

@@ -5,7 +5,8 @@
 pub use fault::IoFault;
 pub use gate::Gate;
 pub use pauses::Pauses;
-pub use reader::serve_reader;
+pub use reader::{frames_put_are_the_first, serve_reader};
+pub use switch::switch_worker;
 pub use writer::serve_writer;
 
 mod fault;
@@ -14,5 +15,6 @@ mod gate;
 mod gated_pass;
 mod pauses;
 mod reader;
+mod switch;
 mod writer;
 mod writing;

@@ -1,5 +1,7 @@
-ghost use Rattle.std.specs.Prelude.{◌≡◌};
-ghost use Rattle.link_io.specs.Reading.{PutsAll, PutsDown, PutsWhole, Serves};
+ghost use Rattle.std.specs.Prelude.{◌≡◌, ◌⊎◌, ◌++◌, ℕ, List};
+ghost use Rattle.ipa_framing.specs.declared.frame.Frame.{Frame as FrameValue};
+ghost use Rattle.ipa_framing.specs.Frame.{IsPartial, IsTooLong, Splits};
+ghost use Rattle.link_io.specs.Reading.{Parts, PutsAll, PutsDown, PutsWhole, Serves};
 
 use crate::framing::{BLOCK, MOST_READS, read_on};
 use crate::gated_pass::{GatedPass, put_once_there_is_room};
@@ -91,3 +93,15 @@ fn put_frames<G: Gate, R: Wait>(
     }
     Ok(())
 }
+
+/// Law: frames that stand at the front of octets are the first of the frames that the octets are, and all of them where only
+/// the beginning of a frame stands behind them, or one that is too long. It does nothing.
+///
+/// So what a reader puts are the first frames of the octets that it read, and all of them unless it wanted memory or its
+/// gate stayed shut.
+pub fn frames_put_are_the_first()
+    ensures first { (octets : List ℕ) (frames : List FrameValue) (rest : List ℕ) (all : List FrameValue) (end : List ℕ) →
+        Parts octets frames rest → Splits octets all end → (more : List FrameValue) × (all ≡ frames ++ more) }
+    ensures whole { (octets : List ℕ) (frames : List FrameValue) (rest : List ℕ) (all : List FrameValue) (end : List ℕ) →
+        Parts octets frames rest → IsPartial rest ⊎ IsTooLong rest → Splits octets all end → (all ≡ frames) × (end ≡ rest) }
+{}

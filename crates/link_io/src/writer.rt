@@ -41,7 +41,10 @@ pub fn serve_writer<O: Write, R: Wait>(
     let written = write_lines(rt, alloc, &mut writer, &mut taker);
     let flushed = writer.flush();
     let fault = match written {
-        Ok(()) => flushed.err().map(|_| IoFault::WriteFailed),
+        Ok(()) => match flushed {
+            Ok(()) => None,
+            Err(_) => Some(IoFault::WriteFailed),
+        },
         Err(broken) => {
             if !broken.at_end {
                 drop_lines(rt, &mut taker);

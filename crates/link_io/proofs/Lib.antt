@@ -1,0 +1,5 @@
+pub mod Reading
+pub mod Gathering
+pub mod Answering
+pub mod Found
+mod Rows

@@ -1,0 +1,9 @@
+use Rattle.std.proofs.Common.{◌≡◌, false}
+use Rattle.ipa_framing.specs.Frame.{IsPartial}
+use Rattle.link_io.proofs.Answering.{AnswersSome}
+use Rattle.link_io.proofs.switch.answer_all.Given as goal
+
+abbrev pub invariant-loop : goal.invariant-loop
+invariant-loop g l =
+    AnswersSome (g.I.Read.remaining l.initial.reader) (g.I.Read.remaining l.reader) (g.O.Write.contents l.initial.writer) (g.O.Write.contents l.writer) l.initial.switch l.switch l.framer.octets
+    × IsPartial l.framer.octets × (l.framer.failed ≡ false)

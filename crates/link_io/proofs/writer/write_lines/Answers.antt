@@ -1,0 +1,35 @@
+use Rattle.std.proofs.Common.{Ok, Err, subst}
+use Rattle.std.specs.Io.KnownBytes.{Appends}
+use Rattle.link_io.specs.Writing.{Gathers, WritesText}
+use Rattle.link_io.proofs.Gathering.{broken_gathering, broken_writing, writes_all, writes_more}
+use Rattle.link_io.proofs.writer.write_lines.Goals as goal
+
+pub returns-in-Err : goal.returns-in-Err
+returns-in-Err g c =
+    broken_gathering (g.O.Write.contents c.args.writer.now) (g.O.Write.contents c.loop.writer) c.args.taker.now c.loop.taker c.gather.new.taker c.clear.new.self.items c.gather.new.text.items c.in-Err.fault
+    c.loop.invariant.2 c.in-Err.ensures
+
+pub returns-in-Err-write_octets : goal.returns-in-Err-write_octets
+returns-in-Err-write_octets g c =
+    let wrote =
+    subst (λ text. WritesText {X = Unit {0}} (g.O.Write.contents c.loop.writer) (g.O.Write.contents c.write_octets.new.writer) text (Err c.in-Err-write_octets.fault)) c.as_slice.ensures.value c.in-Err-write_octets.ensures
+    in
+    broken_writing (g.O.Write.contents c.args.writer.now) (g.O.Write.contents c.loop.writer) (g.O.Write.contents c.write_octets.new.writer) c.args.taker.now c.loop.taker c.gather.new.taker c.clear.new.self.items c.gather.new.text.items
+    c.in-Ok.at_end c.in-Err-write_octets.fault c.loop.invariant.2 c.in-Ok.ensures c.clear.ensures.items wrote
+
+pub returns-then-at_end : goal.returns-then-at_end
+returns-then-at_end g c =
+    let wrote = subst (Appends (g.O.Write.contents c.loop.writer) (g.O.Write.contents c.write_octets.new.writer)) c.as_slice.ensures.value c.in_default.ensures in
+    let gathers = subst (λ at_end. Gathers c.loop.taker c.gather.new.taker c.clear.new.self.items c.gather.new.text.items (Ok at_end)) c.if-at_end.true c.in-Ok.ensures in
+    writes_all (g.O.Write.contents c.args.writer.now) (g.O.Write.contents c.loop.writer) (g.O.Write.contents c.write_octets.new.writer) c.args.taker.now c.loop.taker c.gather.new.taker c.clear.new.self.items c.gather.new.text.items
+    c.loop.invariant.2 gathers c.clear.ensures.items wrote
+
+pub loop-preserved : goal.loop-preserved
+loop-preserved g c =
+    let wrote = subst (Appends (g.O.Write.contents c.loop.writer) (g.O.Write.contents c.write_octets.new.writer)) c.as_slice.ensures.value c.in_default.ensures in
+    let gathers = subst (λ at_end. Gathers c.loop.taker c.gather.new.taker c.clear.new.self.items c.gather.new.text.items (Ok at_end)) c.if-at_end.false c.in-Ok.ensures in (
+      tt,
+      tt,
+      writes_more (g.O.Write.contents c.args.writer.now) (g.O.Write.contents c.loop.writer) (g.O.Write.contents c.write_octets.new.writer) c.args.taker.now c.loop.taker c.gather.new.taker c.clear.new.self.items c.gather.new.text.items
+          c.loop.invariant.2 gathers c.clear.ensures.items wrote,
+    )

@@ -1,0 +1,12 @@
+//! The workers of links over devices that fail, and what no contract says of them: that a device that works gives no fault,
+//! and that a thread which finds the inbox full gets on.
+#![tactic(auto)]
+
+#[cfg(test)]
+mod devices;
+#[cfg(test)]
+mod readers;
+#[cfg(test)]
+mod switches;
+#[cfg(test)]
+mod writers;
