@@ -2,4 +2,5 @@ pub mod Doing
 pub mod Many
 pub mod Offers
 pub mod Reporting
+pub mod Rest
 pub mod Standing

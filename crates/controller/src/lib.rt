@@ -18,6 +18,7 @@ mod life;
 mod many;
 mod offers;
 mod reports;
+mod rest;
 mod rows;
 mod time;
 mod views;

@@ -1,7 +1,7 @@
-ghost use Rattle.std.specs.Prelude.{◌≡◌, IfOk, OnOk};
+ghost use Rattle.std.specs.Prelude.{◌≡◌, IfOk, OnErr, OnOk};
 ghost use Rattle.controller_table.specs.Controller.{each, new_controller};
 ghost use Rattle.controller_table.specs.Life as words;
-ghost use Rattle.controller.specs.Doing.{Turns};
+ghost use Rattle.controller.specs.Doing.{Stays, Turns};
 
 use crate::controller::Controller;
 use conn_fsm::Outputs;
@@ -28,8 +28,10 @@ pub fn run(
 }
 
 impl Controller {
-    fn run_one(&mut self, step: Step, outputs: &mut Outputs) -> Result<(), Memory>
-        ensures { OnOk result (Turns (words.step self.old step) self.old self.new outputs.old.outs outputs.new.outs) }
+    /// Does a step. What it puts is appended to the outputs. A refusal, for want of memory, changes nothing.
+    pub fn run_one(&mut self, step: Step, outputs: &mut Outputs) -> Result<(), Memory>
+        ensures ok { OnOk result (Turns (words.step self.old step) self.old self.new outputs.old.outs outputs.new.outs) }
+        ensures err { OnErr result (Stays self.old self.new outputs.old.outs outputs.new.outs) }
     {
         match step {
             Step::Take(item) => self.step(item, outputs).map_err(|_| Memory),

@@ -168,6 +168,13 @@ impl SourcePass {
 }
 
 impl Desk {
+    /// How many sources there are.
+    pub fn sources(&self) -> u16
+        ensures { length self.now ≡ result }
+    {
+        self.sources
+    }
+
     /// Takes an item, if a source has one. The sources are asked in turn, beginning after the one that was taken from
     /// last, at first with source 0.
     pub fn take<R: Wait>(&mut self, rt: &R) -> Option<Item>

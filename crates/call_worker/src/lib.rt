@@ -1,0 +1,17 @@
+//! The call worker of the running relay: it takes what the links gave, one item at a time, and the passing of time, does the
+//! controller's steps, and puts their outputs into the outboxes.
+#![tactic(auto)]
+
+pub use call::call_worker;
+pub use clock::Clock;
+pub use limits::{MAX_REFUSALS, TICK_MS};
+
+mod call;
+mod clock;
+mod ending;
+mod limits;
+mod mark;
+mod pause;
+mod sending;
+mod stepping;
+mod worker;

@@ -1,0 +1,25 @@
+ghost use Rattle.std.specs.Prelude.{◌≡◌};
+
+use crate::mark::Mark;
+use controller::Controller;
+use ruled_relay::{Desk, Putter};
+use std::alloc::Global;
+
+/// The call worker at work.
+#[derive(Drop)]
+pub(crate) struct Worker<K> {
+    pub(crate) alloc: Global,
+    pub(crate) controller: Controller,
+    pub(crate) desk: Desk,
+    /// The outboxes, by link.
+    pub(crate) putters: Vec<Putter>,
+    /// What is remembered of each link.
+    pub(crate) marks: Vec<Mark>,
+    /// In how many outboxes, of the first links, the mark behind the last frame was put.
+    pub(crate) ended: usize,
+    pub(crate) clock: K,
+    /// The milliseconds that the clock answered and that no tick has passed on yet.
+    pub(crate) gathered: u64,
+    /// How many outputs were put since the bells were rung.
+    pub(crate) unrung: usize,
+}
