@@ -1,0 +1,15 @@
+use crate::worker::Worker;
+use std::snapshot::Snapshot;
+use std::thread::Promise;
+
+/// A thread's promise: where its worker began, it gives back what this worker may give back.
+#[derive(Drop)]
+pub(crate) struct WorkOf<W> {
+    pub(crate) worker: Snapshot<W>,
+}
+
+impl<W: Worker> Promise<Option<W::Done>> for WorkOf<W> {
+    ghost use Rattle.std.specs.Prelude.{IfSome};
+
+    ghost kept_by = { λ p done. IfSome done (W.does p.worker.value) };
+}

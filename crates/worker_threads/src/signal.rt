@@ -1,0 +1,57 @@
+use octets::Memory;
+use std::alloc::Global;
+use std::sync::atomic::{AtomicU64, Ordering};
+use std::sync::{Arc, Wait};
+
+const WAITS: u64 = 0;
+
+const BEGINS: u64 = 1;
+
+const STOPS: u64 = 2;
+
+/// What threads wait for before they begin. It is given once, to all of them: they begin, or they end without having done
+/// anything.
+#[derive(Drop)]
+pub struct Signal {
+    word: Arc<AtomicU64, Global>,
+}
+
+impl Signal {
+    /// A signal that isn't given yet.
+    pub fn new(alloc: Global) -> Result<Signal, Memory> {
+        let word = Arc::new(alloc, AtomicU64::new(WAITS))?;
+        Ok(Signal { word })
+    }
+
+    /// The same signal, for another thread.
+    pub fn share(&self) -> Result<Signal, Memory> {
+        let word = Arc::try_clone(&self.word)?;
+        Ok(Signal { word })
+    }
+
+    /// All threads begin.
+    pub fn begin(&self) {
+        self.give(BEGINS);
+    }
+
+    /// All threads end without having done anything.
+    pub fn stop(&self) {
+        self.give(STOPS);
+    }
+
+    fn give(&self, value: u64) {
+        self.word.store(value, Ordering::SeqCst);
+        self.word.wake_all();
+    }
+
+    /// Waits until the signal is given, and says whether the thread begins.
+    pub fn wait<R: Wait>(&self, rt: &R) -> bool {
+        for _ in rt.forever() {
+            match self.word.load(Ordering::SeqCst) {
+                WAITS => self.word.park(rt, 0),
+                given => return given == BEGINS,
+            }
+        }
+        unreachable!()
+    }
+}
