@@ -1,0 +1,43 @@
+ghost use Rattle.std.specs.Prelude.{◌≡◌};
+ghost use Rattle.link_sockets.specs.declared.fault.RunFault.TheVariants.{Memory as OutOfMemory};
+
+use octets::Memory;
+use std::alloc::AllocFailed;
+use std::io::{self, ErrorKind};
+use thiserror::Error;
+
+/// Why the relay didn't run to its end.
+#[derive(Clone, Copy, Debug, Error)]
+pub enum RunFault {
+    #[error("out of memory")]
+    Memory,
+    /// A link couldn't be opened.
+    #[error("device failed")]
+    Device,
+}
+
+impl From<Memory> for RunFault {
+    ghost from_gives = { λ _ fault. fault ≡ OutOfMemory };
+
+    fn from(_want: Memory) -> RunFault {
+        RunFault::Memory
+    }
+}
+
+impl<T: Drop> From<AllocFailed<T>> for RunFault {
+    ghost from_gives = { λ _ fault. fault ≡ OutOfMemory };
+
+    fn from(_want: AllocFailed<T>) -> RunFault {
+        RunFault::Memory
+    }
+}
+
+impl From<io::Error> for RunFault {
+    fn from(error: io::Error) -> RunFault {
+        if error.kind() == ErrorKind::OutOfMemory {
+            RunFault::Memory
+        } else {
+            RunFault::Device
+        }
+    }
+}

@@ -1,0 +1,18 @@
+//! The program's relay over TCP: its links, the clock that ticks for it, and its run.
+#![tactic(auto)]
+
+pub use fault::RunFault;
+pub use gate::OpenGate;
+pub use name::LinkName;
+pub use open::{SocketLink, open_links};
+pub use run::run_links;
+pub use socket::{ReadingEnd, WritingEnd};
+pub use stopwatch::Stopwatch;
+
+mod fault;
+mod gate;
+mod name;
+mod open;
+mod run;
+mod socket;
+mod stopwatch;

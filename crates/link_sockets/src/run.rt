@@ -1,0 +1,53 @@
+use crate::fault::RunFault;
+use crate::name::LinkName;
+use crate::open::{SocketLink, open_links};
+use crate::stopwatch::Stopwatch;
+use controller::Controller;
+use link_io::IoFault;
+use log::{Log, info, warn};
+use settings::Settings;
+use station_io::serve_links;
+use std::alloc::Global;
+use std::net::{Net, TcpListener, TcpStream};
+use std::sync::Wait;
+use std::thread::Threads;
+use std::time::Clock;
+
+/// A gate is never shut here, so it refuses no item, however few it may.
+const REFUSALS: u32 = 1;
+
+/// Opens the links of these settings and relays between them until all have ended. How each link ends is logged.
+/// `Device`: a link couldn't be opened. `Memory`: there was none, or a thread couldn't be had.
+pub fn run_links<R>(rt: R, alloc: Global, settings: Settings) -> Result<(), RunFault>
+where
+    R: Net<Listener = TcpListener, Stream = TcpStream>
+        + Clock
+        + Log
+        + Threads
+        + Wait
+        + Copy
+        + Send
+        + 'static,
+{
+    let links = open_links(&rt, alloc, &settings)?;
+    let controller = Controller::new(alloc, settings)?;
+    let clock = Stopwatch::new(rt);
+    match serve_links(rt, alloc, controller, links, clock, REFUSALS) {
+        Ok(ended) => {
+            tell(&rt, &ended);
+            Ok(())
+        }
+        Err(_) => Err(RunFault::Memory),
+    }
+}
+
+/// Logs how each link ended.
+fn tell<R: Log>(rt: &R, ended: &[(SocketLink<R>, Option<IoFault>)]) {
+    for (place, (_, fault)) in ended.iter().enumerate() {
+        let name = LinkName::of_link(place);
+        match fault {
+            None => info!(rt; target: "", "{name}: ended"),
+            Some(fault) => warn!(rt; target: "", "{name}: ended: {fault}"),
+        }
+    }
+}

@@ -1,0 +1,26 @@
+-- What the call worker promises is what the links need of it.
+use Rattle.std.proofs.Common.{◌≡◌, ℕ, zero, suc, List, [], ◌∷◌, ◌++◌, length, Option, Some, None, refl, sym, ap, ◌∙◌, subst, arith, append-nil, length-append}
+use mathlib.Core.Option.{some}
+use lib.ListN.{get_elem?}
+use Rattle.call_worker.specs.Call.{Parts, Runs as CallRuns}
+use Rattle.call_worker.specs.Taking.{HasTaken}
+use Rattle.link_io.specs.declared.fault.IoFault.{IoFault}
+use Rattle.relay_items.specs.declared.Item.{Item}
+use Rattle.station_io.specs.declared.work.Calling.{Calling}
+use Rattle.station_io.specs.declared.work.HasCalled.{HasCalled}
+use Rattle.station_io.specs.Calls.{Calls}
+use Rattle.station_io.specs.Done.{IsCalled}
+
+pub calls : (fault : Option IoFault) (old new : Parts) → CallRuns fault old new → Calls old.controller old.desk old.putters fault new.desk new.putters
+calls None old new runs = record {
+  steps = runs.steps;
+  items = runs.items;
+  taken = subst (λ (is : List Item). HasTaken old.desk is new.desk) (ap (λ last. runs.items ++ last) (runs.none refl) ∙ append-nil runs.items) runs.desk;
+  count = runs.count;
+  links = runs.links;
+}
+calls (Some fault) old new runs = tt
+
+-- the call worker has run without a fault, and what is there is what it gave back
+pub called : {K : Type 0} (w : Calling K) (given d : HasCalled) → (d ≡ given) × (given.fault ≡ None) → Calls w.controller w.desk w.putters.items given.fault given.desk given.putters.items → IsCalled w d
+called w given d same does = subst (λ (h : HasCalled). IsCalled w h) (sym same.0) (subst (λ fault. Calls w.controller w.desk w.putters.items fault given.desk given.putters.items) same.1 does)

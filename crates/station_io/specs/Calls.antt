@@ -1,0 +1,26 @@
+-- What the call worker leaves to the links.
+use Rattle.std.specs.Prelude.{◌≡◌, ℕ, List, [], length, Option, Some, None}
+use mathlib.Core.Option.{some}
+use lib.ListN.{get_elem?}
+use Rattle.call_worker.specs.Call.{Serves}
+use Rattle.call_worker.specs.Steps.{frames_to, over}
+use Rattle.call_worker.specs.Taking.{HasTaken}
+use Rattle.controller_table.specs.declared.step.Step.{Step}
+use Rattle.controller_table.specs.Controller.{Controller}
+use Rattle.link_io.specs.declared.fault.IoFault.{IoFault}
+use Rattle.relay_items.specs.declared.Item.{Item}
+use Rattle.ruled_relay.specs.Outbox.{PutterView}
+use Rattle.ruled_relay.specs.Row.{EachAt, Row}
+
+-- A run of it, of which the clock and the controller are let go. It has a fault, or all items that it took are in its steps.
+pub record Runs (start : Controller) (desk : Row) (putters : List PutterView) (left : Row) (ended : List PutterView) : Type 0 where
+  pub steps : List Step
+  pub items : List Item
+  pub taken : HasTaken desk items left
+  pub count : length ended ≡ length putters
+  pub links : EachAt ended (λ number p.
+      (before : PutterView) × (get_elem? putters number ≡ some before) × Serves None steps (frames_to number (over start steps).outs) items number before p)
+
+abbrev pub Calls : Controller → Row → List PutterView → Option IoFault → Row → List PutterView → Type 0
+Calls start desk putters None left ended = Runs start desk putters left ended
+Calls start desk putters (Some fault) left ended = Unit {0}

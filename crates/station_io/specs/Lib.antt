@@ -1,0 +1,6 @@
+pub mod Calls
+pub mod Done
+pub mod Given
+pub mod Links
+pub mod Pairs
+pub mod Work

@@ -1,0 +1,78 @@
+-- The links of a relay, from its start until all of them have ended.
+use Rattle.std.specs.Prelude.{◌≡◌, ℕ, Bool, true, false, List, [], ◌∷◌, ◌++◌, length, Option, Some, None}
+use Rattle.std.specs.Io.KnownBytes.{Appends, Consumes}
+use mathlib.Core.Option.{some}
+use lib.ListN.{get_elem?}
+use Rattle.call_worker.specs.Links.{AreStepped}
+use Rattle.call_worker.specs.Steps.{frames_to, items_of, over, whats_of}
+use Rattle.conn_messages.specs.declared.out.Out.{Out}
+use Rattle.controller_table.specs.declared.step.Step.{Step}
+use Rattle.controller_table.specs.Controller.{Controller}
+use Rattle.ipa_framing.specs.declared.frame.Frame.{Frame}
+use Rattle.link_io.specs.declared.fault.IoFault.{IoFault}
+use Rattle.link_io.specs.declared.fault.IoFault.TheVariants.{GivenUp}
+use Rattle.link_io.specs.Reading.{AsksGate, Ends, Parts, frames_text, given}
+use Rattle.link_io.specs.Writing.{AppendsBeginning}
+use Rattle.relay_items.specs.declared.What.TheVariants.{Down}
+use Rattle.station_io.specs.declared.link.Link.{Link}
+
+-- A link as its two devices and its gate tell of it: the octets that are left to be read, those that were written, and how
+-- often in a row the gate has refused.
+pub record LinkView : Type 0 where
+  pub unread : Option (List ℕ)
+  pub written : Option (List ℕ)
+  pub refused : ℕ
+
+abbrev pub link_view : {I O G : Type 0} → (I → Option (List ℕ)) → (O → Option (List ℕ)) → (G → ℕ) → Link I O G → LinkView
+link_view remaining contents refused link = record { unread = remaining link.reader; written = contents link.writer; refused = refused link.gate }
+
+-- a link that has ended, and its fault
+pub record Ended : Type 0 where
+  pub link : LinkView
+  pub fault : Option IoFault
+
+-- a link's fault: its reader's, else its writer's, else that its outbox was given up
+abbrev pub fault_of : Option IoFault → Option IoFault → Bool → Option IoFault
+fault_of (Some reading) writing given_up = Some reading
+fault_of None (Some writing) given_up = Some writing
+fault_of None None true = Some GivenUp
+fault_of None None false = None
+
+-- the text was written; where the writer had a fault, or the outbox was given up, a beginning of it
+abbrev pub Writes : Option IoFault → Bool → List ℕ → Option (List ℕ) → Option (List ℕ) → Type 0
+Writes None false text old new = Appends old new text
+Writes writing given_up text old new = AppendsBeginning old new text
+
+-- One link over these steps and outputs of the controller.
+pub record Comes (steps : List Step) (outs : List Out) (limit number : ℕ) (old new : LinkView) (fault : Option IoFault) : Type 0 where
+  -- why its reader and its writer ended, and whether its outbox was given up
+  pub reading : Option IoFault
+  pub writing : Option IoFault
+  pub given_up : Bool
+  pub why : fault ≡ fault_of reading writing given_up
+  -- octets were read that are frames and a rest
+  pub octets : List ℕ
+  pub frames : List Frame
+  pub rest : List ℕ
+  pub read : Consumes old.unread new.unread octets
+  pub parts : Parts octets frames rest
+  pub ends : Ends reading rest new.unread
+  pub asks : AsksGate reading limit frames old.refused new.refused
+  -- its items in the steps are these frames and then `Down`; with one more `Down`, where that was added
+  pub added : Bool
+  pub items : AreStepped added (whats_of number (items_of steps)) (given frames ++ Down ∷ [])
+  pub only : added ≡ true → given_up ≡ true
+  -- the octets of the frames that the controller put for it were written
+  pub writes : Writes writing given_up (frames_text (frames_to number outs)) old.written new.written
+
+-- There is one list of steps, over which each link has come to its end.
+abbrev pub Relays : Controller → ℕ → List LinkView → List Ended → Type 0
+Relays start limit links ended =
+    (length ended ≡ length links)
+    × ((steps : List Step)
+    × ((number : ℕ) (old : LinkView) (now : Ended) → get_elem? links number ≡ some old → get_elem? ended number ≡ some now
+    → Comes steps (over start steps).outs limit number old now.link now.fault))
+
+-- a link that was given back
+abbrev pub ended_view : {I O G : Type 0} → (I → Option (List ℕ)) → (O → Option (List ℕ)) → (G → ℕ) → Link I O G × Option IoFault → Ended
+ended_view remaining contents refused back = record { link = link_view remaining contents refused back.0; fault = back.1 }

@@ -1,0 +1,37 @@
+-- What the threads of the relay are given.
+use Rattle.std.specs.Prelude.{◌≡◌, ℕ, List, [], length, map}
+use Rattle.call_worker.specs.Call.{AreNew}
+use Rattle.ruled_relay.specs.Ends.{EndView}
+use Rattle.ruled_relay.specs.Inbox.{PassView, queues_of}
+use Rattle.ruled_relay.specs.Outbox.{PutterView, TakerView}
+use Rattle.ruled_relay.specs.Row.{EachAt, Row}
+use Rattle.station_io.specs.declared.link.Link.{Link}
+use Rattle.station_io.specs.declared.work.Reading.{Reading}
+use Rattle.station_io.specs.declared.work.Writing.{Writing}
+use Rattle.station_io.specs.Pairs.{paired}
+use Rattle.std.specs.declared.alloc.Global.{Global}
+
+module _ {I O G : Type 0} where
+  abbrev pub reading : Global → ℕ → Link I O G → PassView → Reading I G
+  reading alloc limit link pass = record { alloc = alloc; reader = link.reader; gate = link.gate; pass = pass; limit = limit }
+
+  abbrev pub writing : Global → Link I O G → TakerView → Writing O
+  writing alloc link taker = record { alloc = alloc; writer = link.writer; taker = taker }
+
+  abbrev pub readings : Global → ℕ → List (Link I O G) → List PassView → List (Reading I G)
+  readings alloc limit links passes = paired (reading alloc limit) links passes
+
+  abbrev pub writings : Global → List (Link I O G) → List TakerView → List (Writing O)
+  writings alloc links takers = paired (writing alloc) links takers
+
+-- so many new outboxes: the ends at each place are of one outbox
+abbrev pub AreNewOutboxes : ℕ → List PutterView → List TakerView → Type 0
+AreNewOutboxes count putters takers =
+    (length putters ≡ count) × (length takers ≡ count) × AreNew putters × EachAt takers (λ link t. t.taken ≡ [])
+    × (map (λ (p : PutterView). p.queue) putters ≡ map (λ (t : TakerView). t.queue) takers)
+
+-- so many new queues: the ends at each place are of one queue
+abbrev pub AreNewQueues : ℕ → Row → List PassView → Type 0
+AreNewQueues count desk passes =
+    (length desk ≡ count) × (length passes ≡ count) × EachAt desk (λ link e. e.seen.taken ≡ []) × EachAt passes (λ link p. p.put ≡ [])
+    × (queues_of desk ≡ map (λ (p : PassView). p.queue) passes)

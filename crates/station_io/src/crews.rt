@@ -1,0 +1,172 @@
+//! The threads of the relay: all are started, or none begins.
+ghost use Rattle.std.specs.Prelude.{◌≡◌, [], ◌++◌, length, vec_len, IfOk, IfSome, None, OnOk};
+ghost use Rattle.call_worker.specs.Call.{AreNew};
+ghost use Rattle.station_io.specs.Done.{AreRead, AreWritten, IsCalled};
+
+use crate::work::{Calling, HasCalled, HasRead, HasWritten, Reading, Writing};
+use call_worker::Clock;
+use link_io::Gate;
+use octets::Memory;
+use ruled_relay::Desk;
+use std::alloc::Global;
+use std::io::{Read, Write};
+use std::sync::Wait;
+use std::thread::Threads;
+use std::time::Duration;
+use worker_threads::{Crew, Signal, Worker};
+
+/// How many milliseconds the desk is left alone at most while readers are to end that nobody takes from.
+const LONGEST_WAIT: u64 = 10;
+
+/// What all threads of the relay are to do.
+#[derive(Drop)]
+pub(crate) struct Works<I, O, G, K> {
+    pub readings: Vec<Reading<I, G>>,
+    pub writings: Vec<Writing<O>>,
+    pub calling: Calling<K>,
+}
+
+/// What all threads of the relay gave back.
+#[derive(Drop)]
+pub(crate) struct Done<I, O, G> {
+    pub read: Vec<HasRead<I, G>>,
+    pub written: Vec<HasWritten<O>>,
+    pub called: HasCalled,
+}
+
+/// The threads of the relay.
+#[derive(Drop)]
+struct Crews<I: Read + Drop, O: Write + Drop, G: Gate + Drop> {
+    readers: Crew<Reading<I, G>>,
+    writers: Crew<Writing<O>>,
+}
+
+impl<
+    I: Read + Drop + Send + 'static,
+    O: Write + Drop + Send + 'static,
+    G: Gate + Drop + Send + 'static,
+> Crews<I, O, G> {
+    /// No threads, and room for those of so many links.
+    fn new(alloc: Global, links: usize) -> Result<Crews<I, O, G>, Memory>
+        ensures { IfOk result (λ c. (c.readers ≡ []) × (c.writers ≡ [])) }
+    {
+        Ok(Crews {
+            readers: Crew::new(alloc, links)?,
+            writers: Crew::new(alloc, links)?,
+        })
+    }
+
+    /// Starts a thread for each work. Where one is refused, some were started.
+    fn start<R: Threads + Wait + Copy + Send + 'static>(
+        &mut self,
+        rt: R,
+        signal: &Signal,
+        readings: Vec<Reading<I, G>>,
+        writings: Vec<Writing<O>>,
+    ) -> Result<(), Memory>
+        ensures readers { OnOk result (self.new.readers ≡ self.old.readers ++ readings.items) }
+        ensures writers { OnOk result (self.new.writers ≡ self.old.writers ++ writings.items) }
+    {
+        self.writers.start_all(rt, signal, writings)?;
+        self.readers.start_all(rt, signal, readings)
+    }
+
+    /// Waits until all threads have ended. Nothing is given where one never began, or the call worker ended with a fault.
+    fn join<R: Threads + Wait>(self, rt: &R, called: HasCalled) -> Option<Done<I, O, G>>
+        ensures read { IfSome result (λ d. AreRead I.remaining G.refused self.readers d.read.items) }
+        ensures written { IfSome result (λ d. AreWritten O.contents self.writers d.written.items) }
+        ensures called { IfSome result (λ d. (d.called ≡ called) × (called.fault ≡ None)) }
+    {
+        let Crews { readers, writers } = self;
+        let called = without_fault(rt, called, &readers);
+        let read = readers.join_all(rt);
+        let written = writers.join_all(rt);
+        match (read, written, called) {
+            (Some(read), Some(written), Some(called)) => Some(Done {
+                read,
+                written,
+                called,
+            }),
+            _ => None,
+        }
+    }
+
+    /// Waits until all threads have ended that were told to stop.
+    fn end<R: Threads>(self, rt: &R) {
+        let Crews { readers, writers } = self;
+        let _ = readers.join_all(rt);
+        let _ = writers.join_all(rt);
+    }
+}
+
+/// What the call worker gave back, if it has no fault. After its fault nobody takes what the readers still put, so it is let
+/// go until they have ended.
+fn without_fault<I: Read + Drop, G: Gate + Drop, R: Wait>(
+    rt: &R,
+    called: HasCalled,
+    readers: &Crew<Reading<I, G>>,
+) -> Option<HasCalled>
+    ensures { IfSome result (λ d. (d ≡ called) × (called.fault ≡ None)) }
+{
+    match called.fault {
+        None => Some(called),
+        Some(_) => {
+            drain(rt, called.desk, readers);
+            None
+        }
+    }
+}
+
+/// Takes until the readers have ended.
+fn drain<I: Read + Drop, G: Gate + Drop, R: Wait>(
+    rt: &R,
+    mut desk: Desk,
+    readers: &Crew<Reading<I, G>>,
+) {
+    for _ in rt.forever() {
+        if readers.have_ended() {
+            break;
+        }
+        if desk.take(rt).is_none() {
+            desk.wait(rt, Duration::from_millis(LONGEST_WAIT));
+        }
+    }
+}
+
+/// Does all works at once: those of the links each in a thread of its own, that of the call worker in the thread that called.
+/// `Memory`: a thread couldn't be had, and then none began; or the call worker ended with want of memory.
+pub(crate) fn run<
+    I: Read + Drop + Send + 'static,
+    O: Write + Drop + Send + 'static,
+    G: Gate + Drop + Send + 'static,
+    K: Clock + Drop,
+    R: Threads + Wait + Copy + Send + 'static,
+>(rt: R, alloc: Global, works: Works<I, O, G, K>) -> Result<Done<I, O, G>, Memory>
+    requires { AreNew works.calling.putters.items × (length works.calling.desk ≡ vec_len works.calling.putters) }
+    ensures read { IfOk result (λ d. AreRead I.remaining G.refused works.readings.items d.read.items) }
+    ensures written { IfOk result (λ d. AreWritten O.contents works.writings.items d.written.items) }
+    ensures called { IfOk result (λ d. IsCalled works.calling d.called) }
+{
+    let signal = Signal::new(alloc)?;
+    let mut crews = Crews::new(alloc, works.readings.len())?;
+    let Works {
+        readings,
+        writings,
+        calling,
+    } = works;
+    match crews.start(rt, &signal, readings, writings) {
+        Ok(()) => {
+            signal.begin();
+            let called = calling.work(&rt);
+            match crews.join(&rt, called) {
+                Some(done) => Ok(done),
+                None => Err(Memory),
+            }
+        }
+        Err(Memory) => {
+            signal.stop();
+            crews.end(&rt);
+            Err(Memory)
+        }
+    }
+}

@@ -1,0 +1,36 @@
+//! The queues between the threads of the relay.
+ghost use Rattle.std.specs.Prelude.{◌≡◌, IfOk, length, vec_len};
+ghost use Rattle.station_io.specs.Work.{AreNewOutboxes, AreNewQueues};
+
+use octets::Memory;
+use ruled_relay::{Desk, Inbox, Outbox, Putter, SourcePass, Taker};
+use std::alloc::Global;
+
+/// How many items, or lines, wait at most in the queue of one link.
+const CAPACITY: usize = 1024;
+
+/// A queue for each of so many links that are read.
+pub(crate) fn inbox(alloc: Global, count: usize) -> Result<(Desk, Vec<SourcePass>), Memory>
+    ensures { IfOk result (λ r. AreNewQueues count r.0 r.1.items) }
+{
+    // The number of a link has 16 bits.
+    let Ok(sources) = u16::try_from(count) else {
+        return Err(Memory);
+    };
+    let (desk, passes) = Inbox::new(alloc, sources, CAPACITY)?;
+    Ok((desk, passes))
+}
+
+/// An outbox for each of so many links that are written.
+pub(crate) fn outboxes(alloc: Global, count: usize) -> Result<(Vec<Putter>, Vec<Taker>), Memory>
+    ensures { IfOk result (λ r. AreNewOutboxes count r.0.items r.1.items) }
+{
+    let mut putters = Vec::with_capacity(alloc, count)?;
+    let mut takers = Vec::with_capacity(alloc, count)?;
+    for _ in 0..count {
+        let (putter, taker) = Outbox::new(alloc, CAPACITY)?;
+        putters.push(putter)?;
+        takers.push(taker)?;
+    }
+    Ok((putters, takers))
+}

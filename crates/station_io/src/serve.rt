@@ -1,0 +1,92 @@
+ghost use Rattle.std.specs.Prelude.{◌≡◌, map, IfOk, IfErr};
+ghost use Rattle.link_io.specs.declared.fault.IoFault.TheVariants as faults;
+ghost use Rattle.station_io.specs.Done.{HasEnded};
+ghost use Rattle.station_io.specs.Links.{Relays, ended_view, link_view};
+
+use crate::crews::{Done, Works, run};
+use crate::giving::{Room, give_back};
+use crate::link::Link;
+use crate::queues::{inbox, outboxes};
+use crate::work::Calling;
+use crate::works::workers;
+use call_worker::Clock;
+use controller::Controller;
+use link_io::{Gate, IoFault};
+use octets::Memory;
+use std::alloc::Global;
+use std::io::{Read, Write};
+use std::sync::Wait;
+use std::thread::Threads;
+
+/// Relays between the controller's links until all have ended: each has a reader and a writer, each in a thread of its own;
+/// the call worker has the thread that called. Gives the links back, in their order, each with its fault: its reader's, else its writer's,
+/// else `GivenUp` where its outbox was full 1,000 times in a row. A gate may refuse an item `limit` times in a row.
+///
+/// There is one list of steps of the controller. Of each link its items in that list are the frames that were read, then
+/// `Down`, but for a `Down` that was added where the outbox was given up; and what was written are the octets of the frames
+/// that the controller put for it.
+///
+/// `Memory`: there was none for a queue or in a step of the controller, or a thread couldn't be had; in that last case none
+/// begins. The links are let go.
+pub fn serve_links<
+    I: Read + Drop + Send + 'static,
+    O: Write + Drop + Send + 'static,
+    G: Gate + Drop + Send + 'static,
+    K: Clock + Drop,
+    R: Threads + Wait + Copy + Send + 'static,
+>(
+    rt: R,
+    alloc: Global,
+    controller: Controller,
+    links: Vec<Link<I, O, G>>,
+    clock: K,
+    limit: u32,
+) -> Result<Vec<(Link<I, O, G>, Option<IoFault>)>, IoFault>
+    ensures links { IfOk result (λ back. Relays controller limit (map (link_view I.remaining O.contents G.refused) links.items) (map (ended_view I.remaining O.contents G.refused) back.items)) }
+    ensures fault { IfErr result (λ fault. fault ≡ faults.Memory) }
+{
+    let room = Room::new(alloc, links.len())?;
+    let Done {
+        read,
+        written,
+        called,
+    } = relay(rt, alloc, controller, links, clock, limit)?;
+    Ok(give_back(room, read, written, called))
+}
+
+/// Makes the queues of all links, and lets each thread do its work with its ends of them.
+fn relay<
+    I: Read + Drop + Send + 'static,
+    O: Write + Drop + Send + 'static,
+    G: Gate + Drop + Send + 'static,
+    K: Clock + Drop,
+    R: Threads + Wait + Copy + Send + 'static,
+>(
+    rt: R,
+    alloc: Global,
+    controller: Controller,
+    links: Vec<Link<I, O, G>>,
+    clock: K,
+    limit: u32,
+) -> Result<Done<I, O, G>, Memory>
+    ensures { IfOk result (λ d. HasEnded I.remaining O.contents G.refused controller alloc limit links.items d.read.items d.written.items d.called.desk d.called.putters.items) }
+{
+    let count = links.len();
+    let (desk, passes) = inbox(alloc, count)?;
+    let (putters, takers) = outboxes(alloc, count)?;
+    let (readings, writings) = workers(alloc, links, passes, takers, limit)?;
+    let calling = Calling {
+        alloc,
+        controller,
+        desk,
+        putters,
+        clock,
+    };
+    let works = Works {
+        readings,
+        writings,
+        calling,
+    };
+    let done = run(rt, alloc, works)?;
+    Ok(done)
+}

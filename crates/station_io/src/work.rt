@@ -1,0 +1,138 @@
+//! What each thread of the relay does.
+
+use call_worker::{Clock, call_worker};
+use controller::Controller;
+use link_io::{Gate, IoFault, serve_reader, serve_writer};
+use ruled_relay::{Desk, Putter, SourcePass, Taker};
+use std::alloc::Global;
+use std::io::{Read, Write};
+use std::sync::Wait;
+use worker_threads::Worker;
+
+/// The reader of a link.
+#[derive(Drop)]
+pub(crate) struct Reading<I, G> {
+    pub alloc: Global,
+    pub reader: I,
+    pub gate: G,
+    pub pass: SourcePass,
+    /// How many refusals in a row its gate is granted.
+    pub limit: u32,
+}
+
+/// A reader that has ended, and why.
+#[derive(Drop)]
+pub(crate) struct HasRead<I, G> {
+    pub reader: I,
+    pub gate: G,
+    pub pass: SourcePass,
+    pub fault: Option<IoFault>,
+}
+
+impl<I: Read + Drop, G: Gate + Drop> Worker for Reading<I, G> {
+    type Done = HasRead<I, G>;
+
+    ghost use Rattle.link_io.specs.Reading.{Serves};
+
+    ghost can_work = { λ w. Unit {0} };
+
+    ghost does = { λ w d. Serves (I.remaining w.reader) (I.remaining d.reader) w.limit (G.refused w.gate) (G.refused d.gate) w.pass d.pass d.fault };
+
+    fn work<R: Wait>(self, rt: &R) -> HasRead<I, G> {
+        let (reader, gate, pass, fault) = serve_reader(
+            rt,
+            self.alloc,
+            self.reader,
+            self.gate,
+            self.pass,
+            self.limit,
+        );
+        HasRead {
+            reader,
+            gate,
+            pass,
+            fault,
+        }
+    }
+}
+
+/// The writer of a link.
+#[derive(Drop)]
+pub(crate) struct Writing<O> {
+    pub alloc: Global,
+    pub writer: O,
+    pub taker: Taker,
+}
+
+/// A writer that has ended, and why.
+#[derive(Drop)]
+pub(crate) struct HasWritten<O> {
+    pub writer: O,
+    pub taker: Taker,
+    pub fault: Option<IoFault>,
+}
+
+impl<O: Write + Drop> Worker for Writing<O> {
+    type Done = HasWritten<O>;
+
+    ghost use Rattle.link_io.specs.Writing.{Delivers};
+
+    ghost can_work = { λ w. Unit {0} };
+
+    ghost does = { λ w d. Delivers (O.contents w.writer) (O.contents d.writer) w.taker d.taker d.fault };
+
+    fn work<R: Wait>(self, rt: &R) -> HasWritten<O> {
+        let (writer, taker, fault) = serve_writer(rt, self.alloc, self.writer, self.taker);
+        HasWritten {
+            writer,
+            taker,
+            fault,
+        }
+    }
+}
+
+/// The call worker.
+#[derive(Drop)]
+pub(crate) struct Calling<K> {
+    pub alloc: Global,
+    pub controller: Controller,
+    pub desk: Desk,
+    pub putters: Vec<Putter>,
+    pub clock: K,
+}
+
+/// A call worker that has ended, and why.
+#[derive(Drop)]
+pub(crate) struct HasCalled {
+    pub desk: Desk,
+    pub putters: Vec<Putter>,
+    pub fault: Option<IoFault>,
+}
+
+impl<K: Clock + Drop> Worker for Calling<K> {
+    type Done = HasCalled;
+
+    ghost use Rattle.std.specs.Prelude.{◌≡◌, length, vec_len};
+    ghost use Rattle.call_worker.specs.Call.{AreNew};
+    ghost use Rattle.station_io.specs.Calls.{Calls};
+
+    ghost can_work = { λ w. AreNew w.putters.items × (length w.desk ≡ vec_len w.putters) };
+
+    ghost does = { λ w d. Calls w.controller w.desk w.putters.items d.fault d.desk d.putters.items };
+
+    fn work<R: Wait>(self, rt: &R) -> HasCalled {
+        let (_, desk, putters, _, fault) = call_worker(
+            rt,
+            self.alloc,
+            self.controller,
+            self.desk,
+            self.putters,
+            self.clock,
+        );
+        HasCalled {
+            desk,
+            putters,
+            fault,
+        }
+    }
+}
