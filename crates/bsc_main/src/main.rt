@@ -2,6 +2,7 @@
 #![tactic(auto)]
 
 use crate::command_line::task;
+use crate::relaying::relay;
 use crate::words::{Task, TaskFault};
 use bsc_program::{Failure, decode, replay};
 use std::env;
@@ -9,22 +10,26 @@ use std::io::{BufWriter, ErrorKind};
 use std::process::ExitCode;
 
 mod command_line;
+mod relaying;
 mod words;
 
 const USAGE: &str =
     "usage: bsc run --config FILE | bsc replay [--config FILE] [--break N] | bsc decode";
 
 fn main(rt: HostRuntime) -> ExitCode {
-    match asked(&rt) {
-        Ok(task) => ExitCode::from(run(&rt, task)),
+    let status = match asked(&rt) {
+        Ok(Task::Run(file)) => relay(&rt, file.as_str()),
+        Ok(Task::Replay(settings, breaks)) => replayed(&rt, settings, breaks),
+        Ok(Task::Decode) => decoded(&rt),
         Err(fault) => {
             let _ = match fault {
                 TaskFault::Words => eprintln!(rt; "{USAGE}"),
                 TaskFault::Memory => eprintln!(rt; "bsc: {fault}"),
             };
-            ExitCode::from(fault.status())
+            fault.status()
         }
-    }
+    };
+    ExitCode::from(status)
 }
 
 /// Reads what the words behind the program's name ask for. A word that isn't UTF-8 is a fault of words.
@@ -38,23 +43,27 @@ fn asked(rt: &HostRuntime) -> Result<Task, TaskFault> {
     task(rt.alloc(), &texts)
 }
 
-/// Does what is asked for, and gives the status that the program ends with. What it prints is buffered.
-fn run(rt: &HostRuntime, task: Task) -> u8 {
+/// Replays the script on standard input, and gives the status that the program ends with. What it prints is buffered.
+fn replayed(rt: &HostRuntime, settings: Option<String>, breaks: Option<String>) -> u8 {
     let Ok(mut output) = BufWriter::new(rt.alloc(), rt.stdout()) else {
         return failed(rt, Failure::Memory);
     };
-    match task {
-        Task::Replay(settings, breaks) => replay(
-            rt.alloc(),
-            settings.as_deref(),
-            breaks.as_deref(),
-            &mut rt.stdin(),
-            &mut output,
-            &mut rt.stderr(),
-        ),
-        Task::Decode => decode(rt.alloc(), &mut rt.stdin(), &mut output, &mut rt.stderr()),
-        Task::Run(_) => failed(rt, Failure::Unsupported),
-    }
+    replay(
+        rt.alloc(),
+        settings.as_deref(),
+        breaks.as_deref(),
+        &mut rt.stdin(),
+        &mut output,
+        &mut rt.stderr(),
+    )
+}
+
+/// Names the frames on standard input, and gives the status that the program ends with. What it prints is buffered.
+fn decoded(rt: &HostRuntime) -> u8 {
+    let Ok(mut output) = BufWriter::new(rt.alloc(), rt.stdout()) else {
+        return failed(rt, Failure::Memory);
+    };
+    decode(rt.alloc(), &mut rt.stdin(), &mut output, &mut rt.stderr())
 }
 
 /// Tells why the program ends, and gives the status that it ends with.
