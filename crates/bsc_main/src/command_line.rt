@@ -1,4 +1,4 @@
-ghost use Rattle.std.specs.Prelude.{◌≡◌, ◌≢◌, false, IfOk, IfErr, map, option_map, string_bytes};
+ghost use Rattle.std.specs.Prelude.{◌≡◌, ◌≢◌, false, IfOk, IfErr, IfSome, map, option_map, string_bytes};
 ghost use Rattle.clap.specs.Words.{app_of, kind_of, subcommand_of, subcommand_rows_of};
 ghost use Rattle.clap.specs.declared.error.kind.ErrorKind.TheVariants.{OutOfMemory};
 ghost use Rattle.clap.specs.declared.builder.command.Command.TheViews.{out-Command as fields_of};
@@ -97,6 +97,14 @@ pub fn task<'a>(alloc: Global, words: &'a [&'a str]) -> Result<Task, TaskFault>
         Some(("decode", _)) => Ok(Task::Decode),
         _ => Err(TaskFault::Memory),
     }
+}
+
+/// What `clap` says of words that it refuses; `None` where it takes them, or where memory for its words can't be had.
+pub fn complaint<'a>(alloc: Global, words: &'a [&'a str]) -> Option<Error>
+    ensures { IfSome result (λ error. kind_of error ≢ OutOfMemory → AreRefused (map (λ word. word.now) words.entry.now)) }
+{
+    let command = command(alloc).ok()?;
+    command.try_get_matches_from(words).err()
 }
 
 /// A copy of a text, if there is one.

@@ -1,7 +1,7 @@
 //! The program `bsc`: a relay of the signalling between the stations and the switch of a GSM network.
 #![tactic(auto)]
 
-use crate::command_line::task;
+use crate::command_line::{complaint, task};
 use crate::relaying::relay;
 use crate::words::{Task, TaskFault};
 use bsc_program::{Failure, decode, replay};
@@ -13,8 +13,18 @@ mod command_line;
 mod relaying;
 mod words;
 
-const USAGE: &str =
-    "usage: bsc run --config FILE | bsc replay [--config FILE] [--break N] | bsc decode";
+const USAGE: &str = "\
+usage: bsc COMMAND
+
+  run --config FILE
+      relays between the switch and the base stations that the settings in FILE
+      name, until every link has ended; standard error tells of each link
+  replay
+      reads a script on standard input, an event a line, and prints what each
+      end sent, took and accepted
+  decode
+      reads the octets of an IPA link on standard input, and prints the name of
+      each frame";
 
 fn main(rt: HostRuntime) -> ExitCode {
     let status = match asked(&rt) {
@@ -40,7 +50,20 @@ fn asked(rt: &HostRuntime) -> Result<Task, TaskFault> {
         Err(_) => return Err(TaskFault::Words),
     };
     let texts: Vec<&str> = words.iter().map(|word| word.as_str()).collect(rt.alloc())?;
-    task(rt.alloc(), &texts)
+    let task = task(rt.alloc(), &texts);
+    if let Err(TaskFault::Words) = task {
+        complain(rt, &texts);
+    }
+    task
+}
+
+/// Tells what `clap` finds wrong with the words. Its help is left out, since the program has a usage of its own.
+fn complain(rt: &HostRuntime, words: &[&str]) {
+    if let Some(error) = complaint(rt.alloc(), words) {
+        if error.use_stderr() {
+            let _ = eprint!(rt; "{error}");
+        }
+    }
 }
 
 /// Replays the script on standard input, and gives the status that the program ends with. What it prints is buffered.
