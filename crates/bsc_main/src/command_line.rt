@@ -103,8 +103,13 @@ pub fn task<'a>(alloc: Global, words: &'a [&'a str]) -> Result<Task, TaskFault>
 pub fn complaint<'a>(alloc: Global, words: &'a [&'a str]) -> Option<Error>
     ensures { IfSome result (λ error. kind_of error ≢ OutOfMemory → AreRefused (map (λ word. word.now) words.entry.now)) }
 {
-    let command = command(alloc).ok()?;
-    command.try_get_matches_from(words).err()
+    let Ok(command) = command(alloc) else {
+        return None;
+    };
+    match command.try_get_matches_from(words) {
+        Ok(_) => None,
+        Err(error) => Some(error),
+    }
 }
 
 /// A copy of a text, if there is one.

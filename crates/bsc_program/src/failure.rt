@@ -12,7 +12,7 @@ use thiserror::Error;
 #[derive(Clone, Copy, Debug, Error)]
 pub enum Failure {
     /// What was asked for isn't there yet.
-    #[error("not supported")]
+    #[error("replay --config and --break are not supported yet")]
     Unsupported,
     /// The line of the script with this number, from 1, is no event's text.
     #[error("line {0}: bad event")]
