@@ -4,9 +4,10 @@ ghost use Rattle.dtap_codec.specs.Number.{count_of};
 ghost use Rattle.msc_end.specs.Switch.{connection_of, replies};
 ghost use Rattle.nsd_filter.specs.AcceptedList.{accepted_list, not_of_the_flow};
 ghost use Rattle.octets.specs.declared.limits.TheConstants.{MESSAGE_LIMIT};
+ghost use Rattle.world_table.specs.Lists.{behind_first, first_in};
 ghost use Rattle.world_table.specs.SwitchSide.{sccp_in as message_in};
 ghost use Rattle.world_table.specs.Takes.{Takes};
-ghost use Rattle.world_switch.specs.Switch.{assigning, clearing, first_made, made_behind_first, sending, took};
+ghost use Rattle.world_switch.specs.Switch.{assigning, clearing, sending, took};
 ghost use Rattle.world_switch.specs.Written.{IsShort, IsWritten};
 
 use crate::frame::sccp_in;
@@ -145,9 +146,9 @@ impl Switch {
 
     /// The first message that it made and didn't give out yet. It can be written.
     pub fn next(&mut self) -> Option<Sccp>
-        ensures message { result ≡ first_made self.old.made }
+        ensures message { result ≡ first_in self.old.made }
         ensures written { IfSome result IsWritten }
-        ensures after { self.new ≡ record self.old { made = made_behind_first self.old.made } }
+        ensures after { self.new ≡ record self.old { made = behind_first self.old.made } }
     {
         self.made.pop_front()
     }
