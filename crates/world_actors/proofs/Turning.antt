@@ -6,9 +6,10 @@ use Rattle.controller_table.specs.Life.{take, tick}
 use Rattle.octets.specs.declared.memory.Memory.{Memory}
 use Rattle.relay_items.specs.declared.Item.{Item}
 use Rattle.world_table.specs.declared.seat.Tenure.{Tenure}
+use Rattle.world_table.specs.Lists.{behind_first, first_in}
 use Rattle.world_table.specs.Relay.{after_handle, after_tick, entry_of, handled, joined_by, target_in, with_turn}
 use Rattle.world_table.specs.World.{Actors, Link, is_up, link_of, outbox_of, with_outbox}
-use Rattle.world_relay.specs.Relay.{first_item, handling, items_behind_first, ticking}
+use Rattle.world_relay.specs.Relay.{handling, ticking}
 use Rattle.world_relay.specs.RelayState.{RelayState}
 use Rattle.world_relay.specs.Links.{all_joined_in, is_up_in, joined_in, outbox_in, with_outbox_in}
 
@@ -40,17 +41,17 @@ tick_puts (Err memory) w ms new is = tt
 tick_puts (Ok x) w ms new is = ap (λ (v : Actors). Some v) (turn_is None (tick ms w.controller) w ∙ sym (ap (with_relay w) is))
 
 -- the first item is handled
-pub handle_puts : (w : Actors) (item : Item) (target : Option Tenure) (behind new : RelayState) → first_item w.inbox ≡ Some item → behind ≡ record (relay_of w) { inbox = items_behind_first w.inbox }
+pub handle_puts : (w : Actors) (item : Item) (target : Option Tenure) (behind new : RelayState) → first_in w.inbox ≡ Some item → behind ≡ record (relay_of w) { inbox = behind_first w.inbox }
     → target ≡ target_in w item.source item.what → new ≡ handling target item behind → after_handle w ≡ Some (with_relay w new)
 handle_puts w item target behind new first rest is done = by_items w.inbox refl first where
   some-same : {x y : Item} → Some x ≡ Some y → x ≡ y
   some-same e = cc
 
-  by_items : (items : List Item) → w.inbox ≡ items → first_item items ≡ Some item → handled items w ≡ Some (with_relay w new)
+  by_items : (items : List Item) → w.inbox ≡ items → first_in items ≡ Some item → handled items w ≡ Some (with_relay w new)
   by_items [] are h = absurd cc
   by_items (i ∷ others) are h =
       let same : i ≡ item = some-same h in
-      let left : behind ≡ record (relay_of w) { inbox = others } = rest ∙ ap (λ (items : List Item). record (relay_of w) { inbox = items_behind_first items }) are in
+      let left : behind ≡ record (relay_of w) { inbox = others } = rest ∙ ap (λ (items : List Item). record (relay_of w) { inbox = behind_first items }) are in
       ap (λ (j : Item). handled (j ∷ others) w) same
       ∙ ap (λ (v : Actors). Some v)
       (turn_is (target_in w item.source item.what) (take item w.controller) (record w { inbox = others })

@@ -13,7 +13,7 @@ pub mod BesideRelay
 pub mod Sublists
 pub mod BaseTakes
 pub mod StationTakes
-mod LineUpRows
+mod Rows
 pub mod StillToCome
 pub mod SwitchTakes
 pub mod Cutting

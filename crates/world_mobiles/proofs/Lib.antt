@@ -1,2 +1,3 @@
 mod Fit
 mod Places
+mod Rows

@@ -1,8 +1,9 @@
 -- What the calls of the links make of them, by the words of `world_table`, which has the same for the whole world.
-use Rattle.std.specs.Prelude.{ℕ, Bool, if◌then◌else◌, List, [], ◌∷◌, ◌++◌, fold, set, slice_index_or, Option, Some, None}
+use Rattle.std.specs.Prelude.{ℕ, Bool, if◌then◌else◌, List, [], ◌∷◌, ◌++◌, fold, set, slice_index_or, Option}
 use Rattle.conn_messages.specs.declared.out.Out.{Out}
 use Rattle.world_table.specs.declared.line.OutboxEntry.{OutboxEntry}
 use Rattle.world_table.specs.declared.seat.Tenure.{Tenure}
+use Rattle.world_table.specs.Lists.{behind_first}
 use Rattle.world_table.specs.Relay.{entry_of}
 use Rattle.world_table.specs.World.{Link, broken_link}
 
@@ -19,17 +20,9 @@ outbox_in links number = (link_in links number).outbox
 abbrev pub with_outbox_in : ℕ → List OutboxEntry → List Link → List Link
 with_outbox_in number entries links = set links number (record (link_in links number) { outbox = entries })
 
-abbrev pub first_entry : List OutboxEntry → Option OutboxEntry
-first_entry [] = None
-first_entry (first ∷ others) = Some first
-
-abbrev pub entries_behind_first : List OutboxEntry → List OutboxEntry
-entries_behind_first [] = []
-entries_behind_first (first ∷ others) = others
-
 -- the first entry of an outbox is taken
 abbrev pub taken_of : ℕ → List Link → List Link
-taken_of number links = with_outbox_in number (entries_behind_first (outbox_in links number)) links
+taken_of number links = with_outbox_in number (behind_first (outbox_in links number)) links
 
 -- an output joins the outbox of a link that is up
 abbrev pub joined_in : Option Tenure → List Link → Out → List Link

@@ -1,5 +1,5 @@
 -- What the calls of the controller with its queues make of it.
-use Rattle.std.specs.Prelude.{ℕ, List, [], ◌∷◌, ◌++◌, Option, Some, None}
+use Rattle.std.specs.Prelude.{ℕ, List, [], ◌∷◌, ◌++◌, Option, None}
 use Rattle.controller_table.specs.Controller.{Turn}
 use Rattle.controller_table.specs.Life.{take, tick}
 use Rattle.relay_items.specs.declared.Item.{Item}
@@ -11,14 +11,6 @@ use Rattle.world_relay.specs.RelayState.{RelayState}
 -- an item goes to the inbox's end
 abbrev pub with_item_in : Item → RelayState → RelayState
 with_item_in item r = record r { inbox = r.inbox ++ item ∷ [] }
-
-abbrev pub first_item : List Item → Option Item
-first_item [] = None
-first_item (first ∷ others) = Some first
-
-abbrev pub items_behind_first : List Item → List Item
-items_behind_first [] = []
-items_behind_first (first ∷ others) = others
 
 -- what the controller put joins the outboxes
 abbrev pub with_turn_in : Option Tenure → Turn → RelayState → RelayState

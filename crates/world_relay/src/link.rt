@@ -1,6 +1,6 @@
 ghost use Rattle.std.specs.Prelude.{◌≡◌, ◌∷◌, [], ◌++◌, OnOk, option_map};
+ghost use Rattle.world_table.specs.Lists.{behind_first, first_in};
 ghost use Rattle.world_table.specs.World.{broken_link, new_link};
-ghost use Rattle.world_relay.specs.Links.{entries_behind_first, first_entry};
 
 use octets::Memory;
 use std::alloc::Global;
@@ -42,15 +42,15 @@ impl RelayLink {
 
     /// The first entry of its outbox.
     pub(crate) fn first(&self) -> Option<&OutboxEntry>
-        ensures { option_map (λ e. e.now) result ≡ first_entry self.now.outbox }
+        ensures { option_map (λ e. e.now) result ≡ first_in self.now.outbox }
     {
         self.outbox.front()
     }
 
     /// Takes the first entry.
     pub(crate) fn take(&mut self) -> Option<OutboxEntry>
-        ensures entry { result ≡ first_entry self.old.outbox }
-        ensures after { self.new ≡ record self.old { outbox = entries_behind_first self.old.outbox } }
+        ensures entry { result ≡ first_in self.old.outbox }
+        ensures after { self.new ≡ record self.old { outbox = behind_first self.old.outbox } }
     {
         self.outbox.pop_front()
     }

@@ -1,6 +1,7 @@
 ghost use Rattle.std.specs.Prelude.{◌≡◌, IfOk, OnOk, option_map, replicate};
+ghost use Rattle.world_table.specs.Lists.{first_in};
 ghost use Rattle.world_table.specs.World.{new_link};
-ghost use Rattle.world_relay.specs.Links.{all_joined_in, broken_in, first_entry, is_up_in, joined_in, outbox_in, taken_of};
+ghost use Rattle.world_relay.specs.Links.{all_joined_in, broken_in, is_up_in, joined_in, outbox_in, taken_of};
 
 use crate::entries::entry_of;
 use crate::link::RelayLink;
@@ -50,7 +51,7 @@ impl Links {
 
     /// The first entry of an outbox.
     pub fn first(&self, link: u16) -> Option<&OutboxEntry>
-        ensures { option_map (λ e. e.now) result ≡ first_entry (outbox_in self.now link) }
+        ensures { option_map (λ e. e.now) result ≡ first_in (outbox_in self.now link) }
     {
         match self.links.get(usize::from(link)) {
             Some(link) => link.first(),
@@ -60,7 +61,7 @@ impl Links {
 
     /// Takes the first entry of an outbox.
     pub fn take(&mut self, link: u16) -> Option<OutboxEntry>
-        ensures entry { result ≡ first_entry (outbox_in self.old link) }
+        ensures entry { result ≡ first_in (outbox_in self.old link) }
         ensures after { self.new ≡ taken_of link self.old }
     {
         match self.links.get_mut(usize::from(link)) {

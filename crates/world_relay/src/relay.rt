@@ -3,10 +3,11 @@ ghost use Rattle.bssmap_codec.specs.SccpText.{sccp_write_fault};
 ghost use Rattle.controller_table.specs.Controller.{new_controller};
 ghost use Rattle.relay_items.specs.declared.What.TheVariants as whats;
 ghost use Rattle.rsl_codec.specs.RslText.{rsl_write_fault};
+ghost use Rattle.world_table.specs.Lists.{behind_first, first_in};
 ghost use Rattle.world_table.specs.Relay.{station_item, switch_item};
 ghost use Rattle.world_table.specs.World.{new_link};
-ghost use Rattle.world_relay.specs.Links.{first_entry, is_up_in, outbox_in, taken_of};
-ghost use Rattle.world_relay.specs.Relay.{breaking, first_item, handling, items_behind_first, ticking, with_item_in};
+ghost use Rattle.world_relay.specs.Links.{is_up_in, outbox_in, taken_of};
+ghost use Rattle.world_relay.specs.Relay.{breaking, handling, ticking, with_item_in};
 
 use crate::Links;
 use bssmap_codec::{Sccp, write_sccp};
@@ -62,14 +63,14 @@ impl Relay {
 
     /// The first entry of an outbox.
     pub fn first_entry(&self, link: u16) -> Option<&OutboxEntry>
-        ensures { option_map (λ e. e.now) result ≡ first_entry (outbox_in self.now.links link) }
+        ensures { option_map (λ e. e.now) result ≡ first_in (outbox_in self.now.links link) }
     {
         self.links.first(link)
     }
 
     /// Takes the first entry of an outbox.
     pub fn take_entry(&mut self, link: u16) -> Option<OutboxEntry>
-        ensures entry { result ≡ first_entry (outbox_in self.old.links link) }
+        ensures entry { result ≡ first_in (outbox_in self.old.links link) }
         ensures after { self.new ≡ record self.old { links = taken_of link self.old.links } }
     {
         self.links.take(link)
@@ -117,8 +118,8 @@ impl Relay {
 
     /// Takes the first item of the inbox.
     pub fn take_item(&mut self) -> Option<Item>
-        ensures item { result ≡ first_item self.old.inbox }
-        ensures after { self.new ≡ record self.old { inbox = items_behind_first self.old.inbox } }
+        ensures item { result ≡ first_in self.old.inbox }
+        ensures after { self.new ≡ record self.old { inbox = behind_first self.old.inbox } }
     {
         self.inbox.pop_front()
     }

@@ -8,19 +8,10 @@ use Rattle.link_model.specs.Base.{is_active, refusal_of_activate, first_message,
 use Rattle.rsl_codec.specs.declared.rsl.Rsl.{Rsl}
 use Rattle.world_table.specs.declared.line.AirMessage.{AirMessage}
 use Rattle.world_table.specs.declared.seat.Tenure.{Tenure}
+use Rattle.world_table.specs.Lists.{behind_first}
 use Rattle.world_table.specs.Mobiles.{measurement_result, signalling_brought, short_message_brought}
 use Rattle.world_table.specs.Stations.{link_answer, new_tenure}
 use Rattle.world_table.specs.World.{Spot, Station, new_spot, no_station}
-
--- ---- a channel's messages for the air
-
-abbrev pub first_in_air : List AirMessage → Option AirMessage
-first_in_air [] = None
-first_in_air (first ∷ others) = Some first
-
-abbrev pub messages_behind_first : List AirMessage → List AirMessage
-messages_behind_first [] = []
-messages_behind_first (first ∷ others) = others
 
 -- ---- one station
 
@@ -64,7 +55,7 @@ aired_on channel message s =
 
 -- the first of them is taken from the air
 abbrev pub taken_on : ℕ → Station → Station
-taken_on channel s = with_spot_of channel (record (spot_of s channel) { air = messages_behind_first (spot_of s channel).air }) s
+taken_on channel s = with_spot_of channel (record (spot_of s channel) { air = behind_first (spot_of s channel).air }) s
 
 -- the controller's question for the data link of SAPI 3 is answered
 abbrev pub answered_on : Bool → ℕ → Station → Station

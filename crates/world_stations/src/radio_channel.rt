@@ -1,8 +1,8 @@
 ghost use Rattle.std.specs.Prelude.{◌≡◌, ◌≢◌, ◌+◌, ◌%◌, ◌++◌, ◌∷◌, [], false, OnOk};
 ghost use Rattle.world_table.specs.declared.limits.TheConstants.{MAX_TENURE};
+ghost use Rattle.world_table.specs.Lists.{behind_first, first_in};
 ghost use Rattle.world_table.specs.Stations.{new_tenure};
 ghost use Rattle.world_table.specs.World.{new_spot};
-ghost use Rattle.world_stations.specs.Stations.{first_in_air, messages_behind_first};
 
 use octets::Memory;
 use std::alloc::Global;
@@ -97,8 +97,8 @@ impl RadioChannel {
 
     /// Takes the first message for the air.
     pub(crate) fn take(&mut self) -> Option<AirMessage>
-        ensures message { result ≡ first_in_air self.old.air }
-        ensures after { self.new ≡ record self.old { air = messages_behind_first self.old.air } }
+        ensures message { result ≡ first_in self.old.air }
+        ensures after { self.new ≡ record self.old { air = behind_first self.old.air } }
     {
         self.air.pop_front()
     }

@@ -3,8 +3,9 @@ ghost use Rattle.dtap_codec.specs.declared.report.TheConstants.{REPORT_LENGTH};
 ghost use Rattle.link_model.specs.Base.{first_message, is_told};
 ghost use Rattle.rsl_codec.specs.Rsl.{IsL3};
 ghost use Rattle.world_table.specs.declared.limits.TheConstants.{MAX_TENURE};
+ghost use Rattle.world_table.specs.Lists.{first_in};
 ghost use Rattle.world_table.specs.World.{stations_from};
-ghost use Rattle.world_stations.specs.Stations.{activated_on, aired_on, answered_on, at_station, brought_on, established_on, first_in_air, given_on, is_active_in, is_present, left_on, released_on, reported_on, silenced, spot_in, station_in, taken_on, told_to};
+ghost use Rattle.world_stations.specs.Stations.{activated_on, aired_on, answered_on, at_station, brought_on, established_on, given_on, is_active_in, is_present, left_on, released_on, reported_on, silenced, spot_in, station_in, taken_on, told_to};
 ghost use Rattle.world_stations.specs.Written.{IsWritten};
 
 use crate::base_station::BaseStation;
@@ -131,7 +132,7 @@ impl Stations {
 
     /// Takes the first message of a channel from the air.
     pub fn take(&mut self, at: &Place) -> Option<AirMessage>
-        ensures message { result ≡ first_in_air (spot_in self.old at.now).air }
+        ensures message { result ≡ first_in (spot_in self.old at.now).air }
         ensures after { self.new ≡ at_station at.now.station (taken_on at.now.number) self.old }
     {
         match self.stations.get_mut(place_of(at.station)) {

@@ -1,7 +1,8 @@
 ghost use Rattle.std.specs.Prelude.{◌≡◌, ◌≢◌, OnOk};
 ghost use Rattle.world_table.specs.declared.limits.TheConstants.{MAX_TENURE};
+ghost use Rattle.world_table.specs.Lists.{first_in};
 ghost use Rattle.world_table.specs.Stations.{new_tenure};
-ghost use Rattle.world_stations.specs.Stations.{activated_on, aired_on, answered_on, first_in_air, left_on, released_on, spot_of, taken_on, with_spot_of};
+ghost use Rattle.world_stations.specs.Stations.{activated_on, aired_on, answered_on, left_on, released_on, spot_of, taken_on, with_spot_of};
 
 use crate::base_station::BaseStation;
 use link_model::LinkFault;
@@ -79,7 +80,7 @@ impl BaseStation {
 
     /// Takes the first message from the air.
     pub(crate) fn take(&mut self, channel: ChanNo) -> Option<AirMessage>
-        ensures message { result ≡ first_in_air (spot_of self.old channel).air }
+        ensures message { result ≡ first_in (spot_of self.old channel).air }
         ensures after { self.new ≡ taken_on channel self.old }
     {
         match self.channels.get_mut(usize::from(channel.octet())) {

@@ -30,11 +30,3 @@ clearing connection s = sending_on connection clear_command (after_clear s.switc
 
 abbrev pub sending : ℕ → Sapi → List ℕ → SwitchSideState → Option SwitchSideState
 sending connection sapi message s = sending_on connection (Transfer (dlci_for sapi) message) s.switch s
-
-abbrev pub first_made : List Sccp → Option Sccp
-first_made [] = None
-first_made (first ∷ others) = Some first
-
-abbrev pub made_behind_first : List Sccp → List Sccp
-made_behind_first [] = []
-made_behind_first (first ∷ others) = others

@@ -1,12 +1,14 @@
-ghost use Rattle.std.specs.Prelude.{◌≡◌, ◌≤◌, ◌++◌, ◌∷◌, [], length, IsSome, IfOk, IfSome, OnOk, OnErr, option_map};
+ghost use Rattle.std.specs.Prelude.{◌≡◌, ◌≢◌, ◌≤◌, ◌++◌, ◌∷◌, [], false, length, IsSome, IfOk, IfSome, OnOk, OnErr, option_map};
 ghost use Rattle.std.specs.List.{AllByRecursion};
 ghost use Rattle.dtap_codec.specs.Number.{count_of};
+ghost use Rattle.msc_end.specs.declared.fault.MscFault.TheVariants.{Memory as OutOfMemory};
 ghost use Rattle.msc_end.specs.Switch.{connection_of, replies};
 ghost use Rattle.nsd_filter.specs.AcceptedList.{accepted_list, not_of_the_flow};
 ghost use Rattle.octets.specs.declared.limits.TheConstants.{MESSAGE_LIMIT};
+ghost use Rattle.world_table.specs.Lists.{behind_first, first_in};
 ghost use Rattle.world_table.specs.SwitchSide.{sccp_in as message_in};
 ghost use Rattle.world_table.specs.Takes.{Takes};
-ghost use Rattle.world_switch.specs.Switch.{assigning, clearing, first_made, made_behind_first, sending, took};
+ghost use Rattle.world_switch.specs.Switch.{assigning, clearing, sending, took};
 ghost use Rattle.world_switch.specs.Written.{IsShort, IsWritten};
 
 use crate::frame::sccp_in;
@@ -82,9 +84,7 @@ impl Switch {
                 self.make_all(forms)?;
                 Ok(true)
             }
-            Err(MscFault::Memory) => Err(Memory),
-            Err(MscFault::NoConnection) => Ok(false),
-            Err(MscFault::Closed) => Ok(false),
+            Err(fault) => not_sent(fault),
         }
     }
 
@@ -99,9 +99,7 @@ impl Switch {
                 self.make_all(forms)?;
                 Ok(true)
             }
-            Err(MscFault::Memory) => Err(Memory),
-            Err(MscFault::NoConnection) => Ok(false),
-            Err(MscFault::Closed) => Ok(false),
+            Err(fault) => not_sent(fault),
         }
     }
 
@@ -118,9 +116,7 @@ impl Switch {
                 self.make_all(forms)?;
                 Ok(true)
             }
-            Err(MscFault::Memory) => Err(Memory),
-            Err(MscFault::NoConnection) => Ok(false),
-            Err(MscFault::Closed) => Ok(false),
+            Err(fault) => not_sent(fault),
         }
     }
 
@@ -145,9 +141,9 @@ impl Switch {
 
     /// The first message that it made and didn't give out yet. It can be written.
     pub fn next(&mut self) -> Option<Sccp>
-        ensures message { result ≡ first_made self.old.made }
+        ensures message { result ≡ first_in self.old.made }
         ensures written { IfSome result IsWritten }
-        ensures after { self.new ≡ record self.old { made = made_behind_first self.old.made } }
+        ensures after { self.new ≡ record self.old { made = behind_first self.old.made } }
     {
         self.made.pop_front()
     }
@@ -178,5 +174,17 @@ impl Switch {
         ensures { option_map (λ v. v.now) result ≡ option_map (λ c. not_of_the_flow c.reception.taken) (connection_of self.now.switch.connections connection) }
     {
         self.end.unnumbered(connection)
+    }
+}
+
+// A call that its end refused does nothing, unless memory was wanting.
+fn not_sent(fault: MscFault) -> Result<bool, Memory>
+    ensures refused { IfOk result (λ taken. (taken ≡ false) × (fault ≢ OutOfMemory)) }
+    ensures memory { OnErr result (fault ≡ OutOfMemory) }
+{
+    match fault {
+        MscFault::Memory => Err(Memory),
+        MscFault::NoConnection => Ok(false),
+        MscFault::Closed => Ok(false),
     }
 }

@@ -6,7 +6,7 @@ use Rattle.world_table.specs.declared.event.SwitchAction.TheVariants.{Assign, Dt
 use Rattle.world_table.specs.Views.{sent, received, taken, accepted, unnumbered}
 use Rattle.world_table.specs.World.{World}
 use Rattle.world_table.proofs.Worlds.{on_literals, after_all, bodies}
-use Rattle.world_table.proofs.OpeningRows.{opened, opened_eager}
+use Rattle.world_table.proofs.Rows.{opened, opened_eager}
 
 -- an assignment; the message that was not acknowledged comes again
 abbrev pub assigned_twice : World

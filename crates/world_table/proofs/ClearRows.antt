@@ -8,7 +8,7 @@ use Rattle.world_table.specs.declared.event.Event.TheVariants.{Upper, Connect, A
 use Rattle.world_table.specs.declared.event.SwitchAction.TheVariants.{Assign, Clear}
 use Rattle.world_table.specs.World.{World}
 use Rattle.world_table.proofs.Worlds.{on_literals, after_all, bodies}
-use Rattle.world_table.proofs.OpeningRows.{opened_eager}
+use Rattle.world_table.proofs.Rows.{opened_eager}
 
 -- HANDOVER COMMAND was put, from 41 of station 1 to 41 of station 2
 abbrev pub handing_over : World

@@ -13,7 +13,7 @@ pub mod Living
 mod MobileRows
 pub mod Mobility
 mod MoveRows
-mod OpeningRows
+pub mod Rows
 pub mod Piping
 mod QueueRows
 pub mod Sizing

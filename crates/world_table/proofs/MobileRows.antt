@@ -9,7 +9,7 @@ use Rattle.world_table.specs.declared.seat.Seat.TheVariants.{Asking, On, Gone}
 use Rattle.world_table.specs.Views.{received}
 use Rattle.world_table.specs.World.{World, new_world, spot_at}
 use Rattle.world_table.proofs.Worlds.{on_literals, after_all, made_bodies, seat_of}
-use Rattle.world_table.proofs.OpeningRows.{opened}
+use Rattle.world_table.proofs.Rows.{opened}
 use Rattle.world_table.specs.World.{with_spot}
 use Rattle.world_table.specs.Life.{event_after}
 use Rattle.world_table.proofs.Worlds.{takes}

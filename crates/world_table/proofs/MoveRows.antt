@@ -9,7 +9,7 @@ use Rattle.world_table.specs.declared.event.SwitchAction.TheVariants.{Assign, Cl
 use Rattle.world_table.specs.declared.seat.Seat.TheVariants.{On, Moving}
 use Rattle.world_table.specs.World.{World, new_world}
 use Rattle.world_table.proofs.Worlds.{on_literals, after_all, made_bodies, seat_of}
-use Rattle.world_table.proofs.OpeningRows.{opened, opened_eager}
+use Rattle.world_table.proofs.Rows.{opened, opened_eager}
 use Rattle.world_table.specs.World.{Mobile}
 use Rattle.world_table.proofs.Worlds.{takes}
 

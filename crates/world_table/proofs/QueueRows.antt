@@ -8,7 +8,7 @@ use Rattle.world_table.specs.declared.event.SwitchAction.TheVariants.{Assign, Cl
 use Rattle.world_table.specs.Views.{sent, taken, accepted, unnumbered, progress_of}
 use Rattle.world_table.specs.World.{World, new_world}
 use Rattle.world_table.proofs.Worlds.{on_literals, after_all, bodies, made_bodies}
-use Rattle.world_table.proofs.OpeningRows.{opened, opened_eager}
+use Rattle.world_table.proofs.Rows.{opened, opened_eager}
 use Rattle.bssmap_codec.specs.SccpText.{sccp_text}
 use Rattle.relay_items.specs.declared.What.TheVariants.{Down}
 use Rattle.settings.specs.Parameters.{Parameters}

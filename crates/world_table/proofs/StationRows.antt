@@ -9,7 +9,7 @@ use Rattle.world_table.specs.declared.seat.Seat.TheVariants.{Asking, On}
 use Rattle.world_table.specs.Views.{received}
 use Rattle.world_table.specs.World.{World, new_world, is_active_at, spot_at}
 use Rattle.world_table.proofs.Worlds.{on_literals, after_all, bodies, made_bodies, seat_of}
-use Rattle.world_table.proofs.OpeningRows.{opened}
+use Rattle.world_table.proofs.Rows.{opened}
 use Rattle.world_table.specs.World.{with_spot, with_outbox}
 use Rattle.world_table.specs.Life.{event_after}
 use Rattle.world_table.proofs.Worlds.{takes}

@@ -13,4 +13,5 @@ pub mod Lives
 pub mod Reading
 pub mod Sized
 pub mod Takes
+pub mod Lists
 pub mod Tickets

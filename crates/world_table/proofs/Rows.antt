@@ -1,10 +1,11 @@
 -- A mobile opens a connection.
-use Rattle.std.proofs.Common.{◌≡◌, true, [], ◌∷◌, Some, None, refl}
+use Rattle.std.proofs.Common.{◌≡◌, ℕ, true, [], ◌∷◌, map, Some, None, refl}
 use Rattle.conn_table.specs.declared.state.Stage.TheVariants.{Active}
 use Rattle.conn_table.specs.declared.state.State.TheVariants.{Live}
 use Rattle.controller_table.proofs.Lives.{usual_settings, eager_settings, state_of}
 use Rattle.dtap_codec.specs.declared.sapi.Sapi.TheVariants.{Zero}
 use Rattle.world_table.specs.declared.event.Event.TheVariants.{Upper, Connect, AirUp, AirAck, BaseTakes, BasePush, Handle, SwitchTakes}
+use Rattle.world_table.specs.Lists.{behind_first, first_in}
 use Rattle.world_table.specs.Views.{sent, received, taken, accepted, unnumbered}
 use Rattle.world_table.specs.World.{World, new_world}
 use Rattle.world_table.proofs.Worlds.{on_literals, after_all, bodies}
@@ -92,3 +93,11 @@ assignment_waits = refl
 request_waits : bodies (after_all (new_world usual_settings) (Connect 1 1 (0x05 ∷ 0x24 ∷ 0x71 ∷ []) true ∷ BasePush 1 ∷ Handle ∷ BaseTakes 1 ∷ BasePush 1 ∷ Handle ∷ BaseTakes 1 ∷ AirUp 1 Zero ∷ BasePush 1 ∷ Handle ∷ [])) 0 ≡ (0x01 ∷ 0x00 ∷ 0x00 ∷ 0x01 ∷ 0x02 ∷ 0x02 ∷ 0x04 ∷ 0x02 ∷ 0x42 ∷ 0xfe ∷ 0x0f ∷ 0x12 ∷ 0x00 ∷ 0x10 ∷ 0x57 ∷ 0x05 ∷ 0x08 ∷ 0x00 ∷ 0x00 ∷ 0xf1 ∷ 0x10 ∷ 0x00 ∷ 0x01 ∷ 0x00 ∷ 0x01 ∷ 0x17 ∷ 0x03 ∷ 0x05 ∷ 0x24 ∷ 0x71 ∷ 0x00 ∷ []) ∷ []
 unfolding on_literals
 request_waits = refl
+
+-- ---- the first of a list, and what stands behind it
+
+first_is : map (first_in {X = ℕ}) ([] ∷ (7 ∷ []) ∷ (7 ∷ 8 ∷ 9 ∷ []) ∷ []) ≡ None ∷ Some 7 ∷ Some 7 ∷ []
+first_is = refl
+
+behind_is : map (behind_first {X = ℕ}) ([] ∷ (7 ∷ []) ∷ (7 ∷ 8 ∷ 9 ∷ []) ∷ []) ≡ [] ∷ [] ∷ (8 ∷ 9 ∷ []) ∷ []
+behind_is = refl
