@@ -14,7 +14,7 @@ use Rattle.world_laws.specs.ComingUp.{brings, brings_in, made_of}
 use Rattle.world_laws.specs.LineUps.{is_ended, came}
 use Rattle.world_laws.specs.Seated.{change_in}
 use Rattle.world_laws.specs.Staying.{EndsLast}
-use Rattle.world_laws.specs.ToCome.{mark}
+use Rattle.world_laws.specs.ToCome.{mark, texts_of}
 
 -- ---- what a message brings of a channel
 
@@ -48,6 +48,9 @@ comes_to_the_target = refl
 
 marks : map mark (true ∷ false ∷ []) ≡ ([] ∷ []) ∷ [] ∷ []
 marks = refl
+
+complete_is_not_relayed : texts_of (brought (0x06 ∷ 0x29 ∷ 0x00 ∷ []) ∷ brought (0x03 ∷ 0x45 ∷ []) ∷ released ∷ []) ≡ (0x03 ∷ 0x45 ∷ []) ∷ []
+complete_is_not_relayed = refl
 
 release_is_last : EndsLast (brought (0x03 ∷ 0x45 ∷ []) ∷ released ∷ [])
 release_is_last = refl
