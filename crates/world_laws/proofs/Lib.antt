@@ -25,5 +25,8 @@ pub mod OwnRowLaw
 mod StepRows
 pub mod RolesAfter
 pub mod OwnRoles
+pub mod OwnFuture
+pub mod OwnChannels
+pub mod OwnDoes
 pub mod Opening
 pub mod InOrder
