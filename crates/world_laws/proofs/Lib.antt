@@ -28,5 +28,7 @@ pub mod OwnRoles
 pub mod OwnFuture
 pub mod OwnChannels
 pub mod OwnDoes
+pub mod OwnReleases
+pub mod OwnInput
 pub mod Opening
 pub mod InOrder

@@ -167,7 +167,7 @@ silent-texts {input} {text} {targets} {before} {after} {c} t passes =
     let both = front-none (texts_of (said_by input text (place_of c))) (texts_of (after (place_of c))) (sym (texts-append (said_by input text (place_of c)) (after (place_of c))) ∙ ap texts_of (sym t.first) ∙ none) in
     (none, both.0, both.1)
 
-passed : (input : Input) (text : List ℕ) (targets : List Channel) (after : Place → List Item) (up : ℕ → Bool) (place : Place) → passes_target input targets place ≡ true → to_come input text targets after up place ≡ []
+pub passed : (input : Input) (text : List ℕ) (targets : List Channel) (after : Place → List Item) (up : ℕ → Bool) (place : Place) → passes_target input targets place ≡ true → to_come input text targets after up place ≡ []
 passed input text targets after up place passes =
     cond-true (is_silent input text targets place) [] (texts_of (after place) ++ mark (not (up place.station) && not (is_ended (after place)))) (ap (λ (b : Bool). is_ended (said_by input text place) || b) passes ∙ or-true (is_ended (said_by input text place))) where
       or-true : (a : Bool) → a || true ≡ true

@@ -71,14 +71,14 @@ pub record IsKnown (input : Input) (text : List ℕ) (before after : Place → L
   pub finds : Finds input text before after s
   pub apart : AreApart (used_channels s)
 
-passes-old : {input : Input} {text : List ℕ} {before after : Place → List Item} {s : Connection} → IsKnown input text before after s → AllByRecursion (λ c. passes_target input (target_in s.state) (place_of c) ≡ false) (undone s.draining)
+pub passes-old : {input : Input} {text : List ℕ} {before after : Place → List Item} {s : Connection} → IsKnown input text before after s → AllByRecursion (λ c. passes_target input (target_in s.state) (place_of c) ≡ false) (undone s.draining)
 passes-old {input} {s = s} known =
     all-map (λ c. AllByRecursion (IsApart c) (s.serving ∷ target_in s.state)) (λ c. passes_target input (target_in s.state) (place_of c) ≡ false) (undone s.draining) (λ c apart. passes-apart input (target_in s.state) c apart.1) (apart-from (undone s.draining) (s.serving ∷ target_in s.state) known.apart)
 
-whole-old : {input : Input} {text : List ℕ} {before after : Place → List Item} {s : Connection} → IsKnown input text before after s → AllByRecursion (λ c. AreLayer3 (texts_of (before (place_of c)))) (undone s.draining)
+pub whole-old : {input : Input} {text : List ℕ} {before after : Place → List Item} {s : Connection} → IsKnown input text before after s → AllByRecursion (λ c. AreLayer3 (texts_of (before (place_of c)))) (undone s.draining)
 whole-old {before = before} {s = s} known = all-left (λ c. AreLayer3 (texts_of (before (place_of c)))) (undone s.draining) (s.serving ∷ target_in s.state) known.finds.whole
 
-whole-rest : {input : Input} {text : List ℕ} {before after : Place → List Item} {s : Connection} → IsKnown input text before after s → AllByRecursion (λ c. AreLayer3 (texts_of (before (place_of c)))) (s.serving ∷ target_in s.state)
+pub whole-rest : {input : Input} {text : List ℕ} {before after : Place → List Item} {s : Connection} → IsKnown input text before after s → AllByRecursion (λ c. AreLayer3 (texts_of (before (place_of c)))) (s.serving ∷ target_in s.state)
 whole-rest {before = before} {s = s} known = all-right (λ c. AreLayer3 (texts_of (before (place_of c)))) (undone s.draining) (s.serving ∷ target_in s.state) known.finds.whole
 
 pub serving-heard : {input : Input} {text : List ℕ} {before after : Place → List Item} {s : Connection} → IsKnown input text before after s → IsHeard input text (target_in s.state) before s.serving
