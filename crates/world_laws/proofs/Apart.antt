@@ -28,7 +28,7 @@ all-both P Q R (x ∷ xs) h all both = (h x all.0 both.0, all-both P Q R xs h al
 
 -- ---- places
 
-eqb-sym : (a b : ℕ) → nat_eq a b ≡ nat_eq b a
+pub eqb-sym : (a b : ℕ) → nat_eq a b ≡ nat_eq b a
 eqb-sym a b = elim (cases_Bool (nat_eq a b)) [
   | inl same ↦ same ∙ sym (eq-eqb b a (sym (eqb-true a b same)))
   | inr other ↦ other ∙ sym (ne_eqb b a (λ is. eqb-false a b other (sym is)))

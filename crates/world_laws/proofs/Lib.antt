@@ -25,5 +25,10 @@ pub mod OwnRowLaw
 mod StepRows
 pub mod RolesAfter
 pub mod OwnRoles
+pub mod OwnFuture
+pub mod OwnChannels
+pub mod OwnDoes
+pub mod OwnReleases
+pub mod OwnInput
 pub mod Opening
 pub mod InOrder

@@ -18,8 +18,9 @@ use Rattle.hold_queue.specs.ChainState.{Tenure as Held}
 use Rattle.lineup.specs.ChangeStep.{ended}
 use Rattle.lineup.specs.LineUp.{Item, Tenure, Seat, flow, messages_in, part_of, parts_of}
 use Rattle.lineup.proofs.Lines.{flow-append}
+use Rattle.mobile_end.proofs.Resuming.{without_control-flow}
 use Rattle.world_laws.specs.LineUps.{is_ended, draining_tenure, old_tenure, old_tenures, serving_hold, serving_tenure, commanded_target, target_tenure}
-use Rattle.world_laws.specs.ToCome.{AreLayer3, mark, AsOld, AsServing, AsTarget, AreHeld, StandsFor}
+use Rattle.world_laws.specs.ToCome.{AreLayer3, mark, texts_of, AsOld, AsServing, AsTarget, AreHeld, StandsFor}
 
 -- ---- a list, up to where something is missing
 
@@ -51,6 +52,10 @@ cut-part hold messages b rest held on_the_way =
       flow-if true = refl
       flow-if false = refl
 
+-- of what is on its way, the messages of radio resource management aren't of the flow
+cut-items : (hold : List (List ℕ)) (items : List Item) (b : Bool) (rest : List (List ℕ)) → AreLayer3 hold → AreLayer3 (texts_of items) → flow (cut (hold ++ ((texts_of items ++ mark b) ++ rest))) ≡ (flow hold ++ flow (messages_in items)) ++ (if b then [] else flow (cut rest))
+cut-items hold items b rest held whole = cut-part hold (texts_of items) b rest held whole ∙ ap (λ (xs : List (List ℕ)). (flow hold ++ xs) ++ (if b then [] else flow (cut rest))) (without_control-flow (messages_in items))
+
 -- ---- tenure by tenure
 
 old-part : (future : Future) (coming : Place → List Item) (up : ℕ → Bool) (d : Drain) (ds : List Drain) (hold rest : List (List ℕ)) (others : List Tenure) → AllByRecursion (AsOld future coming up) (undone (d ∷ ds)) → AreLayer3 hold → flow (cut rest) ≡ parts_of others
@@ -58,10 +63,10 @@ old-part : (future : Future) (coming : Place → List Item) (up : ℕ → Bool) 
 old-part future coming up d ds hold rest others stand held is = by_done d.is_done stand where
   by_done : (b : Bool) → AllByRecursion (AsOld future coming up) (if b then undone ds else d.channel ∷ undone ds)
       → (flow (cut (hold ++ ((if b then [] else future (place_of d.channel)) ++ rest))) ≡ parts_of ((if b then ended hold else draining_tenure (up d.channel.station) (coming (place_of d.channel)) hold) ∷ others)) × AllByRecursion (AsOld future coming up) (undone ds)
-  by_done true all = (cut-part hold [] false rest held tt ∙ ap (λ (xs : List (List ℕ)). (flow hold ++ []) ++ xs) is, all)
+  by_done true all = (cut-items hold [] false rest held tt ∙ ap (λ (xs : List (List ℕ)). (flow hold ++ []) ++ xs) is, all)
   by_done false all = (
     ap (λ (xs : List (List ℕ)). flow (cut (hold ++ (xs ++ rest)))) all.0.0
-        ∙ cut-part hold (messages_in (coming (place_of d.channel))) (not (up d.channel.station) && not (is_ended (coming (place_of d.channel)))) rest held all.0.1
+        ∙ cut-items hold (coming (place_of d.channel)) (not (up d.channel.station) && not (is_ended (coming (place_of d.channel)))) rest held all.0.1
         ∙ ap (λ (xs : List (List ℕ)). part_of (draining_tenure (up d.channel.station) (coming (place_of d.channel)) hold) ++ (if (not (up d.channel.station) && not (is_ended (coming (place_of d.channel)))) then [] else xs)) is,
     all.1,
   )
@@ -72,7 +77,7 @@ still-parts future coming up serving ds [] rest others stand is held behind = el
 still-parts future coming up serving [] (t ∷ ts) rest others stand is held behind =
     ap (λ (xs : List (List ℕ)). flow (cut xs)) (append_assoc t.zero (future (place_of serving)) rest)
     ∙ ap (λ (xs : List (List ℕ)). flow (cut (t.zero ++ (xs ++ rest)))) is.0
-    ∙ cut-part t.zero (messages_in (coming (place_of serving))) (not (up serving.station)) rest held is.1
+    ∙ cut-items t.zero (coming (place_of serving)) (not (up serving.station)) rest held is.1
     ∙ ap (λ (xs : List (List ℕ)). part_of (serving_tenure coming up serving t.zero) ++ (if not (up serving.station) then [] else xs)) behind
 still-parts future coming up serving (d ∷ ds) (t ∷ ts) rest others stand is held behind =
     let split = old-part future coming up d ds t.zero (still_of Zero future serving ds ts ++ rest) (old_tenures coming up ds ts ++ serving_tenure coming up serving (serving_hold ds ts) ∷ others) stand held.0
@@ -87,8 +92,8 @@ still-parts future coming up serving (d ∷ ds) (t ∷ ts) rest others stand is 
 
 target-part : (future : Future) (coming : Place → List Item) (up : ℕ → Bool) (seat : Seat) (state : State) → AsTarget future coming (commanded_target state) → flow (cut (of_target future state)) ≡ parts_of (target_tenure coming up seat (commanded_target state) ∷ [])
 target-part future coming up seat (Live reference (Changing t)) stand =
-    ap (λ (xs : List (List ℕ)). flow (cut xs)) (stand.1 ∙ sym (append-nil (messages_in (coming (place_of t.channel)) ++ mark stand.0)))
-    ∙ cut-part [] (messages_in (coming (place_of t.channel))) stand.0 [] tt stand.2
+    ap (λ (xs : List (List ℕ)). flow (cut xs)) (stand.1 ∙ sym (append-nil (texts_of (coming (place_of t.channel)) ++ mark stand.0)))
+    ∙ cut-items [] (coming (place_of t.channel)) stand.0 [] tt stand.2
     ∙ ap (λ (xs : List (List ℕ)). ([] ++ flow (messages_in (coming (place_of t.channel)))) ++ xs) (either stand.0 ∙ sym (either _)) where
       nothing_if : Bool → List (List ℕ)
       nothing_if b = if b then [] else []

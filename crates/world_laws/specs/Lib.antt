@@ -6,4 +6,5 @@ pub mod Staying
 pub mod ToCome
 pub mod OwnStep
 pub mod OwnRow
+pub mod OwnItem
 pub mod InOrder

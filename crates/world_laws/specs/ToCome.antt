@@ -11,6 +11,7 @@ use Rattle.conn_table.specs.Streams.{Future, undone}
 use Rattle.controller_table.specs.Controller.{place_of}
 use Rattle.hold_queue.specs.ChainState.{Tenure as Held}
 use Rattle.lineup.specs.LineUp.{Item, messages_in}
+use Rattle.mobile_end.specs.Control.{without_control}
 use Rattle.world_laws.specs.LineUps.{is_ended, commanded_target}
 
 abbrev pub AreLayer3 : List (List ℕ) → Type 0
@@ -23,18 +24,22 @@ mark false = []
 
 -- ---- what may still come, by what is on its way up
 
+-- What is relayed of it: COMPLETE and FAILURE, which are of radio resource management, are not.
+abbrev pub texts_of : List Item → List (List ℕ)
+texts_of items = without_control (messages_in items)
+
 -- on an old channel
 abbrev pub AsOld : Future → (Place → List Item) → (ℕ → Bool) → Channel → Type 0
-AsOld future coming up c = (future (place_of c) ≡ messages_in (coming (place_of c)) ++ mark (not (up c.station) && not (is_ended (coming (place_of c))))) × AreLayer3 (messages_in (coming (place_of c)))
+AsOld future coming up c = (future (place_of c) ≡ texts_of (coming (place_of c)) ++ mark (not (up c.station) && not (is_ended (coming (place_of c))))) × AreLayer3 (texts_of (coming (place_of c)))
 
 -- on the serving channel
 abbrev pub AsServing : Future → (Place → List Item) → (ℕ → Bool) → Channel → Type 0
-AsServing future coming up c = (future (place_of c) ≡ messages_in (coming (place_of c)) ++ mark (not (up c.station))) × AreLayer3 (messages_in (coming (place_of c)))
+AsServing future coming up c = (future (place_of c) ≡ texts_of (coming (place_of c)) ++ mark (not (up c.station))) × AreLayer3 (texts_of (coming (place_of c)))
 
 -- on the target, behind which nothing comes
 abbrev pub AsTarget : Future → (Place → List Item) → Option Target → Type 0
 AsTarget future coming None = Unit {0}
-AsTarget future coming (Some t) = (b : Bool) × (future (place_of t.channel) ≡ messages_in (coming (place_of t.channel)) ++ mark b) × AreLayer3 (messages_in (coming (place_of t.channel)))
+AsTarget future coming (Some t) = (b : Bool) × (future (place_of t.channel) ≡ texts_of (coming (place_of t.channel)) ++ mark b) × AreLayer3 (texts_of (coming (place_of t.channel)))
 
 -- what is held is whole messages, in a tenure for each old channel and the serving one
 abbrev pub AreHeld : List Drain → List Held → Type 0

@@ -7,6 +7,7 @@ ghost use Rattle.settings.specs.Parameters.{Parameters};
 ghost use Rattle.world_table.specs.declared.event.Event.{Event as WorldEvent};
 ghost use Rattle.world_table.specs.World.{Actors};
 ghost use Rattle.world_laws.specs.InOrder.{LineUpsAreInOrder};
+ghost use Rattle.world_laws.specs.OwnItem.{InputKeepsLineUp};
 ghost use Rattle.world_laws.specs.OwnRow.{OpeningLinesUp, RowKeepsLineUp};
 ghost use Rattle.world_laws.specs.Staying.{MobilesKeepLineUps, RelayLeavesOthers, StationBreaksKeepLineUps, StationsKeepLineUps, SwitchKeepsLineUps, TimeLeavesOthers};
 
@@ -45,6 +46,14 @@ pub fn relay_leaves_others()
 /// its channels change their roles. What is on its way up is said as lists; the step is one that what is on its way allows.
 pub fn rows_keep_line_ups()
     ensures { (m : ℕ) (s : Connection) (input : Input) (offer : Option Channel) (r : Row) → RowKeepsLineUp m s input offer r }
+{}
+
+/// Law: the row that fits an input keeps its connection lined up, where what the input brings came first on its channel, an RF
+/// CHANNEL RELEASE ACK comes last on an old channel and on no other, nothing comes of a target before the COMMAND or of one from
+/// which the mobile came back, and no COMMAND but the row's joins those on their way. It is told from the step that the input brings
+/// to the roles of channels: so COMPLETE, FAILURE, releases and DTAP are all of it.
+pub fn inputs_keep_line_ups()
+    ensures { (m : ℕ) (s : Connection) (input : Input) (offer : Option Channel) (r : Row) → InputKeepsLineUp m s input offer r }
 {}
 
 /// Law: a connection is lined up from the row on that puts CR with its initial message.

@@ -1,0 +1,189 @@
+-- What may still come stands for what is on its way up of a connection's channels, before its input is taken and after it.
+use Rattle.std.proofs.Common.{◌≡◌, ℕ, ◌&&◌, ◌||◌, not, Bool, true, false, if◌then◌else◌, List, [], ◌∷◌, ◌++◌, refl, sym, ap, ◌∙◌, subst, append_assoc, inl, inr}
+use Rattle.std.specs.List.{AllByRecursion}
+use Rattle.std.proofs.lemmas.Bool.{cases_Bool, cond-true, cond-false}
+use Rattle.conn_messages.specs.declared.channel.Channel.{Channel}
+use Rattle.conn_messages.specs.declared.channel.Place.{Place}
+use Rattle.conn_table.specs.declared.input.Input.{Input}
+use Rattle.conn_table.specs.declared.input.Input.TheVariants as inputs
+use Rattle.conn_table.specs.Connection.{is_at}
+use Rattle.conn_table.specs.Streams.{Future, IsApart, from_input}
+use Rattle.controller_table.specs.Controller.{place_of}
+use Rattle.dtap_codec.specs.declared.sapi.Sapi.TheVariants.{Zero}
+use Rattle.lineup.specs.LineUp.{Item, messages_in}
+use Rattle.lineup.specs.LineUp.Item.{released}
+use Rattle.mobile_end.specs.Control.{without_control}
+use Rattle.world_laws.specs.LineUps.{is_ended}
+use Rattle.world_laws.specs.OwnItem.{said_by, IsRead, IsBesideTarget}
+use Rattle.world_laws.specs.Staying.{EndsLast}
+use Rattle.world_laws.specs.ToCome.{AreLayer3, mark, texts_of, AsOld, AsServing}
+use Rattle.world_laws.proofs.Framing.{all-right}
+use Rattle.world_laws.proofs.OwnFuture.{texts-append, ended-append, from-said, ended-said}
+
+-- ---- the target beside which an input comes
+
+abbrev pub is_one : List Channel → Place → Bool
+is_one [] place = false
+is_one (c ∷ cs) place = is_at place c || is_one cs place
+
+abbrev pub passes_target : Input → List Channel → Place → Bool
+passes_target (inputs.ActivationAck at) targets place = is_one targets place
+passes_target (inputs.Failure at change cause) targets place = is_one targets place
+passes_target _ targets place = false
+
+is_one-apart : (targets : List Channel) (c : Channel) → AllByRecursion (IsApart c) targets → is_one targets (place_of c) ≡ false
+is_one-apart [] c apart = refl
+is_one-apart (t ∷ ts) c apart = ap (λ (b : Bool). b || is_one ts (place_of c)) apart.0 ∙ is_one-apart ts c apart.1
+
+pub passes-apart : (input : Input) (targets : List Channel) (c : Channel) → AllByRecursion (IsApart c) targets → passes_target input targets (place_of c) ≡ false
+passes-apart (inputs.ActivationAck at) targets c apart = is_one-apart targets c apart
+passes-apart (inputs.Failure at change cause) targets c apart = is_one-apart targets c apart
+passes-apart _ targets c apart = refl
+
+pub passes-beside : (input : Input) (targets : List Channel) (place : Place) → passes_target input targets place ≡ true → IsBesideTarget input
+passes-beside (inputs.ActivationAck at) targets place is = tt
+passes-beside (inputs.Failure at change cause) targets place is = tt
+passes-beside _ targets place is = absurd cc
+
+-- ---- what may still come
+
+abbrev pub is_silent : Input → List ℕ → List Channel → Place → Bool
+is_silent input text targets place = is_ended (said_by input text place) || passes_target input targets place
+
+-- of a channel that is released, or of a target beside which the input comes, nothing
+abbrev pub to_come : Input → List ℕ → List Channel → (Place → List Item) → (ℕ → Bool) → Future
+to_come input text targets after up place = if is_silent input text targets place then [] else texts_of (after place) ++ mark (not (up place.station) && not (is_ended (after place)))
+
+-- the input brings no end of this channel, and doesn't pass it
+pub record IsHeard (input : Input) (text : List ℕ) (targets : List Channel) (before : Place → List Item) (c : Channel) : Type 0 where
+  pub goes_on : is_ended (said_by input text (place_of c)) ≡ false
+  pub passes_not : passes_target input targets (place_of c) ≡ false
+  pub whole : AreLayer3 (texts_of (before (place_of c)))
+
+either-false : (a b : Bool) → a ≡ false → b ≡ false → a || b ≡ false
+either-false false b none other = other
+either-false true b none other = absurd cc
+
+and-true : (a : Bool) → a && true ≡ a
+and-true true = refl
+and-true false = refl
+
+and-false : (a : Bool) → a && false ≡ false
+and-false true = refl
+and-false false = refl
+
+heard-after : (input : Input) (text : List ℕ) (targets : List Channel) (after : Place → List Item) (up : ℕ → Bool) (place : Place) → is_ended (said_by input text place) ≡ false → passes_target input targets place ≡ false
+    → to_come input text targets after up place ≡ texts_of (after place) ++ mark (not (up place.station) && not (is_ended (after place)))
+heard-after input text targets after up place goes_on passes_not =
+    cond-false (is_silent input text targets place) [] (texts_of (after place) ++ mark (not (up place.station) && not (is_ended (after place)))) (either-false (is_ended (said_by input text place)) (passes_target input targets place) goes_on passes_not)
+
+-- an end that wasn't brought now is still on its way
+pub ended-same : (input : Input) (text : List ℕ) (before after : Place → List Item) (place : Place) → before place ≡ said_by input text place ++ after place → is_ended (said_by input text place) ≡ false → is_ended (before place) ≡ is_ended (after place)
+ended-same input text before after place first goes_on = ap is_ended first ∙ ended-append (said_by input text place) (after place) ∙ ap (λ (b : Bool). b || is_ended (after place)) goes_on
+
+heard-before : (input : Input) (text : List ℕ) (targets : List Channel) (before after : Place → List Item) (up : ℕ → Bool) (place : Place) → IsRead input text → before place ≡ said_by input text place ++ after place → is_ended (said_by input text place) ≡ false → passes_target input targets place ≡ false
+    → from_input Zero input (to_come input text targets after up) place ≡ texts_of (before place) ++ mark (not (up place.station) && not (is_ended (before place)))
+heard-before input text targets before after up place read first goes_on passes_not =
+    from-said input text (to_come input text targets after up) place read
+    ∙ ap (λ (xs : List (List ℕ)). texts_of (said_by input text place) ++ xs) (heard-after input text targets after up place goes_on passes_not)
+    ∙ sym (append_assoc (texts_of (said_by input text place)) (texts_of (after place)) (mark (not (up place.station) && not (is_ended (after place)))))
+    ∙ ap (λ (xs : List (List ℕ)). xs ++ mark (not (up place.station) && not (is_ended (after place)))) (sym (texts-append (said_by input text place) (after place)) ∙ ap texts_of (sym first))
+    ∙ ap (λ (b : Bool). texts_of (before place) ++ mark (not (up place.station) && not b)) (sym (ended-same input text before after place first goes_on))
+
+-- what is left of whole messages is whole
+pub whole-after : (input : Input) (text : List ℕ) (before after : Place → List Item) (place : Place) → before place ≡ said_by input text place ++ after place → AreLayer3 (texts_of (before place)) → AreLayer3 (texts_of (after place))
+whole-after input text before after place first whole =
+    all-right _ (texts_of (said_by input text place)) (texts_of (after place)) (subst AreLayer3 (ap texts_of first ∙ texts-append (said_by input text place) (after place)) whole)
+
+-- ---- on each channel
+
+pub old-after : (input : Input) (text : List ℕ) (targets : List Channel) (before after : Place → List Item) (up : ℕ → Bool) (c : Channel) → before (place_of c) ≡ said_by input text (place_of c) ++ after (place_of c) → IsHeard input text targets before c → AsOld (to_come input text targets after up) after up c
+old-after input text targets before after up c first heard = (heard-after input text targets after up (place_of c) heard.goes_on heard.passes_not, whole-after input text before after (place_of c) first heard.whole)
+
+-- what ended now is silent from now on
+ends-now : (input : Input) (text : List ℕ) (targets : List Channel) (before after : Place → List Item) (up : ℕ → Bool) (place : Place) → IsRead input text → before place ≡ said_by input text place ++ after place → is_ended (said_by input text place) ≡ true → EndsLast (before place)
+    → from_input Zero input (to_come input text targets after up) place ≡ texts_of (before place) ++ mark (not (up place.station) && not (is_ended (before place)))
+ends-now input text targets before after up place read first ends last =
+    let said : said_by input text place ≡ released ∷ [] = ended-said input text place ends in
+    let here : before place ≡ released ∷ after place = first ∙ ap (λ (xs : List Item). xs ++ after place) said in
+    let nothing : after place ≡ [] = subst EndsLast here last in
+    let alone : before place ≡ released ∷ [] = here ∙ ap (λ (xs : List Item). released ∷ xs) nothing in
+    from-said input text (to_come input text targets after up) place read
+    ∙ ap (λ (xs : List Item). texts_of xs ++ to_come input text targets after up place) said
+    ∙ ap (λ (b : Bool). if (b || passes_target input targets place) then [] else texts_of (after place) ++ mark (not (up place.station) && not (is_ended (after place)))) ends
+    ∙ ap mark (sym (and-false (not (up place.station))))
+    ∙ ap (λ (xs : List Item). texts_of xs ++ mark (not (up place.station) && not (is_ended xs))) (sym alone)
+
+pub old-before : (input : Input) (text : List ℕ) (targets : List Channel) (before after : Place → List Item) (up : ℕ → Bool) (c : Channel) → IsRead input text → before (place_of c) ≡ said_by input text (place_of c) ++ after (place_of c) → EndsLast (before (place_of c)) → passes_target input targets (place_of c) ≡ false
+    → AreLayer3 (texts_of (before (place_of c))) → AsOld (from_input Zero input (to_come input text targets after up)) before up c
+old-before input text targets before after up c read first last passes_not whole = (
+  elim (cases_Bool (is_ended (said_by input text (place_of c)))) [
+    | inl ends ↦ ends-now input text targets before after up (place_of c) read first ends last
+    | inr goes_on ↦ heard-before input text targets before after up (place_of c) read first goes_on passes_not
+  ],
+  whole,
+)
+
+-- an RF CHANNEL RELEASE ACK doesn't come of it
+pub goes-on : (input : Input) (text : List ℕ) (before after : Place → List Item) (place : Place) → before place ≡ said_by input text place ++ after place → is_ended (before place) ≡ false → (is_ended (said_by input text place) ≡ false) × (is_ended (after place) ≡ false)
+goes-on input text before after place first none = both (is_ended (said_by input text place)) (is_ended (after place)) (sym (ended-append (said_by input text place) (after place)) ∙ ap is_ended (sym first) ∙ none) where
+  both : (a b : Bool) → a || b ≡ false → (a ≡ false) × (b ≡ false)
+  both false b is = (refl, is)
+  both true b is = absurd cc
+
+pub serving-before : (input : Input) (text : List ℕ) (targets : List Channel) (before after : Place → List Item) (up : ℕ → Bool) (c : Channel) → IsRead input text → before (place_of c) ≡ said_by input text (place_of c) ++ after (place_of c) → is_ended (before (place_of c)) ≡ false → IsHeard input text targets before c
+    → AsServing (from_input Zero input (to_come input text targets after up)) before up c
+serving-before input text targets before after up c read first none heard =
+    (heard-before input text targets before after up (place_of c) read first heard.goes_on heard.passes_not ∙ ap (λ (b : Bool). texts_of (before (place_of c)) ++ mark (not (up c.station) && not b)) none ∙ ap (λ (b : Bool). texts_of (before (place_of c)) ++ mark b) (and-true (not (up c.station))), heard.whole)
+
+pub serving-after : (input : Input) (text : List ℕ) (targets : List Channel) (before after : Place → List Item) (up : ℕ → Bool) (c : Channel) → before (place_of c) ≡ said_by input text (place_of c) ++ after (place_of c) → is_ended (before (place_of c)) ≡ false → IsHeard input text targets before c
+    → AsServing (to_come input text targets after up) after up c
+serving-after input text targets before after up c first none heard = (
+  heard-after input text targets after up (place_of c) heard.goes_on heard.passes_not ∙ ap (λ (b : Bool). texts_of (after (place_of c)) ++ mark (not (up c.station) && not b)) (goes-on input text before after (place_of c) first none).1 ∙ ap (λ (b : Bool). texts_of (after (place_of c)) ++ mark b) (and-true (not (up c.station))),
+  whole-after input text before after (place_of c) first heard.whole,
+)
+
+-- ---- on the target
+
+front-none : (xs ys : List (List ℕ)) → xs ++ ys ≡ [] → (xs ≡ []) × (ys ≡ [])
+front-none [] ys none = (refl, none)
+front-none (x ∷ xs) ys none = absurd cc
+
+abbrev pub MayCome : Future → (Place → List Item) → Channel → Type 0
+MayCome future coming c = (b : Bool) × (future (place_of c) ≡ texts_of (coming (place_of c)) ++ mark b) × AreLayer3 (texts_of (coming (place_of c)))
+
+-- what a target is known by
+pub record IsTarget (input : Input) (text : List ℕ) (targets : List Channel) (before after : Place → List Item) (c : Channel) : Type 0 where
+  pub read : IsRead input text
+  pub first : before (place_of c) ≡ said_by input text (place_of c) ++ after (place_of c)
+  pub goes_on : is_ended (before (place_of c)) ≡ false
+  pub silent : IsBesideTarget input → messages_in (before (place_of c)) ≡ []
+  pub whole : AreLayer3 (texts_of (before (place_of c)))
+
+silent-texts : {input : Input} {text : List ℕ} {targets : List Channel} {before after : Place → List Item} {c : Channel} → IsTarget input text targets before after c → passes_target input targets (place_of c) ≡ true
+    → (texts_of (before (place_of c)) ≡ []) × (texts_of (said_by input text (place_of c)) ≡ []) × (texts_of (after (place_of c)) ≡ [])
+silent-texts {input} {text} {targets} {before} {after} {c} t passes =
+    let none : texts_of (before (place_of c)) ≡ [] = ap without_control (t.silent (passes-beside input targets (place_of c) passes)) in
+    let both = front-none (texts_of (said_by input text (place_of c))) (texts_of (after (place_of c))) (sym (texts-append (said_by input text (place_of c)) (after (place_of c))) ∙ ap texts_of (sym t.first) ∙ none) in
+    (none, both.0, both.1)
+
+pub passed : (input : Input) (text : List ℕ) (targets : List Channel) (after : Place → List Item) (up : ℕ → Bool) (place : Place) → passes_target input targets place ≡ true → to_come input text targets after up place ≡ []
+passed input text targets after up place passes =
+    cond-true (is_silent input text targets place) [] (texts_of (after place) ++ mark (not (up place.station) && not (is_ended (after place)))) (ap (λ (b : Bool). is_ended (said_by input text place) || b) passes ∙ or-true (is_ended (said_by input text place))) where
+      or-true : (a : Bool) → a || true ≡ true
+      or-true true = refl
+      or-true false = refl
+
+pub target-before : (input : Input) (text : List ℕ) (targets : List Channel) (before after : Place → List Item) (up : ℕ → Bool) (c : Channel) → IsTarget input text targets before after c → MayCome (from_input Zero input (to_come input text targets after up)) before c
+target-before input text targets before after up c t = elim (cases_Bool (passes_target input targets (place_of c))) [
+  | inl passes ↦ let none = silent-texts t passes in
+      (false, from-said input text (to_come input text targets after up) (place_of c) t.read ∙ ap (λ (xs : List (List ℕ)). xs ++ to_come input text targets after up (place_of c)) none.1 ∙ passed input text targets after up (place_of c) passes ∙ ap (λ (xs : List (List ℕ)). xs ++ []) (sym none.0), t.whole)
+  | inr passes_not ↦ (not (up c.station) && not (is_ended (before (place_of c))), heard-before input text targets before after up (place_of c) t.read t.first (goes-on input text before after (place_of c) t.first t.goes_on).0 passes_not, t.whole)
+]
+
+pub target-after : (input : Input) (text : List ℕ) (targets : List Channel) (before after : Place → List Item) (up : ℕ → Bool) (c : Channel) → IsTarget input text targets before after c → MayCome (to_come input text targets after up) after c
+target-after input text targets before after up c t = elim (cases_Bool (passes_target input targets (place_of c))) [
+  | inl passes ↦ let none = silent-texts t passes in
+      (false, passed input text targets after up (place_of c) passes ∙ ap (λ (xs : List (List ℕ)). xs ++ []) (sym none.2), whole-after input text before after (place_of c) t.first t.whole)
+  | inr passes_not ↦ (not (up c.station) && not (is_ended (after (place_of c))), heard-after input text targets after up (place_of c) (goes-on input text before after (place_of c) t.first t.goes_on).0 passes_not, whole-after input text before after (place_of c) t.first t.whole)
+]

@@ -1,0 +1,281 @@
+-- The row that fits an input keeps its connection's line-up.
+use Rattle.std.proofs.Common.{◌≡◌, ℕ, ◌+◌, ◌≤◌, ◌&&◌, ◌||◌, not, nat_eq, Bool, true, false, if◌then◌else◌, List, [], ◌∷◌, ◌++◌, length, Option, Some, None, refl, sym, ap, ◌∙◌, subst, inl, inr, length-append, arith}
+use Rattle.std.specs.List.{AllByRecursion}
+use Rattle.std.proofs.lemmas.Bool.{cases_Bool, eq-eqb}
+use Rattle.conn_messages.specs.declared.channel.Change.{Change}
+use Rattle.conn_messages.specs.declared.channel.Channel.{Channel}
+use Rattle.conn_messages.specs.declared.channel.Place.{Place}
+use Rattle.conn_table.specs.declared.input.Input.{Input}
+use Rattle.conn_table.specs.declared.input.Input.TheVariants as inputs
+use Rattle.conn_table.specs.declared.state.Stage.TheVariants.{Preparing, Changing}
+use Rattle.conn_table.specs.declared.state.State.{State}
+use Rattle.conn_table.specs.declared.state.State.TheVariants.{Live}
+use Rattle.dtap_codec.specs.declared.sapi.Sapi.TheVariants.{Zero}
+use Rattle.conn_table.specs.declared.state.Target.{Target}
+use Rattle.conn_table.specs.Connection.{Connection, is_at, drain_at}
+use Rattle.conn_table.specs.Roles.{TargetRole, RoleStep, target_role, roles_of, after_step, target_channels, completed, awaits_at, changes_by, is_target_at, leaves_at, step_by, ChangesRoles, ChangesRolesBy, GoesOn}
+use Rattle.conn_table.specs.Roles.RoleStep.{stays as roles_stay, commands as role_commands, completes as role_completes, goes_back as role_goes_back, leaves as role_leaves}
+use Rattle.conn_table.specs.Roles.ChangesRoles.{goes_on, ends, had_ended}
+use Rattle.conn_table.specs.Standing.{Stands}
+use Rattle.conn_table.specs.Steps.{Row, done_at}
+use Rattle.conn_table.specs.Streams.{AreApart, Ends, IsOpen, OfRow, target_in, undone}
+use Rattle.conn_table.proofs.RolesAccount.{undone-still_draining}
+use Rattle.conn_table.proofs.RolesApart.{target_in-role}
+use Rattle.conn_table.proofs.RolesTable.{ChangesRoles-row}
+use Rattle.conn_table.proofs.StandingTable.{Stands-row}
+use Rattle.controller_table.specs.Controller.{place_of}
+use Rattle.lineup.specs.LineUp.{Item, Seat, messages_in, controls_of, controls_in, texts_in, flow}
+use Rattle.lineup.specs.LineUp.Item.{brought, released}
+use Rattle.lineup.proofs.Lines.{controls-append, controls-first, flow-append, messages_in-append}
+use Rattle.mobile_end.specs.Control.{is_control}
+use Rattle.world_laws.specs.LineUps.{is_ended, commanded_target}
+use Rattle.world_laws.specs.OwnItem.{is_same, said_by, IsBesideTarget, CommandsAfter, seat_after, TakesInput, InputKeepsLineUp}
+use Rattle.world_laws.specs.OwnRow.{DoesRow}
+use Rattle.world_laws.specs.OwnStep.{some_lacks, target_items, OwnStep}
+use Rattle.world_laws.specs.OwnStep.OwnStep.{stays}
+use Rattle.world_laws.specs.ToCome.{AreLayer3, mark, texts_of}
+use Rattle.world_laws.proofs.Apart.{at-itself}
+use Rattle.world_laws.proofs.Framing.{all-left, all-map}
+use Rattle.world_laws.proofs.OwnChannels.{passed, to_come, IsHeard, ended-same, goes-on}
+use Rattle.world_laws.proofs.OwnDoes.{IsKnown, serving-heard, old-heard, whole-old, whole-rest, stands-before, stands-after}
+use Rattle.world_laws.proofs.OwnReleases.{same-at, released-elsewhere, undone-none, undone-done, undone-push, are-released, lacks-same}
+use Rattle.world_laws.proofs.OwnRoles.{IsLess, own-stays, own-leaves, own-tells, own-goes_back, own-completes}
+use Rattle.world_laws.proofs.OwnRowLaw.{RowKeepsLineUp-new}
+use Rattle.world_laws.proofs.Quiet.{all-of}
+use Rattle.world_laws.proofs.RolesAfter.{commanded_of, commanded-role, channels-after}
+
+-- ---- what is on its way is what it was, or less
+
+sum-of : (said after : List Item) → controls_in (said ++ after) ≡ controls_in said + controls_in after
+sum-of said after = ap controls_of (messages_in-append said after) ∙ controls-append (messages_in said) (messages_in after)
+
+controls-less : (said before after : List Item) → before ≡ said ++ after → controls_in after ≤ controls_in before
+controls-less said before after first = let sum = ap controls_in first ∙ sum-of said after in omega arith
+
+texts-less : (said before after : List Item) → before ≡ said ++ after → texts_in after ≤ texts_in before
+texts-less said before after first =
+    let sum : texts_in before ≡ texts_in said + texts_in after =
+    ap texts_in first ∙ ap (λ (list : List (List ℕ)). length (flow list)) (messages_in-append said after) ∙ ap length (flow-append (messages_in said) (messages_in after)) ∙ length-append (flow (messages_in said)) (flow (messages_in after)) in
+    omega arith
+
+controls-one : (message : List ℕ) (before after : List Item) → before ≡ brought message ∷ after → (controls_of (messages_in after) + 1 ≤ controls_of (message ∷ messages_in after)) → controls_in after + 1 ≤ controls_in before
+controls-one message before after is less = let same = ap controls_in is in omega arith
+
+is-less : (input : Input) (text : List ℕ) {before after : Place → List Item} (up : ℕ → Bool) (s : Connection) → ((at : Place) → before at ≡ said_by input text at ++ after at) → IsLess before after up s
+is-less input text {before} {after} up s first = record {
+  serving = controls-less (said_by input text (place_of s.serving)) (before (place_of s.serving)) (after (place_of s.serving)) (first (place_of s.serving));
+  texts = texts (commanded_target s.state);
+  controls = controls (commanded_target s.state);
+} where
+  texts : (o : Option Target) → texts_in (target_items after o) ≤ texts_in (target_items before o)
+  texts None = omega arith
+  texts (Some t) = texts-less (said_by input text (place_of t.channel)) (before (place_of t.channel)) (after (place_of t.channel)) (first (place_of t.channel))
+
+  controls : (o : Option Target) → controls_in (target_items after o) ≤ controls_in (target_items before o)
+  controls None = omega arith
+  controls (Some t) = controls-less (said_by input text (place_of t.channel)) (before (place_of t.channel)) (after (place_of t.channel)) (first (place_of t.channel))
+
+-- ---- what ends
+
+ends-of : (input : Input) (text : List ℕ) (state : State) (after : Place → List Item) (up : ℕ → Bool) → Ends (to_come input text (target_in state) after up) state input
+ends-of (inputs.ReleaseAck at) text state after up =
+    ap (λ (b : Bool). if (is_ended (if b then released ∷ [] else []) || false) then [] else texts_of (after at) ++ mark (not (up at.station) && not (is_ended (after at)))) (ap (λ (b : Bool). b && nat_eq at.number at.number) (eq-eqb at.station at.station refl) ∙ eq-eqb at.number at.number refl)
+ends-of (inputs.Failure at change cause) text (Live reference (Changing t)) after up =
+    passed (inputs.Failure at change cause) text (t.channel ∷ []) after up (place_of t.channel) (ap (λ (b : Bool). b || false) (at-itself t.channel))
+ends-of (inputs.Failure at change cause) text _ after up = refl
+ends-of (inputs.ActivationAck at) text (Live reference (Preparing t)) after up =
+    passed (inputs.ActivationAck at) text (t.channel ∷ []) after up (place_of t.channel) (ap (λ (b : Bool). b || false) (at-itself t.channel))
+ends-of (inputs.ActivationAck at) text _ after up = refl
+ends-of _ text state after up = tt
+
+-- ---- what all steps have in common
+
+known-of : {s : Connection} {input : Input} {offer : Option Channel} {r : Row} {text : List ℕ} {before after : Place → List Item} {commands commands2 : ℕ} → TakesInput s input offer r text before after commands commands2 → IsKnown input text before after s
+known-of takes = record { finds = takes.finds; apart = takes.apart }
+
+of-changes : {s : Connection} {input : Input} {offer : Option Channel} {r : Row} → ChangesRoles s input offer r → IsOpen r.next.state → GoesOn (step_by input (roles_of s)) (roles_of s) s.down input offer r
+of-changes (goes_on was_open stays_open goes) is_open = goes
+of-changes (ends was_open shut end) is_open = absurd (shut is_open)
+of-changes (had_ended shut_before shut nothing) is_open = absurd (shut is_open)
+
+goes-of : {s : Connection} {input : Input} {offer : Option Channel} {r : Row} {text : List ℕ} {before after : Place → List Item} {commands commands2 : ℕ} (step : RoleStep) → step_by input (roles_of s) ≡ step → TakesInput s input offer r text before after commands commands2 → GoesOn step (roles_of s) s.down input offer r
+goes-of {s} {input} {offer} {r} step is takes = subst (λ (x : RoleStep). GoesOn x (roles_of s) s.down input offer r) is (of-changes (subst (ChangesRolesBy s input offer) takes.fits (ChangesRoles-row s input offer takes.stands)) takes.stays_open)
+
+told-of : {s : Connection} {input : Input} {offer : Option Channel} {r : Row} {text : List ℕ} {before after : Place → List Item} {commands commands2 : ℕ} (step : RoleStep) → step_by input (roles_of s) ≡ step → TakesInput s input offer r text before after commands commands2 → CommandsAfter step commands commands2
+told-of {commands = commands} {commands2} step is takes = subst (λ (x : RoleStep). CommandsAfter x commands commands2) is takes.told
+
+finish : {s : Connection} {input : Input} {offer : Option Channel} {r : Row} {text : List ℕ} {before after : Place → List Item} {commands commands2 : ℕ} (up : ℕ → Bool) (seat : Seat) (step : RoleStep) → step_by input (roles_of s) ≡ step → TakesInput s input offer r text before after commands commands2
+    → AllByRecursion (IsHeard input text (target_in s.state) before) (undone (after_step step (roles_of s)).draining) → IsHeard input text (target_in s.state) before (after_step step (roles_of s)).serving → is_ended (before (place_of (after_step step (roles_of s)).serving)) ≡ false
+    → OwnStep before after up s r.next commands commands2 seat (seat_after step seat) → DoesRow s input offer r before after up commands commands2 seat (seat_after (step_by input (roles_of s)) seat)
+finish {s} {input} {offer} {r} {text} {before} {after} {commands} {commands2} up seat step is takes old serving serving_on own = record {
+  fits = takes.fits;
+  stays_open = takes.stays_open;
+  stands = takes.stands;
+  carried = takes.carried;
+  apart = takes.apart;
+  future = to_come input text (target_in s.state) after up;
+  ends = ends-of input text s.state after up;
+  was = stands-before up (known-of takes) takes.stands;
+  now = stands-after up step r.next (known-of takes) (subst (OfRow (λ (x : Row). Stands x.next)) takes.fits (Stands-row s input offer takes.stands takes.carried))
+      (channels-after step (roles_of s) s.down input offer r (goes-of step is takes)) old serving serving_on;
+  whole = takes.whole;
+  step = subst (λ (x : RoleStep). OwnStep before after up s r.next commands commands2 seat (seat_after x seat)) (sym is) own;
+}
+
+-- where no RF CHANNEL RELEASE ACK came, as much is missing as before
+covers-of : (s : Connection) (input : Input) (text : List ℕ) (before after : Place → List Item) (up : ℕ → Bool) → ((at : Place) → before at ≡ said_by input text at ++ after at) → AllByRecursion (λ c. is_ended (said_by input text (place_of c)) ≡ false) (undone s.draining)
+    → some_lacks after up s.draining ≡ false → some_lacks before up s.draining ≡ false
+covers-of s input text before after up first none_ends none =
+    lacks-same before after up s.draining (all-map (λ c. is_ended (said_by input text (place_of c)) ≡ false) (λ c. is_ended (before (place_of c)) ≡ is_ended (after (place_of c))) (undone s.draining) (λ c goes_on_now. ended-same input text before after (place_of c) (first (place_of c)) goes_on_now) none_ends) ∙ none
+
+-- ---- step by step
+
+input-stays : {s : Connection} {input : Input} {offer : Option Channel} {r : Row} {text : List ℕ} {before after : Place → List Item} {commands commands2 : ℕ} (up : ℕ → Bool) (seat : Seat) → step_by input (roles_of s) ≡ roles_stay → TakesInput s input offer r text before after commands commands2
+    → AllByRecursion (λ c. is_ended (said_by input text (place_of c)) ≡ false) (undone s.draining) → DoesRow s input offer r before after up commands commands2 seat (seat_after (step_by input (roles_of s)) seat)
+input-stays {s} {input} {offer} {r} {text} {before} {after} up seat is takes none_ends =
+    finish up seat roles_stay is takes (old-heard (known-of takes) none_ends) (serving-heard (known-of takes)) takes.finds.others_go_on.0
+    (own-stays s input offer r seat (goes-of roles_stay is takes) (is-less input text up s takes.finds.first) (told-of roles_stay is takes) (covers-of s input text before after up takes.finds.first none_ends))
+
+apart-left : (xs ys : List Channel) → AreApart (xs ++ ys) → AreApart xs
+apart-left [] ys apart = tt
+apart-left (x ∷ xs) ys apart = (all-left _ xs ys apart.0, apart-left xs ys apart.1)
+
+input-leaves : {s : Connection} {offer : Option Channel} {r : Row} {text : List ℕ} {before after : Place → List Item} {commands commands2 : ℕ} (up : ℕ → Bool) (seat : Seat) (at : Place) (place : ℕ) → drain_at at s.draining ≡ Some place → TakesInput s (inputs.ReleaseAck at) offer r text before after commands commands2
+    → DoesRow s (inputs.ReleaseAck at) offer r before after up commands commands2 seat (seat_after (step_by (inputs.ReleaseAck at) (roles_of s)) seat)
+input-leaves {s} {offer} {r} {text} {before} {after} up seat at place found takes =
+    finish up seat (role_leaves place) is takes (subst (AllByRecursion (IsHeard (inputs.ReleaseAck at) text (target_in s.state) before)) (sym (undone-still_draining (done_at place s.draining)))
+    (undone-done (IsHeard (inputs.ReleaseAck at) text (target_in s.state) before) at place s.draining found (apart-left (undone s.draining) (s.serving ∷ target_in s.state) takes.apart)
+    (all-map (λ c. AreLayer3 (texts_of (before (place_of c)))) (λ c. is_at at c ≡ false → IsHeard (inputs.ReleaseAck at) text (target_in s.state) before c) (undone s.draining)
+    (λ c whole other. record { goes_on = ap is_ended (released-elsewhere text at c other); passes_not = refl; whole = whole }) (whole-old (known-of takes)))))
+    (serving-heard (known-of takes)) takes.finds.others_go_on.0
+    (own-leaves s (inputs.ReleaseAck at) offer r seat at place found (goes-of (role_leaves place) is takes) (is-less (inputs.ReleaseAck at) text up s takes.finds.first) (told-of (role_leaves place) is takes) (are-released text before after up at s.draining takes.finds.first)) where
+      is : step_by (inputs.ReleaseAck at) (roles_of s) ≡ role_leaves place
+      is = ap leaves_at found
+
+-- the target, by its role
+targets-of : (s : Connection) (t : TargetRole) → target_role s.state ≡ Some t → target_in s.state ≡ t.target.channel ∷ []
+targets-of s t is = sym (target_in-role s.state) ∙ ap target_channels is
+
+input-commands : {s : Connection} {input : Input} {offer : Option Channel} {r : Row} {text : List ℕ} {before after : Place → List Item} {commands commands2 : ℕ} (up : ℕ → Bool) (seat : Seat) (t : TargetRole) → target_role s.state ≡ Some t → t.is_commanded ≡ false → IsBesideTarget input → ((at : Place) → before at ≡ after at)
+    → step_by input (roles_of s) ≡ role_commands → TakesInput s input offer r text before after commands commands2 → AllByRecursion (λ c. is_ended (said_by input text (place_of c)) ≡ false) (undone s.draining)
+    → DoesRow s input offer r before after up commands commands2 seat (seat_after (step_by input (roles_of s)) seat)
+input-commands {s} {input} {offer} {r} {text} {before} {after} up seat t role waits beside same is takes none_ends =
+    finish up seat role_commands is takes (old-heard (known-of takes) none_ends) (serving-heard (known-of takes)) takes.finds.others_go_on.0
+    (own-tells s input offer r seat t role waits (goes-of role_commands is takes) (is-less input text up s takes.finds.first).serving
+    (ap messages_in (sym (same (place_of t.target.channel))) ∙ (subst (AllByRecursion (λ c. messages_in (before (place_of c)) ≡ [])) (targets-of s t role) (takes.finds.silent beside)).0) (told-of role_commands is takes) (covers-of s input text before after up takes.finds.first none_ends))
+
+input-goes_back : {s : Connection} {input : Input} {offer : Option Channel} {r : Row} {text : List ℕ} {before after : Place → List Item} {commands commands2 : ℕ} (up : ℕ → Bool) (seat : Seat) (t : TargetRole) → target_role s.state ≡ Some t → t.is_commanded ≡ true → controls_in (after (place_of s.serving)) + 1 ≤ controls_in (before (place_of s.serving))
+    → step_by input (roles_of s) ≡ role_goes_back → TakesInput s input offer r text before after commands commands2 → AllByRecursion (λ c. is_ended (said_by input text (place_of c)) ≡ false) (undone s.draining)
+    → DoesRow s input offer r before after up commands commands2 seat (seat_after (step_by input (roles_of s)) seat)
+input-goes_back {s} {input} {offer} {r} {text} {before} {after} up seat t role told_to more is takes none_ends =
+    finish up seat role_goes_back is takes (old-heard (known-of takes) none_ends) (serving-heard (known-of takes)) takes.finds.others_go_on.0
+    (own-goes_back s input offer r seat t role told_to (goes-of role_goes_back is takes) more (told-of role_goes_back is takes) (covers-of s input text before after up takes.finds.first none_ends))
+
+-- a target that can't be had goes before the mobile was commanded to it
+input-refused : {s : Connection} {input : Input} {offer : Option Channel} {r : Row} {text : List ℕ} {before after : Place → List Item} {commands commands2 : ℕ} (up : ℕ → Bool) (seat : Seat) (t : TargetRole) → target_role s.state ≡ Some t → t.is_commanded ≡ false
+    → step_by input (roles_of s) ≡ role_goes_back → TakesInput s input offer r text before after commands commands2 → AllByRecursion (λ c. is_ended (said_by input text (place_of c)) ≡ false) (undone s.draining)
+    → DoesRow s input offer r before after up commands commands2 seat (seat_after (step_by input (roles_of s)) seat)
+unfolding commanded_of
+input-refused {s} {input} {offer} {r} {text} {before} {after} up seat t role waits is takes none_ends =
+    let now = channels-after role_goes_back (roles_of s) s.down input offer r (goes-of role_goes_back is takes) in
+    let less = is-less input text up s takes.finds.first in
+    finish up seat role_goes_back is takes (old-heard (known-of takes) none_ends) (serving-heard (known-of takes)) takes.finds.others_go_on.0
+    (stays now.serving (now.target ∙ sym (commanded-role s.state ∙ ap commanded_of role ∙ ap (λ (b : Bool). if b then Some t.target else None) waits)) less.serving less.texts less.controls (told-of role_goes_back is takes)
+    (λ none. covers-of s input text before after up takes.finds.first none_ends (sym (ap (some_lacks after up) now.draining) ∙ none)))
+
+input-completes : {s : Connection} {offer : Option Channel} {r : Row} {text : List ℕ} {before after : Place → List Item} {commands commands2 : ℕ} (up : ℕ → Bool) (seat : Seat) (at : Place) (change : Change) (cause : _) (t : TargetRole) → target_role s.state ≡ Some t → t.is_commanded ≡ true
+    → controls_in (after (place_of t.target.channel)) + 1 ≤ controls_in (before (place_of t.target.channel)) → step_by (inputs.Complete at change cause) (roles_of s) ≡ role_completes → TakesInput s (inputs.Complete at change cause) offer r text before after commands commands2
+    → AllByRecursion (λ c. is_ended (said_by (inputs.Complete at change cause) text (place_of c)) ≡ false) (undone s.draining) → DoesRow s (inputs.Complete at change cause) offer r before after up commands commands2 seat (seat_after (step_by (inputs.Complete at change cause) (roles_of s)) seat)
+input-completes {s} {offer} {r} {text} {before} {after} up seat at change cause t role told_to more is takes none_ends =
+    finish up seat role_completes is takes
+    (subst (λ (o : Option TargetRole). AllByRecursion (IsHeard (inputs.Complete at change cause) text (target_in s.state) before) (undone (completed o (roles_of s)).draining)) (sym role)
+    (undone-push (IsHeard (inputs.Complete at change cause) text (target_in s.state) before) s.draining s.serving (old-heard (known-of takes) none_ends) (serving-heard (known-of takes))))
+    (subst (λ (o : Option TargetRole). IsHeard (inputs.Complete at change cause) text (target_in s.state) before (completed o (roles_of s)).serving) (sym role)
+    (record { goes_on = (goes-on (inputs.Complete at change cause) text before after (place_of t.target.channel) (takes.finds.first (place_of t.target.channel)) target_on).0; passes_not = refl; whole = target_whole }))
+    (subst (λ (o : Option TargetRole). is_ended (before (place_of (completed o (roles_of s)).serving)) ≡ false) (sym role) target_on)
+    (own-completes s (inputs.Complete at change cause) offer r seat t role told_to (goes-of role_completes is takes) more (told-of role_completes is takes) (covers-of s (inputs.Complete at change cause) text before after up takes.finds.first none_ends)
+    (goes-on (inputs.Complete at change cause) text before after (place_of s.serving) (takes.finds.first (place_of s.serving)) takes.finds.others_go_on.0).1) where
+      target_on : is_ended (before (place_of t.target.channel)) ≡ false
+      target_on = (subst (AllByRecursion (λ c. is_ended (before (place_of c)) ≡ false)) (targets-of s t role) takes.finds.others_go_on.1).0
+
+      target_whole : AreLayer3 (texts_of (before (place_of t.target.channel)))
+      target_whole = (subst (AllByRecursion (λ c. AreLayer3 (texts_of (before (place_of c))))) (targets-of s t role) (whole-rest (known-of takes)).1).0
+
+-- ---- which step
+
+-- a target that waits for its activation
+pub record Awaits (at : Place) (o : Option TargetRole) : Type 0 where
+  pub t : TargetRole
+  pub is : o ≡ Some t
+  pub waits : t.is_commanded ≡ false
+
+awaited : (at : Place) (o : Option TargetRole) → awaits_at at o ≡ true → Awaits at o
+awaited at None is = absurd cc
+awaited at (Some t) is = record { t = t; is = refl; waits = by t.is_commanded (is_at at t.target.channel) is } where
+  by : (a b : Bool) → not a && b ≡ true → a ≡ false
+  by false b is = refl
+  by true b is = absurd cc
+
+-- a target to which the mobile was commanded
+pub record IsCommanded (o : Option TargetRole) : Type 0 where
+  pub t : TargetRole
+  pub is : o ≡ Some t
+  pub told_to : t.is_commanded ≡ true
+
+left-true : (a b : Bool) → a && b ≡ true → a ≡ true
+left-true true b is = refl
+left-true false b is = absurd cc
+
+right-true : (a b : Bool) → a && b ≡ true → b ≡ true
+right-true true b is = is
+right-true false b is = absurd cc
+
+changing : (change : Change) (o : Option TargetRole) → changes_by change o ≡ true → IsCommanded o
+changing change None is = absurd cc
+changing change (Some t) is = record { t = t; is = refl; told_to = left-true t.is_commanded _ is }
+
+brought-unended : (message : List ℕ) (b : Bool) → is_ended (if b then brought message ∷ [] else []) ≡ false
+brought-unended message true = refl
+brought-unended message false = refl
+
+-- COMPLETE and FAILURE are taken from their channel
+control-taken : (text : List ℕ) (before after : Place → List Item) (at : Place) (c : Channel) → is_control text ≡ true → before (place_of c) ≡ (if is_same (place_of c) at then brought text ∷ [] else []) ++ after (place_of c) → is_at at c ≡ true → controls_in (after (place_of c)) + 1 ≤ controls_in (before (place_of c))
+control-taken text before after at c control first here =
+    controls-one text (before (place_of c)) (after (place_of c)) (first ∙ ap (λ (b : Bool). (if b then brought text ∷ [] else []) ++ after (place_of c)) (same-at at c ∙ here)) (controls-first text (messages_in (after (place_of c))) control)
+
+pub does-row : (s : Connection) (input : Input) (offer : Option Channel) (r : Row) (text : List ℕ) (before after : Place → List Item) (up : ℕ → Bool) (commands commands2 : ℕ) (seat : Seat) → TakesInput s input offer r text before after commands commands2
+    → DoesRow s input offer r before after up commands commands2 seat (seat_after (step_by input (roles_of s)) seat)
+does-row s (inputs.ActivationAck at) offer r text before after up commands commands2 seat takes = elim (cases_Bool (awaits_at at (target_role s.state))) [
+  | inl waits ↦ let a = awaited at (target_role s.state) waits in
+      input-commands up seat a.t a.is a.waits tt takes.finds.first (ap (λ (b : Bool). if b then role_commands else roles_stay) waits) takes (all-of _ (undone s.draining) (λ c. refl))
+  | inr not_so ↦ input-stays up seat (ap (λ (b : Bool). if b then role_commands else roles_stay) not_so) takes (all-of _ (undone s.draining) (λ c. refl))
+]
+does-row s (inputs.ActivationNack at) offer r text before after up commands commands2 seat takes = elim (cases_Bool (awaits_at at (target_role s.state))) [
+  | inl waits ↦ let a = awaited at (target_role s.state) waits in
+      input-refused up seat a.t a.is a.waits (ap (λ (b : Bool). if b then role_goes_back else roles_stay) waits) takes (all-of _ (undone s.draining) (λ c. refl))
+  | inr not_so ↦ input-stays up seat (ap (λ (b : Bool). if b then role_goes_back else roles_stay) not_so) takes (all-of _ (undone s.draining) (λ c. refl))
+]
+does-row s (inputs.Complete at change cause) offer r text before after up commands commands2 seat takes = elim (cases_Bool (is_target_at at (target_role s.state) && changes_by change (target_role s.state))) [
+  | inl both ↦ let a = changing change (target_role s.state) (right-true (is_target_at at (target_role s.state)) (changes_by change (target_role s.state)) both) in
+      input-completes up seat at change cause a.t a.is a.told_to
+      (control-taken text before after at a.t.target.channel takes.finds.read (takes.finds.first (place_of a.t.target.channel)) (sym (ap (is_target_at at) a.is) ∙ left-true (is_target_at at (target_role s.state)) (changes_by change (target_role s.state)) both))
+      (ap (λ (b : Bool). if b then role_completes else roles_stay) both) takes (all-of _ (undone s.draining) (λ c. brought-unended text (is_same (place_of c) at)))
+  | inr not_so ↦ input-stays up seat (ap (λ (b : Bool). if b then role_completes else roles_stay) not_so) takes (all-of _ (undone s.draining) (λ c. brought-unended text (is_same (place_of c) at)))
+]
+does-row s (inputs.Failure at change cause) offer r text before after up commands commands2 seat takes = elim (cases_Bool (is_at at s.serving && changes_by change (target_role s.state))) [
+  | inl both ↦ let a = changing change (target_role s.state) (right-true (is_at at s.serving) (changes_by change (target_role s.state)) both) in
+      input-goes_back up seat a.t a.is a.told_to (control-taken text before after at s.serving takes.finds.read (takes.finds.first (place_of s.serving)) (left-true (is_at at s.serving) (changes_by change (target_role s.state)) both))
+      (ap (λ (b : Bool). if b then role_goes_back else roles_stay) both) takes (all-of _ (undone s.draining) (λ c. brought-unended text (is_same (place_of c) at)))
+  | inr not_so ↦ input-stays up seat (ap (λ (b : Bool). if b then role_goes_back else roles_stay) not_so) takes (all-of _ (undone s.draining) (λ c. brought-unended text (is_same (place_of c) at)))
+]
+does-row s (inputs.ReleaseAck at) offer r text before after up commands commands2 seat takes = by (drain_at at s.draining) refl where
+  by : (o : Option ℕ) → drain_at at s.draining ≡ o → DoesRow s (inputs.ReleaseAck at) offer r before after up commands commands2 seat (seat_after (step_by (inputs.ReleaseAck at) (roles_of s)) seat)
+  by (Some place) found = input-leaves up seat at place found takes
+  by None none = input-stays up seat (ap leaves_at none) takes (all-map (λ c. is_at at c ≡ false) (λ c. is_ended (said_by (inputs.ReleaseAck at) text (place_of c)) ≡ false) (undone s.draining) (λ c other. ap is_ended (released-elsewhere text at c other)) (undone-none at s.draining none))
+does-row s (inputs.Dtap at Zero message) offer r text before after up commands commands2 seat takes = input-stays up seat refl takes (all-of _ (undone s.draining) (λ c. brought-unended message (is_same (place_of c) at)))
+does-row s (inputs.EstablishIndication at Zero (Some initial)) offer r text before after up commands commands2 seat takes = input-stays up seat refl takes (all-of _ (undone s.draining) (λ c. brought-unended initial (is_same (place_of c) at)))
+does-row s _ offer r text before after up commands commands2 seat takes = input-stays up seat refl takes (all-of _ (undone s.draining) (λ c. refl))
+
+pub InputKeepsLineUp-new : (m : ℕ) (s : Connection) (input : Input) (offer : Option Channel) (r : Row) → InputKeepsLineUp m s input offer r
+InputKeepsLineUp-new m s input offer r text before after up commands commands2 seat sent link out taken takes alive =
+    RowKeepsLineUp-new m s input offer r before after up commands commands2 seat (seat_after (step_by input (roles_of s)) seat) sent link out taken (does-row s input offer r text before after up commands commands2 seat takes) alive

@@ -1,0 +1,95 @@
+-- What the first item of the inbox says to a connection: an input, and what it brings of its channel.
+use Rattle.std.specs.Prelude.{◌≡◌, ℕ, ◌≤◌, ◌==◌, ◌&&◌, Bool, true, false, if◌then◌else◌, List, [], ◌∷◌, ◌++◌, Option, Some}
+use Rattle.std.specs.List.{AllByRecursion}
+use Rattle.conn_messages.specs.declared.channel.Channel.{Channel}
+use Rattle.conn_messages.specs.declared.channel.Place.{Place}
+use Rattle.conn_table.specs.declared.input.Input.{Input}
+use Rattle.conn_table.specs.declared.input.Input.TheVariants as inputs
+use Rattle.conn_table.specs.Connection.{Connection}
+use Rattle.conn_table.specs.Roles.{RoleStep, roles_of, step_by}
+use Rattle.conn_table.specs.Roles.RoleStep.{commands as role_commands, completes as role_completes}
+use Rattle.conn_table.specs.Standing.{IsCarried, Stands}
+use Rattle.conn_table.specs.Steps.{Row}
+use Rattle.conn_table.specs.Streams.{AreApart, IsOpen, relayed, target_in, undone, used_channels}
+use Rattle.conn_table.specs.Table.{row_of}
+use Rattle.controller_table.specs.Controller.{place_of}
+use Rattle.dtap_codec.specs.declared.sapi.Sapi.TheVariants.{Zero}
+use Rattle.lineup.specs.Alive.{Alive}
+use Rattle.lineup.specs.ChangeStep.{after_complete}
+use Rattle.lineup.specs.LineUp.{Item, Seat, flow, messages_in}
+use Rattle.lineup.specs.LineUp.Item.{brought, released}
+use Rattle.mobile_end.specs.Control.{is_control}
+use Rattle.mobile_end.specs.DataLinkState.{DataLinkState}
+use Rattle.world_laws.specs.LineUps.{is_ended}
+use Rattle.world_laws.specs.OwnRow.{over}
+use Rattle.world_laws.specs.Staying.{EndsLast}
+use Rattle.world_laws.specs.ToCome.{AreLayer3, texts_of}
+
+abbrev pub is_same : Place → Place → Bool
+is_same place at = (place.station == at.station) && (place.number == at.number)
+
+-- what an input brings of a channel; COMPLETE and FAILURE are this text
+abbrev pub said_by : Input → List ℕ → Place → List Item
+said_by (inputs.Dtap at Zero message) text place = if is_same place at then brought message ∷ [] else []
+said_by (inputs.EstablishIndication at Zero (Some initial)) text place = if is_same place at then brought initial ∷ [] else []
+said_by (inputs.Complete at change cause) text place = if is_same place at then brought text ∷ [] else []
+said_by (inputs.Failure at change cause) text place = if is_same place at then brought text ∷ [] else []
+said_by (inputs.ReleaseAck at) text place = if is_same place at then released ∷ [] else []
+said_by _ text place = []
+
+-- COMPLETE and FAILURE are of radio resource management, and the messages that are relayed aren't
+abbrev pub IsRead : Input → List ℕ → Type 0
+IsRead (inputs.Dtap at Zero message) text = is_control message ≡ false
+IsRead (inputs.EstablishIndication at Zero (Some initial)) text = is_control initial ≡ false
+IsRead (inputs.Complete at change cause) text = is_control text ≡ true
+IsRead (inputs.Failure at change cause) text = is_control text ≡ true
+IsRead _ text = Unit {0}
+
+-- the target is ready, or the mobile came back from it
+abbrev pub IsBesideTarget : Input → Type 0
+IsBesideTarget (inputs.ActivationAck at) = Unit {0}
+IsBesideTarget (inputs.Failure at change cause) = Unit {0}
+IsBesideTarget _ = ⊥
+
+-- What is on its way up of a connection's channels, before an input is taken and after it.
+pub record Finds (input : Input) (text : List ℕ) (before after : Place → List Item) (s : Connection) : Type 0 where
+  pub read : IsRead input text
+  -- what it brings came first
+  pub first : (at : Place) → before at ≡ said_by input text at ++ after at
+  -- an RF CHANNEL RELEASE ACK is the last of an old channel, and comes of no other
+  pub old_end : AllByRecursion (λ c. EndsLast (before (place_of c))) (undone s.draining)
+  pub others_go_on : AllByRecursion (λ c. is_ended (before (place_of c)) ≡ false) (s.serving ∷ target_in s.state)
+  -- nothing came of a target before the COMMAND, or of one from which the mobile came back
+  pub silent : IsBesideTarget input → AllByRecursion (λ c. messages_in (before (place_of c)) ≡ []) (target_in s.state)
+  pub whole : AllByRecursion (λ c. AreLayer3 (texts_of (before (place_of c)))) (used_channels s)
+
+-- ---- the row that fits the input
+
+-- COMMANDs on their way to the mobile, before a row and after it: the one that is put, and else none comes to them
+abbrev pub CommandsAfter : RoleStep → ℕ → ℕ → Type 0
+CommandsAfter role_commands commands commands2 = commands2 ≤ 1
+CommandsAfter _ commands commands2 = commands2 ≤ commands
+
+-- the target serves where COMPLETE came
+abbrev pub seat_after : RoleStep → Seat → Seat
+seat_after role_completes seat = after_complete seat
+seat_after _ seat = seat
+
+-- The row that fits it is done, and the connection stays open.
+pub record TakesInput (s : Connection) (input : Input) (offer : Option Channel) (r : Row) (text : List ℕ) (before after : Place → List Item) (commands commands2 : ℕ) : Type 0 where
+  pub fits : row_of s input offer ≡ Some r
+  pub stays_open : IsOpen r.next.state
+  pub stands : Stands s
+  pub carried : IsCarried input
+  pub apart : AreApart (used_channels s)
+  pub finds : Finds input text before after s
+  pub whole : AreLayer3 (relayed Zero r.outs)
+  pub told : CommandsAfter (step_by input (roles_of s)) commands commands2
+
+-- what it relays joins what waits for the switch
+abbrev pub InputKeepsLineUp : ℕ → Connection → Input → Option Channel → Row → Type 0
+InputKeepsLineUp m s input offer r =
+    (text : List ℕ) (before after : Place → List Item) (up : ℕ → Bool) (commands commands2 : ℕ) (seat : Seat) (sent : List (List ℕ)) (link : DataLinkState) (out taken : List (List ℕ))
+    → TakesInput s input offer r text before after commands commands2
+    → Alive m (over before up s sent link seat commands out taken)
+    → Alive m (over after up r.next sent link (seat_after (step_by input (roles_of s)) seat) commands2 (out ++ flow (relayed Zero r.outs)) taken)
