@@ -1,4 +1,6 @@
 ghost use Rattle.std.specs.Prelude.{◌≡◌};
+ghost use Rattle.std.specs.IoError.{error_kind};
+ghost use Rattle.link_sockets.specs.Faults.{fault_of};
 ghost use Rattle.link_sockets.specs.declared.fault.RunFault.TheVariants.{Memory as OutOfMemory};
 
 use octets::Memory;
@@ -33,6 +35,8 @@ impl<T: Drop> From<AllocFailed<T>> for RunFault {
 }
 
 impl From<io::Error> for RunFault {
+    ghost from_gives = { λ error fault. fault ≡ fault_of (error_kind error) };
+
     fn from(error: io::Error) -> RunFault {
         if error.kind() == ErrorKind::OutOfMemory {
             RunFault::Memory

@@ -1,3 +1,5 @@
+ghost use Rattle.std.specs.Prelude.{◌≡◌, ◌+◌, length, vec_len, IfOk};
+
 use crate::fault::RunFault;
 use crate::gate::OpenGate;
 use crate::name::LinkName;
@@ -20,25 +22,27 @@ pub fn open_links<R>(
 ) -> Result<Vec<SocketLink<R>>, RunFault>
 where
     R: Net<Listener = TcpListener, Stream = TcpStream> + Log + Copy + Drop,
+    ensures { IfOk result (λ links. vec_len links ≡ length settings.now.cells + 1) }
 {
     let listeners = listen(rt, alloc, settings.cells())?;
     let mut links = Vec::new(alloc);
     links.push(connect(rt, settings.switch_address())?)?;
-    for listener in listeners.iter() {
+    for listener in &listeners {
         let name = LinkName::of_link(links.len());
         links.push(accept(rt, name, listener)?)?;
     }
     Ok(links)
 }
 
-/// Listens for each cell's station.
+/// Listens for each cell's station, in their order.
 fn listen<R>(rt: &R, alloc: Global, cells: &[Cell]) -> Result<Vec<TcpListener>, RunFault>
 where
     R: Net<Listener = TcpListener, Stream = TcpStream> + Log,
+    ensures { IfOk result (λ listeners. vec_len listeners ≡ length cells.now) }
 {
     let mut listeners = Vec::new(alloc);
-    for (number, cell) in (1..).zip(cells) {
-        let name = LinkName::Cell(number);
+    for cell in cells {
+        let name = LinkName::Cell(listeners.len() + 1);
         let listener = match TcpListener::bind(rt, cell.listen()) {
             Ok(listener) => listener,
             Err(error) => {

@@ -1,0 +1,10 @@
+-- Why the relay didn't run to its end.
+use Rattle.std.specs.declared.io.ErrorKind.{ErrorKind}
+use Rattle.std.specs.declared.io.ErrorKind.TheVariants.{OutOfMemory}
+use Rattle.link_sockets.specs.declared.fault.RunFault.{RunFault}
+use Rattle.link_sockets.specs.declared.fault.RunFault.TheVariants.{Memory, Device}
+
+-- a device that wanted memory is told apart from one that failed
+abbrev pub fault_of : ErrorKind → RunFault
+fault_of OutOfMemory = Memory
+fault_of _ = Device
