@@ -11,6 +11,6 @@ mod Moves
 pub mod One
 pub mod Planning
 mod Reporting
-mod TurnRows
+mod Rows
 mod Stepping
 pub mod LifeLaws

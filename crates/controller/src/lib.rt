@@ -19,6 +19,6 @@ mod many;
 mod offers;
 mod reports;
 mod rest;
-mod rows;
+mod row;
 mod time;
 mod views;

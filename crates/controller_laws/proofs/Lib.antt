@@ -40,6 +40,8 @@ pub mod SoundRows
 pub mod SoundLife
 pub mod Concerning
 mod UsedRows
+mod SentRows
+mod OwnRows
 pub mod SeenFrames
 pub mod Keeping
 pub mod SeenStations

@@ -10,40 +10,33 @@ use Rattle.conn_table.specs.Connection.{Connection, new_connection}
 use Rattle.controller_laws.specs.Using.{used_places}
 use Rattle.controller_table.specs.Controller.{place_at}
 
-channel : ℕ → ℕ → Channel
+abbrev pub channel : ℕ → ℕ → Channel
 channel station number = record { station = station; number = number; cell = []; description = record { arfcn = 20; ncc = 1; bcc = 1 }; reference = record { 0 = 0 } }
 
 -- it serves on channel 41 of station 1, and channel 42 of station 3 drains
-abbrev connection : State → Connection
+abbrev pub connection : State → Connection
 connection state = record (new_connection 7 (channel 1 0x41) (record { access = 0x0b; frame = 3 }) 2) { state = state; draining = record { channel = channel 3 0x42; is_done = false } ∷ [] }
 
 before_access : used_places (Some (connection WaitActivation)) ≡ place_at 1 0x41 ∷ []
-unfolding channel
 before_access = refl
 
 established : used_places (Some (connection WaitEstablish)) ≡ place_at 1 0x41 ∷ []
-unfolding channel
 established = refl
 
 confirmed : used_places (Some (connection WaitConfirm)) ≡ place_at 1 0x41 ∷ []
-unfolding channel
 confirmed = refl
 
 -- the target comes after the serving channel, from its activation on; old channels aren't used any more
 prepared : used_places (Some (connection (Live 5 (Preparing (record { change = Assignment; channel = channel 1 0x09 }))))) ≡ place_at 1 0x41 ∷ place_at 1 0x09 ∷ []
-unfolding channel
 prepared = refl
 
 changing : used_places (Some (connection (Live 5 (Changing (record { change = Handover; channel = channel 2 0x43 }))))) ≡ place_at 1 0x41 ∷ place_at 2 0x43 ∷ []
-unfolding channel
 changing = refl
 
 active : used_places (Some (connection (Live 5 Active))) ≡ place_at 1 0x41 ∷ []
-unfolding channel
 active = refl
 
 draining : used_places (Some (connection (Live 5 Draining))) ≡ place_at 1 0x41 ∷ []
-unfolding channel
 draining = refl
 
 -- from the step on that closes it, none
