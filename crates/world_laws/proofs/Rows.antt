@@ -1,5 +1,5 @@
 -- The line-up of a connection in worlds of literal events: an assignment, with a message on its way on each channel.
-use Rattle.std.proofs.Common.{◌≡◌, ℕ, Bool, true, false, List, [], ◌∷◌, ◌++◌, map, replicate, Option, Some, None, option_map, refl, arith}
+use Rattle.std.proofs.Common.{◌≡◌, ℕ, Bool, true, false, List, [], ◌∷◌, ◌++◌, map, replicate, Option, Some, None, option_map, refl, ap, arith}
 use Rattle.std.specs.Option.{option_and_then}
 use Rattle.controller_table.specs.Controller.{new_controller, place_at, entry_of}
 use Rattle.controller_table.proofs.Lives.{usual_settings}
@@ -39,7 +39,7 @@ use Rattle.world_laws.specs.ComingUp.{coming_up}
 use Rattle.world_laws.specs.GoingDown.{going_down}
 use Rattle.world_laws.specs.LineUps.{taken_of, line_up}
 use Rattle.controller_table.specs.Views.{forwarded}
-use Rattle.world_laws.specs.Seated.{LinedUp}
+use Rattle.world_laws.specs.Seated.{LinedUp, Sits}
 use Rattle.world_laws.specs.Seated.Remembers.{nothing}
 use Rattle.world_laws.specs.Seated.Sits.{stays}
 use Rattle.world_laws.specs.Staying.{is_beside_relay, carried_for, IsForOthers}
@@ -308,6 +308,13 @@ is_lined_up = record {
 skipping_is_not_lined_up : LinedUp 4 (actors ((0x05 ∷ 0x24 ∷ 0x71 ∷ []) ∷ (0x03 ∷ 0x8f ∷ []) ∷ [])) (mobile_in 3) connection → ⊥
 unfolding on_literals forwarded
 skipping_is_not_lined_up h = skipping_is_not_alive h.alive
+
+-- nor is it in another tenure of its channel
+in_another_tenure : LinedUp 4 (actors ((0x05 ∷ 0x24 ∷ 0x71 ∷ []) ∷ (0x03 ∷ 0x45 ∷ []) ∷ [])) (mobile_in 4) connection → ⊥
+unfolding on_literals forwarded
+in_another_tenure h = no_seat h.sits where
+  no_seat : Sits (actors ((0x05 ∷ 0x24 ∷ 0x71 ∷ []) ∷ (0x03 ∷ 0x45 ∷ []) ∷ [])) (channel 0x0a) None (On (record { at = place_at 1 0x0a; number = 4 }) None) → ⊥
+  no_seat (stays is remembers) = let number = ap (λ (t : ChannelTenure). t.number) is in absurd cc
 
 -- ---- outputs that are another connection's: of connection 1, whose channel is 0A of station 1
 
