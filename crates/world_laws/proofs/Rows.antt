@@ -1,49 +1,76 @@
 -- The line-up of a connection in worlds of literal events: an assignment, with a message on its way on each channel.
-use Rattle.std.proofs.Common.{◌≡◌, ℕ, true, false, [], ◌∷◌, map, Option, Some, option_map, refl}
+use Rattle.std.proofs.Common.{◌≡◌, ℕ, Bool, true, false, List, [], ◌∷◌, ◌++◌, map, replicate, Option, Some, None, option_map, refl, ap, arith}
 use Rattle.std.specs.Option.{option_and_then}
-use Rattle.controller_table.specs.Controller.{place_at, entry_of}
+use Rattle.controller_table.specs.Controller.{new_controller, place_at, entry_of}
 use Rattle.controller_table.proofs.Lives.{usual_settings}
+use Rattle.hold_queue.specs.ChainState.{empty_tenure}
+use Rattle.rsl_codec.specs.declared.rsl.Rsl.TheVariants.{RfChannelReleaseAck}
+use Rattle.world_table.specs.declared.seat.Seat.TheVariants.{On}
+use Rattle.world_table.specs.Relay.{station_item}
+use Rattle.link_model.specs.Message.{data_indication}
+use Rattle.mobile_end.specs.declared.mobile_end.Place.TheVariants.{OnChannel}
+use Rattle.mobile_end.specs.declared.mobile_end.Stage.TheVariants.{Connected}
 use Rattle.dtap_codec.specs.declared.sapi.Sapi.TheVariants.{Zero, Three}
-use Rattle.link_model.specs.declared.air_link.Air.TheVariants.{Reached}
-use Rattle.lineup.specs.LineUp.{LineUp, fresh, line}
+use Rattle.conn_messages.specs.declared.channel.Channel.{Channel}
+use Rattle.conn_messages.specs.declared.out.Out.{Out}
+use Rattle.conn_table.specs.declared.state.Stage.TheVariants.{Active, Draining}
+use Rattle.conn_table.specs.declared.state.State.TheVariants.{Live}
+use Rattle.conn_table.specs.Connection.{Connection, new_connection}
+use Rattle.dtap_codec.specs.Places.{Carries}
+use Rattle.dtap_codec.specs.Places.Rise.{over as rise_over, next, again}
+use Rattle.lineup.specs.Alive.{Alive}
+use Rattle.lineup.specs.Alive.Follows.{goes_on}
+use Rattle.lineup.specs.Alive.Stays.{remains}
+use Rattle.lineup.specs.Alive.Stands.{rests}
+use Rattle.lineup.specs.Alive.Condition.{sound}
+use Rattle.lineup.proofs.Ordering.{IsInOrder-alive}
+use Rattle.msc_end.specs.declared.connection.Stage.TheVariants.{Open}
+use Rattle.world_table.specs.declared.seat.Tenure.{Tenure as ChannelTenure}
+use Rattle.link_model.specs.declared.air_link.Air.TheVariants.{Empty, Reached}
+use Rattle.lineup.specs.LineUp.{LineUp, Seat, Tenure, fresh, line}
 use Rattle.lineup.specs.LineUp.Item.{brought, released}
 use Rattle.lineup.specs.LineUp.Seat.{on_serving, on_target, moving}
-use Rattle.world_table.specs.declared.event.Event.TheVariants.{Upper, Connect, AirUp, AirAck, AirDown, Move, Arrive, BaseTakes, BasePush, Handle, SwitchTakes, SwitchDoes, BaseDown}
+use Rattle.world_table.specs.declared.event.Event.TheVariants.{Upper, AirUp, AirAck, AirDown, Move, Arrive, BaseTakes, BasePush, Handle, SwitchTakes, SwitchDoes, BaseDown}
 use Rattle.world_table.specs.declared.event.SwitchAction.TheVariants.{Assign, Clear}
-use Rattle.world_table.specs.World.{World, new_world, mobile_of, outbox_of}
+use Rattle.world_table.specs.World.{Actors, Mobile, World, mobile_of, new_link, new_spot, outbox_of}
+use Rattle.world_table.proofs.Rows.{opened}
 use Rattle.world_table.proofs.Worlds.{on_literals, after_all}
 use Rattle.world_laws.specs.ComingUp.{coming_up}
 use Rattle.world_laws.specs.GoingDown.{going_down}
 use Rattle.world_laws.specs.LineUps.{taken_of, line_up}
 use Rattle.controller_table.specs.Views.{forwarded}
-use Rattle.world_laws.specs.Staying.{is_beside_relay, carried_for}
+use Rattle.world_laws.specs.Seated.{LinedUp, Sits}
+use Rattle.world_laws.specs.Seated.Remembers.{nothing}
+use Rattle.world_laws.specs.Seated.Sits.{stays}
+use Rattle.world_laws.specs.Staying.{is_beside_relay, carried_for, IsForOthers}
 
 -- of a mobile and a connection of these numbers
 abbrev line_up_of : World → ℕ → ℕ → Option LineUp
 line_up_of w mobile number = option_and_then (λ p. option_map (λ e. line_up w.actors p e.connection) (entry_of w.actors.controller number)) (mobile_of w.actors mobile)
 
--- the connection is confirmed, and the switch took its initial message
-abbrev opened : World
-opened = after_all (new_world usual_settings) (Connect 1 1 (0x05 ∷ 0x24 ∷ 0x71 ∷ []) true ∷ BasePush 1 ∷ Handle ∷ BaseTakes 1 ∷ BasePush 1 ∷ Handle ∷ BaseTakes 1 ∷ AirUp 1 Zero ∷ BasePush 1 ∷ Handle ∷ SwitchTakes ∷ AirAck 1 Zero ∷ BasePush 0 ∷ Handle ∷ [])
+-- the second message stands in the air, the third waits behind it, and nothing is missing
+abbrev second_in_air : Seat → Bool → List Tenure → Tenure → Tenure → List (List ℕ) → List (List ℕ) → LineUp
+second_in_air seat changing old serving target out taken = record {
+  sent = (0x05 ∷ 0x24 ∷ 0x71 ∷ []) ∷ (0x03 ∷ 0x05 ∷ []) ∷ (0x03 ∷ 0x0f ∷ []) ∷ [];
+  link = record { waiting = (0x03 ∷ 0x8f ∷ []) ∷ []; air = Reached (0x03 ∷ 0x45 ∷ []) };
+  seat = seat;
+  is_intact = true;
+  commands = 0;
+  is_changing = changing;
+  is_confirmed = true;
+  old = old;
+  serving = serving;
+  target = target;
+  out = out;
+  taken = taken;
+}
 
 -- a message is with the station and not acknowledged; the next waits
 abbrev sending : World
 sending = after_all opened (Upper 1 Zero (0x03 ∷ 0x05 ∷ []) ∷ AirUp 1 Zero ∷ Upper 1 Zero (0x03 ∷ 0x0f ∷ []) ∷ Upper 1 Three (0x09 ∷ 0x01 ∷ []) ∷ AirUp 1 Three ∷ [])
 
-sending_is : line_up_of sending 1 1 ≡ Some (record {
-  sent = (0x05 ∷ 0x24 ∷ 0x71 ∷ []) ∷ (0x03 ∷ 0x05 ∷ []) ∷ (0x03 ∷ 0x0f ∷ []) ∷ [];
-  link = record { waiting = (0x03 ∷ 0x8f ∷ []) ∷ []; air = Reached (0x03 ∷ 0x45 ∷ []) };
-  seat = on_serving;
-  is_intact = true;
-  commands = 0;
-  is_changing = false;
-  is_confirmed = true;
-  old = [];
-  serving = record { hold = []; items = brought (0x03 ∷ 0x45 ∷ []) ∷ []; is_lost = false; is_done = false };
-  target = fresh;
-  out = [];
-  taken = (0x05 ∷ 0x24 ∷ 0x71 ∷ []) ∷ [];
-})
+sending_is : line_up_of sending 1 1 ≡ Some (second_in_air on_serving false []
+    (record { hold = []; items = brought (0x03 ∷ 0x45 ∷ []) ∷ []; is_lost = false; is_done = false }) fresh [] ((0x05 ∷ 0x24 ∷ 0x71 ∷ []) ∷ []))
 unfolding on_literals
 sending_is = refl
 
@@ -88,20 +115,9 @@ still_one = refl
 abbrev come : World
 come = after_all told (BaseTakes 1 ∷ AirDown 1 ∷ Move 1 ∷ Arrive 1 ∷ AirUp 1 Zero ∷ AirAck 1 Zero ∷ AirUp 1 Zero ∷ BasePush 1 ∷ BasePush 1 ∷ [])
 
-come_is : line_up_of come 1 1 ≡ Some (record {
-  sent = (0x05 ∷ 0x24 ∷ 0x71 ∷ []) ∷ (0x03 ∷ 0x05 ∷ []) ∷ (0x03 ∷ 0x0f ∷ []) ∷ [];
-  link = record { waiting = (0x03 ∷ 0x8f ∷ []) ∷ []; air = Reached (0x03 ∷ 0x45 ∷ []) };
-  seat = on_target;
-  is_intact = true;
-  commands = 0;
-  is_changing = true;
-  is_confirmed = true;
-  old = [];
-  serving = fresh;
-  target = record { hold = []; items = brought (0x06 ∷ 0x29 ∷ 0x00 ∷ []) ∷ brought (0x03 ∷ 0x45 ∷ []) ∷ []; is_lost = false; is_done = false };
-  out = (0x03 ∷ 0x45 ∷ []) ∷ [];
-  taken = (0x05 ∷ 0x24 ∷ 0x71 ∷ []) ∷ [];
-})
+come_is : line_up_of come 1 1 ≡ Some (second_in_air on_target true [] fresh
+    (record { hold = []; items = brought (0x06 ∷ 0x29 ∷ 0x00 ∷ []) ∷ brought (0x03 ∷ 0x45 ∷ []) ∷ []; is_lost = false; is_done = false })
+    ((0x03 ∷ 0x45 ∷ []) ∷ []) ((0x05 ∷ 0x24 ∷ 0x71 ∷ []) ∷ []))
 unfolding on_literals
 come_is = refl
 
@@ -113,20 +129,8 @@ come_line = refl
 abbrev draining : World
 draining = after_all come (Handle ∷ Handle ∷ BasePush 1 ∷ Handle ∷ SwitchTakes ∷ BaseTakes 1 ∷ BasePush 1 ∷ [])
 
-draining_is : line_up_of draining 1 1 ≡ Some (record {
-  sent = (0x05 ∷ 0x24 ∷ 0x71 ∷ []) ∷ (0x03 ∷ 0x05 ∷ []) ∷ (0x03 ∷ 0x0f ∷ []) ∷ [];
-  link = record { waiting = (0x03 ∷ 0x8f ∷ []) ∷ []; air = Reached (0x03 ∷ 0x45 ∷ []) };
-  seat = on_serving;
-  is_intact = true;
-  commands = 0;
-  is_changing = false;
-  is_confirmed = true;
-  old = record { hold = []; items = released ∷ []; is_lost = false; is_done = false } ∷ [];
-  serving = record { hold = (0x03 ∷ 0x45 ∷ []) ∷ []; items = []; is_lost = false; is_done = false };
-  target = fresh;
-  out = [];
-  taken = (0x05 ∷ 0x24 ∷ 0x71 ∷ []) ∷ (0x03 ∷ 0x45 ∷ []) ∷ [];
-})
+draining_is : line_up_of draining 1 1 ≡ Some (second_in_air on_serving false (record { hold = []; items = released ∷ []; is_lost = false; is_done = false } ∷ [])
+    (record { hold = (0x03 ∷ 0x45 ∷ []) ∷ []; items = []; is_lost = false; is_done = false }) fresh [] ((0x05 ∷ 0x24 ∷ 0x71 ∷ []) ∷ (0x03 ∷ 0x45 ∷ []) ∷ []))
 unfolding on_literals
 draining_is = refl
 
@@ -188,3 +192,166 @@ takes_what_it_carries = refl
 takes_of_no_other : taken_of (after_all told (SwitchTakes ∷ [])).actors 2 ≡ []
 unfolding on_literals forwarded
 takes_of_no_other = refl
+
+-- ---- a connection and its mobile, lined up
+
+-- Of the messages sent the first two were taken; the second is held once more, the third stands in the inbox, the station made the
+-- fourth, which stands in the air, and the fifth waits.
+abbrev spread : World
+spread = after_all draining (AirAck 1 Zero ∷ AirUp 1 Zero ∷ BasePush 1 ∷ AirAck 1 Zero ∷ Upper 1 Zero (0x03 ∷ 0x10 ∷ []) ∷ Upper 1 Zero (0x03 ∷ 0x11 ∷ []) ∷ AirUp 1 Zero ∷ [])
+
+abbrev spread_sent : List (List ℕ)
+spread_sent = (0x05 ∷ 0x24 ∷ 0x71 ∷ []) ∷ (0x03 ∷ 0x05 ∷ []) ∷ (0x03 ∷ 0x0f ∷ []) ∷ (0x03 ∷ 0x10 ∷ []) ∷ (0x03 ∷ 0x11 ∷ []) ∷ []
+
+at_0 : Carries 4 spread_sent 0 (0x05 ∷ 0x24 ∷ 0x71 ∷ [])
+at_0 = record { message = 0x05 ∷ 0x24 ∷ 0x71 ∷ []; is_sent = refl; is_clear = record { is_flow = refl; cleared = refl }; carries = refl }
+
+at_1 : Carries 4 spread_sent 1 (0x03 ∷ 0x45 ∷ [])
+at_1 = record { message = 0x03 ∷ 0x05 ∷ []; is_sent = refl; is_clear = record { is_flow = refl; cleared = refl }; carries = refl }
+
+at_2 : Carries 4 spread_sent 2 (0x03 ∷ 0x8f ∷ [])
+at_2 = record { message = 0x03 ∷ 0x0f ∷ []; is_sent = refl; is_clear = record { is_flow = refl; cleared = refl }; carries = refl }
+
+at_3 : Carries 4 spread_sent 3 (0x03 ∷ 0xd0 ∷ [])
+at_3 = record { message = 0x03 ∷ 0x10 ∷ []; is_sent = refl; is_clear = record { is_flow = refl; cleared = refl }; carries = refl }
+
+at_4 : Carries 4 spread_sent 4 (0x03 ∷ 0x11 ∷ [])
+at_4 = record { message = 0x03 ∷ 0x11 ∷ []; is_sent = refl; is_clear = record { is_flow = refl; cleared = refl }; carries = refl }
+
+-- its line-up, where the switch took these
+abbrev spread_line_up : List (List ℕ) → LineUp
+spread_line_up taken = record (second_in_air on_serving false (record { hold = []; items = released ∷ []; is_lost = false; is_done = false } ∷ [])
+    (record { hold = (0x03 ∷ 0x45 ∷ []) ∷ []; items = brought (0x03 ∷ 0x8f ∷ []) ∷ brought (0x03 ∷ 0xd0 ∷ []) ∷ []; is_lost = false; is_done = false })
+    fresh [] taken) { sent = spread_sent; link = record { waiting = (0x03 ∷ 0x11 ∷ []) ∷ []; air = Reached (0x03 ∷ 0xd0 ∷ []) } }
+
+spread_is_alive : Alive 4 (spread_line_up ((0x05 ∷ 0x24 ∷ 0x71 ∷ []) ∷ (0x03 ∷ 0x45 ∷ []) ∷ []))
+spread_is_alive = record {
+  follows = goes_on (record {
+    now = next at_0 (next at_1 (again refl at_1 (next at_2 (next at_3 (next at_4 (rise_over 5))))));
+    anew = next at_0 (next at_1 (again refl at_1 (next at_2 (next at_3 (again refl at_3 (next at_4 (rise_over 5)))))));
+  });
+  first = refl;
+  stands = rests remains refl;
+  condition = sound;
+  bare = refl;
+}
+
+-- where the switch took the third message without the second
+skipping_is_not_alive : Alive 4 (spread_line_up ((0x05 ∷ 0x24 ∷ 0x71 ∷ []) ∷ (0x03 ∷ 0x8f ∷ []) ∷ [])) → ⊥
+skipping_is_not_alive alive = let order = (IsInOrder-alive (omega arith) alive).no_gap in cc
+
+spread_is : line_up_of spread 1 1 ≡ Some (spread_line_up ((0x05 ∷ 0x24 ∷ 0x71 ∷ []) ∷ (0x03 ∷ 0x45 ∷ []) ∷ []))
+unfolding on_literals
+spread_is = refl
+
+-- the same as plain lists: connection 1, whose channel is 0A of station 1, and 41 before it
+abbrev channel : ℕ → Channel
+channel number = record {
+  station = 1;
+  number = number;
+  cell = 0x00 ∷ 0x00 ∷ 0xf1 ∷ 0x10 ∷ 0x00 ∷ 0x01 ∷ 0x00 ∷ 0x01 ∷ [];
+  description = record { arfcn = 20; ncc = 1; bcc = 1 };
+  reference = record { 0 = 0 };
+}
+
+abbrev connection : Connection
+connection = record (new_connection 1 (channel 0x0a) (record { access = 7; frame = 0 }) 0) {
+  state = Live 0x800001 Draining;
+  draining = record { channel = channel 0x41; is_done = false } ∷ [];
+  up = record { limit = 32; tenures = empty_tenure ∷ record { zero = (0x03 ∷ 0x45 ∷ []) ∷ []; three = [] } ∷ [] };
+}
+
+-- in this tenure of the channel
+abbrev mobile_in : ℕ → Mobile
+mobile_in tenure = record {
+  number = 1;
+  end = record {
+    modulus = 4;
+    stage = Connected;
+    place = OnChannel;
+    sent = spread_sent;
+    zero = record { waiting = (0x03 ∷ 0x11 ∷ []) ∷ []; air = Reached (0x03 ∷ 0xd0 ∷ []) };
+    three = record { waiting = []; air = Empty };
+  };
+  accepts_sapi_three = true;
+  seat = On (record { at = place_at 1 0x0a; number = tenure }) None;
+  opens = false;
+  received = [];
+}
+
+abbrev actors : List (List ℕ) → Actors
+actors taken = record {
+  modulus = 4;
+  mobiles = mobile_in 3 ∷ [];
+  stations = record {
+    base = record { station = 1; active = 0x41 ∷ 0x0a ∷ []; messages = data_indication 0x0a Zero (0x03 ∷ 0xd0 ∷ []) ∷ [] };
+    spots = replicate 0x0a new_spot ++ record { tenure = 3; sapi_three_up = false; air = []; reports = 0 } ∷ [];
+  } ∷ [];
+  switch = record { modulus = 4; connections = record { peer = 1; number = 0x800001; stage = Open; reception = record { modulus = 4; taken = taken } } ∷ [] };
+  switch_made = [];
+  inbox = station_item 1 (RfChannelReleaseAck 0x41) ∷ station_item 1 (data_indication 0x0a Zero (0x03 ∷ 0x8f ∷ [])) ∷ [];
+  controller = new_controller usual_settings;
+  links = new_link ∷ new_link ∷ [];
+}
+
+is_lined_up : LinedUp 4 (actors ((0x05 ∷ 0x24 ∷ 0x71 ∷ []) ∷ (0x03 ∷ 0x45 ∷ []) ∷ [])) (mobile_in 3) connection
+unfolding on_literals forwarded
+is_lined_up = record {
+  alive = spread_is_alive;
+  sits = stays refl nothing;
+  led = tt;
+  none_on_target = tt;
+  apart = ((refl, tt), (tt, tt));
+  placed = ((λ h. absurd cc), ((λ h. absurd cc), tt));
+}
+
+skipping_is_not_lined_up : LinedUp 4 (actors ((0x05 ∷ 0x24 ∷ 0x71 ∷ []) ∷ (0x03 ∷ 0x8f ∷ []) ∷ [])) (mobile_in 3) connection → ⊥
+unfolding on_literals forwarded
+skipping_is_not_lined_up h = skipping_is_not_alive h.alive
+
+-- nor is it in another tenure of its channel
+in_another_tenure : LinedUp 4 (actors ((0x05 ∷ 0x24 ∷ 0x71 ∷ []) ∷ (0x03 ∷ 0x45 ∷ []) ∷ [])) (mobile_in 4) connection → ⊥
+unfolding on_literals forwarded
+in_another_tenure h = no_seat h.sits where
+  no_seat : Sits (actors ((0x05 ∷ 0x24 ∷ 0x71 ∷ []) ∷ (0x03 ∷ 0x45 ∷ []) ∷ [])) (channel 0x0a) None (On (record { at = place_at 1 0x0a; number = 4 }) None) → ⊥
+  no_seat (stays is remembers) = let number = ap (λ (t : ChannelTenure). t.number) is in absurd cc
+
+-- ---- outputs that are another connection's: of connection 1, whose channel is 0A of station 1
+
+abbrev one : Connection
+one = record (new_connection 1 (channel 0x0a) (record { access = 7; frame = 0 }) 0) { state = Live 0x800001 Active }
+
+-- DTAP of a connection, for the switch
+abbrev dtap_of : ℕ → Out
+dtap_of number = record { to = 0; conn = number; frame = record { stream = 0xfd; body = 0x06 ∷ 0x80 ∷ 0x00 ∷ 0x01 ∷ 0x00 ∷ 0x01 ∷ 0x05 ∷ 0x01 ∷ 0x00 ∷ 0x02 ∷ 0x03 ∷ 0x45 ∷ [] } }
+
+-- an ASSIGNMENT COMMAND on a channel of a station
+abbrev command_on : ℕ → ℕ → Out
+command_on station channel = record { to = station; conn = 2; frame = record { stream = 0x00; body = 0x03 ∷ 0x01 ∷ 0x01 ∷ channel ∷ 0x02 ∷ 0x00 ∷ 0x0b ∷ 0x00 ∷ 0x06 ∷ 0x06 ∷ 0x2e ∷ 0x0a ∷ 0x20 ∷ 0x14 ∷ 0x00 ∷ [] } }
+
+abbrev leads_to : Option ChannelTenure
+leads_to = Some (record { at = place_at 1 0x0b; number = 2 })
+
+dtap_of_another : IsForOthers leads_to one (dtap_of 2)
+unfolding on_literals forwarded
+dtap_of_another = record { carries = refl; leads = ((λ h. absurd cc), tt) }
+
+dtap_of_its_own : IsForOthers leads_to one (dtap_of 1) → ⊥
+unfolding on_literals forwarded
+dtap_of_its_own h = let carried = h.carries in absurd cc
+
+command_on_its_channel : IsForOthers leads_to one (command_on 1 0x0a) → ⊥
+unfolding on_literals forwarded
+command_on_its_channel h = let led = h.leads.0 refl in absurd cc
+
+command_that_leads_nowhere : IsForOthers None one (command_on 1 0x0a)
+unfolding on_literals forwarded
+command_that_leads_nowhere = record { carries = refl; leads = ((λ h. refl), tt) }
+
+command_on_another_channel : IsForOthers leads_to one (command_on 1 0x41)
+unfolding on_literals forwarded
+command_on_another_channel = record { carries = refl; leads = ((λ h. refl), tt) }
+
+command_at_another_station : IsForOthers leads_to one (command_on 2 0x0a)
+unfolding on_literals forwarded
+command_at_another_station = record { carries = refl; leads = ((λ h. absurd cc), tt) }

@@ -1,20 +1,37 @@
 -- Definitions of steps, at literal values.
-use Rattle.std.proofs.Common.{◌≡◌, true, false, [], ◌∷◌, map, Some, None, refl, arith}
+use Rattle.std.proofs.Common.{◌≡◌, true, false, [], ◌∷◌, map, Some, None, refl, arith, ℕ, ◌==◌, Bool, if◌then◌else◌, List}
 use Rattle.conn_messages.specs.declared.channel.Change.TheVariants.{Assignment}
 use Rattle.conn_table.specs.declared.input.Input.TheVariants as inputs
 use Rattle.conn_table.specs.Roles.RoleStep.{stays as roles_stay, commands as role_commands, completes as role_completes, goes_back as role_goes_back}
+use Rattle.conn_messages.specs.declared.channel.Channel.{Channel}
+use Rattle.conn_messages.specs.declared.channel.Place.{Place}
+use Rattle.conn_table.specs.declared.state.Drain.{Drain}
+use Rattle.conn_table.specs.declared.state.Stage.TheVariants.{Active, Changing, Draining}
+use Rattle.conn_table.specs.declared.state.State.{State}
+use Rattle.conn_table.specs.declared.state.State.TheVariants.{Live, WaitConfirm}
+use Rattle.conn_table.specs.declared.state.Target.{Target}
+use Rattle.conn_table.specs.Connection.{Connection, new_connection}
 use Rattle.controller_table.specs.Controller.{place_at}
 use Rattle.dtap_codec.specs.RrReading.{rr_reading}
 use Rattle.dtap_codec.specs.declared.sapi.Sapi.TheVariants.{Zero, Three}
+use Rattle.dtap_codec.specs.Places.{Carries}
+use Rattle.dtap_codec.specs.Places.Rise.{over as rise_over, next}
+use Rattle.hold_queue.specs.ChainState.{Tenure as Held, empty_tenure}
+use Rattle.lineup.specs.LineUp.{Item, Seat, fresh}
 use Rattle.lineup.specs.LineUp.Item.{brought, released}
 use Rattle.lineup.specs.LineUp.Seat.{on_serving, on_target, moving, gone}
 use Rattle.link_model.specs.Message.{establish_indication, data_indication, activation_ack}
+use Rattle.link_model.specs.declared.air_link.Air.TheVariants.{Empty, Given}
+use Rattle.mobile_end.specs.DataLinkState.{DataLinkState}
 use Rattle.rsl_codec.specs.declared.rsl.Rsl.TheVariants.{RfChannelReleaseAck}
 use Rattle.world_table.proofs.Worlds.{on_literals}
 use Rattle.world_table.specs.Relay.{station_item}
 use Rattle.world_laws.specs.ComingUp.{brings, brings_in, made_of}
 use Rattle.world_laws.specs.LineUps.{is_ended, came}
 use Rattle.world_laws.specs.OwnItem.{said_by, CommandsAfter, seat_after}
+use Rattle.world_laws.specs.OwnRow.{Opens, over}
+use Rattle.world_laws.specs.OwnStep.{OwnStep, lacks}
+use Rattle.world_laws.specs.OwnStep.OwnStep.{completes, tells}
 use Rattle.world_laws.specs.Seated.{change_in}
 use Rattle.world_laws.specs.Staying.{EndsLast}
 use Rattle.world_laws.specs.ToCome.{mark, texts_of}
@@ -96,3 +113,120 @@ a_command_is_put = (omega arith, λ two. omega arith)
 
 no_command_is_put : CommandsAfter roles_stay 1 1 × (CommandsAfter roles_stay 0 1 → ⊥)
 no_command_is_put = (omega arith, λ one. omega arith)
+-- ---- a connection with channels of station 1, and an old one of station 2
+
+abbrev channel : ℕ → ℕ → Channel
+channel station number = record {
+  station = station;
+  number = number;
+  cell = 0x00 ∷ 0x00 ∷ 0xf1 ∷ 0x10 ∷ 0x00 ∷ 0x01 ∷ 0x00 ∷ 0x01 ∷ [];
+  description = record { arfcn = 20; ncc = 1; bcc = 1 };
+  reference = record { 0 = 0 };
+}
+
+abbrev connection_with : State → Channel → List Drain → List Held → Connection
+connection_with state serving draining held =
+    record (new_connection 1 serving (record { access = 7; frame = 0 }) 0) { state = state; draining = draining; up = record { limit = 32; tenures = held } }
+
+abbrev held : List (List ℕ) → Held
+held messages = record { zero = messages; three = (0x09 ∷ 0x01 ∷ []) ∷ [] }
+
+-- what is on its way up from 41, and from any other channel
+abbrev coming : List Item → List Item → Place → List Item
+coming first others at = if at.number == 0x41 then first else others
+
+-- whether the link of station 1 is up, and of any other
+abbrev up : Bool → Bool → ℕ → Bool
+up first others station = if station == 1 then first else others
+
+-- ---- whether something may be missing of an old channel
+
+abbrev drains : ℕ → Bool → Drain
+drains station is_done = record { channel = channel station 0x41; is_done = is_done }
+
+lacking : map (λ d. lacks (coming (brought (0x03 ∷ 0x45 ∷ []) ∷ []) (released ∷ [])) (up false true) d) (drains 1 false ∷ drains 1 true ∷ drains 2 false ∷ []) ≡ true ∷ false ∷ false ∷ []
+lacking = refl
+
+lacks_nothing_once_released : lacks (coming (brought (0x03 ∷ 0x45 ∷ []) ∷ released ∷ []) []) (up false true) (drains 1 false) ≡ false
+lacks_nothing_once_released = refl
+
+-- ---- over its channels: what comes of each, in its place
+
+abbrev link : DataLinkState
+link = record { waiting = (0x03 ∷ 0x11 ∷ []) ∷ []; air = Given (0x03 ∷ 0xd0 ∷ []) }
+
+is_over_old_and_serving : over (coming (brought (0x0a ∷ []) ∷ []) (brought (0x0b ∷ []) ∷ [])) (up true false)
+    (connection_with (Live 0x800001 Draining) (channel 1 0x0a) (drains 2 false ∷ []) (held ((0x03 ∷ 0x01 ∷ []) ∷ []) ∷ held ((0x03 ∷ 0x02 ∷ []) ∷ []) ∷ []))
+    ((0x05 ∷ 0x24 ∷ []) ∷ []) link on_serving 3 ((0x03 ∷ 0x04 ∷ []) ∷ []) ((0x03 ∷ 0x05 ∷ []) ∷ []) ≡ record {
+      sent = (0x05 ∷ 0x24 ∷ []) ∷ [];
+      link = link;
+      seat = on_serving;
+      is_intact = false;
+      commands = 3;
+      is_changing = false;
+      is_confirmed = true;
+      old = record { hold = (0x03 ∷ 0x01 ∷ []) ∷ []; items = brought (0x0a ∷ []) ∷ []; is_lost = true; is_done = false } ∷ [];
+      serving = record { hold = (0x03 ∷ 0x02 ∷ []) ∷ []; items = brought (0x0b ∷ []) ∷ []; is_lost = false; is_done = false };
+      target = fresh;
+      out = (0x03 ∷ 0x04 ∷ []) ∷ [];
+      taken = (0x03 ∷ 0x05 ∷ []) ∷ [];
+    }
+is_over_old_and_serving = refl
+
+abbrev target : Target
+target = record { change = Assignment; channel = channel 1 0x0a }
+
+-- before COMPLETE, and behind it
+abbrev changing : Connection
+changing = connection_with (Live 0x800001 (Changing target)) (channel 1 0x41) [] (empty_tenure ∷ [])
+
+abbrev changed : Connection
+changed = connection_with (Live 0x800001 Draining) (channel 1 0x0a) (drains 1 false ∷ []) (empty_tenure ∷ empty_tenure ∷ [])
+
+target_comes : (over (coming (brought (0x0a ∷ []) ∷ []) (brought (0x0b ∷ []) ∷ [])) (up true false) changing [] link on_target 0 [] []).target ≡
+    record { hold = []; items = brought (0x0b ∷ []) ∷ []; is_lost = false; is_done = false }
+target_comes = refl
+
+-- ---- what a row does
+
+abbrev complete : List Item
+complete = brought (0x06 ∷ 0x29 ∷ 0x00 ∷ []) ∷ []
+
+completes_the_change : OwnStep (coming [] complete) (coming [] []) (up true true) changing changed 0 0 on_target on_serving
+completes_the_change = completes target refl refl refl (omega arith) (omega arith) (λ h. (refl, refl))
+
+completes_once : OwnStep (coming [] complete) (coming [] complete) (up true true) changing changed 0 0 on_target on_serving → ⊥
+completes_once (completes t is none serves fewer less none_lost) = absurd (omega (arith, fewer))
+
+tells_the_command : OwnStep (coming [] []) (coming [] []) (up true true) (connection_with (Live 0x800001 Active) (channel 1 0x41) [] (empty_tenure ∷ [])) changing 0 1 on_serving on_serving
+tells_the_command = tells refl refl target refl (omega arith) refl (omega arith) (λ h. refl)
+
+-- ---- the row that opens a connection
+
+abbrev opening_sent : List (List ℕ)
+opening_sent = (0x05 ∷ 0x24 ∷ []) ∷ (0x03 ∷ 0x05 ∷ []) ∷ []
+
+at_0 : Carries 4 opening_sent 0 (0x05 ∷ 0x24 ∷ [])
+at_0 = record { message = 0x05 ∷ 0x24 ∷ []; is_sent = refl; is_clear = record { is_flow = refl; cleared = refl }; carries = refl }
+
+at_1 : Carries 4 opening_sent 1 (0x03 ∷ 0x45 ∷ [])
+at_1 = record { message = 0x03 ∷ 0x05 ∷ []; is_sent = refl; is_clear = record { is_flow = refl; cleared = refl }; carries = refl }
+
+-- with the second message on its way up behind the initial one
+opens : Opens 4 opening_sent (record { waiting = []; air = Empty }) (0x05 ∷ 0x24 ∷ []) (coming (brought (0x03 ∷ 0x45 ∷ []) ∷ []) []) (connection_with WaitConfirm (channel 1 0x41) [] (empty_tenure ∷ []))
+opens = record {
+  awaits = refl;
+  none_drains = refl;
+  none_held = refl;
+  goes_on = record { now = next at_0 (next at_1 (rise_over 2)); anew = next at_0 (next at_1 (rise_over 2)) };
+  no_control = refl;
+}
+
+opens_with_one_tenure : Opens 4 opening_sent (record { waiting = []; air = Empty }) (0x05 ∷ 0x24 ∷ []) (coming (brought (0x03 ∷ 0x45 ∷ []) ∷ []) []) (connection_with WaitConfirm (channel 1 0x41) [] (empty_tenure ∷ empty_tenure ∷ [])) → ⊥
+opens_with_one_tenure h = let none = h.none_held in absurd cc
+
+opens_before_a_complete : Opens 4 opening_sent (record { waiting = []; air = Empty }) (0x05 ∷ 0x24 ∷ []) (coming complete []) (connection_with WaitConfirm (channel 1 0x41) [] (empty_tenure ∷ [])) → ⊥
+opens_before_a_complete h = let none = h.no_control in absurd cc
+
+opens_before_the_confirm : Opens 4 opening_sent (record { waiting = []; air = Empty }) (0x05 ∷ 0x24 ∷ []) (coming [] []) (connection_with (Live 0x800001 Active) (channel 1 0x41) [] (empty_tenure ∷ [])) → ⊥
+opens_before_the_confirm h = let awaits = h.awaits in absurd cc

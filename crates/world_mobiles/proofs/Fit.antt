@@ -51,8 +51,9 @@ moving_placed Asking place is placed = absurd cc
 moving_placed (On tenure command) place is placed = absurd cc
 moving_placed Gone place is placed = absurd cc
 
-pub arrived_fit : (old new : MobileState) (tenure : Tenure) (control : List ℕ) → IsL3 (Some control) → HasSized old → new ≡ after_arrival old control → IsFit (On tenure None) new
-arrived_fit old new tenure control l3 sized is = subst (IsFit (On tenure None)) (sym is) (record { placed = tt; sized = arrival-sized old control l3 sized })
+pub arrived_fit : (seat : Seat) (old new : MobileState) (tenure : Tenure) (control : List ℕ) → IsL3 (Some control) → HasSized old → seat ≡ On tenure None → new ≡ after_arrival old control → IsFit seat new
+arrived_fit seat old new tenure control l3 sized on is =
+    subst (λ (s : Seat). IsFit s new) (sym on) (subst (IsFit (On tenure None)) (sym is) (record { placed = tt; sized = arrival-sized old control l3 sized }))
 
 three-octets : (0 < 3) × (3 ≤ 251)
 three-octets = (omega arith, omega arith)

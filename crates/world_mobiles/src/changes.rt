@@ -1,5 +1,6 @@
-ghost use Rattle.std.specs.Prelude.{◌≡◌, IfOk, OnOk, Ok, true};
+ghost use Rattle.std.specs.Prelude.{◌≡◌, IfOk, OnOk, None, Ok, true};
 ghost use Rattle.dtap_codec.specs.RrText.{rr_text};
+ghost use Rattle.world_table.specs.declared.seat.Seat.TheVariants.{On};
 ghost use Rattle.world_table.specs.Mobiles.{complete as complete_of, controlled, failure as failure_of, hearing, remembering};
 ghost use Rattle.world_mobiles.specs.Mobiles.{arriving, assigned_to, is_moving, leaving};
 
@@ -80,10 +81,7 @@ impl MobileStation {
         let complete = complete(alloc, change)?;
         match self.end.arrive(complete.into_vec()) {
             Ok(()) => {
-                self.seat = Seat::On {
-                    tenure,
-                    command: None,
-                };
+                self.seat = seat_on(tenure);
                 Ok(())
             }
             Err(_) => Err(Memory),
@@ -103,10 +101,7 @@ impl MobileStation {
         let failure = failure(alloc, change)?;
         match self.end.give_up(failure.into_vec()) {
             Ok(()) => {
-                self.seat = Seat::On {
-                    tenure,
-                    command: None,
-                };
+                self.seat = seat_on(tenure);
                 Ok(())
             }
             Err(_) => Err(Memory),
@@ -117,10 +112,17 @@ impl MobileStation {
     pub(crate) fn assign(&mut self, tenure: Tenure)
         ensures { self.new ≡ assigned_to tenure self.old }
     {
-        self.seat = Seat::On {
-            tenure,
-            command: None,
-        };
+        self.seat = seat_on(tenure);
+    }
+}
+
+// On this channel, and not told to change.
+fn seat_on(tenure: Tenure) -> Seat
+    ensures { result ≡ On tenure None }
+{
+    Seat::On {
+        tenure,
+        command: None,
     }
 }
 

@@ -1,2 +1,3 @@
 mod Numbering
+mod Rows
 pub mod Written

@@ -1,6 +1,7 @@
-ghost use Rattle.std.specs.Prelude.{◌≡◌, IfOk};
+ghost use Rattle.std.specs.Prelude.{◌≡◌, IfOk, OnErr};
 ghost use Rattle.std.specs.Result.{result_ok};
 ghost use Rattle.bssmap_codec.specs.SccpReading.{sccp_reading};
+ghost use Rattle.ipa_framing.specs.declared.streams.TheConstants.{SCCP_STREAM};
 ghost use Rattle.world_table.specs.SwitchSide.{sccp_in as message_in};
 ghost use Rattle.world_switch.specs.Written.{IsShortIn};
 
@@ -13,6 +14,7 @@ use std::alloc::Global;
 pub(crate) fn sccp_in(alloc: Global, frame: &Frame) -> Result<Option<Sccp>, Memory>
     ensures message { IfOk result (λ message. message ≡ message_in frame.now) }
     ensures short { IfOk result IsShortIn }
+    ensures memory { OnErr result (frame.now.stream ≡ SCCP_STREAM) }
 {
     if frame.stream != SCCP_STREAM {
         return Ok(None);

@@ -1,6 +1,7 @@
 ghost use Rattle.std.specs.Prelude.{◌≡◌, ◌≢◌, ◌≤◌, ◌++◌, ◌∷◌, [], false, length, IsSome, IfOk, IfSome, OnOk, OnErr, option_map};
 ghost use Rattle.std.specs.List.{AllByRecursion};
 ghost use Rattle.dtap_codec.specs.Number.{count_of};
+ghost use Rattle.ipa_framing.specs.declared.streams.TheConstants.{SCCP_STREAM};
 ghost use Rattle.msc_end.specs.declared.fault.MscFault.TheVariants.{Memory as OutOfMemory};
 ghost use Rattle.msc_end.specs.Switch.{connection_of, replies};
 ghost use Rattle.nsd_filter.specs.AcceptedList.{accepted_list, not_of_the_flow};
@@ -54,9 +55,11 @@ impl Switch {
         }
     }
 
-    /// Takes a frame, and makes the replies to its message; one that isn't read changes nothing.
+    /// Takes a frame, and makes the replies to its message; one that isn't read changes nothing. A frame of another stream than
+    /// SCCP wants no memory.
     pub fn take(&mut self, frame: &Frame) -> Result<(), Memory>
-        ensures { OnOk result (self.new ≡ took (message_in frame.now) self.old) }
+        ensures ok { OnOk result (self.new ≡ took (message_in frame.now) self.old) }
+        ensures memory { OnErr result (frame.now.stream ≡ SCCP_STREAM) }
     {
         let Some(message) = sccp_in(self.alloc, frame)? else {
             return Ok(());

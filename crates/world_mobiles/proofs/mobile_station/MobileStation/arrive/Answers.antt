@@ -7,5 +7,5 @@ use Rattle.world_mobiles.proofs.mobile_station.MobileStation.arrive.Goals as goa
 pub invariant_of-self : goal.invariant_of-self
 invariant_of-self c =
     let is : c.into_vec.result.items ≡ complete c.args.change = cc c.in_ok-complete.ensures in
-    arrived_fit c.self.inside.end c.arrive.new.self c.args.tenure (complete c.args.change) (complete_l3 c.args.change) c.self.invariant.sized
+    arrived_fit c.seat_on-self-inside.result c.self.inside.end c.arrive.new.self c.args.tenure (complete c.args.change) (complete_l3 c.args.change) c.self.invariant.sized c.seat_on-self-inside.ensures
     (c.in-Ok.ensures.ok ∙ ap (λ (m : List ℕ). after_arrival c.self.inside.end m) is)
