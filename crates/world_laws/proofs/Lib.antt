@@ -30,5 +30,7 @@ pub mod OwnChannels
 pub mod OwnDoes
 pub mod OwnReleases
 pub mod OwnInput
+pub mod OwnTurn
+pub mod OwnSeats
 pub mod Opening
 pub mod InOrder
