@@ -32,5 +32,8 @@ pub mod OwnReleases
 pub mod OwnInput
 pub mod OwnTurn
 pub mod OwnSeats
+pub mod OwnCommand
+pub mod OwnHandle
+pub mod OwnHandled
 pub mod Opening
 pub mod InOrder

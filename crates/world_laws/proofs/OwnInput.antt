@@ -98,7 +98,7 @@ of-changes (goes_on was_open stays_open goes) is_open = goes
 of-changes (ends was_open shut end) is_open = absurd (shut is_open)
 of-changes (had_ended shut_before shut nothing) is_open = absurd (shut is_open)
 
-goes-of : {s : Connection} {input : Input} {offer : Option Channel} {r : Row} {text : List ℕ} {before after : Place → List Item} {commands commands2 : ℕ} (step : RoleStep) → step_by input (roles_of s) ≡ step → TakesInput s input offer r text before after commands commands2 → GoesOn step (roles_of s) s.down input offer r
+pub goes-of : {s : Connection} {input : Input} {offer : Option Channel} {r : Row} {text : List ℕ} {before after : Place → List Item} {commands commands2 : ℕ} (step : RoleStep) → step_by input (roles_of s) ≡ step → TakesInput s input offer r text before after commands commands2 → GoesOn step (roles_of s) s.down input offer r
 goes-of {s} {input} {offer} {r} step is takes = subst (λ (x : RoleStep). GoesOn x (roles_of s) s.down input offer r) is (of-changes (subst (ChangesRolesBy s input offer) takes.fits (ChangesRoles-row s input offer takes.stands)) takes.stays_open)
 
 told-of : {s : Connection} {input : Input} {offer : Option Channel} {r : Row} {text : List ℕ} {before after : Place → List Item} {commands commands2 : ℕ} (step : RoleStep) → step_by input (roles_of s) ≡ step → TakesInput s input offer r text before after commands commands2 → CommandsAfter step commands commands2
@@ -136,7 +136,7 @@ input-stays {s} {input} {offer} {r} {text} {before} {after} up seat is takes non
     finish up seat roles_stay is takes (old-heard (known-of takes) none_ends) (serving-heard (known-of takes)) takes.finds.others_go_on.0
     (own-stays s input offer r seat (goes-of roles_stay is takes) (is-less input text up s takes.finds.first) (told-of roles_stay is takes) (covers-of s input text before after up takes.finds.first none_ends))
 
-apart-left : (xs ys : List Channel) → AreApart (xs ++ ys) → AreApart xs
+pub apart-left : (xs ys : List Channel) → AreApart (xs ++ ys) → AreApart xs
 apart-left [] ys apart = tt
 apart-left (x ∷ xs) ys apart = (all-left _ xs ys apart.0, apart-left xs ys apart.1)
 
@@ -153,7 +153,7 @@ input-leaves {s} {offer} {r} {text} {before} {after} up seat at place found take
       is = ap leaves_at found
 
 -- the target, by its role
-targets-of : (s : Connection) (t : TargetRole) → target_role s.state ≡ Some t → target_in s.state ≡ t.target.channel ∷ []
+pub targets-of : (s : Connection) (t : TargetRole) → target_role s.state ≡ Some t → target_in s.state ≡ t.target.channel ∷ []
 targets-of s t is = sym (target_in-role s.state) ∙ ap target_channels is
 
 input-commands : {s : Connection} {input : Input} {offer : Option Channel} {r : Row} {text : List ℕ} {before after : Place → List Item} {commands commands2 : ℕ} (up : ℕ → Bool) (seat : Seat) (t : TargetRole) → target_role s.state ≡ Some t → t.is_commanded ≡ false → IsBesideTarget input → ((at : Place) → before at ≡ after at)
@@ -204,12 +204,12 @@ input-completes {s} {offer} {r} {text} {before} {after} up seat at change cause 
 -- ---- which step
 
 -- a target that waits for its activation
-pub record Awaits (at : Place) (o : Option TargetRole) : Type 0 where
+pub record Awaits (o : Option TargetRole) : Type 0 where
   pub t : TargetRole
   pub is : o ≡ Some t
   pub waits : t.is_commanded ≡ false
 
-awaited : (at : Place) (o : Option TargetRole) → awaits_at at o ≡ true → Awaits at o
+pub awaited : (at : Place) (o : Option TargetRole) → awaits_at at o ≡ true → Awaits o
 awaited at None is = absurd cc
 awaited at (Some t) is = record { t = t; is = refl; waits = by t.is_commanded (is_at at t.target.channel) is } where
   by : (a b : Bool) → not a && b ≡ true → a ≡ false

@@ -7,4 +7,5 @@ pub mod ToCome
 pub mod OwnStep
 pub mod OwnRow
 pub mod OwnItem
+pub mod OwnHandle
 pub mod InOrder

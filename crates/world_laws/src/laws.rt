@@ -7,6 +7,7 @@ ghost use Rattle.settings.specs.Parameters.{Parameters};
 ghost use Rattle.world_table.specs.declared.event.Event.{Event as WorldEvent};
 ghost use Rattle.world_table.specs.World.{Actors};
 ghost use Rattle.world_laws.specs.InOrder.{LineUpsAreInOrder};
+ghost use Rattle.world_laws.specs.OwnHandle.{HandleKeepsLineUps};
 ghost use Rattle.world_laws.specs.OwnItem.{InputKeepsLineUp};
 ghost use Rattle.world_laws.specs.OwnRow.{OpeningLinesUp, RowKeepsLineUp};
 ghost use Rattle.world_laws.specs.Staying.{MobilesKeepLineUps, RelayLeavesOthers, StationBreaksKeepLineUps, StationsKeepLineUps, SwitchKeepsLineUps, TimeLeavesOthers};
@@ -40,6 +41,13 @@ pub fn station_breaks_keep_line_ups()
 pub fn relay_leaves_others()
     ensures handled { (settings : Parameters) (events : List WorldEvent) → RelayLeavesOthers settings events }
     ensures passed { (settings : Parameters) (events : List WorldEvent) (ms : ℕ) → TimeLeavesOthers settings events ms }
+{}
+
+/// Law: and it stays lined up when the controller handles an item for the connection itself, by the row that fits the input that
+/// the item brings, while the connection stays open: where what is on its way on its channels is in order, the link of the switch
+/// is up, and what the row puts is read as it was put.
+pub fn handle_keeps_line_ups()
+    ensures { (settings : Parameters) (events : List WorldEvent) → HandleKeepsLineUps settings events }
 {}
 
 /// Law: a row of the table by which a connection stays open keeps it lined up: what it relays joins what waits for the switch, and
