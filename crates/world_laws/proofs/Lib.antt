@@ -35,5 +35,6 @@ pub mod OwnSeats
 pub mod OwnCommand
 pub mod OwnHandle
 pub mod OwnHandled
+pub mod OwnFrame
 pub mod Opening
 pub mod InOrder

@@ -8,4 +8,5 @@ pub mod OwnStep
 pub mod OwnRow
 pub mod OwnItem
 pub mod OwnHandle
+pub mod OwnFrame
 pub mod InOrder
