@@ -36,5 +36,7 @@ pub mod OwnCommand
 pub mod OwnHandle
 pub mod OwnHandled
 pub mod OwnFrame
+pub mod OwnFrames
+pub mod OwnFrameLaw
 pub mod Opening
 pub mod InOrder

@@ -1,15 +1,13 @@
 -- What a frame brings is what it says to its connection.
-use Rattle.std.proofs.Common.{◌≡◌, ℕ, ◌==◌, ◌&&◌, not, nat_eq, Bool, true, false, if◌then◌else◌, List, [], ◌∷◌, Option, Some, None, Result, Ok, Err, refl, sym, ap, ◌∙◌, subst, inl, inr}
-use Rattle.std.proofs.lemmas.Bool.{cases_Bool}
+use Rattle.std.proofs.Common.{◌≡◌, ℕ, ◌==◌, ◌&&◌, not, nat_eq, Bool, true, false, if◌then◌else◌, List, [], ◌∷◌, Option, Some, None, Result, Ok, Err, refl, ap, ◌∙◌}
 use Rattle.conn_messages.specs.declared.channel.Place.{Place}
-use Rattle.conn_messages.specs.declared.channel.Change.TheVariants.{Assignment, Handover}
 use Rattle.conn_table.specs.declared.input.Input.{Input}
 use Rattle.conn_table.specs.declared.input.Input.TheVariants as inputs
 use Rattle.conn_table.specs.Streams.{is_dtap}
 use Rattle.controller_table.specs.declared.word.Word.{Word}
-use Rattle.controller_table.specs.declared.word.Word.TheVariants.{Nothing, OnChannel, Reports}
+use Rattle.controller_table.specs.declared.word.Word.TheVariants.{Nothing, OnChannel, OnConnection, Reports}
 use Rattle.controller_table.specs.Controller.{place_at}
-use Rattle.controller_table.specs.Reading.{sapi_of, of_sapi, change_word, rr_word, data_word, report_word, result_word, rsl_word}
+use Rattle.controller_table.specs.Reading.{sapi_of, of_sapi, change_word, data_word, report_word, result_word, rsl_word}
 use Rattle.controller_table.specs.Reports.{report_reading}
 use Rattle.dtap_codec.specs.declared.rr.RrMessage.{RrMessage}
 use Rattle.dtap_codec.specs.declared.rr.RrMessage.TheVariants.{AssignmentComplete, HandoverComplete, AssignmentFailure, HandoverFailure, MeasurementReport}
@@ -53,6 +51,7 @@ pub record SaysInput (station : ℕ) (message : Rsl) (input : Input) : Type 0 wh
 
 abbrev pub SaysWord : ℕ → Rsl → Word → Type 0
 SaysWord station message (OnChannel at input) = IsPlain input → SaysInput station message input
+SaysWord station message (OnConnection number input) = ⊥
 SaysWord station message _ = Unit {0}
 
 -- on one place

@@ -25,7 +25,7 @@ use Rattle.world_laws.proofs.RolesAfter.{AreReleased}
 pub same-at : (at : Place) (c : Channel) → is_same (place_of c) at ≡ is_at at c
 same-at at c = ap (λ (b : Bool). b && nat_eq c.number at.number) (eqb-sym c.station at.station) ∙ ap (λ (b : Bool). nat_eq at.station c.station && b) (eqb-sym c.number at.number)
 
-at-number : (at : Place) (c : Channel) → is_at at c ≡ true → at.number ≡ c.number
+pub at-number : (at : Place) (c : Channel) → is_at at c ≡ true → at.number ≡ c.number
 at-number at c is = by (nat_eq at.station c.station) (nat_eq at.number c.number) refl is where
   by : (a b : Bool) → nat_eq at.number c.number ≡ b → a && b ≡ true → at.number ≡ c.number
   by true true same is = eqb-true at.number c.number same
