@@ -23,6 +23,7 @@ pub mod OwnRow
 pub mod OwnSteps
 pub mod OwnRowLaw
 mod StepRows
+mod HandleRows
 pub mod RolesAfter
 pub mod OwnRoles
 pub mod OwnFuture
