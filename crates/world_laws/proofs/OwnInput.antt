@@ -28,6 +28,7 @@ use Rattle.lineup.specs.LineUp.{Item, Seat, messages_in, controls_of, controls_i
 use Rattle.lineup.specs.LineUp.Item.{brought, released}
 use Rattle.lineup.proofs.Lines.{controls-append, controls-first, flow-append, messages_in-append}
 use Rattle.mobile_end.specs.Control.{is_control}
+use Rattle.world_table.proofs.Leads.{and-left, and-right}
 use Rattle.world_laws.specs.LineUps.{is_ended, commanded_target}
 use Rattle.world_laws.specs.OwnItem.{is_same, said_by, IsBesideTarget, CommandsAfter, seat_after, TakesInput, InputKeepsLineUp}
 use Rattle.world_laws.specs.OwnRow.{DoesRow}
@@ -222,17 +223,9 @@ pub record IsCommanded (o : Option TargetRole) : Type 0 where
   pub is : o ≡ Some t
   pub told_to : t.is_commanded ≡ true
 
-left-true : (a b : Bool) → a && b ≡ true → a ≡ true
-left-true true b is = refl
-left-true false b is = absurd cc
-
-right-true : (a b : Bool) → a && b ≡ true → b ≡ true
-right-true true b is = is
-right-true false b is = absurd cc
-
 changing : (change : Change) (o : Option TargetRole) → changes_by change o ≡ true → IsCommanded o
 changing change None is = absurd cc
-changing change (Some t) is = record { t = t; is = refl; told_to = left-true t.is_commanded _ is }
+changing change (Some t) is = record { t = t; is = refl; told_to = and-left t.is_commanded _ is }
 
 brought-unended : (message : List ℕ) (b : Bool) → is_ended (if b then brought message ∷ [] else []) ≡ false
 brought-unended message true = refl
@@ -256,15 +249,15 @@ does-row s (inputs.ActivationNack at) offer r text before after up commands comm
   | inr not_so ↦ input-stays up seat (ap (λ (b : Bool). if b then role_goes_back else roles_stay) not_so) takes (all-of _ (undone s.draining) (λ c. refl))
 ]
 does-row s (inputs.Complete at change cause) offer r text before after up commands commands2 seat takes = elim (cases_Bool (is_target_at at (target_role s.state) && changes_by change (target_role s.state))) [
-  | inl both ↦ let a = changing change (target_role s.state) (right-true (is_target_at at (target_role s.state)) (changes_by change (target_role s.state)) both) in
+  | inl both ↦ let a = changing change (target_role s.state) (and-right (is_target_at at (target_role s.state)) (changes_by change (target_role s.state)) both) in
       input-completes up seat at change cause a.t a.is a.told_to
-      (control-taken text before after at a.t.target.channel takes.finds.read (takes.finds.first (place_of a.t.target.channel)) (sym (ap (is_target_at at) a.is) ∙ left-true (is_target_at at (target_role s.state)) (changes_by change (target_role s.state)) both))
+      (control-taken text before after at a.t.target.channel takes.finds.read (takes.finds.first (place_of a.t.target.channel)) (sym (ap (is_target_at at) a.is) ∙ and-left (is_target_at at (target_role s.state)) (changes_by change (target_role s.state)) both))
       (ap (λ (b : Bool). if b then role_completes else roles_stay) both) takes (all-of _ (undone s.draining) (λ c. brought-unended text (is_same (place_of c) at)))
   | inr not_so ↦ input-stays up seat (ap (λ (b : Bool). if b then role_completes else roles_stay) not_so) takes (all-of _ (undone s.draining) (λ c. brought-unended text (is_same (place_of c) at)))
 ]
 does-row s (inputs.Failure at change cause) offer r text before after up commands commands2 seat takes = elim (cases_Bool (is_at at s.serving && changes_by change (target_role s.state))) [
-  | inl both ↦ let a = changing change (target_role s.state) (right-true (is_at at s.serving) (changes_by change (target_role s.state)) both) in
-      input-goes_back up seat a.t a.is a.told_to (control-taken text before after at s.serving takes.finds.read (takes.finds.first (place_of s.serving)) (left-true (is_at at s.serving) (changes_by change (target_role s.state)) both))
+  | inl both ↦ let a = changing change (target_role s.state) (and-right (is_at at s.serving) (changes_by change (target_role s.state)) both) in
+      input-goes_back up seat a.t a.is a.told_to (control-taken text before after at s.serving takes.finds.read (takes.finds.first (place_of s.serving)) (and-left (is_at at s.serving) (changes_by change (target_role s.state)) both))
       (ap (λ (b : Bool). if b then role_goes_back else roles_stay) both) takes (all-of _ (undone s.draining) (λ c. brought-unended text (is_same (place_of c) at)))
   | inr not_so ↦ input-stays up seat (ap (λ (b : Bool). if b then role_goes_back else roles_stay) not_so) takes (all-of _ (undone s.draining) (λ c. brought-unended text (is_same (place_of c) at)))
 ]
