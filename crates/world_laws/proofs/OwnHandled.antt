@@ -34,14 +34,14 @@ use Rattle.world_table.proofs.Leads.{turn-leads}
 use Rattle.world_laws.specs.ComingUp.{coming_up}
 use Rattle.world_laws.specs.GoingDown.{going_down}
 use Rattle.world_laws.specs.LineUps.{commanded_target, seat_from, waiting_of, taken_of, line_up, remembered}
-use Rattle.world_laws.specs.OwnHandle.{HandlesFor, AreInOrder, IsPutAsRead, HandleKeepsLineUps}
+use Rattle.world_laws.specs.OwnHandle.{HandlesFor, AreInOrder, IsPutAsRead, HandleKeepsLineUps, TimeAgesLineUps}
 use Rattle.world_laws.specs.OwnItem.{CommandsAfter, TakesInput, seat_after}
 use Rattle.world_laws.specs.OwnRow.{DoesRow, over}
 use Rattle.world_laws.specs.Seated.{LinedUp, Leads}
 use Rattle.world_laws.specs.Staying.{AreLinedUp}
 use Rattle.world_laws.proofs.Apart.{on-target}
 use Rattle.world_laws.proofs.Framing.{all-map, lined-same}
-use Rattle.world_laws.proofs.Others.{turn-mobiles}
+use Rattle.world_laws.proofs.Others.{turn-mobiles, TimeLeavesOthers-new}
 use Rattle.world_laws.proofs.OwnDoes.{kept-targets}
 use Rattle.world_laws.proofs.OwnHandle.{handled_by, handling, first-coming, all-next, downs-of}
 use Rattle.world_laws.proofs.OwnInput.{does-row, goes-of}
@@ -192,3 +192,14 @@ HandleKeepsLineUps-new settings events mobile s item items input offer r text st
       lined = own-lined items stood handles order read lined.lined;
     } in
     subst (λ (xs : List RelayItem). AreLinedUp (modulus_in settings) (unwrap_or (handled xs w) w) mobile r.next) (sym stood) now
+
+-- ---- time passes
+
+pub TimeAgesLineUps-new : (settings : Parameters) (events : List Event) (ms : ℕ) → TimeAgesLineUps settings events ms
+TimeAgesLineUps-new settings events ms mobile s others lined =
+    let now = TimeLeavesOthers-new settings events ms mobile s others lined in
+    record {
+      one = now.one;
+      found = now.found;
+      lined = record { alive = now.lined.alive; sits = now.lined.sits; led = now.lined.led; none_on_target = now.lined.none_on_target; apart = now.lined.apart; placed = now.lined.placed };
+    }

@@ -14,8 +14,9 @@ use Rattle.conn_table.specs.Standing.{IsCarried, Stands}
 use Rattle.conn_table.specs.Steps.{Row}
 use Rattle.conn_table.specs.Streams.{IsOpen, relayed, target_in, used_channels}
 use Rattle.conn_table.specs.Table.{row_of}
+use Rattle.conn_table.specs.Timers.{after_pass}
 use Rattle.controller_table.specs.Controller.{place_of}
-use Rattle.controller_table.specs.Life.{take}
+use Rattle.controller_table.specs.Life.{take, tick}
 use Rattle.controller_table.specs.Views.{forwarded}
 use Rattle.dtap_codec.specs.declared.sapi.Sapi.TheVariants.{Zero}
 use Rattle.dtap_codec.specs.Rr.{CellFits}
@@ -23,7 +24,7 @@ use Rattle.lineup.specs.LineUp.{flow, messages_in}
 use Rattle.relay_items.specs.declared.Item.{Item as RelayItem}
 use Rattle.settings.specs.Parameters.{Parameters}
 use Rattle.world_table.specs.declared.event.Event.{Event}
-use Rattle.world_table.specs.declared.event.Event.TheVariants.{Handle}
+use Rattle.world_table.specs.declared.event.Event.TheVariants.{Handle, Tick}
 use Rattle.world_table.specs.declared.seat.Tenure.{Tenure}
 use Rattle.world_table.specs.Life.{actors_after, actors_after_all}
 use Rattle.world_table.specs.Relay.{target_in as tenure_in}
@@ -32,7 +33,7 @@ use Rattle.world_laws.specs.ComingUp.{brings_in, coming_up}
 use Rattle.world_laws.specs.GoingDown.{going_down}
 use Rattle.world_laws.specs.LineUps.{is_ended}
 use Rattle.world_laws.specs.OwnItem.{said_by, IsRead, IsBesideTarget}
-use Rattle.world_laws.specs.Staying.{AreLinedUp, EndLast}
+use Rattle.world_laws.specs.Staying.{AreLinedUp, EndLast, IsForOthers}
 use Rattle.world_laws.specs.ToCome.{AreLayer3, texts_of}
 
 -- The tenure that an ACTIVATION ACK begins is the target's, where the row puts the COMMAND; no other row has one.
@@ -81,3 +82,10 @@ HandleKeepsLineUps settings events =
     → HandlesFor (actors_after_all (new_actors settings) events) item s input offer r text → AreInOrder (actors_after_all (new_actors settings) events) s input → IsPutAsRead s offer r
     → AreLinedUp (modulus_in settings) (actors_after_all (new_actors settings) events) mobile s
     → AreLinedUp (modulus_in settings) (actors_after (actors_after_all (new_actors settings) events) Handle) mobile r.next
+
+-- Time passes for it, and none of its timers expires: nothing is put for it.
+abbrev pub TimeAgesLineUps : Parameters → List Event → ℕ → Type 0
+TimeAgesLineUps settings events ms =
+    (mobile : ℕ) (s : Connection) → AllByRecursion (IsForOthers None s) (tick ms (actors_after_all (new_actors settings) events).controller).outs
+    → AreLinedUp (modulus_in settings) (actors_after_all (new_actors settings) events) mobile s
+    → AreLinedUp (modulus_in settings) (actors_after (actors_after_all (new_actors settings) events) (Tick ms)) mobile (after_pass ms s)

@@ -9,7 +9,7 @@ ghost use Rattle.world_table.specs.World.{Actors};
 ghost use Rattle.world_laws.specs.InOrder.{LineUpsAreInOrder};
 ghost use Rattle.relay_items.specs.declared.Item.{Item as ItemValue};
 ghost use Rattle.world_laws.specs.OwnFrame.{FrameIsHandled};
-ghost use Rattle.world_laws.specs.OwnHandle.{HandleKeepsLineUps};
+ghost use Rattle.world_laws.specs.OwnHandle.{HandleKeepsLineUps, TimeAgesLineUps};
 ghost use Rattle.world_laws.specs.OwnItem.{InputKeepsLineUp};
 ghost use Rattle.world_laws.specs.OwnRow.{OpeningLinesUp, RowKeepsLineUp};
 ghost use Rattle.world_laws.specs.Staying.{MobilesKeepLineUps, RelayLeavesOthers, StationBreaksKeepLineUps, StationsKeepLineUps, SwitchKeepsLineUps, TimeLeavesOthers};
@@ -47,9 +47,10 @@ pub fn relay_leaves_others()
 
 /// Law: and it stays lined up when the controller handles an item for the connection itself, by the row that fits the input that
 /// the item brings, while the connection stays open: where what is on its way on its channels is in order, the link of the switch
-/// is up, and what the row puts is read as it was put.
+/// is up, and what the row puts is read as it was put. And it stays so when time passes and none of its timers expires.
 pub fn handle_keeps_line_ups()
-    ensures { (settings : Parameters) (events : List WorldEvent) → HandleKeepsLineUps settings events }
+    ensures handled { (settings : Parameters) (events : List WorldEvent) → HandleKeepsLineUps settings events }
+    ensures passed { (settings : Parameters) (events : List WorldEvent) (ms : ℕ) → TimeAgesLineUps settings events ms }
 {}
 
 /// Law: where the first item of the inbox is a frame of a link that is up, and says an input to a connection that asked the switch
