@@ -23,6 +23,7 @@ pub mod OwnRow
 pub mod OwnSteps
 pub mod OwnRowLaw
 mod StepRows
+mod HandleRows
 pub mod RolesAfter
 pub mod OwnRoles
 pub mod OwnFuture
@@ -30,5 +31,13 @@ pub mod OwnChannels
 pub mod OwnDoes
 pub mod OwnReleases
 pub mod OwnInput
+pub mod OwnTurn
+pub mod OwnSeats
+pub mod OwnCommand
+pub mod OwnHandle
+pub mod OwnHandled
+pub mod OwnFrame
+pub mod OwnFrames
+pub mod OwnFrameLaw
 pub mod Opening
 pub mod InOrder

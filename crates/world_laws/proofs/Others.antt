@@ -38,7 +38,7 @@ use Rattle.world_laws.proofs.SwitchTakes.{forwarded-first}
 
 -- ---- what waits for the switch
 
-forwarded-append : (outs more : List Out) (number : ℕ) → forwarded (outs ++ more) number ≡ forwarded outs number ++ forwarded more number
+pub forwarded-append : (outs more : List Out) (number : ℕ) → forwarded (outs ++ more) number ≡ forwarded outs number ++ forwarded more number
 unfolding forwarded
 forwarded-append [] more number = refl
 forwarded-append (out ∷ outs) more number =
@@ -48,7 +48,7 @@ forwarded-append (out ∷ outs) more number =
 abbrev waiting_in : List OutboxEntry → ℕ → List (List ℕ)
 waiting_in entries number = map (λ f. f.message) (forwarded (map (λ entry. entry.out) entries) number)
 
-entry-out : (target : Option Tenure) (out : Out) → (entry_of target out).out ≡ out
+pub entry-out : (target : Option Tenure) (out : Out) → (entry_of target out).out ≡ out
 entry-out None out = refl
 entry-out (Some tenure) out = refl
 
@@ -61,14 +61,14 @@ waiting-same entries target out number none =
 
 -- ---- one output
 
-joined-link : (u : Actors) (target : Option Tenure) (out : Out) (n : ℕ) {X : Type 0} (f : List OutboxEntry → X) → (out.to ≡ n → f (outbox_of u out.to ++ entry_of target out ∷ []) ≡ f (outbox_of u out.to)) → f (outbox_of (with_outbox out.to (outbox_of u out.to ++ entry_of target out ∷ []) u) n) ≡ f (outbox_of u n)
+pub joined-link : (u : Actors) (target : Option Tenure) (out : Out) (n : ℕ) {X : Type 0} (f : List OutboxEntry → X) → (out.to ≡ n → f (outbox_of u out.to ++ entry_of target out ∷ []) ≡ f (outbox_of u out.to)) → f (outbox_of (with_outbox out.to (outbox_of u out.to ++ entry_of target out ∷ []) u) n) ≡ f (outbox_of u n)
 joined-link u target out n f same =
     elim (cases_Bool (nat_eq n out.to)) [
       | inl here ↦ set-same (λ (link : Link). f link.outbox) u.links broken_link out.to n (record (link_of u out.to) { outbox = outbox_of u out.to ++ entry_of target out ∷ [] }) (same (sym (eqb-true n out.to here)))
       | inr other ↦ ap (λ (link : Link). f link.outbox) (set-apart u.links broken_link out.to n (record (link_of u out.to) { outbox = outbox_of u out.to ++ entry_of target out ∷ [] }) (eqb-false n out.to other))
     ]
 
-down-joined : (u : Actors) (target : Option Tenure) (out : Out) (c : Channel) → (out.to ≡ c.station → leading_from_outbox c.number (entry_of target out) ≡ []) → going_down (with_outbox out.to (outbox_of u out.to ++ entry_of target out ∷ []) u) (place_of c) ≡ going_down u (place_of c)
+pub down-joined : (u : Actors) (target : Option Tenure) (out : Out) (c : Channel) → (out.to ≡ c.station → leading_from_outbox c.number (entry_of target out) ≡ []) → going_down (with_outbox out.to (outbox_of u out.to ++ entry_of target out ∷ []) u) (place_of c) ≡ going_down u (place_of c)
 down-joined u target out c none =
     ap (λ (as_led : List AirMessage). flat_map leading_from_air (spot_at u (place_of c)).air ++ as_led)
     (joined-link u target out c.station (flat_map (leading_from_outbox c.number)) (λ is. flat_map-append (leading_from_outbox c.number) (outbox_of u out.to) (entry_of target out ∷ [])
@@ -109,7 +109,7 @@ sees-turn {w} {u} {s} target t others sees =
     sees-all target t.outs (record u { controller = t.next }) others (record { coming = sees.coming; up = sees.up; serving = sees.serving; target = sees.target; tenures = sees.tenures; waiting = sees.waiting; taken = sees.taken })
 
 -- the mobiles are as before
-turn-mobiles : (target : Option Tenure) (outs : List Out) (u : Actors) → (fold (joined_by target) u outs).mobiles ≡ u.mobiles
+pub turn-mobiles : (target : Option Tenure) (outs : List Out) (u : Actors) → (fold (joined_by target) u outs).mobiles ≡ u.mobiles
 turn-mobiles target [] u = refl
 turn-mobiles target (out ∷ outs) u = turn-mobiles target outs (joined_by target u out) ∙ one (is_up u out.to) where
   one : (b : Bool) → (if b then with_outbox out.to (outbox_of u out.to ++ entry_of target out ∷ []) u else u).mobiles ≡ u.mobiles

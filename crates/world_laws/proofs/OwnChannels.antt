@@ -18,6 +18,7 @@ use Rattle.world_laws.specs.OwnItem.{said_by, IsRead, IsBesideTarget}
 use Rattle.world_laws.specs.Staying.{EndsLast}
 use Rattle.world_laws.specs.ToCome.{AreLayer3, mark, texts_of, AsOld, AsServing}
 use Rattle.world_laws.proofs.Framing.{all-right}
+use Rattle.world_laws.proofs.RolesAfter.{both-false}
 use Rattle.world_laws.proofs.OwnFuture.{texts-append, ended-append, from-said, ended-said}
 
 -- ---- the target beside which an input comes
@@ -68,7 +69,7 @@ and-true : (a : Bool) → a && true ≡ a
 and-true true = refl
 and-true false = refl
 
-and-false : (a : Bool) → a && false ≡ false
+pub and-false : (a : Bool) → a && false ≡ false
 and-false true = refl
 and-false false = refl
 
@@ -126,10 +127,7 @@ old-before input text targets before after up c read first last passes_not whole
 
 -- an RF CHANNEL RELEASE ACK doesn't come of it
 pub goes-on : (input : Input) (text : List ℕ) (before after : Place → List Item) (place : Place) → before place ≡ said_by input text place ++ after place → is_ended (before place) ≡ false → (is_ended (said_by input text place) ≡ false) × (is_ended (after place) ≡ false)
-goes-on input text before after place first none = both (is_ended (said_by input text place)) (is_ended (after place)) (sym (ended-append (said_by input text place) (after place)) ∙ ap is_ended (sym first) ∙ none) where
-  both : (a b : Bool) → a || b ≡ false → (a ≡ false) × (b ≡ false)
-  both false b is = (refl, is)
-  both true b is = absurd cc
+goes-on input text before after place first none = both-false (is_ended (said_by input text place)) (is_ended (after place)) (sym (ended-append (said_by input text place) (after place)) ∙ ap is_ended (sym first) ∙ none)
 
 pub serving-before : (input : Input) (text : List ℕ) (targets : List Channel) (before after : Place → List Item) (up : ℕ → Bool) (c : Channel) → IsRead input text → before (place_of c) ≡ said_by input text (place_of c) ++ after (place_of c) → is_ended (before (place_of c)) ≡ false → IsHeard input text targets before c
     → AsServing (from_input Zero input (to_come input text targets after up)) before up c

@@ -124,7 +124,7 @@ old-heard {input} {text} {before} {after} {s} known none_ends =
     (all-both (λ c. passes_target input (target_in s.state) (place_of c) ≡ false) (λ c. AreLayer3 (texts_of (before (place_of c)))) (λ c. (passes_target input (target_in s.state) (place_of c) ≡ false) × AreLayer3 (texts_of (before (place_of c)))) (undone s.draining) (λ c a b. (a, b)) (passes-old known) (whole-old known))
 
 -- a step leaves no target but that which was there
-kept-targets : (P : Channel → Type 0) (step : RoleStep) (roles : Roles) → AllByRecursion P (target_channels roles.target) → AllByRecursion P (target_channels (after_step step roles).target)
+pub kept-targets : (P : Channel → Type 0) (step : RoleStep) (roles : Roles) → AllByRecursion P (target_channels roles.target) → AllByRecursion P (target_channels (after_step step roles).target)
 kept-targets P roles_stay roles all = all
 kept-targets P role_commands roles all = by roles.target all where
   by : (o : Option TargetRole) → AllByRecursion P (target_channels o) → AllByRecursion P (target_channels (commanded o))

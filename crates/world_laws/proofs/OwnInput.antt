@@ -28,6 +28,7 @@ use Rattle.lineup.specs.LineUp.{Item, Seat, messages_in, controls_of, controls_i
 use Rattle.lineup.specs.LineUp.Item.{brought, released}
 use Rattle.lineup.proofs.Lines.{controls-append, controls-first, flow-append, messages_in-append}
 use Rattle.mobile_end.specs.Control.{is_control}
+use Rattle.world_table.proofs.Leads.{and-left, and-right}
 use Rattle.world_laws.specs.LineUps.{is_ended, commanded_target}
 use Rattle.world_laws.specs.OwnItem.{is_same, said_by, IsBesideTarget, CommandsAfter, seat_after, TakesInput, InputKeepsLineUp}
 use Rattle.world_laws.specs.OwnRow.{DoesRow}
@@ -98,7 +99,7 @@ of-changes (goes_on was_open stays_open goes) is_open = goes
 of-changes (ends was_open shut end) is_open = absurd (shut is_open)
 of-changes (had_ended shut_before shut nothing) is_open = absurd (shut is_open)
 
-goes-of : {s : Connection} {input : Input} {offer : Option Channel} {r : Row} {text : List ℕ} {before after : Place → List Item} {commands commands2 : ℕ} (step : RoleStep) → step_by input (roles_of s) ≡ step → TakesInput s input offer r text before after commands commands2 → GoesOn step (roles_of s) s.down input offer r
+pub goes-of : {s : Connection} {input : Input} {offer : Option Channel} {r : Row} {text : List ℕ} {before after : Place → List Item} {commands commands2 : ℕ} (step : RoleStep) → step_by input (roles_of s) ≡ step → TakesInput s input offer r text before after commands commands2 → GoesOn step (roles_of s) s.down input offer r
 goes-of {s} {input} {offer} {r} step is takes = subst (λ (x : RoleStep). GoesOn x (roles_of s) s.down input offer r) is (of-changes (subst (ChangesRolesBy s input offer) takes.fits (ChangesRoles-row s input offer takes.stands)) takes.stays_open)
 
 told-of : {s : Connection} {input : Input} {offer : Option Channel} {r : Row} {text : List ℕ} {before after : Place → List Item} {commands commands2 : ℕ} (step : RoleStep) → step_by input (roles_of s) ≡ step → TakesInput s input offer r text before after commands commands2 → CommandsAfter step commands commands2
@@ -136,7 +137,7 @@ input-stays {s} {input} {offer} {r} {text} {before} {after} up seat is takes non
     finish up seat roles_stay is takes (old-heard (known-of takes) none_ends) (serving-heard (known-of takes)) takes.finds.others_go_on.0
     (own-stays s input offer r seat (goes-of roles_stay is takes) (is-less input text up s takes.finds.first) (told-of roles_stay is takes) (covers-of s input text before after up takes.finds.first none_ends))
 
-apart-left : (xs ys : List Channel) → AreApart (xs ++ ys) → AreApart xs
+pub apart-left : (xs ys : List Channel) → AreApart (xs ++ ys) → AreApart xs
 apart-left [] ys apart = tt
 apart-left (x ∷ xs) ys apart = (all-left _ xs ys apart.0, apart-left xs ys apart.1)
 
@@ -153,7 +154,7 @@ input-leaves {s} {offer} {r} {text} {before} {after} up seat at place found take
       is = ap leaves_at found
 
 -- the target, by its role
-targets-of : (s : Connection) (t : TargetRole) → target_role s.state ≡ Some t → target_in s.state ≡ t.target.channel ∷ []
+pub targets-of : (s : Connection) (t : TargetRole) → target_role s.state ≡ Some t → target_in s.state ≡ t.target.channel ∷ []
 targets-of s t is = sym (target_in-role s.state) ∙ ap target_channels is
 
 input-commands : {s : Connection} {input : Input} {offer : Option Channel} {r : Row} {text : List ℕ} {before after : Place → List Item} {commands commands2 : ℕ} (up : ℕ → Bool) (seat : Seat) (t : TargetRole) → target_role s.state ≡ Some t → t.is_commanded ≡ false → IsBesideTarget input → ((at : Place) → before at ≡ after at)
@@ -204,12 +205,12 @@ input-completes {s} {offer} {r} {text} {before} {after} up seat at change cause 
 -- ---- which step
 
 -- a target that waits for its activation
-pub record Awaits (at : Place) (o : Option TargetRole) : Type 0 where
+pub record Awaits (o : Option TargetRole) : Type 0 where
   pub t : TargetRole
   pub is : o ≡ Some t
   pub waits : t.is_commanded ≡ false
 
-awaited : (at : Place) (o : Option TargetRole) → awaits_at at o ≡ true → Awaits at o
+pub awaited : (at : Place) (o : Option TargetRole) → awaits_at at o ≡ true → Awaits o
 awaited at None is = absurd cc
 awaited at (Some t) is = record { t = t; is = refl; waits = by t.is_commanded (is_at at t.target.channel) is } where
   by : (a b : Bool) → not a && b ≡ true → a ≡ false
@@ -222,17 +223,9 @@ pub record IsCommanded (o : Option TargetRole) : Type 0 where
   pub is : o ≡ Some t
   pub told_to : t.is_commanded ≡ true
 
-left-true : (a b : Bool) → a && b ≡ true → a ≡ true
-left-true true b is = refl
-left-true false b is = absurd cc
-
-right-true : (a b : Bool) → a && b ≡ true → b ≡ true
-right-true true b is = is
-right-true false b is = absurd cc
-
 changing : (change : Change) (o : Option TargetRole) → changes_by change o ≡ true → IsCommanded o
 changing change None is = absurd cc
-changing change (Some t) is = record { t = t; is = refl; told_to = left-true t.is_commanded _ is }
+changing change (Some t) is = record { t = t; is = refl; told_to = and-left t.is_commanded _ is }
 
 brought-unended : (message : List ℕ) (b : Bool) → is_ended (if b then brought message ∷ [] else []) ≡ false
 brought-unended message true = refl
@@ -256,15 +249,15 @@ does-row s (inputs.ActivationNack at) offer r text before after up commands comm
   | inr not_so ↦ input-stays up seat (ap (λ (b : Bool). if b then role_goes_back else roles_stay) not_so) takes (all-of _ (undone s.draining) (λ c. refl))
 ]
 does-row s (inputs.Complete at change cause) offer r text before after up commands commands2 seat takes = elim (cases_Bool (is_target_at at (target_role s.state) && changes_by change (target_role s.state))) [
-  | inl both ↦ let a = changing change (target_role s.state) (right-true (is_target_at at (target_role s.state)) (changes_by change (target_role s.state)) both) in
+  | inl both ↦ let a = changing change (target_role s.state) (and-right (is_target_at at (target_role s.state)) (changes_by change (target_role s.state)) both) in
       input-completes up seat at change cause a.t a.is a.told_to
-      (control-taken text before after at a.t.target.channel takes.finds.read (takes.finds.first (place_of a.t.target.channel)) (sym (ap (is_target_at at) a.is) ∙ left-true (is_target_at at (target_role s.state)) (changes_by change (target_role s.state)) both))
+      (control-taken text before after at a.t.target.channel takes.finds.read (takes.finds.first (place_of a.t.target.channel)) (sym (ap (is_target_at at) a.is) ∙ and-left (is_target_at at (target_role s.state)) (changes_by change (target_role s.state)) both))
       (ap (λ (b : Bool). if b then role_completes else roles_stay) both) takes (all-of _ (undone s.draining) (λ c. brought-unended text (is_same (place_of c) at)))
   | inr not_so ↦ input-stays up seat (ap (λ (b : Bool). if b then role_completes else roles_stay) not_so) takes (all-of _ (undone s.draining) (λ c. brought-unended text (is_same (place_of c) at)))
 ]
 does-row s (inputs.Failure at change cause) offer r text before after up commands commands2 seat takes = elim (cases_Bool (is_at at s.serving && changes_by change (target_role s.state))) [
-  | inl both ↦ let a = changing change (target_role s.state) (right-true (is_at at s.serving) (changes_by change (target_role s.state)) both) in
-      input-goes_back up seat a.t a.is a.told_to (control-taken text before after at s.serving takes.finds.read (takes.finds.first (place_of s.serving)) (left-true (is_at at s.serving) (changes_by change (target_role s.state)) both))
+  | inl both ↦ let a = changing change (target_role s.state) (and-right (is_at at s.serving) (changes_by change (target_role s.state)) both) in
+      input-goes_back up seat a.t a.is a.told_to (control-taken text before after at s.serving takes.finds.read (takes.finds.first (place_of s.serving)) (and-left (is_at at s.serving) (changes_by change (target_role s.state)) both))
       (ap (λ (b : Bool). if b then role_goes_back else roles_stay) both) takes (all-of _ (undone s.draining) (λ c. brought-unended text (is_same (place_of c) at)))
   | inr not_so ↦ input-stays up seat (ap (λ (b : Bool). if b then role_goes_back else roles_stay) not_so) takes (all-of _ (undone s.draining) (λ c. brought-unended text (is_same (place_of c) at)))
 ]

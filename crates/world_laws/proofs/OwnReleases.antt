@@ -12,11 +12,12 @@ use Rattle.conn_table.specs.Streams.{AreApart, IsApart, undone}
 use Rattle.controller_table.specs.Controller.{place_of}
 use Rattle.lineup.specs.LineUp.{Item}
 use Rattle.lineup.specs.LineUp.Item.{released}
+use Rattle.world_table.proofs.Leads.{and-left, and-right}
 use Rattle.world_laws.specs.LineUps.{is_ended}
 use Rattle.world_laws.specs.OwnItem.{is_same, said_by}
 use Rattle.world_laws.specs.OwnStep.{lacks, some_lacks}
 use Rattle.world_laws.proofs.Apart.{eqb-sym, is_at-station}
-use Rattle.world_laws.proofs.OwnChannels.{ended-same}
+use Rattle.world_laws.proofs.OwnChannels.{and-false, ended-same}
 use Rattle.world_laws.proofs.Quiet.{all-of}
 use Rattle.world_laws.proofs.RolesAfter.{AreReleased}
 
@@ -25,12 +26,8 @@ use Rattle.world_laws.proofs.RolesAfter.{AreReleased}
 pub same-at : (at : Place) (c : Channel) → is_same (place_of c) at ≡ is_at at c
 same-at at c = ap (λ (b : Bool). b && nat_eq c.number at.number) (eqb-sym c.station at.station) ∙ ap (λ (b : Bool). nat_eq at.station c.station && b) (eqb-sym c.number at.number)
 
-at-number : (at : Place) (c : Channel) → is_at at c ≡ true → at.number ≡ c.number
-at-number at c is = by (nat_eq at.station c.station) (nat_eq at.number c.number) refl is where
-  by : (a b : Bool) → nat_eq at.number c.number ≡ b → a && b ≡ true → at.number ≡ c.number
-  by true true same is = eqb-true at.number c.number same
-  by false b same is = absurd cc
-  by true false same is = absurd cc
+pub at-number : (at : Place) (c : Channel) → is_at at c ≡ true → at.number ≡ c.number
+at-number at c is = eqb-true at.number c.number (and-right (nat_eq at.station c.station) (nat_eq at.number c.number) is)
 
 -- a place on a channel is on no channel apart from it
 pub apart-at : (at : Place) (c other : Channel) → is_at at c ≡ true → IsApart c other → is_at at other ≡ false
@@ -82,10 +79,6 @@ undone-done Q at place (d ∷ ds) found apart all = elim (cases_Bool (is_at at d
   some-same : {a b : ℕ} → Some a ≡ Some b → a ≡ b
   some-same {a} e = ap (λ (o : Option ℕ). unwrap_or o a) e
 
-  left : (a b : Bool) → a && b ≡ true → a ≡ true
-  left true b is = refl
-  left false b is = absurd cc
-
   impossible : (a : Bool) → a && false ≡ true → ⊥
   impossible true is = absurd cc
   impossible false is = absurd cc
@@ -99,7 +92,7 @@ undone-done Q at place (d ∷ ds) found apart all = elim (cases_Bool (is_at at d
   first false is here apart all = others (undone ds) apart.0 all.1 where
     others : (cs : List Channel) → AllByRecursion (IsApart d.channel) cs → AllByRecursion (λ c. is_at at c ≡ false → Q c) cs → AllByRecursion Q cs
     others [] apart all = tt
-    others (c ∷ cs) apart all = (all.0 (apart-at at d.channel c (left (is_at at d.channel) (not d.is_done) here) apart.0), others cs apart.1 all.1)
+    others (c ∷ cs) apart all = (all.0 (apart-at at d.channel c (and-left (is_at at d.channel) (not d.is_done) here) apart.0), others cs apart.1 all.1)
 
   behind : (later : ℕ) (b : Bool) → d.is_done ≡ b → is_at at d.channel && not d.is_done ≡ false → AreApart (if b then undone ds else d.channel ∷ undone ds) → AllIf (λ c. is_at at c ≡ false → Q c) b d ds
       → (AreApart (undone ds) → AllByRecursion (λ c. is_at at c ≡ false → Q c) (undone ds) → AllByRecursion Q (undone (done_at later ds))) → AllByRecursion Q (undone (d ∷ done_at later ds))
@@ -119,10 +112,6 @@ undone-push P (d ∷ ds) c all one = by d.is_done all (λ rest. undone-push P ds
 
 pub are-released : (text : List ℕ) (before after : Place → List Item) (up : ℕ → Bool) (at : Place) (ds : List Drain) → ((place : Place) → before place ≡ said_by (inputs.ReleaseAck at) text place ++ after place) → AreReleased before after up at ds
 are-released text before after up at ds first = all-of _ ds (λ d. (here d, elsewhere d)) where
-  and-false : (a : Bool) → a && false ≡ false
-  and-false true = refl
-  and-false false = refl
-
   here : (d : Drain) → is_at at d.channel ≡ true → lacks before up d ≡ false
   here d is = by d.is_done where
     ended : is_ended (before (place_of d.channel)) ≡ true

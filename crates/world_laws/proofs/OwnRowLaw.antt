@@ -21,7 +21,7 @@ use Rattle.world_laws.proofs.OwnSteps.{old-lacks, NoneMissing, none-missing, mis
 use Rattle.world_laws.proofs.StillToCome.{row-line}
 
 -- of the row that fits
-of-row : (P : Row → Type 0) {o : Option Row} {r : Row} → o ≡ Some r → OfRow P o → P r
+pub of-row : (P : Row → Type 0) {o : Option Row} {r : Row} → o ≡ Some r → OfRow P o → P r
 of-row P is h = subst (OfRow P) is h
 
 intact-none : (coming : Place → List Item) (up : ℕ → Bool) (seat : Seat) (s : Connection) → is_intact seat (old_tenures coming up s.draining s.up.tenures) (serving_tenure coming up s.serving (serving_hold s.draining s.up.tenures)) (target_tenure coming up seat (commanded_target s.state)) ≡ true

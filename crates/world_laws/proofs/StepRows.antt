@@ -1,8 +1,6 @@
 -- Definitions of steps, at literal values.
-use Rattle.std.proofs.Common.{◌≡◌, true, false, [], ◌∷◌, map, Some, None, refl, arith, ℕ, ◌==◌, Bool, if◌then◌else◌, List}
+use Rattle.std.proofs.Common.{◌≡◌, ℕ, ◌==◌, Bool, true, false, if◌then◌else◌, List, [], ◌∷◌, map, Some, None, refl, arith}
 use Rattle.conn_messages.specs.declared.channel.Change.TheVariants.{Assignment}
-use Rattle.conn_table.specs.declared.input.Input.TheVariants as inputs
-use Rattle.conn_table.specs.Roles.RoleStep.{stays as roles_stay, commands as role_commands, completes as role_completes, goes_back as role_goes_back}
 use Rattle.conn_messages.specs.declared.channel.Channel.{Channel}
 use Rattle.conn_messages.specs.declared.channel.Place.{Place}
 use Rattle.conn_table.specs.declared.state.Drain.{Drain}
@@ -28,7 +26,6 @@ use Rattle.world_table.proofs.Worlds.{on_literals}
 use Rattle.world_table.specs.Relay.{station_item}
 use Rattle.world_laws.specs.ComingUp.{brings, brings_in, made_of}
 use Rattle.world_laws.specs.LineUps.{is_ended, came}
-use Rattle.world_laws.specs.OwnItem.{said_by, CommandsAfter, seat_after}
 use Rattle.world_laws.specs.OwnRow.{Opens, over}
 use Rattle.world_laws.specs.OwnStep.{OwnStep, lacks}
 use Rattle.world_laws.specs.OwnStep.OwnStep.{completes, tells}
@@ -88,31 +85,6 @@ release_leads_nowhere : change_in (rr_reading (0x06 ∷ 0x0d ∷ 0x00 ∷ [])) �
 unfolding on_literals
 release_leads_nowhere = refl
 
--- ---- what an input brings
-
-dtap_brings : map (said_by (inputs.Dtap (place_at 1 0x41) Zero (0x03 ∷ 0x45 ∷ [])) []) (place_at 1 0x41 ∷ place_at 1 0x0a ∷ place_at 2 0x41 ∷ []) ≡ (brought (0x03 ∷ 0x45 ∷ []) ∷ []) ∷ [] ∷ [] ∷ []
-dtap_brings = refl
-
-short_message_brings_nothing : said_by (inputs.Dtap (place_at 1 0x41) Three (0x09 ∷ 0x01 ∷ [])) [] (place_at 1 0x41) ≡ []
-short_message_brings_nothing = refl
-
-complete_brings_its_text : said_by (inputs.Complete (place_at 1 0x41) Assignment (record { 0 = 0 })) (0x06 ∷ 0x29 ∷ 0x00 ∷ []) (place_at 1 0x41) ≡ brought (0x06 ∷ 0x29 ∷ 0x00 ∷ []) ∷ []
-complete_brings_its_text = refl
-
-release_ends : map (said_by (inputs.ReleaseAck (place_at 1 0x41)) []) (place_at 1 0x41 ∷ place_at 1 0x0a ∷ []) ≡ (released ∷ []) ∷ [] ∷ []
-release_ends = refl
-
-complete_takes_the_mobile_along : map (seat_after role_completes) (on_serving ∷ on_target ∷ moving ∷ gone ∷ []) ≡ on_serving ∷ on_serving ∷ moving ∷ gone ∷ []
-complete_takes_the_mobile_along = refl
-
-others_leave_it : map (seat_after role_goes_back) (on_serving ∷ on_target ∷ []) ≡ on_serving ∷ on_target ∷ []
-others_leave_it = refl
-
-a_command_is_put : CommandsAfter role_commands 0 1 × (CommandsAfter role_commands 0 2 → ⊥)
-a_command_is_put = (omega arith, λ two. omega arith)
-
-no_command_is_put : CommandsAfter roles_stay 1 1 × (CommandsAfter roles_stay 0 1 → ⊥)
-no_command_is_put = (omega arith, λ one. omega arith)
 -- ---- a connection with channels of station 1, and an old one of station 2
 
 abbrev channel : ℕ → ℕ → Channel

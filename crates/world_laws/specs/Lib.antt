@@ -7,4 +7,6 @@ pub mod ToCome
 pub mod OwnStep
 pub mod OwnRow
 pub mod OwnItem
+pub mod OwnHandle
+pub mod OwnFrame
 pub mod InOrder

@@ -7,6 +7,9 @@ ghost use Rattle.settings.specs.Parameters.{Parameters};
 ghost use Rattle.world_table.specs.declared.event.Event.{Event as WorldEvent};
 ghost use Rattle.world_table.specs.World.{Actors};
 ghost use Rattle.world_laws.specs.InOrder.{LineUpsAreInOrder};
+ghost use Rattle.relay_items.specs.declared.Item.{Item as ItemValue};
+ghost use Rattle.world_laws.specs.OwnFrame.{FrameIsHandled};
+ghost use Rattle.world_laws.specs.OwnHandle.{HandleKeepsLineUps, TimeAgesLineUps};
 ghost use Rattle.world_laws.specs.OwnItem.{InputKeepsLineUp};
 ghost use Rattle.world_laws.specs.OwnRow.{OpeningLinesUp, RowKeepsLineUp};
 ghost use Rattle.world_laws.specs.Staying.{MobilesKeepLineUps, RelayLeavesOthers, StationBreaksKeepLineUps, StationsKeepLineUps, SwitchKeepsLineUps, TimeLeavesOthers};
@@ -40,6 +43,21 @@ pub fn station_breaks_keep_line_ups()
 pub fn relay_leaves_others()
     ensures handled { (settings : Parameters) (events : List WorldEvent) → RelayLeavesOthers settings events }
     ensures passed { (settings : Parameters) (events : List WorldEvent) (ms : ℕ) → TimeLeavesOthers settings events ms }
+{}
+
+/// Law: and it stays lined up when the controller handles an item for the connection itself, by the row that fits the input that
+/// the item brings, while the connection stays open: where what is on its way on its channels is in order, the link of the switch
+/// is up, and what the row puts is read as it was put. And it stays so when time passes and none of its timers expires.
+pub fn handle_keeps_line_ups()
+    ensures handled { (settings : Parameters) (events : List WorldEvent) → HandleKeepsLineUps settings events }
+    ensures passed { (settings : Parameters) (events : List WorldEvent) (ms : ℕ) → TimeAgesLineUps settings events ms }
+{}
+
+/// Law: where the first item of the inbox is a frame of a link that is up, and says an input to a connection that asked the switch
+/// for its connection, the controller puts what the row that fits puts, and nothing else; and of the connection's channels the frame
+/// brings what the input says.
+pub fn frames_are_handled()
+    ensures { (w : Actors) (item : ItemValue) (s : Connection) (input : Input) (offer : Option Channel) (r : Row) → FrameIsHandled w item s input offer r }
 {}
 
 /// Law: a row of the table by which a connection stays open keeps it lined up: what it relays joins what waits for the switch, and

@@ -1,0 +1,106 @@
+-- Definitions of what is handled for a connection, at literal values.
+use Rattle.std.proofs.Common.{◌≡◌, ℕ, Bool, true, false, if◌then◌else◌, List, [], ◌∷◌, ◌++◌, map, Some, None, refl, arith}
+use Rattle.conn_messages.specs.declared.channel.Change.TheVariants.{Assignment, Handover}
+use Rattle.conn_table.specs.declared.input.Input.TheVariants as inputs
+use Rattle.conn_messages.specs.declared.channel.Channel.{Channel}
+use Rattle.conn_messages.specs.declared.channel.Place.{Place}
+use Rattle.conn_table.specs.Connection.{Connection, new_connection}
+use Rattle.conn_table.specs.declared.state.Stage.TheVariants.{Active, Changing}
+use Rattle.conn_table.specs.declared.state.State.TheVariants.{WaitActivation, WaitEstablish, WaitConfirm, Live, Removed}
+use Rattle.conn_table.specs.Roles.RoleStep.{stays as roles_stay, commands as role_commands, completes as role_completes, goes_back as role_goes_back}
+use Rattle.controller_table.specs.Controller.{place_at}
+use Rattle.dtap_codec.specs.declared.sapi.Sapi.TheVariants.{Zero, Three}
+use Rattle.lineup.specs.LineUp.{Item}
+use Rattle.lineup.specs.LineUp.Item.{brought, released}
+use Rattle.lineup.specs.LineUp.Seat.{on_serving, on_target, moving, gone}
+use Rattle.world_laws.specs.OwnFrame.{IsRequested}
+use Rattle.world_laws.specs.OwnItem.{is_same, said_by, IsRead, IsBesideTarget, CommandsAfter, seat_after, Finds}
+
+-- ---- what an input brings
+
+dtap_brings : map (said_by (inputs.Dtap (place_at 1 0x41) Zero (0x03 ∷ 0x45 ∷ [])) []) (place_at 1 0x41 ∷ place_at 1 0x0a ∷ place_at 2 0x41 ∷ []) ≡ (brought (0x03 ∷ 0x45 ∷ []) ∷ []) ∷ [] ∷ [] ∷ []
+dtap_brings = refl
+
+short_message_brings_nothing : said_by (inputs.Dtap (place_at 1 0x41) Three (0x09 ∷ 0x01 ∷ [])) [] (place_at 1 0x41) ≡ []
+short_message_brings_nothing = refl
+
+complete_brings_its_text : said_by (inputs.Complete (place_at 1 0x41) Assignment (record { 0 = 0 })) (0x06 ∷ 0x29 ∷ 0x00 ∷ []) (place_at 1 0x41) ≡ brought (0x06 ∷ 0x29 ∷ 0x00 ∷ []) ∷ []
+complete_brings_its_text = refl
+
+release_ends : map (said_by (inputs.ReleaseAck (place_at 1 0x41)) []) (place_at 1 0x41 ∷ place_at 1 0x0a ∷ []) ≡ (released ∷ []) ∷ [] ∷ []
+release_ends = refl
+
+complete_takes_the_mobile_along : map (seat_after role_completes) (on_serving ∷ on_target ∷ moving ∷ gone ∷ []) ≡ on_serving ∷ on_serving ∷ moving ∷ gone ∷ []
+complete_takes_the_mobile_along = refl
+
+others_leave_it : map (seat_after role_goes_back) (on_serving ∷ on_target ∷ []) ≡ on_serving ∷ on_target ∷ []
+others_leave_it = refl
+
+a_command_is_put : CommandsAfter role_commands 0 1 × (CommandsAfter role_commands 0 2 → ⊥)
+a_command_is_put = (omega arith, λ two. omega arith)
+
+no_command_is_put : CommandsAfter roles_stay 1 1 × (CommandsAfter roles_stay 0 1 → ⊥)
+no_command_is_put = (omega arith, λ one. omega arith)
+
+same_places : map (λ at. is_same at (place_at 1 0x41)) (place_at 1 0x41 ∷ place_at 1 0x0a ∷ place_at 2 0x41 ∷ []) ≡ true ∷ false ∷ false ∷ []
+same_places = refl
+
+an_initial_message_brings : said_by (inputs.EstablishIndication (place_at 1 0x41) Zero (Some (0x05 ∷ 0x24 ∷ []))) [] (place_at 1 0x41) ≡ brought (0x05 ∷ 0x24 ∷ []) ∷ []
+an_initial_message_brings = refl
+
+a_link_brings_nothing : said_by (inputs.EstablishIndication (place_at 1 0x41) Zero None) [] (place_at 1 0x41) ≡ []
+a_link_brings_nothing = refl
+
+failure_brings_its_text : said_by (inputs.Failure (place_at 1 0x41) Handover (record { 0 = 0 })) (0x06 ∷ 0x28 ∷ 0x00 ∷ []) (place_at 1 0x41) ≡ brought (0x06 ∷ 0x28 ∷ 0x00 ∷ []) ∷ []
+failure_brings_its_text = refl
+
+a_downlink_brings_nothing : said_by (inputs.Downlink Zero (0x03 ∷ 0x45 ∷ [])) [] (place_at 1 0x41) ≡ []
+a_downlink_brings_nothing = refl
+
+dtap_is_of_the_flow : IsRead (inputs.Dtap (place_at 1 0x41) Zero (0x03 ∷ 0x45 ∷ [])) [] × (IsRead (inputs.Dtap (place_at 1 0x41) Zero (0x06 ∷ 0x29 ∷ [])) [] → ⊥)
+dtap_is_of_the_flow = (refl, λ read. absurd cc)
+
+complete_is_of_radio_resource : IsRead (inputs.Complete (place_at 1 0x41) Assignment (record { 0 = 0 })) (0x06 ∷ 0x29 ∷ 0x00 ∷ []) × (IsRead (inputs.Complete (place_at 1 0x41) Assignment (record { 0 = 0 })) (0x03 ∷ 0x45 ∷ []) → ⊥)
+complete_is_of_radio_resource = (refl, λ read. absurd cc)
+
+beside_the_target : IsBesideTarget (inputs.ActivationAck (place_at 1 0x41)) × IsBesideTarget (inputs.Failure (place_at 1 0x41) Handover (record { 0 = 0 })) × (IsBesideTarget (inputs.Complete (place_at 1 0x41) Handover (record { 0 = 0 })) → ⊥)
+beside_the_target = (tt, tt, λ beside. beside)
+
+-- ---- from the connection request on
+
+requested_is : IsRequested WaitConfirm × IsRequested (Live 5 Active)
+requested_is = (tt, tt)
+
+requested_isnt : (IsRequested WaitActivation → ⊥) × (IsRequested WaitEstablish → ⊥) × (IsRequested Removed → ⊥)
+requested_isnt = (λ is. is, λ is. is, λ is. is)
+
+-- ---- COMPLETE, first on its way on the target
+
+abbrev channel_at : ℕ → Channel
+channel_at number = record { station = 1; number = number; cell = 1 ∷ []; description = record { arfcn = 20; ncc = 1; bcc = 1 }; reference = record { 0 = 0 } }
+
+abbrev changing_connection : Connection
+changing_connection = record (new_connection 1 (channel_at 0x41) (record { access = 1; frame = 1 }) 0) { state = Live 5 (Changing (record { change = Assignment; channel = channel_at 0x0a })) }
+
+abbrev complete_text : List ℕ
+complete_text = 0x06 ∷ 0x29 ∷ 0x00 ∷ []
+
+complete_comes : Place → List Item
+complete_comes place = if is_same place (place_at 1 0x0a) then brought complete_text ∷ brought (0x03 ∷ 0x45 ∷ []) ∷ [] else []
+
+text_comes : Place → List Item
+text_comes place = if is_same place (place_at 1 0x0a) then brought (0x03 ∷ 0x45 ∷ []) ∷ [] else []
+
+complete_is_found : Finds (inputs.Complete (place_at 1 0x0a) Assignment (record { 0 = 0 })) complete_text complete_comes text_comes changing_connection
+unfolding complete_comes text_comes
+complete_is_found = record {
+  read = refl;
+  first = λ at. by (is_same at (place_at 1 0x0a));
+  old_end = tt;
+  others_go_on = (refl, (refl, tt));
+  silent = λ beside. absurd beside;
+  whole = (tt, (((omega arith, omega arith), tt), tt));
+} where
+  by : (b : Bool) → (if b then brought complete_text ∷ brought (0x03 ∷ 0x45 ∷ []) ∷ [] else []) ≡ (if b then brought complete_text ∷ [] else []) ++ (if b then brought (0x03 ∷ 0x45 ∷ []) ∷ [] else [])
+  by true = refl
+  by false = refl

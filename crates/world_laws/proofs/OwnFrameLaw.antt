@@ -1,0 +1,144 @@
+-- The controller does the row that fits for the connection that a frame says an input to, and puts nothing else.
+use Rattle.std.proofs.Common.{◌≡◌, ℕ, ◌&&◌, not, Bool, true, false, if◌then◌else◌, [], Option, Some, None, refl, sym, ap, ◌∙◌, subst, inl, inr}
+use Rattle.std.proofs.lemmas.Bool.{cases_Bool}
+use Rattle.conn_messages.specs.declared.channel.Channel.{Channel}
+use Rattle.conn_messages.specs.declared.channel.Place.{Place}
+use Rattle.conn_messages.specs.Out.{outs_of}
+use Rattle.conn_table.specs.declared.input.Input.{Input}
+use Rattle.conn_table.specs.declared.input.Input.TheVariants as inputs
+use Rattle.conn_table.specs.declared.state.Stage.TheVariants.{Active, Preparing, Changing, Draining}
+use Rattle.conn_table.specs.declared.state.State.{State}
+use Rattle.conn_table.specs.declared.state.State.TheVariants.{WaitConfirm, Live}
+use Rattle.conn_table.specs.Connection.{Connection, is_at, drain_at}
+use Rattle.conn_table.specs.Roles.{TargetRole, RoleStep, target_role, roles_of, awaits_at, changes_by, is_target_at, leaves_at, step_by}
+use Rattle.conn_table.specs.Roles.RoleStep.{stays as roles_stay, commands as role_commands, completes as role_completes, goes_back as role_goes_back}
+use Rattle.conn_table.specs.Steps.{Row}
+use Rattle.conn_table.specs.Table.{command_to, on_activation_ack, on_establish_indication, row_if, row_of}
+use Rattle.controller_table.specs.declared.word.Word.{Word}
+use Rattle.controller_table.specs.Controller.{Controller, Entry, channel_state, freed, ignoring, place_of, turn}
+use Rattle.controller_table.specs.Life.{by_fitting, concerning, concerning_too, frees, on_freed, on_word, on_what, row_in, take}
+use Rattle.dtap_codec.specs.declared.sapi.Sapi.TheVariants.{Zero}
+use Rattle.ipa_framing.specs.declared.frame.Frame.{Frame}
+use Rattle.relay_items.specs.declared.Item.{Item as RelayItem}
+use Rattle.relay_items.specs.declared.What.{What}
+use Rattle.world_table.specs.declared.seat.Tenure.{Tenure}
+use Rattle.world_table.specs.Relay.{target_in as tenure_in}
+use Rattle.world_table.specs.Stations.{rsl_in}
+use Rattle.world_table.specs.World.{Actors, tenure_at}
+use Rattle.world_laws.specs.ComingUp.{brings_by}
+use Rattle.world_laws.specs.OwnFrame.{IsRequested, freed_for, IsSaidTo, FrameIsHandled}
+use Rattle.world_laws.specs.OwnFrame.IsSaidTo.{on_channel, on_connection}
+use Rattle.world_laws.specs.OwnHandle.{BeginsTenure}
+use Rattle.world_laws.proofs.Apart.{is_at-station}
+use Rattle.world_laws.proofs.OwnReleases.{at-number}
+use Rattle.world_laws.proofs.OwnFrame.{IsPlain, TenureOf}
+use Rattle.world_laws.proofs.OwnFrames.{ReadInput, ReadWord, of-frame}
+
+-- ---- what the controller puts
+
+concerning-outs : (input : Input) (c : Controller) (e : Entry) (r : Row) → row_in c e.connection input ≡ Some r → (concerning input c (Some e)).outs ≡ outs_of e.connection.number r.outs
+concerning-outs input c e r fits = ap (λ (o : Option Row). (by_fitting (ignoring c) e o c).outs) fits
+
+concerning_too-outs : (input : Input) (c : Controller) (e : Entry) (r : Row) → row_in c e.connection input ≡ Some r → (concerning_too input c (Some e)).outs ≡ outs_of e.connection.number r.outs
+concerning_too-outs input c e r fits = ap (λ (o : Option Row). (by_fitting (turn [] c) e o c).outs) fits
+
+freed-outs : (b : Bool) (at : Place) (input : Input) (c : Controller) (e : Entry) (r : Row) → row_in (if b then freed at c else c) e.connection input ≡ Some r → (on_freed b at input c (Some e)).outs ≡ outs_of e.connection.number r.outs
+freed-outs true at input c e r fits = concerning_too-outs input (freed at c) e r fits
+freed-outs false at input c e r fits = concerning-outs input c e r fits
+
+word-outs : {c : Controller} {word : Word} {s : Connection} {input : Input} {offer : Option Channel} (source : ℕ) (r : Row) → IsSaidTo c word s input offer → row_of s input offer ≡ Some r → (on_word source word c).outs ≡ outs_of s.number r.outs
+word-outs {c} {s = s} source r (on_channel at input e word_is found is) fits =
+    ap (λ (w : Word). (on_word source w c).outs) word_is
+    ∙ ap (λ (o : Option Entry). (on_freed (frees (channel_state c at) o input) at input c o).outs) found
+    ∙ freed-outs (frees (channel_state c at) (Some e) input) at input c e r
+    (ap (λ (o : Option Entry). row_in (if frees (channel_state c at) o input then freed at c else c) e.connection input) (sym found) ∙ ap (λ (x : Connection). row_in (freed_for c at input) x input) is ∙ fits)
+    ∙ ap (λ (x : Connection). outs_of x.number r.outs) is
+word-outs {c} {s = s} source r (on_connection number input e word_is found is) fits =
+    ap (λ (w : Word). (on_word source w c).outs) word_is ∙ ap (λ (o : Option Entry). (concerning input c o).outs) found ∙ concerning-outs input c e r (ap (λ (x : Connection). row_in c x input) is ∙ fits)
+    ∙ ap (λ (x : Connection). outs_of x.number r.outs) is
+
+-- ---- what it says, by the row that fits
+
+-- no initial message comes any more
+plain-of : (s : Connection) (input : Input) (offer : Option Channel) (r : Row) → IsRequested s.state → row_of s input offer ≡ Some r → IsPlain input
+unfolding row_of
+plain-of s (inputs.EstablishIndication at Zero (Some initial)) offer r requested fits = absurd (by s.state requested fits) where
+  by : (state : State) → IsRequested state → on_establish_indication state s at Zero (Some initial) ≡ Some r → ⊥
+  by WaitConfirm requested fits = absurd cc
+  by (Live reference Active) requested fits = absurd cc
+  by (Live reference (Preparing t)) requested fits = absurd cc
+  by (Live reference (Changing t)) requested fits = absurd cc
+  by (Live reference Draining) requested fits = absurd cc
+  by _ requested fits = absurd requested
+plain-of s _ offer r requested fits = tt
+
+-- an ACTIVATION ACK is of the target that waits for it
+record IsAcknowledged (at : Place) (o : Option TargetRole) : Type 0 where
+  t : TargetRole
+  is : o ≡ Some t
+  waits : t.is_commanded ≡ false
+  here : is_at at t.target.channel ≡ true
+
+acked : (state : State) (s : Connection) (at : Place) (r : Row) → IsRequested state → on_activation_ack state s at ≡ Some r → IsAcknowledged at (target_role state)
+acked WaitConfirm s at r requested fits = absurd cc
+acked (Live reference (Preparing target)) s at r requested fits = elim (cases_Bool (is_at at target.channel)) [
+  | inl here ↦ record { t = record { target = target; is_commanded = false }; is = refl; waits = refl; here = here }
+  | inr other ↦ absurd (none (sym (ap (λ (b : Bool). row_if b (command_to reference target s)) other) ∙ fits))
+] where
+  none : None ≡ Some r → ⊥
+  none is = absurd cc
+acked (Live reference Active) s at r requested fits = absurd cc
+acked (Live reference (Changing target)) s at r requested fits = absurd cc
+acked (Live reference Draining) s at r requested fits = absurd cc
+acked _ s at r requested fits = absurd requested
+
+same-place : (at : Place) (c : Channel) → is_at at c ≡ true → at ≡ place_of c
+same-place at c here = ap (λ (n : ℕ). record { station = n; number = at.number }) (is_at-station at c here) ∙ ap (λ (n : ℕ). record { station = c.station; number = n }) (at-number at c here)
+
+begins-of : (w : Actors) (s : Connection) (input : Input) (offer : Option Channel) (r : Row) (tenure : Option Tenure) → IsRequested s.state → row_of s input offer ≡ Some r → TenureOf w input tenure → BeginsTenure w (step_by input (roles_of s)) (target_role s.state) tenure
+unfolding row_of
+begins-of w s (inputs.ActivationAck at) offer r tenure requested fits is =
+    let a = acked s.state s at r requested fits in
+    let step : step_by (inputs.ActivationAck at) (roles_of s) ≡ role_commands =
+    ap (λ (o : Option TargetRole). if awaits_at at o then role_commands else roles_stay) a.is ∙ ap (λ (b : Bool). if (not b && is_at at a.t.target.channel) then role_commands else roles_stay) a.waits ∙ ap (λ (b : Bool). if b then role_commands else roles_stay) a.here in
+    subst (λ (x : RoleStep). BeginsTenure w x (target_role s.state) tenure) (sym step)
+    (subst (λ (o : Option TargetRole). BeginsTenure w role_commands o tenure) (sym a.is) (is ∙ ap (λ (p : Place). Some (tenure_at w p)) (same-place at a.t.target.channel a.here)))
+begins-of w s (inputs.ActivationNack at) offer r tenure requested fits none = by (awaits_at at (target_role s.state)) where
+  by : (b : Bool) → BeginsTenure w (if b then role_goes_back else roles_stay) (target_role s.state) tenure
+  by true = none
+  by false = none
+begins-of w s (inputs.Complete at change cause) offer r tenure requested fits none = by (is_target_at at (target_role s.state) && changes_by change (target_role s.state)) where
+  by : (b : Bool) → BeginsTenure w (if b then role_completes else roles_stay) (target_role s.state) tenure
+  by true = none
+  by false = none
+begins-of w s (inputs.Failure at change cause) offer r tenure requested fits none = by (is_at at s.serving && changes_by change (target_role s.state)) where
+  by : (b : Bool) → BeginsTenure w (if b then role_goes_back else roles_stay) (target_role s.state) tenure
+  by true = none
+  by false = none
+begins-of w s (inputs.ReleaseAck at) offer r tenure requested fits none = by (drain_at at s.draining) where
+  by : (o : Option ℕ) → BeginsTenure w (leaves_at o) (target_role s.state) tenure
+  by (Some place) = none
+  by None = none
+begins-of w s _ offer r tenure requested fits none = none
+
+-- ---- the law
+
+read-of : {c : Controller} {word : Word} {s : Connection} {input : Input} {offer : Option Channel} (source : ℕ) (frame : Frame) → IsSaidTo c word s input offer → ReadWord source (rsl_in frame) word → IsPlain input → ReadInput source (rsl_in frame) input
+read-of source frame (on_channel at input e is found same) read plain = subst (ReadWord source (rsl_in frame)) is read plain
+read-of source frame (on_connection number input e is found same) read plain = subst (ReadWord source (rsl_in frame)) is read
+
+pub FrameIsHandled-new : (w : Actors) (item : RelayItem) (s : Connection) (input : Input) (offer : Option Channel) (r : Row) → FrameIsHandled w item s input offer r
+unfolding take
+FrameIsHandled-new w item s input offer r frame =
+    let says : ReadInput item.source (rsl_in frame.frame) input = read-of item.source frame.frame frame.said (of-frame item.source frame.frame) (plain-of s input offer r frame.requested frame.fits) in (
+      says.text,
+      record {
+        fits = frame.fits;
+        stays_open = frame.stays_open;
+        outs = ap (λ (b : Bool). (on_what b item.source item.what w.controller).outs) frame.up ∙ ap (λ (x : What). (on_what true item.source x w.controller).outs) frame.is ∙ word-outs item.source r frame.said frame.fits;
+        carried = frame.carried;
+        read = says.read;
+        brings = λ at. ap (brings_by at item.source) frame.is ∙ says.brings_it at;
+        begins = begins-of w s input offer r (tenure_in w item.source item.what) frame.requested frame.fits (subst (TenureOf w input) (sym (ap (tenure_in w item.source) frame.is)) (says.acknowledges w));
+      },
+    )

@@ -1,0 +1,114 @@
+-- The controller handles a frame for the connection that it says an input to.
+use Rattle.std.proofs.Common.{◌≡◌, ℕ, ◌==◌, ◌&&◌, not, Bool, true, false, if◌then◌else◌, List, [], ◌∷◌, Option, Some, None, Result, Ok, Err, refl, sym, ap, ◌∙◌}
+use Rattle.std.specs.Result.{result_ok}
+use Rattle.std.proofs.lemmas.Bool.{eqb-true}
+use Rattle.bssmap_codec.specs.declared.bssap.Bssap.{Bssap}
+use Rattle.bssmap_codec.specs.declared.bssap.Bssap.TheVariants.{Management, Transfer}
+use Rattle.bssmap_codec.specs.declared.bssmap.Bssmap.{Bssmap}
+use Rattle.bssmap_codec.specs.declared.bssmap.Bssmap.TheVariants as bssmap
+use Rattle.bssmap_codec.specs.declared.fault.InterfaceFault.{InterfaceFault}
+use Rattle.bssmap_codec.specs.declared.sccp.Sccp.{Sccp}
+use Rattle.bssmap_codec.specs.declared.sccp.Sccp.TheVariants as sccp
+use Rattle.bssmap_codec.specs.BssapReading.{bssap_reading}
+use Rattle.bssmap_codec.specs.SccpReading.{sccp_reading}
+use Rattle.conn_messages.specs.declared.channel.Place.{Place}
+use Rattle.conn_messages.specs.declared.parameters.TheConstants.{SWITCH_LINK}
+use Rattle.conn_table.specs.declared.input.Input.{Input}
+use Rattle.controller_table.specs.declared.word.Word.{Word}
+use Rattle.controller_table.specs.declared.word.Word.TheVariants.{Nothing, Ping, OnChannel, OnConnection}
+use Rattle.controller_table.specs.Reading.{management_word, bssap_word, switch_word, station_word, management_of_link, body_word, word_of, Carried}
+use Rattle.controller_table.specs.Reading.Carried.{radio_signalling, connection_control, link_management, other}
+use Rattle.ipa_framing.specs.declared.frame.Frame.{Frame}
+use Rattle.ipa_framing.specs.declared.streams.TheConstants.{RSL_STREAM, SCCP_STREAM, CCM_STREAM, PING}
+use Rattle.lineup.specs.LineUp.{Item}
+use Rattle.rsl_codec.specs.declared.fault.RslFault.{RslFault}
+use Rattle.rsl_codec.specs.declared.rsl.Rsl.{Rsl}
+use Rattle.rsl_codec.specs.RslReading.{rsl_reading}
+use Rattle.world_table.specs.Relay.{acknowledged_tenure}
+use Rattle.world_table.specs.Stations.{rsl_in}
+use Rattle.world_table.specs.World.{Actors}
+use Rattle.world_laws.specs.ComingUp.{brings_if}
+use Rattle.world_laws.specs.OwnItem.{said_by, IsRead}
+use Rattle.world_laws.proofs.OwnFrame.{IsPlain, TenureOf, SaysWord, message-says}
+
+-- ---- what a frame says
+
+-- of the message in it, where there is one
+abbrev brings_read : ℕ → Option Rsl → Place → List Item
+brings_read source o place = if source == place.station then brings_if place.number o else []
+
+pub record ReadInput (source : ℕ) (o : Option Rsl) (input : Input) : Type 0 where
+  pub text : List ℕ
+  pub read : IsRead input text
+  pub brings_it : (place : Place) → (if source == place.station then brings_if place.number o else []) ≡ said_by input text place
+  pub acknowledges : (w : Actors) → TenureOf w input (acknowledged_tenure w source o)
+
+abbrev pub ReadWord : ℕ → Option Rsl → Word → Type 0
+ReadWord source o (OnChannel at input) = IsPlain input → ReadInput source o input
+ReadWord source o (OnConnection number input) = ReadInput source o input
+ReadWord source o _ = Unit {0}
+
+of-message : (source : ℕ) (message : Rsl) (word : Word) → SaysWord source message word → ReadWord source (Some message) word
+of-message source message (OnChannel at input) says = λ plain. let it = says plain in record { text = it.text; read = it.read; brings_it = it.brings_it; acknowledges = it.acknowledges }
+of-message source message (OnConnection number input) says = absurd says
+of-message source message _ says = tt
+
+of-station : (source : ℕ) (r : Result Rsl RslFault) → ReadWord source (result_ok r) (station_word source r)
+of-station source (Ok message) = of-message source message _ (message-says source message)
+of-station source (Err fault) = tt
+
+-- the switch brings nothing of a channel
+nothing-brought : (source : ℕ) (input : Input) → IsRead input [] → ((place : Place) → said_by input [] place ≡ []) → ((w : Actors) → TenureOf w input None) → ReadInput source None input
+nothing-brought source input read said none = record { text = []; read = read; brings_it = λ place. nowhere place (source == place.station) ∙ sym (said place); acknowledges = none } where
+  nowhere : (place : Place) (b : Bool) → (if b then brings_if place.number None else []) ≡ []
+  nowhere place true = refl
+  nowhere place false = refl
+
+of-management : (source number : ℕ) (message : Bssmap) → ReadWord source None (management_word number message)
+of-management source number (bssmap.AssignmentRequest channel_type) = nothing-brought source _ tt (λ place. refl) (λ w. refl)
+of-management source number (bssmap.ClearCommand cause) = nothing-brought source _ tt (λ place. refl) (λ w. refl)
+of-management source number bssmap.CipherModeCommand = nothing-brought source _ tt (λ place. refl) (λ w. refl)
+of-management source number _ = tt
+
+of-bssap : (source number : ℕ) (r : Result Bssap InterfaceFault) → ReadWord source None (bssap_word number r)
+of-bssap source number (Ok (Management message)) = of-management source number message
+of-bssap source number (Ok (Transfer dlci message)) = nothing-brought source _ tt (λ place. refl) (λ w. refl)
+of-bssap source number (Err fault) = tt
+
+of-switch : (source : ℕ) (r : Result Sccp InterfaceFault) → ReadWord source None (switch_word r)
+of-switch source (Ok (sccp.ConnectionConfirm destination number)) = nothing-brought source _ tt (λ place. refl) (λ w. refl)
+of-switch source (Ok (sccp.ConnectionRefused destination)) = nothing-brought source _ tt (λ place. refl) (λ w. refl)
+of-switch source (Ok (sccp.Released destination number)) = nothing-brought source _ tt (λ place. refl) (λ w. refl)
+of-switch source (Ok (sccp.DataForm1 destination user)) = of-bssap source destination (bssap_reading user)
+of-switch source (Ok _) = tt
+of-switch source (Err fault) = tt
+
+of-link : (source : ℕ) (o : Option Rsl) (body : List ℕ) → ReadWord source o (management_of_link body)
+of-link source o [] = tt
+of-link source o (first ∷ rest) = by (first == PING) where
+  by : (b : Bool) → ReadWord source o (if b then Ping else Nothing)
+  by true = tt
+  by false = tt
+
+-- by what the stream is
+abbrev carried_by : Bool → Bool → Bool → Bool → Carried
+carried_by management switch control signalling = if management then link_management else if switch && control then connection_control else if not switch && signalling then radio_signalling else other
+
+control-only : (stream : ℕ) → (stream == SCCP_STREAM) ≡ true → (stream == RSL_STREAM) ≡ false
+control-only stream is = ap (λ (n : ℕ). n == RSL_STREAM) (eqb-true stream SCCP_STREAM is)
+
+pub of-frame : (source : ℕ) (frame : Frame) → ReadWord source (rsl_in frame) (word_of source frame)
+unfolding word_of
+of-frame source frame = by (frame.stream == CCM_STREAM) (source == SWITCH_LINK) (frame.stream == SCCP_STREAM) (frame.stream == RSL_STREAM) refl (control-only frame.stream) where
+  in_stream : Bool → Option Rsl
+  in_stream b = if b then result_ok (rsl_reading frame.body) else None
+
+  by : (a b c d : Bool) → (frame.stream == RSL_STREAM) ≡ d → (c ≡ true → (frame.stream == RSL_STREAM) ≡ false) → ReadWord source (if d then result_ok (rsl_reading frame.body) else None) (body_word (carried_by a b c d) source frame.body)
+  by true b c d is alone = of-link source (if d then result_ok (rsl_reading frame.body) else None) frame.body
+  by false true true true is alone = absurd (both (sym is ∙ alone refl)) where
+    both : true ≡ false → ⊥
+    both h = absurd cc
+  by false true true false is alone = of-switch source (sccp_reading frame.body)
+  by false true false d is alone = tt
+  by false false c true is alone = of-station source (rsl_reading frame.body)
+  by false false c false is alone = tt

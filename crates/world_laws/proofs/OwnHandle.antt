@@ -1,0 +1,174 @@
+-- What the controller does for a connection keeps it lined up.
+use Rattle.std.proofs.Common.{◌≡◌, ℕ, ◌≤◌, ◌&&◌, nat_eq, Bool, true, false, if◌then◌else◌, List, [], ◌∷◌, ◌++◌, fold, length, Option, Some, None, refl, sym, ap, ◌∙◌, subst, append_assoc, inl, inr, arith}
+use Rattle.std.specs.List.{AllByRecursion, flat_map}
+use Rattle.std.specs.Option.{option_to_list}
+use Rattle.std.proofs.lemmas.Bool.{cases_Bool, eq-eqb}
+use Rattle.conn_messages.specs.declared.channel.Channel.{Channel}
+use Rattle.conn_messages.specs.declared.channel.Place.{Place}
+use Rattle.conn_messages.specs.declared.out.Out.{Out}
+use Rattle.conn_messages.specs.Out.{IsReadOf, out_of, outs_of}
+use Rattle.conn_messages.specs.StationMessage.{change_command, command}
+use Rattle.conn_table.specs.declared.input.Input.{Input}
+use Rattle.conn_table.specs.declared.input.Input.TheVariants as inputs
+use Rattle.conn_table.specs.declared.state.Target.{Target}
+use Rattle.conn_table.specs.Connection.{Connection, is_at, drain_at}
+use Rattle.conn_table.specs.Roles.{TargetRole, Roles, RoleStep, target_role, roles_of, after_step, target_channels, commanded as role_commanded, with_target, MayBegin, awaits_at, changes_by, is_target_at, leaves_at, step_by, GoesOn, IsCommand}
+use Rattle.conn_table.specs.Roles.RoleStep.{stays as roles_stay, commands as role_commands, completes as role_completes, goes_back as role_goes_back, leaves as role_leaves}
+use Rattle.conn_table.specs.Steps.{Row}
+use Rattle.conn_table.specs.Streams.{AreApart, IsApart, target_in, undone, used_channels}
+use Rattle.conn_table.proofs.RolesApart.{channels_of, channels_of-roles, IsPart-step}
+use Rattle.conn_table.proofs.Standing.{AllByRecursion-push}
+use Rattle.controller_table.specs.Controller.{Turn, place_of}
+use Rattle.controller_table.specs.Life.{take}
+use Rattle.dtap_codec.specs.Rr.{CellFits}
+use Rattle.dtap_codec.specs.RrText.{rr_text}
+use Rattle.relay_items.specs.declared.Item.{Item as RelayItem}
+use Rattle.world_table.specs.declared.line.AirMessage.{AirMessage}
+use Rattle.world_table.specs.declared.seat.Tenure.{Tenure}
+use Rattle.world_table.specs.Relay.{entry_of, joined_by, with_turn, target_in as tenure_in}
+use Rattle.world_table.specs.World.{Actors, base_of, is_up, outbox_of, with_outbox, tenure_at}
+use Rattle.world_table.proofs.Leads.{turn-leads}
+use Rattle.world_laws.specs.ComingUp.{brings_in, coming_up, made_of}
+use Rattle.world_laws.specs.GoingDown.{leading_from_outbox, going_down}
+use Rattle.world_laws.specs.OwnHandle.{BeginsTenure, HandlesFor, IsPutAsRead}
+use Rattle.world_laws.specs.Seated.{Leads}
+use Rattle.world_laws.specs.Seated.Leads.{leads}
+use Rattle.world_laws.proofs.Others.{down-joined}
+use Rattle.world_laws.proofs.OwnCommand.{change-read, command-leads}
+use Rattle.world_laws.proofs.OwnDoes.{apart-right}
+use Rattle.world_laws.proofs.OwnInput.{targets-of, Awaits, awaited}
+use Rattle.world_laws.proofs.OwnSeats.{Downs}
+use Rattle.world_laws.proofs.OwnSeats.Downs.{same, commanded}
+use Rattle.world_laws.proofs.OwnTurn.{turn-down, commanded-down}
+use Rattle.world_laws.proofs.RolesAfter.{commanded_of, commanded-role, channels-after}
+
+-- ---- the world after it
+
+-- the controller has the item, and what it puts isn't out yet
+abbrev pub handling : Actors → List RelayItem → Turn → Actors
+handling w items t = record w { inbox = items; controller = t.next }
+
+abbrev pub handled_by : Actors → RelayItem → List RelayItem → Actors
+handled_by w item items = with_turn (tenure_in w item.source item.what) (take item w.controller) (record w { inbox = items })
+
+pub first-coming : (w : Actors) (item : RelayItem) (items : List RelayItem) (at : Place) → w.inbox ≡ item ∷ items → coming_up w at ≡ brings_in at item ++ coming_up (handled_by w item items) at
+first-coming w item items at stood =
+    ap (λ (xs : List RelayItem). flat_map (brings_in at) xs ++ made_of at.number (base_of w at.station).messages) stood
+    ∙ append_assoc (brings_in at item) (flat_map (brings_in at) items) (made_of at.number (base_of w at.station).messages)
+    ∙ turn-leads (λ (v : Actors). brings_in at item ++ coming_up (record w { inbox = items }) at ≡ brings_in at item ++ coming_up v at) (tenure_in w item.source item.what) (take item w.controller) (record w { inbox = items }) (λ links. refl)
+
+-- ---- the channels after it
+
+all-begun : (P : Channel → Type 0) (begun : Option Target) (input : Input) (offer : Option Channel) (roles : Roles) → MayBegin begun input offer roles → AllByRecursion P (option_to_list offer) → AllByRecursion P (channels_of roles) → AllByRecursion P (channels_of (with_target begun roles))
+all-begun P None input offer roles may offered all = all
+all-begun P (Some target) input offer roles may offered all =
+    let alone : channels_of roles ≡ undone roles.draining ++ roles.serving ∷ [] = ap (λ (role : Option TargetRole). undone roles.draining ++ roles.serving ∷ target_channels role) may.2 in
+    subst (AllByRecursion P) (append_assoc (undone roles.draining) (roles.serving ∷ []) (target.channel ∷ []))
+    (AllByRecursion-push P (undone roles.draining ++ roles.serving ∷ []) target.channel (subst (AllByRecursion P) alone all) (subst (λ (o : Option Channel). AllByRecursion P (option_to_list o)) may.1 offered).0)
+
+pub all-next : (P : Channel → Type 0) (s : Connection) (input : Input) (offer : Option Channel) (r : Row) → GoesOn (step_by input (roles_of s)) (roles_of s) s.down input offer r → AllByRecursion P (option_to_list offer) → AllByRecursion P (used_channels s) → AllByRecursion P (used_channels r.next)
+all-next P s input offer r goes offered all =
+    subst (AllByRecursion P) (ap channels_of (sym goes.roles) ∙ channels_of-roles r.next)
+    (all-begun P goes.begun input offer (after_step (step_by input (roles_of s)) (roles_of s)) goes.may offered
+    ((IsPart-step (step_by input (roles_of s)) (roles_of s) (target_role s.state)).each P (subst (AllByRecursion P) (sym (channels_of-roles s)) all)))
+
+-- ---- what is on its way down
+
+-- a COMMAND is put for a target that was activated alone
+commands-awaits : (input : Input) (roles : Roles) → step_by input roles ≡ role_commands → Awaits roles.target
+commands-awaits (inputs.ActivationAck at) roles is = elim (cases_Bool (awaits_at at roles.target)) [
+  | inl waits ↦ awaited at roles.target waits
+  | inr not_so ↦ absurd (stays-not (sym (ap (λ (b : Bool). if b then role_commands else roles_stay) not_so) ∙ is))
+] where
+  stays-not : roles_stay ≡ role_commands → ⊥
+  stays-not is = absurd cc
+commands-awaits (inputs.ActivationNack at) roles is = absurd (by (awaits_at at roles.target) is) where
+  by : (b : Bool) → (if b then role_goes_back else roles_stay) ≡ role_commands → ⊥
+  by true is = absurd cc
+  by false is = absurd cc
+commands-awaits (inputs.Complete at change cause) roles is = absurd (by (is_target_at at roles.target && changes_by change roles.target) is) where
+  by : (b : Bool) → (if b then role_completes else roles_stay) ≡ role_commands → ⊥
+  by true is = absurd cc
+  by false is = absurd cc
+commands-awaits (inputs.Failure at change cause) roles is = absurd (by (is_at at roles.serving && changes_by change roles.target) is) where
+  by : (b : Bool) → (if b then role_goes_back else roles_stay) ≡ role_commands → ⊥
+  by true is = absurd cc
+  by false is = absurd cc
+commands-awaits (inputs.ReleaseAck at) roles is = absurd (by (drain_at at roles.draining) is) where
+  by : (o : Option ℕ) → leaves_at o ≡ role_commands → ⊥
+  by None is = absurd cc
+  by (Some place) is = absurd cc
+commands-awaits _ roles is = absurd cc
+
+-- the COMMAND, on the serving channel
+record Puts (w : Actors) (item : RelayItem) (items : List RelayItem) (s : Connection) (input : Input) (offer : Option Channel) (r : Row) (t : TargetRole) : Type 0 where
+  role : target_role s.state ≡ Some t
+  waits : t.is_commanded ≡ false
+  goes : GoesOn role_commands (roles_of s) s.down input offer r
+  begins : tenure_in w item.source item.what ≡ Some (tenure_at w (place_of t.target.channel))
+  outs : (take item w.controller).outs ≡ outs_of s.number r.outs
+  puts : r.outs ≡ change_command s.serving t.target.change t.target.channel ∷ []
+  read : IsReadOf s.number (change_command s.serving t.target.change t.target.channel) (out_of s.number (change_command s.serving t.target.change t.target.channel)).frame.body
+  fits : CellFits t.target.channel.description
+  apart : is_at (place_of s.serving) t.target.channel ≡ false
+
+command-down : {w : Actors} {item : RelayItem} {items : List RelayItem} {s : Connection} {input : Input} {offer : Option Channel} {r : Row} {t : TargetRole} → Puts w item items s input offer r t → Downs w (handled_by w item items) s r.next
+unfolding out_of commanded_of
+command-down {w} {item} {items} {s} {input} {offer} {r} {t} put =
+    let now = channels-after role_commands (roles_of s) s.down input offer r put.goes in
+    commanded (commanded-role s.state ∙ ap commanded_of put.role ∙ ap (λ (b : Bool). if b then Some t.target else None) put.waits) t.target (now.target ∙ ap (λ (o : Option TargetRole). commanded_of (role_commanded o)) put.role) now.serving serving_down.0
+    (ap (λ (v : Actors). going_down v (place_of s.serving)) one_out ∙ serving_down.1) (serving_down.2 (λ (xs : List AirMessage). length xs ≤ 1) (omega arith) (omega arith))
+    (serving_down.2 (λ (xs : List AirMessage). AllByRecursion (λ a. Leads w a (Some t.target)) xs) tt (leads (change-read t.target.change t.target.channel put.fits) refl, tt))
+    (ap (λ (v : Actors). going_down v (place_of t.target.channel)) one_out ∙ on_target (is_up u s.serving.station)) where
+      tenure : Tenure
+      tenure = tenure_at w (place_of t.target.channel)
+
+      u : Actors
+      u = handling w items (take item w.controller)
+
+      out : Out
+      out = out_of s.number (change_command s.serving t.target.change t.target.channel)
+
+      one_out : handled_by w item items ≡ joined_by (Some tenure) u out
+      one_out = ap (λ (o : Option Tenure). fold (joined_by o) u (take item w.controller).outs) put.begins ∙ ap (λ (outs : List Out). fold (joined_by (Some tenure)) u outs) (put.outs ∙ ap (outs_of s.number) put.puts)
+
+      new : List AirMessage
+      new = record { message = rr_text (command t.target.change t.target.channel); target = Some tenure } ∷ []
+
+      serving_down : (more : List AirMessage) × (going_down (joined_by (Some tenure) u out) (place_of s.serving) ≡ going_down u (place_of s.serving) ++ more) × ((P : List AirMessage → Type 0) → P [] → P new → P more)
+      serving_down = commanded-down (Some tenure) u out s.serving new refl
+          (command-leads s.number s.serving.number s.serving t.target.change t.target.channel tenure put.fits put.read ∙ ap (λ (b : Bool). if b then new else []) (eq-eqb s.serving.number s.serving.number refl))
+
+      elsewhere : s.serving.station ≡ t.target.channel.station → leading_from_outbox t.target.channel.number (entry_of (Some tenure) out) ≡ []
+      elsewhere there = command-leads s.number t.target.channel.number s.serving t.target.change t.target.channel tenure put.fits put.read
+          ∙ ap (λ (b : Bool). if b then new else []) (sym (ap (λ (b : Bool). b && nat_eq s.serving.number t.target.channel.number) (eq-eqb s.serving.station t.target.channel.station there)) ∙ put.apart)
+
+      on_target : (b : Bool) → going_down (if b then with_outbox s.serving.station (outbox_of u s.serving.station ++ entry_of (Some tenure) out ∷ []) u else u) (place_of t.target.channel) ≡ going_down w (place_of t.target.channel)
+      on_target true = down-joined u (Some tenure) out t.target.channel elsewhere
+      on_target false = refl
+
+-- no other row has a tenure
+others-down : (w : Actors) (item : RelayItem) (items : List RelayItem) (s next : Connection) → tenure_in w item.source item.what ≡ None → Downs w (handled_by w item items) s next
+others-down w item items s next none = same (λ c. ap (λ (o : Option Tenure). going_down (with_turn o (take item w.controller) (record w { inbox = items })) (place_of c)) none ∙ turn-down (take item w.controller).outs (handling w items (take item w.controller)) c)
+
+pub downs-of : {w : Actors} {item : RelayItem} (items : List RelayItem) {s : Connection} {input : Input} {offer : Option Channel} {r : Row} {text : List ℕ} → HandlesFor w item s input offer r text → IsPutAsRead s offer r → AreApart (used_channels s) → GoesOn (step_by input (roles_of s)) (roles_of s) s.down input offer r → Downs w (handled_by w item items) s r.next
+downs-of {w} {item} items {s} {input} {offer} {r} handles read apart goes = by (step_by input (roles_of s)) refl handles.begins goes where
+  by : (x : RoleStep) → step_by input (roles_of s) ≡ x → BeginsTenure w x (target_role s.state) (tenure_in w item.source item.what) → GoesOn x (roles_of s) s.down input offer r → Downs w (handled_by w item items) s r.next
+  by role_commands is begins goes =
+      let awaits = commands-awaits input (roles_of s) is in
+      let puts : r.outs ≡ change_command s.serving awaits.t.target.change awaits.t.target.channel ∷ [] = subst (λ (o : Option TargetRole). IsCommand o s.serving r.outs) awaits.is goes.tells in
+      command-down (record {
+        role = awaits.is;
+        waits = awaits.waits;
+        goes = goes;
+        begins = subst (λ (o : Option TargetRole). BeginsTenure w role_commands o (tenure_in w item.source item.what)) awaits.is begins;
+        outs = handles.outs;
+        puts = puts;
+        read = (subst (AllByRecursion (λ m. IsReadOf s.number m (out_of s.number m).frame.body)) puts read.read).0;
+        fits = (subst (AllByRecursion (λ c. CellFits c.description)) (targets-of s awaits.t awaits.is) read.described).0;
+        apart = (subst (AllByRecursion (IsApart s.serving)) (targets-of s awaits.t awaits.is) (apart-right (undone s.draining) (s.serving ∷ target_in s.state) apart).0).0;
+      })
+  by roles_stay is none goes = others-down w item items s r.next none
+  by role_completes is none goes = others-down w item items s r.next none
+  by role_goes_back is none goes = others-down w item items s r.next none
+  by (role_leaves place) is none goes = others-down w item items s r.next none

@@ -1,0 +1,205 @@
+-- The controller handles an item for a connection: the connection stays lined up.
+use Rattle.std.proofs.Common.{◌≡◌, ◌≢◌, ℕ, ◌+◌, Bool, true, false, if◌then◌else◌, unwrap_or, List, [], ◌∷◌, ◌++◌, find, map, length, Option, Some, None, refl, sym, ap, ◌∙◌, subst, arith}
+use Rattle.std.specs.List.{AllByRecursion}
+use Rattle.conn_messages.specs.declared.channel.Channel.{Channel}
+use Rattle.conn_messages.specs.declared.channel.Place.{Place}
+use Rattle.conn_messages.specs.declared.out.Out.{Out}
+use Rattle.conn_messages.specs.declared.parameters.TheConstants.{SWITCH_LINK}
+use Rattle.conn_table.specs.declared.input.Input.{Input}
+use Rattle.conn_table.specs.declared.state.Target.{Target}
+use Rattle.conn_table.specs.Connection.{Connection}
+use Rattle.conn_table.specs.Roles.{KeepsChannels, RoleStep, TargetRole, after_step, roles_of, step_by, target_channels, GoesOn}
+use Rattle.conn_table.specs.Roles.RoleStep.{stays as roles_stay, commands as role_commands, completes as role_completes, goes_back as role_goes_back, leaves as role_leaves}
+use Rattle.conn_table.specs.Steps.{Row}
+use Rattle.conn_table.specs.Streams.{AreApart, OfRow, relayed, used_channels}
+use Rattle.conn_table.specs.Table.{row_of}
+use Rattle.conn_table.proofs.Channels.{keeps_channels}
+use Rattle.conn_table.proofs.RolesApart.{target_in-role, StaysApart-row}
+use Rattle.conn_table.proofs.RolesTable.{ChangesRoles-row}
+use Rattle.controller_table.specs.Controller.{place_of}
+use Rattle.controller_table.specs.Life.{take}
+use Rattle.controller_table.specs.Views.{forwarded}
+use Rattle.dtap_codec.specs.declared.sapi.Sapi.TheVariants.{Zero}
+use Rattle.lineup.specs.Alive.{Alive}
+use Rattle.lineup.specs.LineUp.{Item, Seat, controls_of, flow}
+use Rattle.lineup.proofs.Lines.{flow-append}
+use Rattle.mobile_end.specs.DataLink.{to_be_taken}
+use Rattle.relay_items.specs.declared.Item.{Item as RelayItem}
+use Rattle.settings.specs.Parameters.{Parameters}
+use Rattle.world_table.specs.declared.event.Event.{Event}
+use Rattle.world_table.specs.Life.{event_after, actors_after_all}
+use Rattle.world_table.specs.Relay.{handled, target_in as tenure_in}
+use Rattle.world_table.specs.World.{Actors, Mobile, has_number, is_station_up, modulus_in, new_actors, tenure_at}
+use Rattle.world_table.proofs.Leads.{turn-leads}
+use Rattle.world_laws.specs.ComingUp.{coming_up}
+use Rattle.world_laws.specs.GoingDown.{going_down}
+use Rattle.world_laws.specs.LineUps.{commanded_target, seat_from, waiting_of, taken_of, line_up, remembered}
+use Rattle.world_laws.specs.OwnHandle.{HandlesFor, AreInOrder, IsPutAsRead, HandleKeepsLineUps, TimeAgesLineUps}
+use Rattle.world_laws.specs.OwnItem.{CommandsAfter, TakesInput, seat_after}
+use Rattle.world_laws.specs.OwnRow.{DoesRow, over}
+use Rattle.world_laws.specs.Seated.{LinedUp, Leads}
+use Rattle.world_laws.specs.Staying.{AreLinedUp}
+use Rattle.world_laws.proofs.Apart.{on-target}
+use Rattle.world_laws.proofs.Framing.{all-map, lined-same}
+use Rattle.world_laws.proofs.Others.{turn-mobiles, TimeLeavesOthers-new}
+use Rattle.world_laws.proofs.OwnDoes.{kept-targets}
+use Rattle.world_laws.proofs.OwnHandle.{handled_by, handling, first-coming, all-next, downs-of}
+use Rattle.world_laws.proofs.OwnInput.{does-row, goes-of}
+use Rattle.world_laws.proofs.OwnRowLaw.{RowKeepsLineUp-new, of-row}
+use Rattle.world_laws.proofs.OwnSeats.{OwnRest, own-rest}
+use Rattle.world_laws.proofs.OwnSteps.{stands-counted}
+use Rattle.world_laws.proofs.OwnTurn.{turn-stations, turn-waiting}
+use Rattle.world_laws.proofs.Quiet.{all-of}
+use Rattle.world_laws.proofs.RolesAfter.{commanded_of, channels-after}
+use Rattle.world_laws.proofs.Seeing.{SameTenures, Sits-same, Leads-same}
+
+-- ---- the row, in the world
+
+-- whatever commands are on their way
+takes-of : {w : Actors} {item : RelayItem} (items : List RelayItem) {s : Connection} {input : Input} {offer : Option Channel} {r : Row} {text : List ℕ} → w.inbox ≡ item ∷ items → HandlesFor w item s input offer r text → AreInOrder w s input → IsPutAsRead s offer r → AreApart (used_channels s)
+    → TakesInput s input offer r text (coming_up w) (coming_up (handled_by w item items)) 0 0
+takes-of {w} {item} items {s} {input} stood handles order read apart = record {
+  fits = handles.fits;
+  stays_open = handles.stays_open;
+  stands = order.stands;
+  carried = handles.carried;
+  apart = apart;
+  finds = record {
+    read = handles.read;
+    first = λ at. first-coming w item items at stood ∙ ap (λ (xs : List Item). xs ++ coming_up (handled_by w item items) at) (handles.brings at);
+    old_end = order.old_end;
+    others_go_on = order.others_go_on;
+    silent = order.silent;
+    whole = order.whole;
+  };
+  whole = read.whole;
+  told = none (step_by input (roles_of s));
+} where
+  none : (x : RoleStep) → CommandsAfter x 0 0
+  none role_commands = omega arith
+  none roles_stay = omega arith
+  none role_completes = omega arith
+  none role_goes_back = omega arith
+  none (role_leaves place) = omega arith
+
+-- no COMMAND is on its way on a target
+of-commanded : (P : Channel → Type 0) (o : Option TargetRole) (t : Target) → commanded_of o ≡ Some t → AllByRecursion P (target_channels o) → P t.channel
+unfolding commanded_of
+of-commanded P None t is all = absurd cc
+of-commanded P (Some role) t is all = by role.is_commanded is where
+  by : (b : Bool) → (if b then Some role.target else None) ≡ Some t → P t.channel
+  by true is = subst (λ (o : Option Target). P (unwrap_or o t).channel) is all.0
+  by false is = absurd cc
+
+quiet-of : {w : Actors} {s : Connection} {input : Input} {offer : Option Channel} {r : Row} → AreInOrder w s input → GoesOn (step_by input (roles_of s)) (roles_of s) s.down input offer r → (t : Target) → commanded_target r.next.state ≡ Some t → going_down w (place_of t.channel) ≡ []
+quiet-of {w} {s} {input} {offer} {r} order goes t to =
+    of-commanded (λ c. going_down w (place_of c) ≡ []) (after_step (step_by input (roles_of s)) (roles_of s)).target t (sym (channels-after (step_by input (roles_of s)) (roles_of s) s.down input offer r goes).target ∙ to)
+    (kept-targets (λ c. going_down w (place_of c) ≡ []) (step_by input (roles_of s)) (roles_of s) (subst (AllByRecursion (λ c. going_down w (place_of c) ≡ [])) (sym (target_in-role s.state)) order.uncommanded))
+
+-- the same row, whatever commands are on their way
+with-commands : {s : Connection} {input : Input} {offer : Option Channel} {r : Row} {before after : Place → List Item} {up : ℕ → Bool} {seat seat2 : Seat} {w v : Actors} {mobile_seat : _} → DoesRow s input offer r before after up 0 0 seat seat2 → OwnRest w v mobile_seat s r.next before after up seat seat2
+    → DoesRow s input offer r before after up (length (going_down w (place_of s.serving)) + remembered mobile_seat) (length (going_down v (place_of r.next.serving)) + remembered mobile_seat) seat seat2
+with-commands does rest = record {
+  fits = does.fits;
+  stays_open = does.stays_open;
+  stands = does.stands;
+  carried = does.carried;
+  apart = does.apart;
+  future = does.future;
+  ends = does.ends;
+  was = does.was;
+  now = does.now;
+  whole = does.whole;
+  step = rest.own;
+}
+
+-- ---- the connection
+
+own-lined : {m : ℕ} {w : Actors} {p : Mobile} {item : RelayItem} (items : List RelayItem) {s : Connection} {input : Input} {offer : Option Channel} {r : Row} {text : List ℕ} → w.inbox ≡ item ∷ items → HandlesFor w item s input offer r text → AreInOrder w s input → IsPutAsRead s offer r → LinedUp m w p s
+    → LinedUp m (handled_by w item items) p r.next
+unfolding SameTenures
+own-lined {m} {w} {p} {item} items {s} {input} {offer} {r} {text} stood handles order read lined = record {
+  alive = alive_now;
+  sits = Sits-same same_tenures rest.sits;
+  led = all-map (λ a. Leads w a (commanded_target r.next.state)) (λ a. Leads v a (commanded_target r.next.state)) (going_down v (place_of r.next.serving)) (λ a. Leads-same same_tenures) rest.led;
+  none_on_target = rest.none;
+  apart = subst (OfRow _) handles.fits (StaysApart-row s input offer (row_of s input offer) lined.apart read.new (ChangesRoles-row s input offer order.stands)) handles.stays_open;
+  placed = all-next (λ c. c.station ≢ SWITCH_LINK) s input offer r goes read.placed lined.placed;
+} where
+  v : Actors
+  v = handled_by w item items
+
+  takes : TakesInput s input offer r text (coming_up w) (coming_up v) 0 0
+  takes = takes-of items stood handles order read lined.apart
+
+  goes : GoesOn (step_by input (roles_of s)) (roles_of s) s.down input offer r
+  goes = goes-of (step_by input (roles_of s)) refl takes
+
+  same_tenures : SameTenures w v
+  same_tenures at = turn-leads (λ (x : Actors). tenure_at x at ≡ tenure_at w at) (tenure_in w item.source item.what) (take item w.controller) (record w { inbox = items }) (λ links. refl)
+
+  seat2 : Seat
+  seat2 = seat_after (step_by input (roles_of s)) (seat_from s.serving p.seat)
+
+  does : DoesRow s input offer r (coming_up w) (coming_up v) (is_station_up w) 0 0 (seat_from s.serving p.seat) seat2
+  does = does-row s input offer r text (coming_up w) (coming_up v) (is_station_up w) 0 0 (seat_from s.serving p.seat) takes
+
+  rest : OwnRest w v p.seat s r.next (coming_up w) (coming_up v) (is_station_up w) (seat_from s.serving p.seat) seat2
+  rest = own-rest (record {
+    seen = refl;
+    stands = stands-counted (coming_up w) (is_station_up w) (seat_from s.serving p.seat) s (controls_of (to_be_taken p.end.zero)) lined.alive.stands;
+    sits = lined.sits;
+    led = lined.led;
+    none = lined.none_on_target;
+    apart = λ t is. (on-target s t (place_of t.channel) lined.apart is refl).serving;
+  }) (downs-of items handles read lined.apart goes) (λ t idle to. quiet-of order goes t to) does.step
+
+  number : r.next.number ≡ s.number
+  number = (of-row (KeepsChannels s offer) handles.fits (keeps_channels s input offer)).number
+
+  taken : taken_of v r.next.number ≡ taken_of w s.number
+  taken = ap (taken_of v) number ∙ turn-leads (λ (x : Actors). taken_of x s.number ≡ taken_of w s.number) (tenure_in w item.source item.what) (take item w.controller) (record w { inbox = items }) (λ links. refl)
+
+  waits : flow (waiting_of v r.next.number) ≡ flow (waiting_of w s.number) ++ flow (relayed Zero r.outs)
+  waits = ap (λ (n : ℕ). flow (waiting_of v n)) number
+      ∙ ap flow (turn-waiting (tenure_in w item.source item.what) (take item w.controller).outs (handling w items (take item w.controller)) s.number order.switch_up)
+      ∙ flow-append (waiting_of w s.number) (map (λ f. f.message) (forwarded (take item w.controller).outs s.number))
+      ∙ ap (λ (outs : List Out). flow (waiting_of w s.number) ++ flow (map (λ f. f.message) (forwarded outs s.number))) handles.outs
+      ∙ ap (λ (xs : List (List ℕ)). flow (waiting_of w s.number) ++ xs) read.forwards
+
+  moved : Alive m (over (coming_up v) (is_station_up w) r.next p.end.sent p.end.zero seat2 (length (going_down v (place_of r.next.serving)) + remembered p.seat) (flow (waiting_of w s.number) ++ flow (relayed Zero r.outs)) (flow (taken_of w s.number)))
+  moved = RowKeepsLineUp-new m s input offer r (coming_up w) (coming_up v) (is_station_up w) (length (going_down w (place_of s.serving)) + remembered p.seat) (length (going_down v (place_of r.next.serving)) + remembered p.seat) (seat_from s.serving p.seat) seat2 p.end.sent p.end.zero (flow (waiting_of w s.number)) (flow (taken_of w s.number))
+      (with-commands does rest) lined.alive
+
+  seen : Alive m (over (coming_up v) (is_station_up w) r.next p.end.sent p.end.zero (seat_from r.next.serving p.seat) (length (going_down v (place_of r.next.serving)) + remembered p.seat) (flow (waiting_of v r.next.number)) (flow (taken_of v r.next.number)))
+  seen = subst (λ (xs : List (List ℕ)). Alive m (over (coming_up v) (is_station_up w) r.next p.end.sent p.end.zero (seat_from r.next.serving p.seat) (length (going_down v (place_of r.next.serving)) + remembered p.seat) (flow (waiting_of v r.next.number)) (flow xs))) (sym taken)
+      (subst (λ (xs : List (List ℕ)). Alive m (over (coming_up v) (is_station_up w) r.next p.end.sent p.end.zero (seat_from r.next.serving p.seat) (length (going_down v (place_of r.next.serving)) + remembered p.seat) xs (flow (taken_of w s.number)))) (sym waits)
+      (subst (λ (x : Seat). Alive m (over (coming_up v) (is_station_up w) r.next p.end.sent p.end.zero x (length (going_down v (place_of r.next.serving)) + remembered p.seat) (flow (waiting_of w s.number) ++ flow (relayed Zero r.outs)) (flow (taken_of w s.number)))) rest.seen moved))
+
+  alive_now : Alive m (line_up v p r.next)
+  alive_now = subst (Alive m) (sym (lined-same (coming_up v) (coming_up v) (is_station_up v) (is_station_up w) (going_down v (place_of r.next.serving)) (going_down v (place_of r.next.serving)) (waiting_of v r.next.number) (waiting_of v r.next.number) (taken_of v r.next.number) (taken_of v r.next.number) p p r.next
+      (all-of (λ c. coming_up v (place_of c) ≡ coming_up v (place_of c)) (used_channels r.next) (λ c. refl)) (turn-stations (tenure_in w item.source item.what) (take item w.controller).outs (handling w items (take item w.controller))) refl refl refl refl refl refl)) seen
+
+-- ---- the event
+
+pub HandleKeepsLineUps-new : (settings : Parameters) (events : List Event) → HandleKeepsLineUps settings events
+unfolding event_after
+HandleKeepsLineUps-new settings events mobile s item items input offer r text stood handles order read lined =
+    let w : Actors = actors_after_all (new_actors settings) events in
+    let now : AreLinedUp (modulus_in settings) (handled_by w item items) mobile r.next = record {
+      one = lined.one;
+      found = ap (λ (ms : List Mobile). find (has_number mobile) ms) (turn-mobiles (tenure_in w item.source item.what) (take item w.controller).outs (handling w items (take item w.controller))) ∙ lined.found;
+      lined = own-lined items stood handles order read lined.lined;
+    } in
+    subst (λ (xs : List RelayItem). AreLinedUp (modulus_in settings) (unwrap_or (handled xs w) w) mobile r.next) (sym stood) now
+
+-- ---- time passes
+
+pub TimeAgesLineUps-new : (settings : Parameters) (events : List Event) (ms : ℕ) → TimeAgesLineUps settings events ms
+TimeAgesLineUps-new settings events ms mobile s others lined =
+    let now = TimeLeavesOthers-new settings events ms mobile s others lined in
+    record {
+      one = now.one;
+      found = now.found;
+      lined = record { alive = now.lined.alive; sits = now.lined.sits; led = now.lined.led; none_on_target = now.lined.none_on_target; apart = now.lined.apart; placed = now.lined.placed };
+    }

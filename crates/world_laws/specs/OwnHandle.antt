@@ -1,0 +1,91 @@
+-- The controller handles an item for the connection itself.
+use Rattle.std.specs.Prelude.{◌≡◌, ◌≢◌, ℕ, true, false, List, [], ◌∷◌, map, Option, Some, None}
+use Rattle.std.specs.List.{AllByRecursion}
+use Rattle.std.specs.Option.{option_to_list}
+use Rattle.conn_messages.specs.declared.channel.Channel.{Channel}
+use Rattle.conn_messages.specs.declared.channel.Place.{Place}
+use Rattle.conn_messages.specs.declared.parameters.TheConstants.{SWITCH_LINK}
+use Rattle.conn_messages.specs.Out.{IsReadOf, out_of, outs_of}
+use Rattle.conn_table.specs.declared.input.Input.{Input}
+use Rattle.conn_table.specs.Connection.{Connection}
+use Rattle.conn_table.specs.Roles.{IsNew, RoleStep, TargetRole, roles_of, step_by, target_role}
+use Rattle.conn_table.specs.Roles.RoleStep.{commands as role_commands}
+use Rattle.conn_table.specs.Standing.{IsCarried, Stands}
+use Rattle.conn_table.specs.Steps.{Row}
+use Rattle.conn_table.specs.Streams.{IsOpen, relayed, target_in, used_channels}
+use Rattle.conn_table.specs.Table.{row_of}
+use Rattle.conn_table.specs.Timers.{after_pass}
+use Rattle.controller_table.specs.Controller.{place_of}
+use Rattle.controller_table.specs.Life.{take, tick}
+use Rattle.controller_table.specs.Views.{forwarded}
+use Rattle.dtap_codec.specs.declared.sapi.Sapi.TheVariants.{Zero}
+use Rattle.dtap_codec.specs.Rr.{CellFits}
+use Rattle.lineup.specs.LineUp.{flow, messages_in}
+use Rattle.relay_items.specs.declared.Item.{Item as RelayItem}
+use Rattle.settings.specs.Parameters.{Parameters}
+use Rattle.world_table.specs.declared.event.Event.{Event}
+use Rattle.world_table.specs.declared.event.Event.TheVariants.{Handle, Tick}
+use Rattle.world_table.specs.declared.seat.Tenure.{Tenure}
+use Rattle.world_table.specs.Life.{actors_after, actors_after_all}
+use Rattle.world_table.specs.Relay.{target_in as tenure_in}
+use Rattle.world_table.specs.World.{Actors, is_up, modulus_in, new_actors, tenure_at}
+use Rattle.world_laws.specs.ComingUp.{brings_in, coming_up}
+use Rattle.world_laws.specs.GoingDown.{going_down}
+use Rattle.world_laws.specs.LineUps.{is_ended}
+use Rattle.world_laws.specs.OwnItem.{said_by, IsRead, IsBesideTarget}
+use Rattle.world_laws.specs.Staying.{AreLinedUp, EndLast, IsForOthers}
+use Rattle.world_laws.specs.ToCome.{AreLayer3, texts_of}
+
+-- The tenure that an ACTIVATION ACK begins is the target's, where the row puts the COMMAND; no other row has one.
+abbrev pub BeginsTenure : Actors → RoleStep → Option TargetRole → Option Tenure → Type 0
+BeginsTenure w role_commands (Some t) tenure = tenure ≡ Some (tenure_at w (place_of t.target.channel))
+BeginsTenure w role_commands None tenure = ⊥
+BeginsTenure w _ o tenure = tenure ≡ None
+
+-- The item brings an input to the connection; the row that fits is done, and is all that is put. The connection stays open.
+pub record HandlesFor (w : Actors) (item : RelayItem) (s : Connection) (input : Input) (offer : Option Channel) (r : Row) (text : List ℕ) : Type 0 where
+  pub fits : row_of s input offer ≡ Some r
+  pub stays_open : IsOpen r.next.state
+  pub outs : (take item w.controller).outs ≡ outs_of s.number r.outs
+  pub carried : IsCarried input
+  pub read : IsRead input text
+  pub brings : (at : Place) → brings_in at item ≡ said_by input text at
+  pub begins : BeginsTenure w (step_by input (roles_of s)) (target_role s.state) (tenure_in w item.source item.what)
+
+-- What is on its way on its channels is in order, as the input finds it.
+pub record AreInOrder (w : Actors) (s : Connection) (input : Input) : Type 0 where
+  pub stands : Stands s
+  pub switch_up : is_up w SWITCH_LINK ≡ true
+  -- an RF CHANNEL RELEASE ACK comes last on an old channel, and on no other
+  pub old_end : EndLast w s
+  pub others_go_on : AllByRecursion (λ c. is_ended (coming_up w (place_of c)) ≡ false) (s.serving ∷ target_in s.state)
+  -- nothing came of a target before the COMMAND, or of one from which the mobile came back; no COMMAND is on its way there
+  pub silent : IsBesideTarget input → AllByRecursion (λ c. messages_in (coming_up w (place_of c)) ≡ []) (target_in s.state)
+  pub uncommanded : AllByRecursion (λ c. going_down w (place_of c) ≡ []) (target_in s.state)
+  -- and all are whole messages
+  pub whole : AllByRecursion (λ c. AreLayer3 (texts_of (coming_up w (place_of c)))) (used_channels s)
+
+-- What the row puts is read as it was put: what it relays of SAPI 0 is the flow that goes to the switch, and a COMMAND leads to the
+-- target. The offer is a new channel.
+pub record IsPutAsRead (s : Connection) (offer : Option Channel) (r : Row) : Type 0 where
+  pub whole : AreLayer3 (relayed Zero r.outs)
+  pub forwards : flow (map (λ f. f.message) (forwarded (outs_of s.number r.outs) s.number)) ≡ flow (relayed Zero r.outs)
+  pub read : AllByRecursion (λ m. IsReadOf s.number m (out_of s.number m).frame.body) r.outs
+  pub described : AllByRecursion (λ c. CellFits c.description) (target_in s.state)
+  pub new : IsNew offer (used_channels s)
+  pub placed : AllByRecursion (λ c. c.station ≢ SWITCH_LINK) (option_to_list offer)
+
+-- the controller handles the first item of the inbox, whatever happened before
+abbrev pub HandleKeepsLineUps : Parameters → List Event → Type 0
+HandleKeepsLineUps settings events =
+    (mobile : ℕ) (s : Connection) (item : RelayItem) (items : List RelayItem) (input : Input) (offer : Option Channel) (r : Row) (text : List ℕ) → (actors_after_all (new_actors settings) events).inbox ≡ item ∷ items
+    → HandlesFor (actors_after_all (new_actors settings) events) item s input offer r text → AreInOrder (actors_after_all (new_actors settings) events) s input → IsPutAsRead s offer r
+    → AreLinedUp (modulus_in settings) (actors_after_all (new_actors settings) events) mobile s
+    → AreLinedUp (modulus_in settings) (actors_after (actors_after_all (new_actors settings) events) Handle) mobile r.next
+
+-- Time passes for it, and none of its timers expires: nothing is put for it.
+abbrev pub TimeAgesLineUps : Parameters → List Event → ℕ → Type 0
+TimeAgesLineUps settings events ms =
+    (mobile : ℕ) (s : Connection) → AllByRecursion (IsForOthers None s) (tick ms (actors_after_all (new_actors settings) events).controller).outs
+    → AreLinedUp (modulus_in settings) (actors_after_all (new_actors settings) events) mobile s
+    → AreLinedUp (modulus_in settings) (actors_after (actors_after_all (new_actors settings) events) (Tick ms)) mobile (after_pass ms s)
