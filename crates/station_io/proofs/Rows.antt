@@ -27,9 +27,7 @@ use Rattle.ruled_relay.specs.Rule.{taking}
 use Rattle.station_io.specs.declared.link.Link.{Link}
 use Rattle.station_io.specs.declared.work.HasRead.{HasRead}
 use Rattle.station_io.specs.declared.work.HasWritten.{HasWritten}
-use Rattle.station_io.specs.declared.work.Reading.{Reading}
-use Rattle.station_io.specs.declared.work.Writing.{Writing}
-use Rattle.station_io.specs.Calls.{Calls, Runs}
+use Rattle.station_io.specs.Calls.{Calls}
 use Rattle.station_io.specs.Done.{AreRead, AreWritten}
 use Rattle.station_io.specs.Given.{Follows, HasRoom, all_given, given_back}
 use Rattle.station_io.specs.Links.{Comes, Ended, LinkView, Relays, Writes, ended_view, fault_of, link_view}
