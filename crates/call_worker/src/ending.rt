@@ -4,8 +4,8 @@ ghost use Rattle.call_worker.specs.Going.{Ends, Finishes, Goes, GoesPart, PutsEn
 ghost use Rattle.call_worker.specs.Seen.{seen};
 
 use crate::clock::Clock;
-use crate::pause::Pause;
 use crate::worker::Worker;
+use link_io::Pauses;
 use octets::Memory;
 use ruled_relay::{Line, Putter};
 use std::sync::Wait;
@@ -20,14 +20,14 @@ impl<K: Clock> Worker<K> {
         ensures finishes { OnOk result (Finishes (seen K.told self.new)) }
         ensures ended { OnOk result (self.new.ended ≡ vec_len self.new.putters) }
     {
-        let mut pause = Pause::new();
+        let mut pauses = Pauses::new();
         for _ in rt.forever() {
             self.put_ends(rt);
             if self.ended == self.putters.len() {
                 return Ok(());
             }
             self.turn_at_rest(rt)?;
-            pause.rest(rt);
+            pauses.pause(rt);
         }
         unreachable!()
     }
@@ -56,13 +56,13 @@ impl<K: Clock> Worker<K> {
         ensures ends { Ends (seen K.told self.old) (seen K.told self.new) }
         ensures ended { self.new.ended ≡ vec_len self.new.putters }
     {
-        let mut pause = Pause::new();
+        let mut pauses = Pauses::new();
         for _ in rt.forever() {
             self.put_ends(rt);
             if self.ended == self.putters.len() {
                 return;
             }
-            pause.rest(rt);
+            pauses.pause(rt);
         }
         unreachable!()
     }

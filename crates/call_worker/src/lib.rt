@@ -11,7 +11,6 @@ mod clock;
 mod ending;
 mod limits;
 mod mark;
-mod pause;
 mod sending;
 mod stepping;
 mod worker;

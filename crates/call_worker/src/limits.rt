@@ -6,9 +6,3 @@ pub const TICK_MS: u64 = 100;
 
 /// An outbox's bell is rung at the latest after so many outputs.
 pub(crate) const OUTPUTS_A_RING: usize = 32;
-
-/// So often a refused put is tried again at once, before there are naps between.
-pub(crate) const YIELDS: u32 = 16;
-
-/// How long a nap is, in milliseconds.
-pub(crate) const NAP_MS: u64 = 1;

@@ -4,9 +4,9 @@ ghost use Rattle.call_worker.specs.Going.{Sends, SendsAll, not_ended};
 ghost use Rattle.call_worker.specs.Links.{is_given_up as given_up};
 
 use crate::limits::MAX_REFUSALS;
-use crate::pause::Pause;
 use conn_messages::Out;
 use ipa_framing::Frame;
+use link_io::Pauses;
 use ruled_relay::{Full, Line, Putter};
 use std::sync::Wait;
 
@@ -32,7 +32,7 @@ fn send<R: Wait>(rt: &R, putter: &mut Putter, frame: Frame)
     ensures { Sends false putter.old (frame ∷ []) putter.new }
 {
     let mut line = Line::Frame(frame);
-    let mut pause = Pause::new();
+    let mut pauses = Pauses::new();
     for _ in rt.forever() {
         if is_given_up(putter) {
             return;
@@ -42,7 +42,7 @@ fn send<R: Wait>(rt: &R, putter: &mut Putter, frame: Frame)
             Err(Full(back)) => line = back,
         }
         putter.ring();
-        pause.rest(rt);
+        pauses.pause(rt);
     }
     unreachable!()
 }

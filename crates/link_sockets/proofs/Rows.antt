@@ -1,8 +1,49 @@
 -- The definitions at literal values.
-use Rattle.std.proofs.Common.{◌≡◌, [], ◌∷◌, map, refl}
+use Rattle.std.proofs.Common.{◌≡◌, ℕ, [], ◌∷◌, map, Some, None, refl, arith}
 use Rattle.std.specs.declared.io.ErrorKind.TheVariants as kinds
+use Rattle.std.specs.declared.time.Instant.{Instant}
 use Rattle.link_sockets.specs.declared.fault.RunFault.TheVariants.{Memory, Device}
 use Rattle.link_sockets.specs.Faults.{fault_of}
+use Rattle.link_sockets.specs.Telling.{Tells, millis_to_tell}
+
+-- ---- faults
 
 faults : map fault_of (kinds.OutOfMemory ∷ kinds.AddrInUse ∷ kinds.ConnectionRefused ∷ kinds.Interrupted ∷ kinds.Other ∷ []) ≡ Memory ∷ Device ∷ Device ∷ Device ∷ Device ∷ []
 faults = refl
+
+-- ---- a stopwatch
+
+-- nothing of a millisecond that isn't over
+not_over : millis_to_tell 0 5000000 5999999 ≡ 0
+not_over = refl
+
+just_over : millis_to_tell 0 5000000 6000000 ≡ 1
+just_over = refl
+
+clock_went_back : millis_to_tell 0 6000000 5000000 ≡ 0
+clock_went_back = refl
+
+most_of_an_answer : millis_to_tell 0 0 4294967295000000 ∷ millis_to_tell 0 0 4294967296000000 ∷ [] ≡ 4294967295 ∷ 4294967295 ∷ []
+most_of_an_answer = refl
+
+most_of_all_answers : millis_to_tell 18446744073709551614 0 9000000 ∷ millis_to_tell 18446744073709551615 0 9000000 ∷ [] ≡ 1 ∷ 0 ∷ []
+most_of_all_answers = refl
+
+abbrev at : ℕ → Instant
+at nanos = record { since_start = record { secs = 0; nanos = nanos } }
+
+-- half a millisecond is still to come
+tells_three : Tells 7 (Some (at 1000000)) (at 4500000) 3 (Some (at 4000000))
+tells_three = (refl, refl)
+
+tells_none_at_first : Tells 7 None (at 4500000) 0 (Some (at 4500000))
+tells_none_at_first = (refl, refl)
+
+never_tells : Tells 7 (Some (at 1000000)) (at 4500000) 0 (Some (at 1000000)) → ⊥
+never_tells bad = omega (arith, bad.0)
+
+lets_the_rest_go : Tells 7 (Some (at 1000000)) (at 4500000) 3 (Some (at 4500000)) → ⊥
+lets_the_rest_go bad = omega (arith, bad.1)
+
+stands_still : Tells 7 (Some (at 1000000)) (at 4500000) 3 (Some (at 1000000)) → ⊥
+stands_still bad = omega (arith, bad.1)

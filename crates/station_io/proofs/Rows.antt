@@ -1,7 +1,55 @@
--- Which fault a link comes back with.
-use Rattle.std.proofs.Common.{◌≡◌, true, false, Some, None, refl}
-use Rattle.link_io.specs.declared.fault.IoFault.TheVariants.{GateShut, GivenUp, WriteFailed}
-use Rattle.station_io.specs.Links.{fault_of}
+-- The definitions at literal links. Devices and gates are their octets and their counts here.
+use Rattle.std.proofs.Common.{◌≡◌, ℕ, zero, suc, ◌+◌, Bool, true, false, List, [], ◌∷◌, ◌++◌, length, Option, Some, None, refl, sym, ap, ◌∙◌, subst, arith, length-append}
+use mathlib.Core.Option.{some, some-injective, some-ne-none}
+use lib.ListN.{get_elem?}
+use Rattle.std.specs.declared.alloc.Global.{Global}
+use Rattle.atomic_table.specs.Seated.{TableId}
+use Rattle.call_worker.specs.Steps.{over, whats_of}
+use Rattle.call_worker.specs.Links.{AreStepped}
+use Rattle.conn_messages.specs.declared.out.Out.{Out}
+use Rattle.controller_table.specs.declared.step.Step.{Step}
+use Rattle.controller_table.specs.declared.step.Step.TheVariants.{Take, Tick}
+use Rattle.controller_table.specs.Controller.{Controller, new_controller}
+use Rattle.controller_table.proofs.Lives.{usual_settings}
+use Rattle.controller_table.proofs.OnLiterals.{on_literals}
+use Rattle.ipa_framing.specs.declared.frame.Frame.{Frame}
+use Rattle.link_io.specs.declared.fault.IoFault.{IoFault}
+use Rattle.link_io.specs.declared.fault.IoFault.TheVariants.{GateShut, GivenUp, Memory, ReadFailed, WriteFailed}
+use Rattle.link_io.specs.Reading.{Ends, given}
+use Rattle.relay_items.specs.declared.What.{What}
+use Rattle.relay_items.specs.declared.What.TheVariants as whats
+use Rattle.ruled_relay.specs.declared.outbox.Line.{Line}
+use Rattle.ruled_relay.specs.declared.outbox.Line.TheVariants as marks
+use Rattle.ruled_relay.specs.Ends.{EndView}
+use Rattle.ruled_relay.specs.Inbox.{PassView}
+use Rattle.ruled_relay.specs.Outbox.{PutterView, TakerView}
+use Rattle.ruled_relay.specs.Rule.{taking}
+use Rattle.station_io.specs.declared.link.Link.{Link}
+use Rattle.station_io.specs.declared.work.HasRead.{HasRead}
+use Rattle.station_io.specs.declared.work.HasWritten.{HasWritten}
+use Rattle.station_io.specs.Calls.{Calls}
+use Rattle.station_io.specs.Done.{AreRead, AreWritten}
+use Rattle.station_io.specs.Given.{Follows, HasRoom, all_given, given_back}
+use Rattle.station_io.specs.Links.{Comes, Ended, LinkView, Relays, Writes, ended_view, fault_of, link_view}
+use Rattle.station_io.specs.Pairs.{EachPair, paired}
+use Rattle.station_io.specs.Work.{AreNewOutboxes, AreNewQueues, readings, writings}
+
+abbrev frame : ℕ → ℕ → Frame
+frame stream octet = record { stream = stream; body = octet ∷ [] }
+
+abbrev ping : Frame
+ping = frame 0xfe 0x00
+
+abbrev pong : Frame
+pong = frame 0xfe 0x01
+
+abbrev ping_octets : List ℕ
+ping_octets = 0x00 ∷ 0x01 ∷ 0xfe ∷ 0x00 ∷ []
+
+abbrev pong_octets : List ℕ
+pong_octets = 0x00 ∷ 0x01 ∷ 0xfe ∷ 0x01 ∷ []
+
+-- ---- which fault a link comes back with
 
 fault_of_reader_first : fault_of (Some GateShut) (Some WriteFailed) true ≡ Some GateShut
 fault_of_reader_first = refl
@@ -14,3 +62,310 @@ given_up_last = refl
 
 no_fault : fault_of None None false ≡ None
 no_fault = refl
+
+-- ---- lists side by side
+
+pairs : paired (λ (x y : ℕ). x ∷ y ∷ []) (1 ∷ 2 ∷ []) (10 ∷ 20 ∷ []) ≡ (1 ∷ 10 ∷ []) ∷ (2 ∷ 20 ∷ []) ∷ []
+pairs = refl
+
+shorter_on_the_left : paired (λ (x y : ℕ). x ∷ y ∷ []) (1 ∷ []) (10 ∷ 20 ∷ []) ≡ (1 ∷ 10 ∷ []) ∷ []
+shorter_on_the_left = refl
+
+shorter_on_the_right : paired (λ (x y : ℕ). x ∷ y ∷ []) (1 ∷ 2 ∷ []) (10 ∷ []) ≡ (1 ∷ 10 ∷ []) ∷ []
+shorter_on_the_right = refl
+
+not_each_pair : EachPair (λ (x y : ℕ). x ≡ y) (1 ∷ 2 ∷ []) (1 ∷ 3 ∷ []) → ⊥
+not_each_pair bad = omega (arith, bad 1 2 3 refl refl)
+
+-- ---- what was written
+
+writes_all : Writes None false (0x07 ∷ 0x08 ∷ []) (Some (0x01 ∷ [])) (Some (0x01 ∷ 0x07 ∷ 0x08 ∷ []))
+writes_all = refl
+
+appended : (text old new : List ℕ) → Writes None false text (Some old) (Some new) → new ≡ old ++ text
+appended text old new writes = writes
+
+writes_less_without_a_cause : Writes None false (0x07 ∷ 0x08 ∷ []) (Some (0x01 ∷ [])) (Some (0x01 ∷ 0x07 ∷ [])) → ⊥
+writes_less_without_a_cause bad = omega (arith, ap length (appended (0x07 ∷ 0x08 ∷ []) (0x01 ∷ []) (0x01 ∷ 0x07 ∷ []) bad))
+
+writes_less_after_a_fault : Writes (Some WriteFailed) false (0x07 ∷ 0x08 ∷ []) (Some (0x01 ∷ [])) (Some (0x01 ∷ 0x07 ∷ []))
+writes_less_after_a_fault = (0x07 ∷ [], 0x08 ∷ [], refl, refl)
+
+writes_less_when_given_up : Writes None true (0x07 ∷ 0x08 ∷ []) (Some (0x01 ∷ [])) (Some (0x01 ∷ 0x07 ∷ []))
+writes_less_when_given_up = (0x07 ∷ [], 0x08 ∷ [], refl, refl)
+
+writes_the_second_alone : Writes None true (0x07 ∷ 0x08 ∷ []) (Some []) (Some (0x08 ∷ [])) → ⊥
+writes_the_second_alone bad =
+    let first : 0x08 ∷ [] ≡ bad.0 = bad.3 in
+    let whole : 0x07 ∷ 0x08 ∷ [] ≡ 0x08 ∷ bad.1 = bad.2 ∙ ap (λ l. l ++ bad.1) (sym first) in
+    absurd (cc whole)
+
+-- ---- one link over steps of the controller
+
+abbrev of_ping : Step
+of_ping = Take (record { source = 1; what = whats.Frame ping })
+
+abbrev of_down : ℕ → Step
+of_down source = Take (record { source = source; what = whats.Down })
+
+-- the station asks whether somebody is there, and closes its link; then so does the switch
+abbrev steps_of_both : List Step
+steps_of_both = of_ping ∷ Tick 250 ∷ of_down 1 ∷ of_down 0 ∷ []
+
+abbrev pong_to : ℕ → Out
+pong_to link = record { to = link; conn = 0; frame = pong }
+
+abbrev link : List ℕ → List ℕ → ℕ → LinkView
+link unread written refused = record { unread = Some unread; written = Some written; refused = refused }
+
+abbrev ended : LinkView → Option IoFault → Ended
+ended l fault = record { link = l; fault = fault }
+
+view_of_a_link : link_view {I = List ℕ} {O = List ℕ} {G = ℕ} (λ i. Some i) (λ o. Some o) (λ g. g) (record { reader = 1 ∷ []; writer = 2 ∷ []; gate = 3 }) ≡ link (1 ∷ []) (2 ∷ []) 3
+view_of_a_link = refl
+
+view_of_an_ended_link : ended_view {I = List ℕ} {O = List ℕ} {G = ℕ} (λ i. Some i) (λ o. Some o) (λ g. g) (record { reader = 1 ∷ []; writer = 2 ∷ []; gate = 3 }, Some GivenUp)
+    ≡ ended (link (1 ∷ []) (2 ∷ []) 3) (Some GivenUp)
+view_of_an_ended_link = refl
+
+station_is_answered : Comes steps_of_both (pong_to 1 ∷ []) 1 1 (link ping_octets [] 0) (link [] pong_octets 0) None
+station_is_answered = record {
+  reading = None;
+  writing = None;
+  given_up = false;
+  why = refl;
+  octets = ping_octets;
+  frames = ping ∷ [];
+  rest = [];
+  read = refl;
+  parts = record { whole = refl; each = (omega arith, tt) };
+  ends = (tt, refl);
+  asks = refl;
+  added = false;
+  items = refl;
+  only = λ e. e;
+  writes = refl;
+}
+
+switch_closes : Comes steps_of_both (pong_to 1 ∷ []) 1 0 (link [] [] 0) (link [] [] 0) None
+switch_closes = record {
+  reading = None;
+  writing = None;
+  given_up = false;
+  why = refl;
+  octets = [];
+  frames = [];
+  rest = [];
+  read = refl;
+  parts = record { whole = refl; each = tt };
+  ends = (tt, refl);
+  asks = refl;
+  added = false;
+  items = refl;
+  only = λ e. e;
+  writes = refl;
+}
+
+-- its outbox was given up: a `Down` was added before the frame that still came, and half of the answer was written
+given_up_midway : Comes (of_down 1 ∷ of_ping ∷ of_down 1 ∷ []) (pong_to 1 ∷ []) 1 1 (link ping_octets [] 0) (link [] (0x00 ∷ 0x01 ∷ []) 0) (Some GivenUp)
+given_up_midway = record {
+  reading = None;
+  writing = None;
+  given_up = true;
+  why = refl;
+  octets = ping_octets;
+  frames = ping ∷ [];
+  rest = [];
+  read = refl;
+  parts = record { whole = refl; each = (omega arith, tt) };
+  ends = (tt, refl);
+  asks = refl;
+  added = true;
+  items = ([], whats.Frame ping ∷ whats.Down ∷ [], refl, refl);
+  only = λ e. e;
+  writes = (0x00 ∷ 0x01 ∷ [], 0xfe ∷ 0x01 ∷ [], refl, refl);
+}
+
+-- where there is no fault there was none of the reader, the writer and the outbox
+abbrev IsWell : Option IoFault → Option IoFault → Bool → Type 0
+IsWell reading writing given_up = (reading ≡ None) × (writing ≡ None) × (given_up ≡ false)
+
+is_well : (reading writing : Option IoFault) (given_up : Bool) → None ≡ fault_of reading writing given_up → IsWell reading writing given_up
+is_well (Some reading) writing given_up e = absurd (cc e)
+is_well None (Some writing) given_up e = absurd (cc e)
+is_well None None true e = absurd (cc e)
+is_well None None false e = (refl, refl, refl)
+
+-- what was written at a link without a fault
+well_written : (reading writing : Option IoFault) (given_up : Bool) (text old new : List ℕ) → IsWell reading writing given_up → Writes writing given_up text (Some old) (Some new)
+    → new ≡ old ++ text
+well_written reading (Some writing) given_up text old new well writes = absurd (cc well.1)
+well_written reading None true text old new well writes = absurd (cc well.2)
+well_written reading None false text old new well writes = appended text old new writes
+
+-- the answer went to another link
+other_link_is_answered : Comes steps_of_both (pong_to 1 ∷ []) 1 0 (link [] [] 0) (link [] pong_octets 0) None → ⊥
+other_link_is_answered c =
+    let w = well_written c.reading c.writing c.given_up [] [] pong_octets (is_well c.reading c.writing c.given_up c.why) c.writes in omega (arith, ap length w)
+
+station_is_left_alone : Comes steps_of_both (pong_to 1 ∷ []) 1 1 (link ping_octets [] 0) (link [] [] 0) None → ⊥
+station_is_left_alone c =
+    let w = well_written c.reading c.writing c.given_up pong_octets [] [] (is_well c.reading c.writing c.given_up c.why) c.writes in omega (arith, ap length w)
+
+-- items that end with `Down` became no steps
+down_became_none : (added : Bool) (items : List What) → AreStepped added [] (items ++ whats.Down ∷ []) → ⊥
+down_became_none false items e = omega (arith, ap length e, length-append items (whats.Down ∷ []))
+down_became_none true items e = omega (arith, ap length e.3, length-append e.0 (whats.Down ∷ e.1))
+
+down_is_left_out : Comes (of_down 0 ∷ []) [] 1 1 (link [] [] 0) (link [] [] 0) None → ⊥
+down_is_left_out c = down_became_none c.added (given c.frames) c.items
+
+-- ---- all links
+
+abbrev start : Controller
+start = new_controller usual_settings
+
+one_pong : (over start steps_of_both).outs ≡ pong_to 1 ∷ []
+unfolding on_literals
+one_pong = refl
+
+abbrev links_of_both : List LinkView
+links_of_both = link [] [] 0 ∷ link ping_octets [] 0 ∷ []
+
+abbrev ended_both : List Ended
+ended_both = ended (link [] [] 0) None ∷ ended (link [] pong_octets 0) None ∷ []
+
+abbrev ComesTo : List Out → ℕ → LinkView → Ended → Type 0
+ComesTo outs number old now = Comes steps_of_both outs 1 number old now.link now.fault
+
+each_comes : (number : ℕ) (old : LinkView) (now : Ended) → get_elem? links_of_both number ≡ some old → get_elem? ended_both number ≡ some now → ComesTo (pong_to 1 ∷ []) number old now
+each_comes zero old now e h =
+    let a : link [] [] 0 ≡ old = some-injective (link [] [] 0) old e in
+    let b : ended (link [] [] 0) None ≡ now = some-injective (ended (link [] [] 0) None) now h in
+    subst (λ (y : LinkView × Ended). ComesTo (pong_to 1 ∷ []) 0 y.0 y.1) (λ i. (a i, b i)) switch_closes
+each_comes (suc zero) old now e h =
+    let a : link ping_octets [] 0 ≡ old = some-injective (link ping_octets [] 0) old e in
+    let b : ended (link [] pong_octets 0) None ≡ now = some-injective (ended (link [] pong_octets 0) None) now h in
+    subst (λ (y : LinkView × Ended). ComesTo (pong_to 1 ∷ []) 1 y.0 y.1) (λ i. (a i, b i)) station_is_answered
+each_comes (suc (suc number)) old now e h = absurd (some-ne-none old (sym e))
+
+both_are_relayed : Relays start 1 links_of_both ended_both
+both_are_relayed =
+    (refl, (steps_of_both, λ number old now e h. subst (λ (outs : List Out). ComesTo outs number old now) (sym one_pong) (each_comes number old now e h)))
+
+one_link_is_lost : Relays start 1 links_of_both (ended (link [] [] 0) None ∷ []) → ⊥
+one_link_is_lost bad = omega (arith, bad.0)
+
+is_unread : (reading : Option IoFault) (rest : List ℕ) → reading ≡ None → Ends reading rest (Some ping_octets) → ⊥
+is_unread (Some reading) rest none ends = absurd (cc none)
+is_unread None rest none ends = omega (arith, ap length ends.1)
+
+-- octets that nobody has read, and no fault
+octets_are_left : Relays start 1 (link ping_octets [] 0 ∷ []) (ended (link ping_octets [] 0) None ∷ []) → ⊥
+octets_are_left bad =
+    let c = bad.1.1 0 (link ping_octets [] 0) (ended (link ping_octets [] 0) None) refl refl in
+    is_unread c.reading c.rest (is_well c.reading c.writing c.given_up c.why).0 c.ends
+
+-- ---- what the threads are given
+
+abbrev devices : ℕ → Link ℕ ℕ ℕ
+devices n = record { reader = n; writer = n + 1; gate = n + 2 }
+
+abbrev pass : TableId → ℕ → List What → PassView
+pass queue source put = record { queue = queue; capacity = 8; source = source; put = put }
+
+abbrev taker : TableId → List Line → TakerView
+taker queue taken = record { queue = queue; capacity = 8; taken = taken }
+
+abbrev putter : TableId → List Line → ℕ → PutterView
+putter queue put refusals = record { queue = queue; capacity = 8; put = put; refused = 0; refusals = refusals }
+
+abbrev end_at : TableId → List What → EndView What
+end_at queue taken = record { queue = queue; capacity = 8; seen = taking taken }
+
+readings_of_two : (alloc : Global) (a b : TableId) → readings alloc 5 (devices 10 ∷ devices 20 ∷ []) (pass a 0 [] ∷ pass b 1 [] ∷ [])
+    ≡ record { alloc = alloc; reader = 10; gate = 12; pass = pass a 0 []; limit = 5 } ∷ record { alloc = alloc; reader = 20; gate = 22; pass = pass b 1 []; limit = 5 } ∷ []
+readings_of_two alloc a b = refl
+
+writings_of_two : (alloc : Global) (a b : TableId) → writings alloc (devices 10 ∷ devices 20 ∷ []) (taker a [] ∷ taker b [] ∷ [])
+    ≡ record { alloc = alloc; writer = 11; taker = taker a [] } ∷ record { alloc = alloc; writer = 21; taker = taker b [] } ∷ []
+writings_of_two alloc a b = refl
+
+-- ---- new queues
+
+exchanged_outboxes : (a b : TableId) → AreNewOutboxes 2 (putter a [] 0 ∷ putter b [] 0 ∷ []) (taker b [] ∷ taker a [] ∷ []) → a ≡ b
+exchanged_outboxes a b bad = let e : a ∷ b ∷ [] ≡ b ∷ a ∷ [] = bad.4 in cc e
+
+used_outbox : (a : TableId) → AreNewOutboxes 1 (putter a (marks.End ∷ []) 0 ∷ []) (taker a [] ∷ []) → ⊥
+used_outbox a bad = omega (arith, ap length (bad.2 0 (putter a (marks.End ∷ []) 0) refl).0)
+
+one_outbox_for_two : (a : TableId) → AreNewOutboxes 2 (putter a [] 0 ∷ []) (taker a [] ∷ []) → ⊥
+one_outbox_for_two a bad = omega (arith, bad.0)
+
+exchanged_queues : (a b : TableId) → AreNewQueues 2 (end_at a [] ∷ end_at b [] ∷ []) (pass b 0 [] ∷ pass a 1 [] ∷ []) → a ≡ b
+exchanged_queues a b bad = let e : a ∷ b ∷ [] ≡ b ∷ a ∷ [] = bad.4 in cc e
+
+used_queue : (a : TableId) → AreNewQueues 1 (end_at a [] ∷ []) (pass a 0 (whats.Down ∷ []) ∷ []) → ⊥
+used_queue a bad = omega (arith, ap length (bad.3 0 (pass a 0 (whats.Down ∷ [])) refl))
+
+-- ---- what the threads give back
+
+abbrev has_read : TableId → ℕ → Option IoFault → HasRead ℕ ℕ
+has_read queue n fault = record { reader = n; gate = n + 2; pass = pass queue 0 (whats.Down ∷ []); fault = fault }
+
+abbrev has_written : TableId → ℕ → Option IoFault → HasWritten ℕ
+has_written queue n fault = record { writer = n + 1; taker = taker queue (marks.End ∷ []); fault = fault }
+
+gives_back : (a b : TableId) → given_back (has_read a 10 None) (has_written b 10 None) (putter b (marks.End ∷ []) 999) ≡ (devices 10, None)
+gives_back a b = refl
+
+gives_back_given_up : (a b : TableId) → given_back (has_read a 10 None) (has_written b 10 None) (putter b (marks.End ∷ []) 1000) ≡ (devices 10, Some GivenUp)
+gives_back_given_up a b = refl
+
+gives_back_faults : (a b : TableId) → given_back (has_read a 10 (Some ReadFailed)) (has_written b 10 (Some WriteFailed)) (putter b (marks.End ∷ []) 1000) ≡ (devices 10, Some ReadFailed)
+gives_back_faults a b = refl
+
+gives_back_two : (a b : TableId) → all_given (has_read a 10 None ∷ has_read b 20 (Some GateShut) ∷ []) (has_written a 10 (Some WriteFailed) ∷ has_written b 20 None ∷ []) (putter a [] 0 ∷ putter b [] 0 ∷ [])
+    ≡ (devices 10, Some WriteFailed) ∷ (devices 20, Some GateShut) ∷ []
+gives_back_two a b = refl
+
+room_for_two : HasRoom {A = ℕ} {B = ℕ} 2 [] 2 [] 3
+room_for_two = (refl, refl, omega arith, omega arith)
+
+room_for_one : HasRoom {A = ℕ} {B = ℕ} 2 [] 2 [] 1 → ⊥
+room_for_one bad = omega (arith, bad.3)
+
+room_that_is_used : HasRoom {A = ℕ} {B = ℕ} 1 (7 ∷ []) 2 [] 2 → ⊥
+room_that_is_used bad = omega (arith, ap length bad.0)
+
+follows_what_was_put : (a : TableId) → Follows (has_written a 10 None) (putter a (marks.End ∷ marks.Frame ping ∷ []) 0)
+follows_what_was_put a = (marks.Frame ping ∷ [], refl)
+
+takes_what_nobody_put : (a : TableId) → Follows (has_written a 10 None) (putter a [] 0) → ⊥
+takes_what_nobody_put a bad = let e : [] ≡ marks.End ∷ bad.0 = bad.1 in absurd (cc e)
+
+one_reader_is_missing : (alloc : Global) (a : TableId) → AreRead {I = ℕ} {G = ℕ} (λ i. None) (λ g. g) (record { alloc = alloc; reader = 10; gate = 12; pass = pass a 0 []; limit = 5 } ∷ []) [] → ⊥
+one_reader_is_missing alloc a bad = omega (arith, bad.0)
+
+one_writer_is_missing : (alloc : Global) (a : TableId) → AreWritten {O = ℕ} (λ o. None) (record { alloc = alloc; writer = 11; taker = taker a [] } ∷ []) [] → ⊥
+one_writer_is_missing alloc a bad = omega (arith, bad.0)
+
+-- ---- a run of the call worker
+
+-- a fault says nothing of what was taken and put
+a_fault_says_nothing : (a : TableId) → Calls start (end_at a [] ∷ []) (putter a [] 0 ∷ []) (Some Memory) [] []
+a_fault_says_nothing a = tt
+
+no_links : Calls start [] [] None [] []
+no_links = record { steps = []; items = []; taken = (refl, λ at e h. absurd (some-ne-none e (sym h))); count = refl; links = λ at p h. absurd (some-ne-none p (sym h)) }
+
+one_outbox_is_lost : (a : TableId) → Calls start [] (putter a [] 0 ∷ []) None [] [] → ⊥
+one_outbox_is_lost a bad = omega (arith, bad.count)
+
+-- it ended, and took no `Down` of the link
+ends_before_down : (a b : TableId) → Calls start (end_at a [] ∷ []) (putter b [] 0 ∷ []) None (end_at a [] ∷ []) (putter b (marks.End ∷ []) 0 ∷ []) → ⊥
+ends_before_down a b bad =
+    let t = bad.taken.1 0 (end_at a []) refl in
+    let d : end_at a [] ≡ t.0 = some-injective (end_at a []) t.0 t.1 in
+    let down = (bad.links 0 (putter b (marks.End ∷ []) 0) refl).2.down refl in
+    omega (arith, ap length (t.2 ∙ ap (λ (e : EndView What). e.seen.taken ++ whats_of 0 bad.items) (sym d)), ap length down.2, length-append down.0 (whats.Down ∷ down.1))
