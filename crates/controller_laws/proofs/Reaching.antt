@@ -11,6 +11,7 @@ use Rattle.conn_messages.specs.declared.message.Message.{Message}
 use Rattle.conn_messages.specs.declared.message.Message.TheVariants.{Station}
 use Rattle.conn_messages.specs.StationMessage.{handing, rf_channel_release}
 use Rattle.conn_messages.specs.SwitchMessage.{assignment_failure, change_complete, complete_layer3, relaying}
+use Rattle.conn_table.proofs.DownlinkMessages.{AllByRecursion-append}
 use Rattle.conn_table.specs.declared.input.Input.{Input}
 use Rattle.conn_table.specs.declared.input.Input.TheVariants as inputs
 use Rattle.conn_table.specs.declared.state.Clearing.TheVariants.{Due, Asked as WasAsked}
@@ -35,10 +36,6 @@ use Rattle.octets.specs.declared.limits.TheConstants.{INITIAL_LIMIT}
 abbrev pub Reaches : (ℕ → Type 0) → Message → Type 0
 Reaches P (Station station message) = P station
 Reaches P _ = Unit {0}
-
-pub all_join : {A : Type 0} (P : A → Type 0) (xs ys : List A) → AllByRecursion P xs → AllByRecursion P ys → AllByRecursion P (xs ++ ys)
-all_join P [] ys one rest = rest
-all_join P (x ∷ xs) ys one rest = (one.0, all_join P xs ys one.1 rest)
 
 module _ (P : ℕ → Type 0) where
   abbrev AllReach : List Message → Type 0
@@ -68,7 +65,7 @@ module _ (P : ℕ → Type 0) where
 
   all_of_tenure : (reference : ℕ) (c : Channel) (ts : List Tenure) → AllReach (tenure_outs reference c ts)
   all_of_tenure reference c [] = tt
-  all_of_tenure reference c (t ∷ ts) = all_join (Reaches P) (map (relaying reference c Zero) t.zero) (map (relaying reference c Three) t.three) (all_relayed reference c Zero t.zero) (all_relayed reference c Three t.three)
+  all_of_tenure reference c (t ∷ ts) = AllByRecursion-append (Reaches P) (map (relaying reference c Zero) t.zero) (map (relaying reference c Three) t.three) (all_relayed reference c Zero t.zero) (all_relayed reference c Three t.three)
 
   begins : (reference : ℕ) (change : Change) (offer : Option Channel) → AllByRecursion (λ (c : Channel). P c.station) (option_to_list offer) → AllReach (begin_outs reference change offer)
   begins reference Assignment (Some channel) there = there
@@ -128,7 +125,7 @@ module _ (P : ℕ → Type 0) where
   of_leave reference [] s = tt
   of_leave reference (d ∷ ds) s =
       either_outs d.is_done (row [] (shifted ds s) then relay_held reference then leave reference ds) (row [] (record s { draining = d ∷ ds }))
-      (all_join (Reaches P) (relay_held reference (shifted ds s)).outs (leave reference ds (relay_held reference (shifted ds s)).next).outs
+      (AllByRecursion-append (Reaches P) (relay_held reference (shifted ds s)).outs (leave reference ds (relay_held reference (shifted ds s)).next).outs
       (all_of_tenure reference (first_channel ds s.serving) (shifted ds s).up.tenures) (of_leave reference ds (relay_held reference (shifted ds s)).next))
       tt
 
@@ -145,7 +142,7 @@ module _ (P : ℕ → Type 0) where
 
   of_refuse : (reference : ℕ) (change : Change) (offer : Option Channel) (s : Connection) → AllByRecursion (λ (c : Channel). P c.station) (option_to_list offer) → Reaching (refuse reference change offer s)
   of_refuse reference change offer s there _ =
-      all_join (Reaches P) (nack_outs change reference) (begin_waiting (resting_stage s.draining) reference offer (resting reference s)).outs (nacks change) (waits (s.waits && may_begin (resting_stage s.draining) s.draining) reference offer there)
+      AllByRecursion-append (Reaches P) (nack_outs change reference) (begin_waiting (resting_stage s.draining) reference offer (resting reference s)).outs (nacks change) (waits (s.waits && may_begin (resting_stage s.draining) s.draining) reference offer there)
     where
       nacks : (change : Change) → AllReach (nack_outs change reference)
       nacks Assignment = (tt, tt)
@@ -216,8 +213,8 @@ module _ (P : ℕ → Type 0) where
   of_end stage reference offer s here there outs first =
       let held : List Message = map (handing s.serving Zero) (messages s.down Zero) in
       let asked : List Message = request_for s.down.three s.serving in
-      all_join (Reaches P) (outs ++ held ++ asked) (waiting_outs (s.waits && may_begin stage s.draining) reference offer)
-      (all_join (Reaches P) (outs ++ held) asked (all_join (Reaches P) outs held first (all_handed s.serving Zero (messages s.down Zero) here)) (requests_for s.down.three s.serving here))
+      AllByRecursion-append (Reaches P) (outs ++ held ++ asked) (waiting_outs (s.waits && may_begin stage s.draining) reference offer)
+      (AllByRecursion-append (Reaches P) (outs ++ held) asked (AllByRecursion-append (Reaches P) outs held first (all_handed s.serving Zero (messages s.down Zero) here)) (requests_for s.down.three s.serving here))
       (waits (s.waits && may_begin stage s.draining) reference offer there)
 
   of_complete : (state : State) (s : Connection) (at : Place) (change : Change) (cause : ℕ) (offer : Option Channel) → P s.serving.station → AllByRecursion (λ (c : Channel). P c.station) (target_in state) → AllByRecursion (λ (c : Channel). P c.station) (option_to_list offer) → OfRow Reaching (on_complete state s at change cause offer)
@@ -233,15 +230,15 @@ module _ (P : ℕ → Type 0) where
   of_failure : (state : State) (s : Connection) (at : Place) (change : Change) (cause : ℕ) (offer : Option Channel) → P s.serving.station → AllByRecursion (λ (c : Channel). P c.station) (target_in state) → AllByRecursion (λ (c : Channel). P c.station) (option_to_list offer) → OfRow Reaching (on_failure state s at change cause offer)
   of_failure (Live reference (Changing target)) s at change cause offer here target_there there =
       where_fits _ (failure reference change target.channel cause offer s)
-      (λ _. of_end (resting_stage s.draining) reference offer (resting reference s) here there (failure_outs change reference cause ++ rf_channel_release target.channel ∷ []) (all_join (Reaches P) (failure_outs change reference cause) (rf_channel_release target.channel ∷ []) (fails reference change cause) (target_there.0, tt)))
+      (λ _. of_end (resting_stage s.draining) reference offer (resting reference s) here there (failure_outs change reference cause ++ rf_channel_release target.channel ∷ []) (AllByRecursion-append (Reaches P) (failure_outs change reference cause) (rf_channel_release target.channel ∷ []) (fails reference change cause) (target_there.0, tt)))
   of_failure _ s at change cause offer here target_there there = tt
 
   of_release : (reference : ℕ) (stage : Stage) (place : ℕ) (offer : Option Channel) (s : Connection) → AllByRecursion (λ (c : Channel). P c.station) (option_to_list offer) → Reaching (release reference stage place offer s)
   of_release reference stage place offer s there _ =
       let left : Connection = (leave reference (done_at place s.draining) s).next in
       let rests : Connection = settled reference stage left.draining left in
-      all_join (Reaches P) ((leave reference (done_at place s.draining) s).outs ++ []) (begin_waiting (settled_stage stage rests.draining) reference offer rests).outs
-      (all_join (Reaches P) (leave reference (done_at place s.draining) s).outs [] (of_leave reference (done_at place s.draining) s) tt)
+      AllByRecursion-append (Reaches P) ((leave reference (done_at place s.draining) s).outs ++ []) (begin_waiting (settled_stage stage rests.draining) reference offer rests).outs
+      (AllByRecursion-append (Reaches P) (leave reference (done_at place s.draining) s).outs [] (of_leave reference (done_at place s.draining) s) tt)
       (waits (rests.waits && may_begin (settled_stage stage rests.draining) rests.draining) reference offer there)
 
   of_release_in : (place : Option ℕ) (reference : ℕ) (stage : Stage) (offer : Option Channel) (s : Connection) → AllByRecursion (λ (c : Channel). P c.station) (option_to_list offer) → OfRow Reaching (release_in place reference stage offer s)

@@ -23,6 +23,7 @@ use Rattle.conn_messages.specs.declared.parameters.TheConstants.{SWITCH_LINK}
 use Rattle.conn_messages.specs.Out.{IsReadOf, IsSound, out_of, outs_of}
 use Rattle.conn_messages.specs.StationMessage.{access_activation}
 use Rattle.conn_table.proofs.Channels.{all_within}
+use Rattle.conn_table.proofs.DownlinkMessages.{AllByRecursion-append}
 use Rattle.conn_table.specs.declared.input.Input.{Input}
 use Rattle.conn_table.specs.declared.input.Input.TheVariants as inputs
 use Rattle.conn_table.specs.declared.state.State.{State}
@@ -45,7 +46,7 @@ use Rattle.controller_laws.proofs.OwningWords.{Holds}
 use Rattle.controller_laws.proofs.Readings.{IsCarriedBy, word_carried}
 use Rattle.controller_laws.proofs.Sources.{IsAtPlace, IsFrom, word_from}
 use Rattle.controller_laws.proofs.SoundMessages.{IsSoundChannel, sound_access}
-use Rattle.controller_laws.proofs.SoundRows.{IsSoundRow, Refers, RefersBy, all_both, row_sound}
+use Rattle.controller_laws.proofs.SoundRows.{IsSoundRow, Refers, RefersBy, row_sound}
 use Rattle.controller_laws.proofs.Turns.{IsDue, all_found, all_two, expiry_own, told_tame, timed_tame}
 use Rattle.controller_laws.proofs.UsingLife.{aged_ready, all_here, expiry_numbers, new_uses, radio_of, ready_by, run_step, life_ready, told_numbers}
 use Rattle.controller_laws.proofs.UsingRows.{Uses}
@@ -391,7 +392,7 @@ each_sound links f order leaves numbers keeps c (x ∷ xs) sorted here sound =
       linked = is.linked;
     }) sorted.0 here.1 in
     let rest = each_sound links f order leaves numbers keeps (f c x).next xs sorted.1 later one.sound in
-    record { sound = rest.sound; sent = all_both IsSent (f c x).outs (each f (f c x).next xs).outs one.sent rest.sent }
+    record { sound = rest.sound; sent = AllByRecursion-append IsSent (f c x).outs (each f (f c x).next xs).outs one.sent rest.sent }
 
 break_refers : (input : Input) → IsLinkBreak input → RefersBy input
 break_refers inputs.SwitchDown break = tt
@@ -495,7 +496,7 @@ sent_run c [] octets fits holds uses sound = tt
 sent_run c (s ∷ ss) octets fits holds uses sound =
     let after = run_step c s fits holds uses in
     let turn_sound = step_sound c s octets.0 (ready_by c fits holds uses) sound in
-    all_both IsSent (step c s).outs (each step (step c s).next ss).outs turn_sound.sent (sent_run (step c s).next ss octets.1 after.fits after.holds after.uses turn_sound.sound)
+    AllByRecursion-append IsSent (step c s).outs (each step (step c s).next ss).outs turn_sound.sent (sent_run (step c s).next ss octets.1 after.fits after.holds after.uses turn_sound.sound)
 
 -- all frames of a life
 pub life_sends_all : (p : Parameters) (steps : List Step) → AreAllowed p → AllByRecursion ComesInOctets steps → AllByRecursion IsSent (life p steps).outs

@@ -1,5 +1,5 @@
 -- What every row puts can be written, and is read as it was put.
-use Rattle.std.proofs.Common.{◌≡◌, ℕ, zero, suc, ◌==◌, ◌&&◌, nat_le, Bool, true, false, if◌then◌else◌, List, [], ◌∷◌, ◌++◌, length, map, drop, filter, Option, Some, None, refl, sym, subst}
+use Rattle.std.proofs.Common.{◌≡◌, ℕ, zero, suc, ◌==◌, ◌&&◌, nat_le, Bool, true, false, if◌then◌else◌, List, [], ◌∷◌, ◌++◌, length, map, drop, Option, Some, None, refl, sym, subst}
 use Rattle.std.proofs.lemmas.Bool.{leb-true}
 use Rattle.std.specs.List.{AllByRecursion}
 use Rattle.bssmap_codec.specs.Layer3.{IsLayer3}
@@ -14,6 +14,7 @@ use Rattle.conn_messages.specs.declared.message.Message.{Message}
 use Rattle.conn_messages.specs.Out.{IsSound}
 use Rattle.conn_messages.specs.StationMessage.{handing, rf_channel_release}
 use Rattle.conn_messages.specs.SwitchMessage.{assignment_failure, change_complete, complete_layer3, clear_complete, release_complete, relaying}
+use Rattle.conn_table.proofs.DownlinkMessages.{AllByRecursion-append, AllByRecursion-filter}
 use Rattle.conn_table.specs.declared.input.Input.{Input}
 use Rattle.conn_table.specs.declared.input.Input.TheVariants as inputs
 use Rattle.conn_table.specs.declared.state.Clearing.TheVariants.{Due, Asked as WasAsked}
@@ -48,10 +49,6 @@ RefersBy (inputs.ConnectionConfirm source) = IsReference source
 RefersBy (inputs.Released source) = IsReference source
 RefersBy _ = Unit {0}
 
-pub all_both : {A : Type 0} (P : A → Type 0) (xs ys : List A) → AllByRecursion P xs → AllByRecursion P ys → AllByRecursion P (xs ++ ys)
-all_both P [] ys one rest = rest
-all_both P (x ∷ xs) ys one rest = (one.0, all_both P xs ys one.1 rest)
-
 abbrev AreSound : List Message → Type 0
 AreSound outs = AllByRecursion IsSound outs
 
@@ -79,7 +76,7 @@ all_relayed reference c sapi (m ∷ ms) is all = (sound_relaying reference c sap
 
 all_of_tenure : (reference : ℕ) (c : Channel) (ts : List Tenure) → IsReference reference → AllByRecursion IsHeldTenure ts → AreSound (tenure_outs reference c ts)
 all_of_tenure reference c [] is all = tt
-all_of_tenure reference c (t ∷ ts) is all = all_both IsSound (map (relaying reference c Zero) t.zero) (map (relaying reference c Three) t.three) (all_relayed reference c Zero t.zero is all.0.0) (all_relayed reference c Three t.three is all.0.1)
+all_of_tenure reference c (t ∷ ts) is all = AllByRecursion-append IsSound (map (relaying reference c Zero) t.zero) (map (relaying reference c Three) t.three) (all_relayed reference c Zero t.zero is all.0.0) (all_relayed reference c Three t.three is all.0.1)
 
 begins : (reference : ℕ) (change : Change) (offer : Option Channel) → IsReference reference → AllByRecursion IsSoundChannel (option_to_list offer) → AreSound (begin_outs reference change offer)
 begins reference change (Some channel) is there = (sound_change_activation change channel there.0, tt)
@@ -157,16 +154,8 @@ of_removing : (state : State) (s : Connection) (cause : ℕ) → IsSoundChannel 
 unfolding Refers
 of_removing state s cause sound targets = (end_sound state s.serving cause sound targets, tt)
 
-filtered : (test : Message → Bool) (ms : List Message) → AreSound ms → AreSound (filter test ms)
-filtered test [] all = tt
-filtered test (m ∷ ms) all = by (test m) (filtered test ms all.1)
-  where
-    by : (b : Bool) → AreSound (filter test ms) → AreSound (if b then m ∷ filter test ms else filter test ms)
-    by true rest = (all.0, rest)
-    by false rest = rest
-
 of_without : (station : ℕ) (r : Row) → IsSoundRow r → IsSoundRow (without_station station r)
-of_without station r sound = (filtered _ r.outs sound.0, sound.1)
+of_without station r sound = (AllByRecursion-filter IsSound _ r.outs sound.0, sound.1)
 
 -- ---- what is held
 
@@ -214,7 +203,7 @@ of_leave reference [] s is held = tt
 of_leave reference (d ∷ ds) s is held =
     let rest = tail_held s.up.tenures held in
     either_sound d.is_done (row [] (shifted ds s) then relay_held reference then leave reference ds) (row [] (record s { draining = d ∷ ds }))
-    (all_both IsSound (relay_held reference (shifted ds s)).outs (leave reference ds (relay_held reference (shifted ds s)).next).outs
+    (AllByRecursion-append IsSound (relay_held reference (shifted ds s)).outs (leave reference ds (relay_held reference (shifted ds s)).next).outs
     (all_of_tenure reference (first_channel ds s.serving) (shifted ds s).up.tenures is rest) (of_leave reference ds (relay_held reference (shifted ds s)).next is (cleared_held (shifted ds s).up.tenures rest)))
     tt
 
@@ -253,7 +242,7 @@ of_activation_ack _ s at k f = tt
 of_refuse : (reference : ℕ) (change : Change) (offer : Option Channel) (s : Connection) → IsReference reference → Offered offer → IsSoundRow (refuse reference change offer s)
 unfolding Refers
 of_refuse reference change offer s is there = (
-  all_both IsSound (nack_outs change reference) (begin_waiting (resting_stage s.draining) reference offer (resting reference s)).outs (nacks change) (waits (s.waits && may_begin (resting_stage s.draining) s.draining) reference offer is there),
+  AllByRecursion-append IsSound (nack_outs change reference) (begin_waiting (resting_stage s.draining) reference offer (resting reference s)).outs (nacks change) (waits (s.waits && may_begin (resting_stage s.draining) s.draining) reference offer is there),
   after_refers (s.waits && may_begin (resting_stage s.draining) s.draining) reference offer (resting reference s) is is,
 )
   where
@@ -329,8 +318,8 @@ of_end : (stage : Stage) (reference : ℕ) (offer : Option Channel) (s : Connect
 of_end stage reference offer s sound held_zero is there outs first =
     let held : List Message = map (handing s.serving Zero) (messages s.down Zero) in
     let asked : List Message = request_for s.down.three s.serving in
-    all_both IsSound (outs ++ held ++ asked) (waiting_outs (s.waits && may_begin stage s.draining) reference offer)
-    (all_both IsSound (outs ++ held) asked (all_both IsSound outs held first (all_handed s.serving Zero (messages s.down Zero) sound held_zero)) (requests_for s.down.three s.serving sound))
+    AllByRecursion-append IsSound (outs ++ held ++ asked) (waiting_outs (s.waits && may_begin stage s.draining) reference offer)
+    (AllByRecursion-append IsSound (outs ++ held) asked (AllByRecursion-append IsSound outs held first (all_handed s.serving Zero (messages s.down Zero) sound held_zero)) (requests_for s.down.three s.serving sound))
     (waits (s.waits && may_begin stage s.draining) reference offer is there)
 
 of_complete : (state : State) (s : Connection) (at : Place) (change : Change) (cause : ℕ) (offer : Option Channel) → IsSoundIn s → Targets state → Refers state → Offered offer → OfRow IsSoundRow (on_complete state s at change cause offer)
@@ -351,7 +340,7 @@ of_failure (Live reference (Changing target)) s at change cause offer k t f ther
     let rests : Connection = (ask_for_held (hand_held Zero next).next).next in
     where_fits _ (failure reference change target.channel cause offer s) (
       of_end (resting_stage s.draining) reference offer next k.serving k.zero f there (failure_outs change reference cause ++ rf_channel_release target.channel ∷ [])
-          (all_both IsSound (failure_outs change reference cause) (rf_channel_release target.channel ∷ []) (fails change) (sound_rf_release target.channel t.0, tt)),
+          (AllByRecursion-append IsSound (failure_outs change reference cause) (rf_channel_release target.channel ∷ []) (fails change) (sound_rf_release target.channel t.0, tt)),
       after_refers (rests.waits && may_begin (resting_stage s.draining) rests.draining) reference offer rests f f,
     )
   where
@@ -364,8 +353,8 @@ of_release : (reference : ℕ) (stage : Stage) (place : ℕ) (offer : Option Cha
 of_release reference stage place offer s k is there =
     let left : Connection = (leave reference (done_at place s.draining) s).next in
     let rests : Connection = settled reference stage left.draining left in (
-      all_both IsSound ((leave reference (done_at place s.draining) s).outs ++ []) (begin_waiting (settled_stage stage rests.draining) reference offer rests).outs
-          (all_both IsSound (leave reference (done_at place s.draining) s).outs [] (of_leave reference (done_at place s.draining) s is k.up) tt)
+      AllByRecursion-append IsSound ((leave reference (done_at place s.draining) s).outs ++ []) (begin_waiting (settled_stage stage rests.draining) reference offer rests).outs
+          (AllByRecursion-append IsSound (leave reference (done_at place s.draining) s).outs [] (of_leave reference (done_at place s.draining) s is k.up) tt)
           (waits (rests.waits && may_begin (settled_stage stage rests.draining) rests.draining) reference offer is there),
       after_refers (rests.waits && may_begin (settled_stage stage rests.draining) rests.draining) reference offer rests is
           (settled_refers reference stage left.draining left is (subst Refers (sym (leave_state reference (done_at place s.draining) s)) k.refers)),
@@ -403,7 +392,7 @@ of_refused (Closed (Due cause)) s k = (tt, tt)
 of_refused _ s k = tt
 
 ending_then : (state : State) (s : Connection) (message : Message) (cause : ℕ) → IsSoundChannel s.serving → Targets state → IsSound message → AreSound (end_outs state s.serving cause ++ message ∷ [])
-ending_then state s message cause sound targets last = all_both IsSound (end_outs state s.serving cause) (message ∷ []) (end_sound state s.serving cause sound targets) (last, tt)
+ending_then state s message cause sound targets last = AllByRecursion-append IsSound (end_outs state s.serving cause) (message ∷ []) (end_sound state s.serving cause sound targets) (last, tt)
 
 of_released : (state : State) (s : Connection) (reference : ℕ) → IsSoundIn s → Targets state → IsReference reference → OfRow IsSoundRow (on_released state s reference)
 unfolding Refers

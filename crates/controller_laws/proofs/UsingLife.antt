@@ -17,6 +17,7 @@ use Rattle.conn_messages.specs.declared.channel.Channel.{Channel}
 use Rattle.conn_messages.specs.declared.channel.Place.{Place}
 use Rattle.conn_messages.specs.declared.out.Out.{Out}
 use Rattle.conn_messages.specs.declared.parameters.TheConstants.{SWITCH_LINK}
+use Rattle.conn_table.proofs.DownlinkMessages.{AllByRecursion-append}
 use Rattle.conn_table.specs.declared.input.Input.{Input}
 use Rattle.conn_table.specs.declared.input.Input.TheVariants as inputs
 use Rattle.conn_table.specs.declared.state.State.{State}
@@ -37,7 +38,6 @@ use Rattle.controller_laws.proofs.Entries.{find_above}
 use Rattle.controller_laws.proofs.Fitting.{Fits, IsLinkBreak, IsLinked, new_fits, own_carried, pass_stands, step_fits}
 use Rattle.controller_laws.proofs.OwningLife.{AllFine, aged_owns, break_shut, fine_at, fine_stand, new_holds, step_holds, timer_shut, told_holds}
 use Rattle.controller_laws.proofs.OwningWords.{AllStand, Holds, changes_of}
-use Rattle.controller_laws.proofs.Reaching.{all_join}
 use Rattle.controller_laws.proofs.Sources.{word_from}
 use Rattle.controller_laws.proofs.Turns.{IsDue, aged_numbered, all_found, all_two, expiry_own, told_tame, timed_tame}
 use Rattle.controller_laws.proofs.UsingGoes.{break_goes, row_goes, still_alive}
@@ -148,7 +148,7 @@ each_sends old new f order leaves numbers keeps c (x ∷ xs) sorted here holds u
       linked = is.linked;
     }) sorted.0 here.1 in
     let rest = each_sends old new f order leaves numbers keeps (f c x).next xs sorted.1 later one.0 one.1.uses in
-    (rest.0, record { uses = rest.1.uses; outs = all_join (λ (out : Out). is_link_up new out.to ≡ true) (f c x).outs (each f (f c x).next xs).outs one.1.outs rest.1.outs })
+    (rest.0, record { uses = rest.1.uses; outs = AllByRecursion-append (λ (out : Out). is_link_up new out.to ≡ true) (f c x).outs (each f (f c x).next xs).outs one.1.outs rest.1.outs })
 
 pub all_here : (c : Controller) (xs : List Entry) → Ready c → AllByRecursion (λ (x : Entry). entry_of c x.connection.number ≡ Some x) xs → AllByRecursion (IsHere c.links c) xs
 all_here c [] ready there = tt
