@@ -25,7 +25,7 @@ use Rattle.controller_laws.specs.Owning.{AreIn}
 use Rattle.controller_laws.proofs.Entries.{found_number}
 use Rattle.controller_laws.proofs.OwningSteps.{offered_free}
 use Rattle.controller_laws.proofs.OwningWords.{Holds, assignment_offers, changes_of, freed_shaped, owns_entry}
-use Rattle.controller_laws.proofs.Places.{state_else}
+use Rattle.controller_laws.proofs.Places.{state_else, use≢release, free≢release}
 use Rattle.controller_laws.proofs.UsingRows.{fold_release, set_use}
 use Rattle.controller_laws.proofs.UsingWords.{Ready, free_use, here_of}
 use Rattle.controller_table.specs.declared.channel_kind.ChannelKind.TheVariants.{Sdcch}
@@ -134,12 +134,6 @@ pub record Keeps (n : ℕ) (before after : States) : Type 0 where
 
 pub keeps_same : (n : ℕ) (channels : States) → Keeps n channels channels
 keeps_same n channels = record { still = λ at is. is; was = λ at is. is }
-
-free≢release : (n : ℕ) → Free ≢ Releasing n
-free≢release n is = cc
-
-use≢release : (m n : ℕ) → InUse m ≢ Releasing n
-use≢release m n is = cc
 
 elsewhere : (channels : States) (m n : ℕ) (at : Place) (cs : List Channel) → AreIn channels (InUse m) cs → state_in channels at ≡ Releasing n → AllByRecursion (λ (c : Channel). place_of c ≢ at) cs
 elsewhere channels m n at [] all is = tt

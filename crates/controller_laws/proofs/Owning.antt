@@ -20,7 +20,7 @@ use Rattle.conn_table.specs.Roles.RoleStep.{stays, commands, completes, goes_bac
 use Rattle.conn_table.specs.Steps.{done_at}
 use Rattle.conn_table.specs.Streams.{AreApart, IsApart, undone}
 use Rattle.controller_laws.specs.Owning.{AreIn, Owns, is_link_up, used_in}
-use Rattle.controller_laws.proofs.Places.{IsIn, state_here, state_else, is_there, still_in}
+use Rattle.controller_laws.proofs.Places.{IsIn, state_here, state_else, is_there, still_in, use≢release, free≢use, free≢release}
 use Rattle.controller_table.specs.declared.channel_state.ChannelState.{ChannelState}
 use Rattle.controller_table.specs.declared.channel_state.ChannelState.TheVariants.{Free, InUse, Releasing}
 use Rattle.controller_table.specs.Controller.{channels_after, place_of, state_in, with_state}
@@ -29,21 +29,6 @@ abbrev States : Type 0
 States = List (List ChannelState)
 
 -- ---- states
-
-use_other : (m n : ℕ) → InUse m ≡ InUse n → m ≡ n
-use_other m n is = cc
-
-release_other : (m n : ℕ) → Releasing m ≡ Releasing n → m ≡ n
-release_other m n is = cc
-
-use≢release : (m n : ℕ) → InUse m ≢ Releasing n
-use≢release m n is = cc
-
-pub free≢use : (n : ℕ) → Free ≢ InUse n
-free≢use n is = cc
-
-free≢release : (n : ℕ) → Free ≢ Releasing n
-free≢release n is = cc
 
 -- two channels at different places
 places_differ : (c d : Channel) → IsApart c d → place_of c ≢ place_of d

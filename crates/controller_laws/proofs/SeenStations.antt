@@ -22,7 +22,6 @@ use Rattle.controller_laws.specs.Owning.{Owns, OwnsOpen}
 use Rattle.controller_laws.specs.Sending.{IsSent}
 use Rattle.controller_laws.proofs.DownlinkLife.{moments_of}
 use Rattle.controller_laws.proofs.Fitting.{Fits, step_fits}
-use Rattle.controller_laws.proofs.Owning.{free≢use}
 use Rattle.controller_laws.proofs.OwningWords.{Holds}
 use Rattle.controller_laws.proofs.SeenFrames.{IsText, both_filters, filter_first, goes_to_station, apart, texts_back, texts_of}
 use Rattle.controller_laws.proofs.Silence.{step_silence}
@@ -30,6 +29,7 @@ use Rattle.controller_laws.proofs.Switched.{first_empty}
 use Rattle.controller_laws.proofs.Turns.{step_does}
 use Rattle.controller_laws.proofs.UsingLife.{run_step}
 use Rattle.controller_laws.proofs.UsingRows.{Uses}
+use Rattle.controller_laws.proofs.Places.{free≢use}
 use Rattle.controller_table.specs.declared.step.Step.{Step}
 use Rattle.controller_table.specs.Controller.{Controller, place_of}
 use Rattle.controller_table.specs.Life.{step}

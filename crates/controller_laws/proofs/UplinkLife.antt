@@ -32,7 +32,7 @@ use Rattle.controller_laws.proofs.Lives.{life_fits}
 use Rattle.controller_laws.proofs.OwningLife.{AllFine, fine_at, new_holds, step_holds}
 use Rattle.controller_laws.proofs.OwningWords.{Holds}
 use Rattle.controller_laws.proofs.SeenFrames.{forwarded_seen}
-use Rattle.controller_laws.proofs.Silence.{same_state}
+use Rattle.controller_laws.proofs.Silence.{kept_holds, same_state}
 use Rattle.controller_laws.proofs.SoundLife.{life_sends_all}
 use Rattle.controller_laws.proofs.Switched.{IsBegun, some_begun, was}
 use Rattle.controller_laws.proofs.Tenures.{joined_none}
@@ -76,12 +76,7 @@ used_apart s apart = subst (λ (cs : List Channel). AreApart (undone s.draining 
 
 kept_up : (number next : ℕ) (put : List Message) (ts : List Tenure) (state : State) (s : Connection) → s.state ≡ state → number < next → (IsOpen s.state → UpIn s.state s put ts) → AgreesUp number next put ts (kept_in state s)
 unfolding AgreesUp
-kept_up number next put ts Removed s is less up = λ more. absurd (omega arith)
-kept_up number next put ts WaitActivation s is less up = up
-kept_up number next put ts WaitEstablish s is less up = up
-kept_up number next put ts WaitConfirm s is less up = up
-kept_up number next put ts (Live reference stage) s is less up = up
-kept_up number next put ts (Closed clearing) s is less up = up
+kept_up number next put ts state s is less up = kept_holds (AgreesUp number next put ts) state s (λ more. absurd (omega arith)) up
 
 some_up : (number next : ℕ) (put : List Message) (ts : List Tenure) (before : Option Connection) (s : Connection) → before ≡ Some s → AgreesUp number next put ts before → IsOpen s.state → UpIn s.state s put ts
 unfolding AgreesUp
