@@ -23,9 +23,9 @@ use Rattle.conn_table.specs.declared.state.State.TheVariants.{WaitActivation, Wa
 use Rattle.conn_table.specs.Connection.{Connection, emptied, enter, first_channel, tenure_at, drain_at}
 use Rattle.conn_table.specs.Steps.{Row, row, ◌then◌, after_waiting, ask_for_held, end_outs, hand_held, dropping, failing, link_up, without_station, begin, begin_waiting, waiting_outs, hold_down, hold_short_message, short_message, request_where, link_down, hold_up, relay_held, leave, shifted, settled, settled_stage, resting_stage, resting, moved, request_for, done_at, may_begin}
 use Rattle.conn_table.specs.Streams.{OfRow}
-use Rattle.conn_table.specs.Table.{row_of, row_if, assign_immediately, command_to, refuse, nack_outs, access, release, complete, failure, failure_outs, speech_request, release_in, dtap_in, dtap_on_target, on_activation_ack, on_activation_nack, on_establish_indication, on_establish_confirm, on_release_indication, on_error_indication, on_connection_failure, on_dtap, on_complete, on_failure, on_release_ack, on_move, on_confirm, on_refused, on_released, on_downlink, on_assignment_request, on_cipher_mode_command, on_clear_command, on_expiry, on_drain_expiry, on_station_down, on_switch_down}
+use Rattle.conn_table.specs.Table.{row_of, assign_immediately, command_to, refuse, nack_outs, access, release, complete, failure, failure_outs, speech_request, release_in, dtap_in, dtap_on_target, on_activation_ack, on_activation_nack, on_establish_indication, on_establish_confirm, on_release_indication, on_error_indication, on_connection_failure, on_dtap, on_complete, on_failure, on_release_ack, on_move, on_confirm, on_refused, on_released, on_downlink, on_assignment_request, on_cipher_mode_command, on_clear_command, on_expiry, on_drain_expiry, on_station_down, on_switch_down}
 use Rattle.controller_laws.specs.Naming.{Names}
-use Rattle.controller_laws.proofs.PutLists.{HoldsOfEach, all_handed, all_of_tenure, begins, requests_for, requests_where, waits}
+use Rattle.controller_laws.proofs.PutLists.{all_handed, all_of_tenure, begins, either, HoldsOfEach, requests_for, requests_where, waits, where_fits}
 use Rattle.dtap_codec.specs.declared.sapi.Sapi.{Sapi}
 use Rattle.dtap_codec.specs.declared.sapi.Sapi.TheVariants.{Zero, Three}
 use Rattle.hold_queue.specs.ChainState.{chain_count, put_in}
@@ -39,14 +39,6 @@ module _ (c : Channel) (q : RequestReference) where
 
   abbrev pub IsNamed : Row → Type 0
   IsNamed r = (r.next.request ≡ q) × AllByRecursion (Names c q) r.outs
-
-  either : (b : Bool) (r p : Row) → IsNamed r → IsNamed p → IsNamed (if b then r else p)
-  either true r p h k = h
-  either false r p h k = k
-
-  where_fits : (b : Bool) (r : Row) → IsNamed r → OfRow IsNamed (row_if b r)
-  where_fits true r h = h
-  where_fits false r h = tt
 
   -- ---- messages
 
@@ -79,11 +71,11 @@ module _ (c : Channel) (q : RequestReference) where
   of_failing Removed s cause is = (is, ends Removed s.serving ABNORMAL_RELEASE)
 
   of_hold_down : (state : State) (sapi : Sapi) (message : List ℕ) (s : Connection) → s.request ≡ q → IsNamed (hold_down state sapi message s)
-  of_hold_down state sapi message s is = either (count s.down == s.down.limit) (failing state s EQUIPMENT_FAILURE) (row [] (record s { down = with_messages s.down sapi (messages s.down sapi ++ message ∷ []) })) (of_failing state s EQUIPMENT_FAILURE is) (is, tt)
+  of_hold_down state sapi message s is = either IsNamed (count s.down == s.down.limit) (failing state s EQUIPMENT_FAILURE) (row [] (record s { down = with_messages s.down sapi (messages s.down sapi ++ message ∷ []) })) (of_failing state s EQUIPMENT_FAILURE is) (is, tt)
 
   of_hold_short_message : (state : State) (message : List ℕ) (s : Connection) → s.request ≡ q → IsNamed (hold_short_message state message s)
   of_hold_short_message state message s is =
-      either (count s.down == s.down.limit) (failing state s EQUIPMENT_FAILURE) (row (request_where s.link s.serving) (record s { link = Asked; down = with_messages s.down Three (messages s.down Three ++ message ∷ []) }))
+      either IsNamed (count s.down == s.down.limit) (failing state s EQUIPMENT_FAILURE) (row (request_where s.link s.serving) (record s { link = Asked; down = with_messages s.down Three (messages s.down Three ++ message ∷ []) }))
       (of_failing state s EQUIPMENT_FAILURE is) (is, requests_where (Names c q) named s.link s.serving)
 
   of_short_message : (state : State) (link : ShortMessageLink) (message : List ℕ) (s : Connection) → s.request ≡ q → IsNamed (short_message state link message s)
@@ -97,13 +89,13 @@ module _ (c : Channel) (q : RequestReference) where
   of_link_down Down reference s is = (is, tt)
 
   of_hold_up : (state : State) (tenure : ℕ) (sapi : Sapi) (message : List ℕ) (s : Connection) → s.request ≡ q → IsNamed (hold_up state tenure sapi message s)
-  of_hold_up state tenure sapi message s is = either (chain_count s.up == s.up.limit) (failing state s EQUIPMENT_FAILURE) (row [] (record s { up = record s.up { tenures = put_in tenure sapi message s.up.tenures } })) (of_failing state s EQUIPMENT_FAILURE is) (is, tt)
+  of_hold_up state tenure sapi message s is = either IsNamed (chain_count s.up == s.up.limit) (failing state s EQUIPMENT_FAILURE) (row [] (record s { up = record s.up { tenures = put_in tenure sapi message s.up.tenures } })) (of_failing state s EQUIPMENT_FAILURE is) (is, tt)
 
   of_leave : (reference : ℕ) (draining : List Drain) (s : Connection) → s.request ≡ q → IsNamed (leave reference draining s)
   of_leave reference [] s is = (is, tt)
   of_leave reference (d ∷ ds) s is =
       let rest = of_leave reference ds (relay_held reference (shifted ds s)).next is in
-      either d.is_done (row [] (shifted ds s) then relay_held reference then leave reference ds) (row [] (record s { draining = d ∷ ds }))
+      either IsNamed d.is_done (row [] (shifted ds s) then relay_held reference then leave reference ds) (row [] (record s { draining = d ∷ ds }))
       (rest.0, AllByRecursion-append (Names c q) (relay_held reference (shifted ds s)).outs (leave reference ds (relay_held reference (shifted ds s)).next).outs (all_of_tenure (Names c q) named reference (first_channel ds s.serving) (shifted ds s).up.tenures) rest.1)
       (is, tt)
 
@@ -126,12 +118,12 @@ module _ (c : Channel) (q : RequestReference) where
   -- ---- rows
 
   of_access : (message : Option (List ℕ)) (s : Connection) → s.request ≡ q → IsNamed (access message s)
-  of_access (Some initial) s is = either (nat_le (length initial) INITIAL_LIMIT) (row (complete_layer3 s.serving initial ∷ []) (enter WaitConfirm s)) (dropping s) (is, (tt, tt)) (is, (tt, tt))
+  of_access (Some initial) s is = either IsNamed (nat_le (length initial) INITIAL_LIMIT) (row (complete_layer3 s.serving initial ∷ []) (enter WaitConfirm s)) (dropping s) (is, (tt, tt)) (is, (tt, tt))
   of_access None s is = (is, (tt, tt))
 
   of_activation_ack : (state : State) (s : Connection) (at : Place) → s.serving ≡ c → s.request ≡ q → OfRow IsNamed (on_activation_ack state s at)
-  of_activation_ack WaitActivation s at here is = where_fits _ (assign_immediately s) (is, ((s.delay, ap (λ (d : Channel). immediate_assign_command d s.request s.delay) here ∙ ap (λ (p : RequestReference). immediate_assign_command c p s.delay) is), tt))
-  of_activation_ack (Live reference (Preparing target)) s at here is = where_fits _ (command_to reference target s) (is, (tt, tt))
+  of_activation_ack WaitActivation s at here is = where_fits IsNamed _ (assign_immediately s) (is, ((s.delay, ap (λ (d : Channel). immediate_assign_command d s.request s.delay) here ∙ ap (λ (p : RequestReference). immediate_assign_command c p s.delay) is), tt))
+  of_activation_ack (Live reference (Preparing target)) s at here is = where_fits IsNamed _ (command_to reference target s) (is, (tt, tt))
   of_activation_ack _ s at here is = tt
 
   of_refuse : (reference : ℕ) (change : Change) (offer : Option Channel) (s : Connection) → s.request ≡ q → IsNamed (refuse reference change offer s)
@@ -145,46 +137,46 @@ module _ (c : Channel) (q : RequestReference) where
       nacks Handover = tt
 
   of_activation_nack : (state : State) (s : Connection) (at : Place) (offer : Option Channel) → s.request ≡ q → OfRow IsNamed (on_activation_nack state s at offer)
-  of_activation_nack WaitActivation s at offer is = where_fits _ (row [] (emptied Removed s)) (is, tt)
-  of_activation_nack (Live reference (Preparing target)) s at offer is = where_fits _ (refuse reference target.change offer s) (of_refuse reference target.change offer s is)
+  of_activation_nack WaitActivation s at offer is = where_fits IsNamed _ (row [] (emptied Removed s)) (is, tt)
+  of_activation_nack (Live reference (Preparing target)) s at offer is = where_fits IsNamed _ (refuse reference target.change offer s) (of_refuse reference target.change offer s is)
   of_activation_nack _ s at offer is = tt
 
   of_link_up : (s : Connection) → s.request ≡ q → IsNamed (link_up s)
   of_link_up s is = (is, all_handed (Names c q) named s.serving Three (messages s.down Three))
 
   of_establish_indication : (state : State) (s : Connection) (at : Place) (sapi : Sapi) (message : Option (List ℕ)) → s.request ≡ q → OfRow IsNamed (on_establish_indication state s at sapi message)
-  of_establish_indication WaitEstablish s at Zero message is = where_fits _ (access message s) (of_access message s is)
+  of_establish_indication WaitEstablish s at Zero message is = where_fits IsNamed _ (access message s) (of_access message s is)
   of_establish_indication (Live reference (Changing target)) s at sapi message is = tt
-  of_establish_indication (Live reference stage) s at Three message is = where_fits _ (link_up s) (of_link_up s is)
+  of_establish_indication (Live reference stage) s at Three message is = where_fits IsNamed _ (link_up s) (of_link_up s is)
   of_establish_indication _ s at sapi message is = tt
 
   of_establish_confirm : (state : State) (s : Connection) (at : Place) (sapi : Sapi) → s.request ≡ q → OfRow IsNamed (on_establish_confirm state s at sapi)
   of_establish_confirm (Live reference (Changing target)) s at sapi is = tt
-  of_establish_confirm (Live reference stage) s at Three is = where_fits _ (link_up s) (of_link_up s is)
+  of_establish_confirm (Live reference stage) s at Three is = where_fits IsNamed _ (link_up s) (of_link_up s is)
   of_establish_confirm _ s at sapi is = tt
 
   of_release_indication : (state : State) (s : Connection) (at : Place) (sapi : Sapi) → s.request ≡ q → OfRow IsNamed (on_release_indication state s at sapi)
-  of_release_indication WaitEstablish s at Zero is = where_fits _ (dropping s) (is, (tt, tt))
-  of_release_indication WaitConfirm s at Zero is = where_fits _ (failing WaitConfirm s RADIO_INTERFACE_FAILURE) (of_failing WaitConfirm s RADIO_INTERFACE_FAILURE is)
+  of_release_indication WaitEstablish s at Zero is = where_fits IsNamed _ (dropping s) (is, (tt, tt))
+  of_release_indication WaitConfirm s at Zero is = where_fits IsNamed _ (failing WaitConfirm s RADIO_INTERFACE_FAILURE) (of_failing WaitConfirm s RADIO_INTERFACE_FAILURE is)
   of_release_indication (Live reference (Changing target)) s at sapi is = tt
-  of_release_indication (Live reference stage) s at Zero is = where_fits _ (failing (Live reference stage) s RADIO_INTERFACE_FAILURE) (of_failing (Live reference stage) s RADIO_INTERFACE_FAILURE is)
-  of_release_indication (Live reference stage) s at Three is = where_fits _ (link_down s.link reference s) (of_link_down s.link reference s is)
+  of_release_indication (Live reference stage) s at Zero is = where_fits IsNamed _ (failing (Live reference stage) s RADIO_INTERFACE_FAILURE) (of_failing (Live reference stage) s RADIO_INTERFACE_FAILURE is)
+  of_release_indication (Live reference stage) s at Three is = where_fits IsNamed _ (link_down s.link reference s) (of_link_down s.link reference s is)
   of_release_indication _ s at sapi is = tt
 
   of_error_indication : (state : State) (s : Connection) (at : Place) (sapi : Sapi) → s.request ≡ q → OfRow IsNamed (on_error_indication state s at sapi)
   of_error_indication (Live reference (Changing target)) s at sapi is = tt
-  of_error_indication (Live reference stage) s at Three is = where_fits _ (link_down s.link reference s) (of_link_down s.link reference s is)
+  of_error_indication (Live reference stage) s at Three is = where_fits IsNamed _ (link_down s.link reference s) (of_link_down s.link reference s is)
   of_error_indication _ s at sapi is = tt
 
   of_connection_failure : (state : State) (s : Connection) (at : Place) → s.request ≡ q → OfRow IsNamed (on_connection_failure state s at)
-  of_connection_failure WaitEstablish s at is = where_fits _ (dropping s) (is, (tt, tt))
-  of_connection_failure WaitConfirm s at is = where_fits _ (failing WaitConfirm s RADIO_INTERFACE_FAILURE) (of_failing WaitConfirm s RADIO_INTERFACE_FAILURE is)
+  of_connection_failure WaitEstablish s at is = where_fits IsNamed _ (dropping s) (is, (tt, tt))
+  of_connection_failure WaitConfirm s at is = where_fits IsNamed _ (failing WaitConfirm s RADIO_INTERFACE_FAILURE) (of_failing WaitConfirm s RADIO_INTERFACE_FAILURE is)
   of_connection_failure (Live reference (Changing target)) s at is = tt
-  of_connection_failure (Live reference stage) s at is = where_fits _ (failing (Live reference stage) s RADIO_INTERFACE_FAILURE) (of_failing (Live reference stage) s RADIO_INTERFACE_FAILURE is)
+  of_connection_failure (Live reference stage) s at is = where_fits IsNamed _ (failing (Live reference stage) s RADIO_INTERFACE_FAILURE) (of_failing (Live reference stage) s RADIO_INTERFACE_FAILURE is)
   of_connection_failure _ s at is = tt
 
   of_dtap_on_target : (reference : ℕ) (stage : Stage) (s : Connection) (at : Place) (sapi : Sapi) → s.request ≡ q → OfRow IsNamed (dtap_on_target reference stage s at sapi)
-  of_dtap_on_target reference (Changing target) s at Zero is = where_fits _ (failing (Live reference (Changing target)) s EQUIPMENT_FAILURE) (of_failing (Live reference (Changing target)) s EQUIPMENT_FAILURE is)
+  of_dtap_on_target reference (Changing target) s at Zero is = where_fits IsNamed _ (failing (Live reference (Changing target)) s EQUIPMENT_FAILURE) (of_failing (Live reference (Changing target)) s EQUIPMENT_FAILURE is)
   of_dtap_on_target reference _ s at _ is = tt
 
   of_dtap_in : (place : Option ℕ) (reference : ℕ) (stage : Stage) (s : Connection) (at : Place) (sapi : Sapi) (message : List ℕ) → s.request ≡ q → OfRow IsNamed (dtap_in place reference stage s at sapi message)
@@ -193,9 +185,9 @@ module _ (c : Channel) (q : RequestReference) where
   of_dtap_in None reference stage s at sapi message is = of_dtap_on_target reference stage s at sapi is
 
   of_dtap : (state : State) (s : Connection) (at : Place) (sapi : Sapi) (message : List ℕ) → s.request ≡ q → OfRow IsNamed (on_dtap state s at sapi message)
-  of_dtap WaitEstablish s at Zero message is = where_fits _ (dropping s) (is, (tt, tt))
+  of_dtap WaitEstablish s at Zero message is = where_fits IsNamed _ (dropping s) (is, (tt, tt))
   of_dtap WaitEstablish s at Three message is = tt
-  of_dtap WaitConfirm s at sapi message is = where_fits _ (hold_up WaitConfirm 0 sapi message s) (of_hold_up WaitConfirm 0 sapi message s is)
+  of_dtap WaitConfirm s at sapi message is = where_fits IsNamed _ (hold_up WaitConfirm 0 sapi message s) (of_hold_up WaitConfirm 0 sapi message s is)
   of_dtap (Live reference stage) s at sapi message is = of_dtap_in (tenure_at at s.serving s.draining) reference stage s at sapi message is
   of_dtap _ s at sapi message is = tt
 
@@ -216,7 +208,7 @@ module _ (c : Channel) (q : RequestReference) where
   of_complete (Live reference (Changing target)) s at change cause offer is =
       let next : Connection = moved reference target.channel s in
       let rests : Connection = (ask_for_held (hand_held Zero next).next).next in
-      where_fits _ (complete reference change target.channel cause offer s) (
+      where_fits IsNamed _ (complete reference change target.channel cause offer s) (
         after_wait (rests.waits && may_begin Draining rests.draining) reference offer rests is,
         change_end Draining reference offer next (change_complete reference change target.channel cause ∷ rf_channel_release s.serving ∷ []) (completes reference change target.channel cause, (tt, tt)),
       )
@@ -230,7 +222,7 @@ module _ (c : Channel) (q : RequestReference) where
   of_failure (Live reference (Changing target)) s at change cause offer is =
       let next : Connection = resting reference s in
       let rests : Connection = (ask_for_held (hand_held Zero next).next).next in
-      where_fits _ (failure reference change target.channel cause offer s) (
+      where_fits IsNamed _ (failure reference change target.channel cause offer s) (
         after_wait (rests.waits && may_begin (resting_stage s.draining) rests.draining) reference offer rests is,
         change_end (resting_stage s.draining) reference offer next (failure_outs change reference cause ++ rf_channel_release target.channel ∷ []) (AllByRecursion-append (Names c q) (failure_outs change reference cause) (rf_channel_release target.channel ∷ []) (fails reference change cause) (tt, tt)),
       )
@@ -255,7 +247,7 @@ module _ (c : Channel) (q : RequestReference) where
   of_release_ack _ s at offer is = tt
 
   of_move : (state : State) (s : Connection) (offer : Option Channel) → s.request ≡ q → OfRow IsNamed (on_move state s offer)
-  of_move (Live reference stage) s offer is = where_fits _ (begin reference Handover offer s) (begun reference Handover offer s is)
+  of_move (Live reference stage) s offer is = where_fits IsNamed _ (begin reference Handover offer s) (begun reference Handover offer s is)
   of_move _ s offer is = tt
 
   of_confirm : (state : State) (s : Connection) (reference : ℕ) → s.request ≡ q → OfRow IsNamed (on_confirm state s reference)
@@ -285,13 +277,13 @@ module _ (c : Channel) (q : RequestReference) where
 
   of_speech : (reference : ℕ) (stage : Stage) (offer : Option Channel) (s : Connection) → s.request ≡ q → IsNamed (speech_request reference stage offer s)
   of_speech reference stage offer s is =
-      either (may_begin stage s.draining) (begin reference Assignment offer s) (if s.waits then row (assignment_failure reference PROTOCOL_ERROR None ∷ []) s else row [] (record s { waits = true }))
+      either IsNamed (may_begin stage s.draining) (begin reference Assignment offer s) (if s.waits then row (assignment_failure reference PROTOCOL_ERROR None ∷ []) s else row [] (record s { waits = true }))
       (begun reference Assignment offer s is)
-      (either s.waits (row (assignment_failure reference PROTOCOL_ERROR None ∷ []) s) (row [] (record s { waits = true })) (is, (tt, tt)) (is, tt))
+      (either IsNamed s.waits (row (assignment_failure reference PROTOCOL_ERROR None ∷ []) s) (row [] (record s { waits = true })) (is, (tt, tt)) (is, tt))
 
   of_assignment_request : (state : State) (s : Connection) (is_speech : Bool) (offer : Option Channel) → s.request ≡ q → OfRow IsNamed (on_assignment_request state s is_speech offer)
   of_assignment_request (Live reference stage) s is_speech offer is =
-      either is_speech (speech_request reference stage offer s) (row (assignment_failure reference BSS_NOT_EQUIPPED None ∷ []) s) (of_speech reference stage offer s is) (is, (tt, tt))
+      either IsNamed is_speech (speech_request reference stage offer s) (row (assignment_failure reference BSS_NOT_EQUIPPED None ∷ []) s) (of_speech reference stage offer s is) (is, (tt, tt))
   of_assignment_request _ s is_speech offer is = tt
 
   of_cipher_mode_command : (state : State) (s : Connection) → s.request ≡ q → OfRow IsNamed (on_cipher_mode_command state s)
@@ -311,17 +303,17 @@ module _ (c : Channel) (q : RequestReference) where
   of_expiry _ s is = tt
 
   of_drain_expiry : (state : State) (s : Connection) → s.request ≡ q → OfRow IsNamed (on_drain_expiry state s)
-  of_drain_expiry (Live reference stage) s is = where_fits _ (failing (Live reference stage) s EQUIPMENT_FAILURE) (of_failing (Live reference stage) s EQUIPMENT_FAILURE is)
+  of_drain_expiry (Live reference stage) s is = where_fits IsNamed _ (failing (Live reference stage) s EQUIPMENT_FAILURE) (of_failing (Live reference stage) s EQUIPMENT_FAILURE is)
   of_drain_expiry _ s is = tt
 
   without : (station : ℕ) (r : Row) → IsNamed r → IsNamed (without_station station r)
   without station r named = (named.0, AllByRecursion-filter (Names c q) _ r.outs named.1)
 
   of_station_down : (state : State) (s : Connection) (station : ℕ) → s.request ≡ q → OfRow IsNamed (on_station_down state s station)
-  of_station_down WaitActivation s station is = where_fits _ (without_station station (dropping s)) (without station (dropping s) (is, (tt, tt)))
-  of_station_down WaitEstablish s station is = where_fits _ (without_station station (dropping s)) (without station (dropping s) (is, (tt, tt)))
-  of_station_down WaitConfirm s station is = where_fits _ (without_station station (failing WaitConfirm s EQUIPMENT_FAILURE)) (without station (failing WaitConfirm s EQUIPMENT_FAILURE) (of_failing WaitConfirm s EQUIPMENT_FAILURE is))
-  of_station_down (Live reference stage) s station is = where_fits _ (without_station station (failing (Live reference stage) s EQUIPMENT_FAILURE)) (without station (failing (Live reference stage) s EQUIPMENT_FAILURE) (of_failing (Live reference stage) s EQUIPMENT_FAILURE is))
+  of_station_down WaitActivation s station is = where_fits IsNamed _ (without_station station (dropping s)) (without station (dropping s) (is, (tt, tt)))
+  of_station_down WaitEstablish s station is = where_fits IsNamed _ (without_station station (dropping s)) (without station (dropping s) (is, (tt, tt)))
+  of_station_down WaitConfirm s station is = where_fits IsNamed _ (without_station station (failing WaitConfirm s EQUIPMENT_FAILURE)) (without station (failing WaitConfirm s EQUIPMENT_FAILURE) (of_failing WaitConfirm s EQUIPMENT_FAILURE is))
+  of_station_down (Live reference stage) s station is = where_fits IsNamed _ (without_station station (failing (Live reference stage) s EQUIPMENT_FAILURE)) (without station (failing (Live reference stage) s EQUIPMENT_FAILURE) (of_failing (Live reference stage) s EQUIPMENT_FAILURE is))
   of_station_down _ s station is = tt
 
   of_switch_down : (state : State) (s : Connection) → s.request ≡ q → OfRow IsNamed (on_switch_down state s)

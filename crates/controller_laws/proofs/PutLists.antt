@@ -1,5 +1,5 @@
--- The lists of messages that rows put: what holds of each kind of message holds of all.
-use Rattle.std.proofs.Common.{ℕ, Bool, true, false, List, [], ◌∷◌, map, Option, Some, None}
+-- Rows, and the lists of messages that they put: what holds of each kind of message holds of all.
+use Rattle.std.proofs.Common.{ℕ, Bool, true, false, if◌then◌else◌, List, [], ◌∷◌, map, Option, Some, None}
 use Rattle.std.specs.List.{AllByRecursion}
 use Rattle.conn_messages.specs.declared.channel.Change.{Change}
 use Rattle.conn_messages.specs.declared.channel.Change.TheVariants.{Assignment, Handover}
@@ -10,10 +10,22 @@ use Rattle.conn_messages.specs.SwitchMessage.{assignment_failure, relaying}
 use Rattle.conn_table.proofs.DownlinkMessages.{AllByRecursion-append}
 use Rattle.conn_table.specs.declared.state.ShortMessageLink.{ShortMessageLink}
 use Rattle.conn_table.specs.declared.state.ShortMessageLink.TheVariants.{Down, Asked, Up}
-use Rattle.conn_table.specs.Steps.{begin_outs, request_for, request_where, tenure_outs, waiting_outs}
+use Rattle.conn_table.specs.Steps.{Row, begin_outs, request_for, request_where, tenure_outs, waiting_outs}
+use Rattle.conn_table.specs.Streams.{OfRow}
+use Rattle.conn_table.specs.Table.{row_if}
 use Rattle.dtap_codec.specs.declared.sapi.Sapi.{Sapi}
 use Rattle.dtap_codec.specs.declared.sapi.Sapi.TheVariants.{Zero, Three}
 use Rattle.hold_queue.specs.ChainState.{Tenure}
+
+-- of one of two rows
+pub either : (P : Row → Type 0) (b : Bool) (r q : Row) → P r → P q → P (if b then r else q)
+either P true r q one other = one
+either P false r q one other = other
+
+-- of a row that fits where a test says so
+pub where_fits : (P : Row → Type 0) (b : Bool) (r : Row) → P r → OfRow P (row_if b r)
+where_fits P true r holds = holds
+where_fits P false r holds = tt
 
 -- It holds of the messages that begin a change or ask for SAPI 3, and of those that are handed and relayed.
 pub record HoldsOfEach (P : Message → Type 0) : Type 0 where

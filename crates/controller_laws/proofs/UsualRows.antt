@@ -28,8 +28,8 @@ use Rattle.conn_table.specs.declared.state.State.TheVariants.{WaitActivation, Wa
 use Rattle.conn_table.specs.Connection.{Connection, drain_at, emptied, enter, first_channel, tenure_at}
 use Rattle.conn_table.specs.Steps.{Row, row, ◌then◌, begin, begin_waiting, done_at, dropping, end_outs, failing, goes_to, hold_down, hold_short_message, hold_up, leave, link_down, link_up, may_begin, moved, relay_held, request_for, request_where, resting, resting_stage, settled, settled_stage, shifted, short_message, target_release, waiting_outs, without_station}
 use Rattle.conn_table.specs.Streams.{OfRow}
-use Rattle.conn_table.specs.Table.{access, assign_immediately, command_to, complete, dtap_in, dtap_on_target, failure, failure_outs, nack_outs, on_activation_ack, on_activation_nack, on_assignment_request, on_cipher_mode_command, on_clear_command, on_complete, on_confirm, on_connection_failure, on_downlink, on_drain_expiry, on_dtap, on_error_indication, on_establish_confirm, on_establish_indication, on_expiry, on_failure, on_move, on_refused, on_release_ack, on_release_indication, on_released, on_station_down, on_switch_down, refuse, release, release_in, row_if, row_of, speech_request}
-use Rattle.controller_laws.proofs.PutLists.{HoldsOfEach, all_handed, all_of_tenure, begins, requests_for, requests_where, waits}
+use Rattle.conn_table.specs.Table.{access, assign_immediately, command_to, complete, dtap_in, dtap_on_target, failure, failure_outs, nack_outs, on_activation_ack, on_activation_nack, on_assignment_request, on_cipher_mode_command, on_clear_command, on_complete, on_confirm, on_connection_failure, on_downlink, on_drain_expiry, on_dtap, on_error_indication, on_establish_confirm, on_establish_indication, on_expiry, on_failure, on_move, on_refused, on_release_ack, on_release_indication, on_released, on_station_down, on_switch_down, refuse, release, release_in, row_of, speech_request}
+use Rattle.controller_laws.proofs.PutLists.{all_handed, all_of_tenure, begins, either, HoldsOfEach, requests_for, requests_where, waits, where_fits}
 use Rattle.dtap_codec.specs.declared.sapi.Sapi.{Sapi}
 use Rattle.dtap_codec.specs.declared.sapi.Sapi.TheVariants.{Zero, Three}
 use Rattle.hold_queue.specs.ChainState.{chain_count, put_in}
@@ -49,14 +49,6 @@ AreUsual outs = AllByRecursion IsUsual outs
 
 abbrev pub PutsUsual : Row → Type 0
 PutsUsual r = AreUsual r.outs
-
-either : (b : Bool) (r q : Row) → PutsUsual r → PutsUsual q → PutsUsual (if b then r else q)
-either true r q h k = h
-either false r q h k = k
-
-where_fits : (b : Bool) (r : Row) → PutsUsual r → OfRow PutsUsual (row_if b r)
-where_fits true r h = h
-where_fits false r h = tt
 
 -- ---- messages
 
@@ -100,11 +92,11 @@ of_failing (Closed clearing) s cause = of_end_outs (Closed clearing) s.serving A
 of_failing Removed s cause = of_end_outs Removed s.serving ABNORMAL_RELEASE
 
 of_hold_down : (state : State) (sapi : Sapi) (message : List ℕ) (s : Connection) → PutsUsual (hold_down state sapi message s)
-of_hold_down state sapi message s = either (count s.down == s.down.limit) (failing state s EQUIPMENT_FAILURE) (row [] (record s { down = with_messages s.down sapi (messages s.down sapi ++ message ∷ []) })) (of_failing state s EQUIPMENT_FAILURE) tt
+of_hold_down state sapi message s = either PutsUsual (count s.down == s.down.limit) (failing state s EQUIPMENT_FAILURE) (row [] (record s { down = with_messages s.down sapi (messages s.down sapi ++ message ∷ []) })) (of_failing state s EQUIPMENT_FAILURE) tt
 
 of_hold_short_message : (state : State) (message : List ℕ) (s : Connection) → PutsUsual (hold_short_message state message s)
 of_hold_short_message state message s =
-    either (count s.down == s.down.limit) (failing state s EQUIPMENT_FAILURE) (row (request_where s.link s.serving) (record s { link = Asked; down = with_messages s.down Three (messages s.down Three ++ message ∷ []) }))
+    either PutsUsual (count s.down == s.down.limit) (failing state s EQUIPMENT_FAILURE) (row (request_where s.link s.serving) (record s { link = Asked; down = with_messages s.down Three (messages s.down Three ++ message ∷ []) }))
     (of_failing state s EQUIPMENT_FAILURE) (requests_where IsUsual usual s.link s.serving)
 
 of_short_message : (state : State) (link : ShortMessageLink) (message : List ℕ) (s : Connection) → PutsUsual (short_message state link message s)
@@ -118,12 +110,12 @@ of_link_down Asked reference s = (tt, tt)
 of_link_down Down reference s = tt
 
 of_hold_up : (state : State) (tenure : ℕ) (sapi : Sapi) (message : List ℕ) (s : Connection) → PutsUsual (hold_up state tenure sapi message s)
-of_hold_up state tenure sapi message s = either (chain_count s.up == s.up.limit) (failing state s EQUIPMENT_FAILURE) (row [] (record s { up = record s.up { tenures = put_in tenure sapi message s.up.tenures } })) (of_failing state s EQUIPMENT_FAILURE) tt
+of_hold_up state tenure sapi message s = either PutsUsual (chain_count s.up == s.up.limit) (failing state s EQUIPMENT_FAILURE) (row [] (record s { up = record s.up { tenures = put_in tenure sapi message s.up.tenures } })) (of_failing state s EQUIPMENT_FAILURE) tt
 
 of_leave : (reference : ℕ) (draining : List Drain) (s : Connection) → PutsUsual (leave reference draining s)
 of_leave reference [] s = tt
 of_leave reference (d ∷ ds) s =
-    either d.is_done (row [] (shifted ds s) then relay_held reference then leave reference ds) (row [] (record s { draining = d ∷ ds }))
+    either PutsUsual d.is_done (row [] (shifted ds s) then relay_held reference then leave reference ds) (row [] (record s { draining = d ∷ ds }))
     (AllByRecursion-append IsUsual (relay_held reference (shifted ds s)).outs (leave reference ds (relay_held reference (shifted ds s)).next).outs
     (all_of_tenure IsUsual usual reference (first_channel ds s.serving) (shifted ds s).up.tenures) (of_leave reference ds (relay_held reference (shifted ds s)).next))
     tt
@@ -131,12 +123,12 @@ of_leave reference (d ∷ ds) s =
 -- ---- rows
 
 of_access : (message : Option (List ℕ)) (s : Connection) → PutsUsual (access message s)
-of_access (Some initial) s = either (nat_le (length initial) INITIAL_LIMIT) (row (complete_layer3 s.serving initial ∷ []) (enter WaitConfirm s)) (dropping s) (tt, tt) (tt, tt)
+of_access (Some initial) s = either PutsUsual (nat_le (length initial) INITIAL_LIMIT) (row (complete_layer3 s.serving initial ∷ []) (enter WaitConfirm s)) (dropping s) (tt, tt) (tt, tt)
 of_access None s = (tt, tt)
 
 of_activation_ack : (state : State) (s : Connection) (at : Place) → OfRow PutsUsual (on_activation_ack state s at)
-of_activation_ack WaitActivation s at = where_fits _ (assign_immediately s) (tt, tt)
-of_activation_ack (Live reference (Preparing target)) s at = where_fits _ (command_to reference target s) (tt, tt)
+of_activation_ack WaitActivation s at = where_fits PutsUsual _ (assign_immediately s) (tt, tt)
+of_activation_ack (Live reference (Preparing target)) s at = where_fits PutsUsual _ (command_to reference target s) (tt, tt)
 of_activation_ack _ s at = tt
 
 nacks : (change : Change) (reference : ℕ) → AreUsual (nack_outs change reference)
@@ -148,43 +140,43 @@ of_refuse reference change offer s =
     AllByRecursion-append IsUsual (nack_outs change reference) (begin_waiting (resting_stage s.draining) reference offer (resting reference s)).outs (nacks change reference) (waits IsUsual usual (s.waits && may_begin (resting_stage s.draining) s.draining) reference offer)
 
 of_activation_nack : (state : State) (s : Connection) (at : Place) (offer : Option Channel) → OfRow PutsUsual (on_activation_nack state s at offer)
-of_activation_nack WaitActivation s at offer = where_fits _ (row [] (emptied Removed s)) tt
-of_activation_nack (Live reference (Preparing target)) s at offer = where_fits _ (refuse reference target.change offer s) (of_refuse reference target.change offer s)
+of_activation_nack WaitActivation s at offer = where_fits PutsUsual _ (row [] (emptied Removed s)) tt
+of_activation_nack (Live reference (Preparing target)) s at offer = where_fits PutsUsual _ (refuse reference target.change offer s) (of_refuse reference target.change offer s)
 of_activation_nack _ s at offer = tt
 
 of_establish_indication : (state : State) (s : Connection) (at : Place) (sapi : Sapi) (message : Option (List ℕ)) → OfRow PutsUsual (on_establish_indication state s at sapi message)
-of_establish_indication WaitEstablish s at Zero message = where_fits _ (access message s) (of_access message s)
+of_establish_indication WaitEstablish s at Zero message = where_fits PutsUsual _ (access message s) (of_access message s)
 of_establish_indication (Live reference (Changing target)) s at sapi message = tt
-of_establish_indication (Live reference stage) s at Three message = where_fits _ (link_up s) (all_handed IsUsual usual s.serving Three (messages s.down Three))
+of_establish_indication (Live reference stage) s at Three message = where_fits PutsUsual _ (link_up s) (all_handed IsUsual usual s.serving Three (messages s.down Three))
 of_establish_indication _ s at sapi message = tt
 
 of_establish_confirm : (state : State) (s : Connection) (at : Place) (sapi : Sapi) → OfRow PutsUsual (on_establish_confirm state s at sapi)
 of_establish_confirm (Live reference (Changing target)) s at sapi = tt
-of_establish_confirm (Live reference stage) s at Three = where_fits _ (link_up s) (all_handed IsUsual usual s.serving Three (messages s.down Three))
+of_establish_confirm (Live reference stage) s at Three = where_fits PutsUsual _ (link_up s) (all_handed IsUsual usual s.serving Three (messages s.down Three))
 of_establish_confirm _ s at sapi = tt
 
 of_release_indication : (state : State) (s : Connection) (at : Place) (sapi : Sapi) → OfRow PutsUsual (on_release_indication state s at sapi)
-of_release_indication WaitEstablish s at Zero = where_fits _ (dropping s) (tt, tt)
-of_release_indication WaitConfirm s at Zero = where_fits _ (failing WaitConfirm s RADIO_INTERFACE_FAILURE) (of_failing WaitConfirm s RADIO_INTERFACE_FAILURE)
+of_release_indication WaitEstablish s at Zero = where_fits PutsUsual _ (dropping s) (tt, tt)
+of_release_indication WaitConfirm s at Zero = where_fits PutsUsual _ (failing WaitConfirm s RADIO_INTERFACE_FAILURE) (of_failing WaitConfirm s RADIO_INTERFACE_FAILURE)
 of_release_indication (Live reference (Changing target)) s at sapi = tt
-of_release_indication (Live reference stage) s at Zero = where_fits _ (failing (Live reference stage) s RADIO_INTERFACE_FAILURE) (of_failing (Live reference stage) s RADIO_INTERFACE_FAILURE)
-of_release_indication (Live reference stage) s at Three = where_fits _ (link_down s.link reference s) (of_link_down s.link reference s)
+of_release_indication (Live reference stage) s at Zero = where_fits PutsUsual _ (failing (Live reference stage) s RADIO_INTERFACE_FAILURE) (of_failing (Live reference stage) s RADIO_INTERFACE_FAILURE)
+of_release_indication (Live reference stage) s at Three = where_fits PutsUsual _ (link_down s.link reference s) (of_link_down s.link reference s)
 of_release_indication _ s at sapi = tt
 
 of_error_indication : (state : State) (s : Connection) (at : Place) (sapi : Sapi) → OfRow PutsUsual (on_error_indication state s at sapi)
 of_error_indication (Live reference (Changing target)) s at sapi = tt
-of_error_indication (Live reference stage) s at Three = where_fits _ (link_down s.link reference s) (of_link_down s.link reference s)
+of_error_indication (Live reference stage) s at Three = where_fits PutsUsual _ (link_down s.link reference s) (of_link_down s.link reference s)
 of_error_indication _ s at sapi = tt
 
 of_connection_failure : (state : State) (s : Connection) (at : Place) → OfRow PutsUsual (on_connection_failure state s at)
-of_connection_failure WaitEstablish s at = where_fits _ (dropping s) (tt, tt)
-of_connection_failure WaitConfirm s at = where_fits _ (failing WaitConfirm s RADIO_INTERFACE_FAILURE) (of_failing WaitConfirm s RADIO_INTERFACE_FAILURE)
+of_connection_failure WaitEstablish s at = where_fits PutsUsual _ (dropping s) (tt, tt)
+of_connection_failure WaitConfirm s at = where_fits PutsUsual _ (failing WaitConfirm s RADIO_INTERFACE_FAILURE) (of_failing WaitConfirm s RADIO_INTERFACE_FAILURE)
 of_connection_failure (Live reference (Changing target)) s at = tt
-of_connection_failure (Live reference stage) s at = where_fits _ (failing (Live reference stage) s RADIO_INTERFACE_FAILURE) (of_failing (Live reference stage) s RADIO_INTERFACE_FAILURE)
+of_connection_failure (Live reference stage) s at = where_fits PutsUsual _ (failing (Live reference stage) s RADIO_INTERFACE_FAILURE) (of_failing (Live reference stage) s RADIO_INTERFACE_FAILURE)
 of_connection_failure _ s at = tt
 
 of_dtap_on_target : (reference : ℕ) (stage : Stage) (s : Connection) (at : Place) (sapi : Sapi) → OfRow PutsUsual (dtap_on_target reference stage s at sapi)
-of_dtap_on_target reference (Changing target) s at Zero = where_fits _ (failing (Live reference (Changing target)) s EQUIPMENT_FAILURE) (of_failing (Live reference (Changing target)) s EQUIPMENT_FAILURE)
+of_dtap_on_target reference (Changing target) s at Zero = where_fits PutsUsual _ (failing (Live reference (Changing target)) s EQUIPMENT_FAILURE) (of_failing (Live reference (Changing target)) s EQUIPMENT_FAILURE)
 of_dtap_on_target reference _ s at _ = tt
 
 of_dtap_in : (place : Option ℕ) (reference : ℕ) (stage : Stage) (s : Connection) (at : Place) (sapi : Sapi) (message : List ℕ) → OfRow PutsUsual (dtap_in place reference stage s at sapi message)
@@ -193,9 +185,9 @@ of_dtap_in (Some (suc tenure)) reference stage s at sapi message = of_hold_up (L
 of_dtap_in None reference stage s at sapi message = of_dtap_on_target reference stage s at sapi
 
 of_dtap : (state : State) (s : Connection) (at : Place) (sapi : Sapi) (message : List ℕ) → OfRow PutsUsual (on_dtap state s at sapi message)
-of_dtap WaitEstablish s at Zero message = where_fits _ (dropping s) (tt, tt)
+of_dtap WaitEstablish s at Zero message = where_fits PutsUsual _ (dropping s) (tt, tt)
 of_dtap WaitEstablish s at Three message = tt
-of_dtap WaitConfirm s at sapi message = where_fits _ (hold_up WaitConfirm 0 sapi message s) (of_hold_up WaitConfirm 0 sapi message s)
+of_dtap WaitConfirm s at sapi message = where_fits PutsUsual _ (hold_up WaitConfirm 0 sapi message s) (of_hold_up WaitConfirm 0 sapi message s)
 of_dtap (Live reference stage) s at sapi message = of_dtap_in (tenure_at at s.serving s.draining) reference stage s at sapi message
 of_dtap _ s at sapi message = tt
 
@@ -215,7 +207,7 @@ of_end stage reference offer s outs first =
 
 of_complete : (state : State) (s : Connection) (at : Place) (change : Change) (cause : ℕ) (offer : Option Channel) → OfRow PutsUsual (on_complete state s at change cause offer)
 of_complete (Live reference (Changing target)) s at change cause offer =
-    where_fits _ (complete reference change target.channel cause offer s)
+    where_fits PutsUsual _ (complete reference change target.channel cause offer s)
     (of_end Draining reference offer (moved reference target.channel s) (change_complete reference change target.channel cause ∷ rf_channel_release s.serving ∷ []) ((completes reference change target.channel cause, (tt, tt))))
 of_complete _ s at change cause offer = tt
 
@@ -225,7 +217,7 @@ fails reference Handover cause = tt
 
 of_failure : (state : State) (s : Connection) (at : Place) (change : Change) (cause : ℕ) (offer : Option Channel) → OfRow PutsUsual (on_failure state s at change cause offer)
 of_failure (Live reference (Changing target)) s at change cause offer =
-    where_fits _ (failure reference change target.channel cause offer s)
+    where_fits PutsUsual _ (failure reference change target.channel cause offer s)
     (of_end (resting_stage s.draining) reference offer (resting reference s) (failure_outs change reference cause ++ rf_channel_release target.channel ∷ []) (AllByRecursion-append IsUsual (failure_outs change reference cause) (rf_channel_release target.channel ∷ []) (fails reference change cause) (tt, tt)))
 of_failure _ s at change cause offer = tt
 
@@ -246,7 +238,7 @@ of_release_ack (Live reference stage) s at offer = of_release_in (drain_at at s.
 of_release_ack _ s at offer = tt
 
 of_move : (state : State) (s : Connection) (offer : Option Channel) → OfRow PutsUsual (on_move state s offer)
-of_move (Live reference stage) s offer = where_fits _ (begin reference Handover offer s) (begins IsUsual usual reference Handover offer)
+of_move (Live reference stage) s offer = where_fits PutsUsual _ (begin reference Handover offer s) (begins IsUsual usual reference Handover offer)
 of_move _ s offer = tt
 
 of_confirm : (state : State) (s : Connection) (reference : ℕ) → OfRow PutsUsual (on_confirm state s reference)
@@ -273,13 +265,13 @@ of_downlink _ s sapi message = tt
 
 of_speech : (reference : ℕ) (stage : Stage) (offer : Option Channel) (s : Connection) → PutsUsual (speech_request reference stage offer s)
 of_speech reference stage offer s =
-    either (may_begin stage s.draining) (begin reference Assignment offer s) (if s.waits then row (assignment_failure reference PROTOCOL_ERROR None ∷ []) s else row [] (record s { waits = true }))
+    either PutsUsual (may_begin stage s.draining) (begin reference Assignment offer s) (if s.waits then row (assignment_failure reference PROTOCOL_ERROR None ∷ []) s else row [] (record s { waits = true }))
     (begins IsUsual usual reference Assignment offer)
-    (either s.waits (row (assignment_failure reference PROTOCOL_ERROR None ∷ []) s) (row [] (record s { waits = true })) (tt, tt) tt)
+    (either PutsUsual s.waits (row (assignment_failure reference PROTOCOL_ERROR None ∷ []) s) (row [] (record s { waits = true })) (tt, tt) tt)
 
 of_assignment_request : (state : State) (s : Connection) (is_speech : Bool) (offer : Option Channel) → OfRow PutsUsual (on_assignment_request state s is_speech offer)
 of_assignment_request (Live reference stage) s is_speech offer =
-    either is_speech (speech_request reference stage offer s) (row (assignment_failure reference BSS_NOT_EQUIPPED None ∷ []) s) (of_speech reference stage offer s) (tt, tt)
+    either PutsUsual is_speech (speech_request reference stage offer s) (row (assignment_failure reference BSS_NOT_EQUIPPED None ∷ []) s) (of_speech reference stage offer s) (tt, tt)
 of_assignment_request _ s is_speech offer = tt
 
 of_cipher_mode_command : (state : State) (s : Connection) → OfRow PutsUsual (on_cipher_mode_command state s)
@@ -299,14 +291,14 @@ of_expiry (Live reference (Changing target)) s = of_failing (Live reference (Cha
 of_expiry _ s = tt
 
 of_drain_expiry : (state : State) (s : Connection) → OfRow PutsUsual (on_drain_expiry state s)
-of_drain_expiry (Live reference stage) s = where_fits _ (failing (Live reference stage) s EQUIPMENT_FAILURE) (of_failing (Live reference stage) s EQUIPMENT_FAILURE)
+of_drain_expiry (Live reference stage) s = where_fits PutsUsual _ (failing (Live reference stage) s EQUIPMENT_FAILURE) (of_failing (Live reference stage) s EQUIPMENT_FAILURE)
 of_drain_expiry _ s = tt
 
 of_station_down : (state : State) (s : Connection) (station : ℕ) → OfRow PutsUsual (on_station_down state s station)
-of_station_down WaitActivation s station = where_fits _ (without_station station (dropping s)) (AllByRecursion-filter IsUsual (λ message. not (goes_to station message)) (dropping s).outs (tt, tt))
-of_station_down WaitEstablish s station = where_fits _ (without_station station (dropping s)) (AllByRecursion-filter IsUsual (λ message. not (goes_to station message)) (dropping s).outs (tt, tt))
-of_station_down WaitConfirm s station = where_fits _ (without_station station (failing WaitConfirm s EQUIPMENT_FAILURE)) (AllByRecursion-filter IsUsual (λ message. not (goes_to station message)) (failing WaitConfirm s EQUIPMENT_FAILURE).outs (of_failing WaitConfirm s EQUIPMENT_FAILURE))
-of_station_down (Live reference stage) s station = where_fits _ (without_station station (failing (Live reference stage) s EQUIPMENT_FAILURE)) (AllByRecursion-filter IsUsual (λ message. not (goes_to station message)) (failing (Live reference stage) s EQUIPMENT_FAILURE).outs (of_failing (Live reference stage) s EQUIPMENT_FAILURE))
+of_station_down WaitActivation s station = where_fits PutsUsual _ (without_station station (dropping s)) (AllByRecursion-filter IsUsual (λ message. not (goes_to station message)) (dropping s).outs (tt, tt))
+of_station_down WaitEstablish s station = where_fits PutsUsual _ (without_station station (dropping s)) (AllByRecursion-filter IsUsual (λ message. not (goes_to station message)) (dropping s).outs (tt, tt))
+of_station_down WaitConfirm s station = where_fits PutsUsual _ (without_station station (failing WaitConfirm s EQUIPMENT_FAILURE)) (AllByRecursion-filter IsUsual (λ message. not (goes_to station message)) (failing WaitConfirm s EQUIPMENT_FAILURE).outs (of_failing WaitConfirm s EQUIPMENT_FAILURE))
+of_station_down (Live reference stage) s station = where_fits PutsUsual _ (without_station station (failing (Live reference stage) s EQUIPMENT_FAILURE)) (AllByRecursion-filter IsUsual (λ message. not (goes_to station message)) (failing (Live reference stage) s EQUIPMENT_FAILURE).outs (of_failing (Live reference stage) s EQUIPMENT_FAILURE))
 of_station_down _ s station = tt
 
 of_switch_down : (state : State) (s : Connection) → OfRow PutsUsual (on_switch_down state s)
