@@ -28,6 +28,10 @@ if_so P Q (Err e) follows is = tt
 pub lived : (p : Parameters) (steps : List Step) (c : Controller) (outs : List Out) → (c ≡ (life p steps).next) × (outs ≡ (life p steps).outs) → life p steps ≡ turn outs c
 lived p steps c outs is = ap (λ (os : List Out). turn os (life p steps).next) (sym is.1) ∙ ap (turn outs) (sym is.0)
 
+-- what holds of the controller after a life, whatever comes next
+pub next_of : (P : Controller → Type 0) (p : Parameters) (steps : List Step) (c : Controller) (outs : List Out) → (c ≡ (life p steps).next) × (outs ≡ (life p steps).outs) → P (life p steps).next → P c
+next_of P p steps c outs is = subst P (sym is.0)
+
 pub uplink_of : (p : Parameters) (steps : List Step) (c : Controller) (outs : List Out) → AreAllowed p → (c ≡ (life p steps).next) × (outs ≡ (life p steps).outs) → (number : ℕ) → 1 ≤ number → UplinkIsConserved number p steps (turn outs c)
 uplink_of p steps c outs allowed is number from_one = subst (UplinkIsConserved number p steps) (lived p steps c outs is) (life_conserves_up p steps number allowed from_one)
 
@@ -38,10 +42,10 @@ pub silence_of : (p : Parameters) (steps : List Step) (c : Controller) (outs : L
 silence_of p steps c outs is number from_one = subst (SilenceIsKept number p steps) (lived p steps c outs is) (life_is_silent p steps number from_one)
 
 pub channels_of : (p : Parameters) (steps : List Step) (c : Controller) (outs : List Out) → AreAllowed p → (c ≡ (life p steps).next) × (outs ≡ (life p steps).outs) → (number : ℕ) → OwnsOpen c.channels c.links number (connection_of c number)
-channels_of p steps c outs allowed is number = subst (λ (d : Controller). OwnsOpen d.channels d.links number (connection_of d number)) (sym is.0) (life_owns p steps number allowed)
+channels_of p steps c outs allowed is number = next_of (λ (d : Controller). OwnsOpen d.channels d.links number (connection_of d number)) p steps c outs is (life_owns p steps number allowed)
 
 pub used_of : (p : Parameters) (steps : List Step) (c : Controller) (outs : List Out) → AreAllowed p → (c ≡ (life p steps).next) × (outs ≡ (life p steps).outs) → AreUsed c
-used_of p steps c outs allowed is = subst AreUsed (sym is.0) (life_uses p steps allowed)
+used_of p steps c outs allowed is = next_of AreUsed p steps c outs is (life_uses p steps allowed)
 
 pub sent_of : (p : Parameters) (steps : List Step) (c : Controller) (outs : List Out) → AreAllowed p → (c ≡ (life p steps).next) × (outs ≡ (life p steps).outs) → AllByRecursion ComesInOctets steps → AllByRecursion IsSent outs
 sent_of p steps c outs allowed is octets = subst (AllByRecursion IsSent) (sym is.1) (life_sends_all p steps allowed octets)

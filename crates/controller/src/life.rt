@@ -1,15 +1,24 @@
-ghost use Rattle.std.specs.Prelude.{ℕ, ◌≡◌, ◌≤◌, IfOk, OnErr, OnOk};
+ghost use Rattle.std.specs.Prelude.{ℕ, ◌≡◌, ◌≤◌, ◌<◌, IfOk, List, OnErr, OnOk};
 ghost use Rattle.std.specs.List.{AllByRecursion};
+ghost use Rattle.conn_messages.specs.declared.parameters.TheConstants.{SWITCH_LINK};
+ghost use Rattle.controller_laws.specs.Acts.{ActsOn};
+ghost use Rattle.controller_laws.specs.Concern.{FrameLeaves};
 ghost use Rattle.controller_laws.specs.Downlink.{DownlinkIsConserved};
-ghost use Rattle.controller_laws.specs.End.{SilenceIsKept};
+ghost use Rattle.controller_laws.specs.End.{IsThere, SilenceIsKept, StaysSilent};
 ghost use Rattle.controller_laws.specs.History.{connection_of};
-ghost use Rattle.controller_laws.specs.Owning.{OwnsOpen};
+ghost use Rattle.controller_laws.specs.Naming.{NamesItsMobile};
+ghost use Rattle.controller_laws.specs.Numbers.{IsNumbered};
+ghost use Rattle.controller_laws.specs.Owning.{LinkedOf, OwnsOpen};
+ghost use Rattle.controller_laws.specs.Placing.{KeepsToChannels};
+ghost use Rattle.controller_laws.specs.Reach.{GoesToUp};
 ghost use Rattle.controller_laws.specs.Sending.{ComesInOctets, IsSent};
 ghost use Rattle.controller_laws.specs.Uplink.{UplinkIsConserved};
 ghost use Rattle.controller_laws.specs.Using.{AreUsed};
-ghost use Rattle.controller_table.specs.Controller.{each, new_controller, turn};
+ghost use Rattle.controller_table.specs.declared.step.Step.{Step as StepValue};
+ghost use Rattle.controller_table.specs.Controller.{each, is_up, new_controller, turn};
 ghost use Rattle.controller_table.specs.Life as words;
 ghost use Rattle.controller.specs.Doing.{Stays, Turns};
+ghost use Rattle.ipa_framing.specs.declared.frame.Frame.{Frame as FrameValue};
 ghost use Rattle.settings.specs.Parameters.{AreAllowed};
 
 use crate::controller::Controller;
@@ -33,12 +42,27 @@ pub fn run(
     ensures uplink { IfOk result (λ both. (number : ℕ) → 1 ≤ number → UplinkIsConserved number settings steps.items (turn both.1.outs both.0)) }
     ensures downlink { IfOk result (λ both. (number : ℕ) → 1 ≤ number → DownlinkIsConserved number settings steps.items (turn both.1.outs both.0)) }
 
-    // Nothing is handed while its channel changes, and nothing is relayed or handed once it is closed.
+    // Nothing is handed while its channel changes, and nothing is relayed or handed once it is closed, whatever comes.
     ensures silence { IfOk result (λ both. (number : ℕ) → 1 ≤ number → SilenceIsKept number settings steps.items (turn both.1.outs both.0)) }
+    ensures closed { IfOk result (λ both. (rest : List StepValue) (number : ℕ) → 1 ≤ number → number < both.0.next_number
+        → (IsThere (connection_of both.0 number) → ⊥) → StaysSilent number both.0 rest) }
 
     // Its channels are its own: a channel is in use by a connection exactly where the connection uses it.
     ensures channels { IfOk result (λ both. (number : ℕ) → OwnsOpen both.0.channels both.0.links number (connection_of both.0 number)) }
     ensures used { IfOk result (λ both. AreUsed both.0) }
+
+    // Connections have rising numbers, below the next one, and are there only while the link of the switch is up.
+    ensures numbers { IfOk result (λ both. IsNumbered both.0) }
+    ensures linked { IfOk result (λ both. (number : ℕ) → 1 ≤ number → LinkedOf (is_up both.0 SWITCH_LINK) (connection_of both.0 number)) }
+
+    // Whatever step comes next, it does one row of the table to a connection at most, and puts its messages on channels that it
+    // uses then, to links that are up, with an IMMEDIATE ASSIGNMENT for its own mobile alone; and a frame leaves all connections
+    // that it doesn't concern as they are.
+    ensures rows { IfOk result (λ both. (next : StepValue) (number : ℕ) → 1 ≤ number → ActsOn number both.0 next) }
+    ensures placed { IfOk result (λ both. (next : StepValue) (number : ℕ) → 1 ≤ number → KeepsToChannels number both.0 next) }
+    ensures reach { IfOk result (λ both. (next : StepValue) → GoesToUp both.0 next) }
+    ensures named { IfOk result (λ both. (next : StepValue) (number : ℕ) → 1 ≤ number → NamesItsMobile number both.0 next) }
+    ensures others { IfOk result (λ both. (number source : ℕ) (frame : FrameValue) → 1 ≤ number → FrameLeaves number both.0 source frame) }
 
     // Where what came was octets, each frame has 2,048 octets at most, and is read as the message that was put.
     ensures sent { IfOk result (λ both. AllByRecursion ComesInOctets steps.items → AllByRecursion IsSent both.1.outs) }

@@ -1,5 +1,5 @@
 -- A frame leaves the releasing channels of all connections that it doesn't concern.
-use Rattle.std.proofs.Common.{◌≡◌, ◌≢◌, ℕ, Bool, true, false, if◌then◌else◌, List, [], ◌∷◌, ◌++◌, fold, filter, Option, Some, None, refl, sym, subst, ap, ◌∙◌, inl, inr}
+use Rattle.std.proofs.Common.{◌≡◌, ◌≢◌, ℕ, Bool, true, false, if◌then◌else◌, List, [], ◌∷◌, fold, Option, Some, None, refl, sym, subst, ap, ◌∙◌, inl, inr}
 use Rattle.std.specs.List.{AllByRecursion}
 use Rattle.conn_messages.specs.declared.channel.Change.{Change}
 use Rattle.conn_messages.specs.declared.channel.Change.TheVariants.{Assignment, Handover}
@@ -8,6 +8,7 @@ use Rattle.conn_messages.specs.declared.channel.Place.{Place}
 use Rattle.conn_messages.specs.declared.message.Message.{Message}
 use Rattle.conn_messages.specs.declared.message.Message.TheVariants.{Station, Request, Data, ReleaseComplete}
 use Rattle.conn_messages.specs.StationMessage.{change_activation, rf_channel_release}
+use Rattle.conn_table.proofs.DownlinkMessages.{AllByRecursion-append, AllByRecursion-filter}
 use Rattle.conn_table.specs.declared.input.Input.{Input}
 use Rattle.conn_table.specs.declared.input.Input.TheVariants as inputs
 use Rattle.conn_table.specs.declared.state.Target.{Target}
@@ -24,7 +25,7 @@ use Rattle.controller_laws.specs.Owning.{AreIn}
 use Rattle.controller_laws.proofs.Entries.{found_number}
 use Rattle.controller_laws.proofs.OwningSteps.{offered_free}
 use Rattle.controller_laws.proofs.OwningWords.{Holds, assignment_offers, changes_of, freed_shaped, owns_entry}
-use Rattle.controller_laws.proofs.Places.{state_else}
+use Rattle.controller_laws.proofs.Places.{state_else, use≢release, free≢release}
 use Rattle.controller_laws.proofs.UsingRows.{fold_release, set_use}
 use Rattle.controller_laws.proofs.UsingWords.{Ready, free_use, here_of}
 use Rattle.controller_table.specs.declared.channel_kind.ChannelKind.TheVariants.{Sdcch}
@@ -81,21 +82,9 @@ from_stations at (Request message ∷ ms) all = (tt, from_stations at ms all)
 from_stations at (Data destination message ∷ ms) all = (tt, from_stations at ms all)
 from_stations at (ReleaseComplete destination ∷ ms) all = (tt, from_stations at ms all)
 
-kept_avoids : (at : Place) (test : Message → Bool) (ms : List Message) → AllByRecursion (Avoids at) ms → AllByRecursion (Avoids at) (filter test ms)
-kept_avoids at test [] all = tt
-kept_avoids at test (m ∷ ms) all = by (test m) (kept_avoids at test ms all.1)
-  where
-    by : (b : Bool) → AllByRecursion (Avoids at) (filter test ms) → AllByRecursion (Avoids at) (if b then m ∷ filter test ms else filter test ms)
-    by true rest = (all.0, rest)
-    by false rest = rest
-
 that_go_avoid : (at : Place) (input : Input) (ms : List Message) → AllByRecursion (Avoids at) ms → AllByRecursion (Avoids at) (those_that_go input ms)
-that_go_avoid at (inputs.StationDown station) ms all = kept_avoids at _ ms all
+that_go_avoid at (inputs.StationDown station) ms all = AllByRecursion-filter (Avoids at) _ ms all
 that_go_avoid at _ ms all = all
-
-all_join : (at : Place) (xs ys : List Message) → AllByRecursion (Avoids at) xs → AllByRecursion (Avoids at) ys → AllByRecursion (Avoids at) (xs ++ ys)
-all_join at [] ys one rest = rest
-all_join at (x ∷ xs) ys one rest = (one.0, all_join at xs ys one.1 rest)
 
 -- the channels that a connection uses are elsewhere
 abbrev AreElsewhere : Place → Roles → Type 0
@@ -131,7 +120,7 @@ row_avoids : (at : Place) (s : Connection) (input : Input) (offer : Option Chann
 row_avoids at s input offer r (goes_on was_open is_open on) away offered =
     let step : RoleStep = step_by input (roles_of s) in
     from_orders at r.outs (subst (AllByRecursion (Avoids at)) (sym on.ordered)
-    (all_join at (step_orders step (roles_of s)) (begin_orders on.begun) (step_avoids at step (roles_of s) (roles_of s).target (away was_open)) (begin_avoids at on.begun input offer (after_step step (roles_of s)) on.may offered)))
+    (AllByRecursion-append (Avoids at) (step_orders step (roles_of s)) (begin_orders on.begun) (step_avoids at step (roles_of s) (roles_of s).target (away was_open)) (begin_avoids at on.begun input offer (after_step step (roles_of s)) on.may offered)))
 row_avoids at s input offer r (ends was_open shut over) away offered =
     from_stations at r.outs (subst (AllByRecursion (Avoids at)) (sym over.ordered) (that_go_avoid at input (end_messages over.end (roles_of s)) (end_avoids at over.end (roles_of s) (roles_of s).target (away was_open))))
 row_avoids at s input offer r (had_ended was_shut shut nothing) away offered = from_stations at r.outs (subst (AllByRecursion (Avoids at)) (sym nothing) tt)
@@ -145,12 +134,6 @@ pub record Keeps (n : ℕ) (before after : States) : Type 0 where
 
 pub keeps_same : (n : ℕ) (channels : States) → Keeps n channels channels
 keeps_same n channels = record { still = λ at is. is; was = λ at is. is }
-
-free≢release : (n : ℕ) → Free ≢ Releasing n
-free≢release n is = cc
-
-use≢release : (m n : ℕ) → InUse m ≢ Releasing n
-use≢release m n is = cc
 
 elsewhere : (channels : States) (m n : ℕ) (at : Place) (cs : List Channel) → AreIn channels (InUse m) cs → state_in channels at ≡ Releasing n → AllByRecursion (λ (c : Channel). place_of c ≢ at) cs
 elsewhere channels m n at [] all is = tt

@@ -29,6 +29,7 @@ pub mod FollowingSteps
 pub mod UplinkLife
 mod UplinkRows
 pub mod SilenceLife
+mod PutLists
 pub mod UsualRows
 pub mod Reaching
 pub mod UsingRows

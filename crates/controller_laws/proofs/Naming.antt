@@ -1,5 +1,5 @@
 -- A row keeps the request of its connection, and an IMMEDIATE ASSIGNMENT names it.
-use Rattle.std.proofs.Common.{◌≡◌, ℕ, zero, suc, ◌==◌, ◌&&◌, nat_le, Bool, true, false, if◌then◌else◌, List, [], ◌∷◌, ◌++◌, length, map, filter, Option, Some, None, ap, ◌∙◌}
+use Rattle.std.proofs.Common.{◌≡◌, ℕ, zero, suc, ◌==◌, ◌&&◌, nat_le, Bool, true, false, if◌then◌else◌, List, [], ◌∷◌, ◌++◌, length, map, Option, Some, None, ap, ◌∙◌}
 use Rattle.std.specs.List.{AllByRecursion}
 use Rattle.conn_messages.specs.declared.causes.TheConstants.{ABNORMAL_RELEASE, BSS_NOT_EQUIPPED, EQUIPMENT_FAILURE, NORMAL_EVENT, PROTOCOL_ERROR, RADIO_INTERFACE_FAILURE, RADIO_INTERFACE_MESSAGE_FAILURE}
 use Rattle.conn_messages.specs.declared.channel.Change.{Change}
@@ -7,8 +7,9 @@ use Rattle.conn_messages.specs.declared.channel.Change.TheVariants.{Assignment, 
 use Rattle.conn_messages.specs.declared.channel.Channel.{Channel}
 use Rattle.conn_messages.specs.declared.channel.Place.{Place}
 use Rattle.conn_messages.specs.declared.message.Message.{Message}
-use Rattle.conn_messages.specs.StationMessage.{handing, immediate_assign_command, rf_channel_release}
-use Rattle.conn_messages.specs.SwitchMessage.{assignment_failure, change_complete, clear_complete, complete_layer3, relaying, release_complete}
+use Rattle.conn_messages.specs.StationMessage.{change_activation, handing, immediate_assign_command, rf_channel_release}
+use Rattle.conn_messages.specs.SwitchMessage.{assignment_failure, change_complete, clear_complete, complete_layer3, release_complete}
+use Rattle.conn_table.proofs.DownlinkMessages.{AllByRecursion-append, AllByRecursion-filter}
 use Rattle.conn_table.specs.declared.input.Input.{Input}
 use Rattle.conn_table.specs.declared.input.Input.TheVariants as inputs
 use Rattle.conn_table.specs.declared.state.Clearing.TheVariants.{Due, Asked as WasAsked}
@@ -20,13 +21,14 @@ use Rattle.conn_table.specs.declared.state.Stage.TheVariants.{Active, Preparing,
 use Rattle.conn_table.specs.declared.state.State.{State}
 use Rattle.conn_table.specs.declared.state.State.TheVariants.{WaitActivation, WaitEstablish, WaitConfirm, Live, Closed, Removed}
 use Rattle.conn_table.specs.Connection.{Connection, emptied, enter, first_channel, tenure_at, drain_at}
-use Rattle.conn_table.specs.Steps.{Row, row, ◌then◌, after_waiting, ask_for_held, end_outs, hand_held, dropping, failing, link_up, without_station, begin, begin_outs, begin_waiting, waiting_outs, hold_down, hold_short_message, short_message, request_where, link_down, hold_up, relay_held, tenure_outs, leave, shifted, settled, settled_stage, resting_stage, resting, moved, request_for, done_at, may_begin}
+use Rattle.conn_table.specs.Steps.{Row, row, ◌then◌, after_waiting, ask_for_held, end_outs, hand_held, dropping, failing, link_up, without_station, begin, begin_waiting, waiting_outs, hold_down, hold_short_message, short_message, request_where, link_down, hold_up, relay_held, leave, shifted, settled, settled_stage, resting_stage, resting, moved, request_for, done_at, may_begin}
 use Rattle.conn_table.specs.Streams.{OfRow}
-use Rattle.conn_table.specs.Table.{row_of, row_if, assign_immediately, command_to, refuse, nack_outs, access, release, complete, failure, failure_outs, speech_request, release_in, dtap_in, dtap_on_target, on_activation_ack, on_activation_nack, on_establish_indication, on_establish_confirm, on_release_indication, on_error_indication, on_connection_failure, on_dtap, on_complete, on_failure, on_release_ack, on_move, on_confirm, on_refused, on_released, on_downlink, on_assignment_request, on_cipher_mode_command, on_clear_command, on_expiry, on_drain_expiry, on_station_down, on_switch_down}
+use Rattle.conn_table.specs.Table.{row_of, assign_immediately, command_to, refuse, nack_outs, access, release, complete, failure, failure_outs, speech_request, release_in, dtap_in, dtap_on_target, on_activation_ack, on_activation_nack, on_establish_indication, on_establish_confirm, on_release_indication, on_error_indication, on_connection_failure, on_dtap, on_complete, on_failure, on_release_ack, on_move, on_confirm, on_refused, on_released, on_downlink, on_assignment_request, on_cipher_mode_command, on_clear_command, on_expiry, on_drain_expiry, on_station_down, on_switch_down}
 use Rattle.controller_laws.specs.Naming.{Names}
+use Rattle.controller_laws.proofs.PutLists.{all_handed, all_of_tenure, begins, either, HoldsOfEach, requests_for, requests_where, waits, where_fits}
 use Rattle.dtap_codec.specs.declared.sapi.Sapi.{Sapi}
 use Rattle.dtap_codec.specs.declared.sapi.Sapi.TheVariants.{Zero, Three}
-use Rattle.hold_queue.specs.ChainState.{Tenure, chain_count, put_in}
+use Rattle.hold_queue.specs.ChainState.{chain_count, put_in}
 use Rattle.hold_queue.specs.HoldState.{count, messages, with_messages}
 use Rattle.octets.specs.declared.limits.TheConstants.{INITIAL_LIMIT}
 use Rattle.rsl_codec.specs.declared.values.RequestReference.{RequestReference}
@@ -38,50 +40,14 @@ module _ (c : Channel) (q : RequestReference) where
   abbrev pub IsNamed : Row → Type 0
   IsNamed r = (r.next.request ≡ q) × AllByRecursion (Names c q) r.outs
 
-  join : (xs ys : List Message) → AllName xs → AllName ys → AllName (xs ++ ys)
-  join [] ys one rest = rest
-  join (x ∷ xs) ys one rest = (one.0, join xs ys one.1 rest)
-
-  either : (b : Bool) (r p : Row) → IsNamed r → IsNamed p → IsNamed (if b then r else p)
-  either true r p h k = h
-  either false r p h k = k
-
-  where_fits : (b : Bool) (r : Row) → IsNamed r → OfRow IsNamed (row_if b r)
-  where_fits true r h = h
-  where_fits false r h = tt
-
   -- ---- messages
 
-  handed : (d : Channel) (sapi : Sapi) (ms : List (List ℕ)) → AllName (map (handing d sapi) ms)
-  handed d sapi [] = tt
-  handed d sapi (m ∷ ms) = (tt, handed d sapi ms)
+  activates : (change : Change) (d : Channel) → Names c q (change_activation change d)
+  activates Assignment d = tt
+  activates Handover d = tt
 
-  relayed : (reference : ℕ) (d : Channel) (sapi : Sapi) (ms : List (List ℕ)) → AllName (map (relaying reference d sapi) ms)
-  relayed reference d sapi [] = tt
-  relayed reference d sapi (m ∷ ms) = (tt, relayed reference d sapi ms)
-
-  of_tenure : (reference : ℕ) (d : Channel) (ts : List Tenure) → AllName (tenure_outs reference d ts)
-  of_tenure reference d [] = tt
-  of_tenure reference d (t ∷ ts) = join (map (relaying reference d Zero) t.zero) (map (relaying reference d Three) t.three) (relayed reference d Zero t.zero) (relayed reference d Three t.three)
-
-  begins : (reference : ℕ) (change : Change) (offer : Option Channel) → AllName (begin_outs reference change offer)
-  begins reference Assignment (Some channel) = (tt, tt)
-  begins reference Handover (Some channel) = (tt, tt)
-  begins reference Assignment None = (tt, tt)
-  begins reference Handover None = tt
-
-  waits : (b : Bool) (reference : ℕ) (offer : Option Channel) → AllName (waiting_outs b reference offer)
-  waits true reference offer = begins reference Assignment offer
-  waits false reference offer = tt
-
-  requests : (link : ShortMessageLink) (d : Channel) → AllName (request_where link d)
-  requests Down d = (tt, tt)
-  requests Asked d = tt
-  requests Up d = tt
-
-  requests_for : (ms : List (List ℕ)) (d : Channel) → AllName (request_for ms d)
-  requests_for [] d = tt
-  requests_for (m ∷ ms) d = (tt, tt)
+  named : HoldsOfEach (Names c q)
+  named = record { activates = activates; fails = λ reference cause. tt; establishes = λ d. tt; hands = λ d sapi message. tt; relays = λ reference d sapi message. tt }
 
   ends : (state : State) (d : Channel) (cause : ℕ) → AllName (end_outs state d cause)
   ends (Live reference (Preparing target)) d cause = (tt, (tt, (tt, tt)))
@@ -94,14 +60,6 @@ module _ (c : Channel) (q : RequestReference) where
   ends (Closed clearing) d cause = (tt, (tt, tt))
   ends Removed d cause = (tt, (tt, tt))
 
-  kept : (test : Message → Bool) (ms : List Message) → AllName ms → AllName (filter test ms)
-  kept test [] all = tt
-  kept test (m ∷ ms) all = by (test m) (kept test ms all.1)
-    where
-      by : (b : Bool) → AllName (filter test ms) → AllName (if b then m ∷ filter test ms else filter test ms)
-      by true rest = (all.0, rest)
-      by false rest = rest
-
   -- ---- steps
 
   of_failing : (state : State) (s : Connection) (cause : ℕ) → s.request ≡ q → IsNamed (failing state s cause)
@@ -113,12 +71,12 @@ module _ (c : Channel) (q : RequestReference) where
   of_failing Removed s cause is = (is, ends Removed s.serving ABNORMAL_RELEASE)
 
   of_hold_down : (state : State) (sapi : Sapi) (message : List ℕ) (s : Connection) → s.request ≡ q → IsNamed (hold_down state sapi message s)
-  of_hold_down state sapi message s is = either (count s.down == s.down.limit) (failing state s EQUIPMENT_FAILURE) (row [] (record s { down = with_messages s.down sapi (messages s.down sapi ++ message ∷ []) })) (of_failing state s EQUIPMENT_FAILURE is) (is, tt)
+  of_hold_down state sapi message s is = either IsNamed (count s.down == s.down.limit) (failing state s EQUIPMENT_FAILURE) (row [] (record s { down = with_messages s.down sapi (messages s.down sapi ++ message ∷ []) })) (of_failing state s EQUIPMENT_FAILURE is) (is, tt)
 
   of_hold_short_message : (state : State) (message : List ℕ) (s : Connection) → s.request ≡ q → IsNamed (hold_short_message state message s)
   of_hold_short_message state message s is =
-      either (count s.down == s.down.limit) (failing state s EQUIPMENT_FAILURE) (row (request_where s.link s.serving) (record s { link = Asked; down = with_messages s.down Three (messages s.down Three ++ message ∷ []) }))
-      (of_failing state s EQUIPMENT_FAILURE is) (is, requests s.link s.serving)
+      either IsNamed (count s.down == s.down.limit) (failing state s EQUIPMENT_FAILURE) (row (request_where s.link s.serving) (record s { link = Asked; down = with_messages s.down Three (messages s.down Three ++ message ∷ []) }))
+      (of_failing state s EQUIPMENT_FAILURE is) (is, requests_where (Names c q) named s.link s.serving)
 
   of_short_message : (state : State) (link : ShortMessageLink) (message : List ℕ) (s : Connection) → s.request ≡ q → IsNamed (short_message state link message s)
   of_short_message state Up message s is = (is, (tt, tt))
@@ -131,19 +89,19 @@ module _ (c : Channel) (q : RequestReference) where
   of_link_down Down reference s is = (is, tt)
 
   of_hold_up : (state : State) (tenure : ℕ) (sapi : Sapi) (message : List ℕ) (s : Connection) → s.request ≡ q → IsNamed (hold_up state tenure sapi message s)
-  of_hold_up state tenure sapi message s is = either (chain_count s.up == s.up.limit) (failing state s EQUIPMENT_FAILURE) (row [] (record s { up = record s.up { tenures = put_in tenure sapi message s.up.tenures } })) (of_failing state s EQUIPMENT_FAILURE is) (is, tt)
+  of_hold_up state tenure sapi message s is = either IsNamed (chain_count s.up == s.up.limit) (failing state s EQUIPMENT_FAILURE) (row [] (record s { up = record s.up { tenures = put_in tenure sapi message s.up.tenures } })) (of_failing state s EQUIPMENT_FAILURE is) (is, tt)
 
   of_leave : (reference : ℕ) (draining : List Drain) (s : Connection) → s.request ≡ q → IsNamed (leave reference draining s)
   of_leave reference [] s is = (is, tt)
   of_leave reference (d ∷ ds) s is =
       let rest = of_leave reference ds (relay_held reference (shifted ds s)).next is in
-      either d.is_done (row [] (shifted ds s) then relay_held reference then leave reference ds) (row [] (record s { draining = d ∷ ds }))
-      (rest.0, join (relay_held reference (shifted ds s)).outs (leave reference ds (relay_held reference (shifted ds s)).next).outs (of_tenure reference (first_channel ds s.serving) (shifted ds s).up.tenures) rest.1)
+      either IsNamed d.is_done (row [] (shifted ds s) then relay_held reference then leave reference ds) (row [] (record s { draining = d ∷ ds }))
+      (rest.0, AllByRecursion-append (Names c q) (relay_held reference (shifted ds s)).outs (leave reference ds (relay_held reference (shifted ds s)).next).outs (all_of_tenure (Names c q) named reference (first_channel ds s.serving) (shifted ds s).up.tenures) rest.1)
       (is, tt)
 
   begun : (reference : ℕ) (change : Change) (offer : Option Channel) (s : Connection) → s.request ≡ q → IsNamed (begin reference change offer s)
-  begun reference change None s is = (is, begins reference change None)
-  begun reference change (Some channel) s is = (is, begins reference change (Some channel))
+  begun reference change None s is = (is, begins (Names c q) named reference change None)
+  begun reference change (Some channel) s is = (is, begins (Names c q) named reference change (Some channel))
 
   after_wait : (b : Bool) (reference : ℕ) (offer : Option Channel) (s : Connection) → s.request ≡ q → (after_waiting b reference offer s).request ≡ q
   after_wait true reference (Some channel) s is = is
@@ -160,18 +118,18 @@ module _ (c : Channel) (q : RequestReference) where
   -- ---- rows
 
   of_access : (message : Option (List ℕ)) (s : Connection) → s.request ≡ q → IsNamed (access message s)
-  of_access (Some initial) s is = either (nat_le (length initial) INITIAL_LIMIT) (row (complete_layer3 s.serving initial ∷ []) (enter WaitConfirm s)) (dropping s) (is, (tt, tt)) (is, (tt, tt))
+  of_access (Some initial) s is = either IsNamed (nat_le (length initial) INITIAL_LIMIT) (row (complete_layer3 s.serving initial ∷ []) (enter WaitConfirm s)) (dropping s) (is, (tt, tt)) (is, (tt, tt))
   of_access None s is = (is, (tt, tt))
 
   of_activation_ack : (state : State) (s : Connection) (at : Place) → s.serving ≡ c → s.request ≡ q → OfRow IsNamed (on_activation_ack state s at)
-  of_activation_ack WaitActivation s at here is = where_fits _ (assign_immediately s) (is, ((s.delay, ap (λ (d : Channel). immediate_assign_command d s.request s.delay) here ∙ ap (λ (p : RequestReference). immediate_assign_command c p s.delay) is), tt))
-  of_activation_ack (Live reference (Preparing target)) s at here is = where_fits _ (command_to reference target s) (is, (tt, tt))
+  of_activation_ack WaitActivation s at here is = where_fits IsNamed _ (assign_immediately s) (is, ((s.delay, ap (λ (d : Channel). immediate_assign_command d s.request s.delay) here ∙ ap (λ (p : RequestReference). immediate_assign_command c p s.delay) is), tt))
+  of_activation_ack (Live reference (Preparing target)) s at here is = where_fits IsNamed _ (command_to reference target s) (is, (tt, tt))
   of_activation_ack _ s at here is = tt
 
   of_refuse : (reference : ℕ) (change : Change) (offer : Option Channel) (s : Connection) → s.request ≡ q → IsNamed (refuse reference change offer s)
   of_refuse reference change offer s is = (
     after_wait (s.waits && may_begin (resting_stage s.draining) s.draining) reference offer (resting reference s) is,
-    join (nack_outs change reference) (begin_waiting (resting_stage s.draining) reference offer (resting reference s)).outs (nacks change) (waits (s.waits && may_begin (resting_stage s.draining) s.draining) reference offer),
+    AllByRecursion-append (Names c q) (nack_outs change reference) (begin_waiting (resting_stage s.draining) reference offer (resting reference s)).outs (nacks change) (waits (Names c q) named (s.waits && may_begin (resting_stage s.draining) s.draining) reference offer),
   )
     where
       nacks : (change : Change) → AllName (nack_outs change reference)
@@ -179,46 +137,46 @@ module _ (c : Channel) (q : RequestReference) where
       nacks Handover = tt
 
   of_activation_nack : (state : State) (s : Connection) (at : Place) (offer : Option Channel) → s.request ≡ q → OfRow IsNamed (on_activation_nack state s at offer)
-  of_activation_nack WaitActivation s at offer is = where_fits _ (row [] (emptied Removed s)) (is, tt)
-  of_activation_nack (Live reference (Preparing target)) s at offer is = where_fits _ (refuse reference target.change offer s) (of_refuse reference target.change offer s is)
+  of_activation_nack WaitActivation s at offer is = where_fits IsNamed _ (row [] (emptied Removed s)) (is, tt)
+  of_activation_nack (Live reference (Preparing target)) s at offer is = where_fits IsNamed _ (refuse reference target.change offer s) (of_refuse reference target.change offer s is)
   of_activation_nack _ s at offer is = tt
 
   of_link_up : (s : Connection) → s.request ≡ q → IsNamed (link_up s)
-  of_link_up s is = (is, handed s.serving Three (messages s.down Three))
+  of_link_up s is = (is, all_handed (Names c q) named s.serving Three (messages s.down Three))
 
   of_establish_indication : (state : State) (s : Connection) (at : Place) (sapi : Sapi) (message : Option (List ℕ)) → s.request ≡ q → OfRow IsNamed (on_establish_indication state s at sapi message)
-  of_establish_indication WaitEstablish s at Zero message is = where_fits _ (access message s) (of_access message s is)
+  of_establish_indication WaitEstablish s at Zero message is = where_fits IsNamed _ (access message s) (of_access message s is)
   of_establish_indication (Live reference (Changing target)) s at sapi message is = tt
-  of_establish_indication (Live reference stage) s at Three message is = where_fits _ (link_up s) (of_link_up s is)
+  of_establish_indication (Live reference stage) s at Three message is = where_fits IsNamed _ (link_up s) (of_link_up s is)
   of_establish_indication _ s at sapi message is = tt
 
   of_establish_confirm : (state : State) (s : Connection) (at : Place) (sapi : Sapi) → s.request ≡ q → OfRow IsNamed (on_establish_confirm state s at sapi)
   of_establish_confirm (Live reference (Changing target)) s at sapi is = tt
-  of_establish_confirm (Live reference stage) s at Three is = where_fits _ (link_up s) (of_link_up s is)
+  of_establish_confirm (Live reference stage) s at Three is = where_fits IsNamed _ (link_up s) (of_link_up s is)
   of_establish_confirm _ s at sapi is = tt
 
   of_release_indication : (state : State) (s : Connection) (at : Place) (sapi : Sapi) → s.request ≡ q → OfRow IsNamed (on_release_indication state s at sapi)
-  of_release_indication WaitEstablish s at Zero is = where_fits _ (dropping s) (is, (tt, tt))
-  of_release_indication WaitConfirm s at Zero is = where_fits _ (failing WaitConfirm s RADIO_INTERFACE_FAILURE) (of_failing WaitConfirm s RADIO_INTERFACE_FAILURE is)
+  of_release_indication WaitEstablish s at Zero is = where_fits IsNamed _ (dropping s) (is, (tt, tt))
+  of_release_indication WaitConfirm s at Zero is = where_fits IsNamed _ (failing WaitConfirm s RADIO_INTERFACE_FAILURE) (of_failing WaitConfirm s RADIO_INTERFACE_FAILURE is)
   of_release_indication (Live reference (Changing target)) s at sapi is = tt
-  of_release_indication (Live reference stage) s at Zero is = where_fits _ (failing (Live reference stage) s RADIO_INTERFACE_FAILURE) (of_failing (Live reference stage) s RADIO_INTERFACE_FAILURE is)
-  of_release_indication (Live reference stage) s at Three is = where_fits _ (link_down s.link reference s) (of_link_down s.link reference s is)
+  of_release_indication (Live reference stage) s at Zero is = where_fits IsNamed _ (failing (Live reference stage) s RADIO_INTERFACE_FAILURE) (of_failing (Live reference stage) s RADIO_INTERFACE_FAILURE is)
+  of_release_indication (Live reference stage) s at Three is = where_fits IsNamed _ (link_down s.link reference s) (of_link_down s.link reference s is)
   of_release_indication _ s at sapi is = tt
 
   of_error_indication : (state : State) (s : Connection) (at : Place) (sapi : Sapi) → s.request ≡ q → OfRow IsNamed (on_error_indication state s at sapi)
   of_error_indication (Live reference (Changing target)) s at sapi is = tt
-  of_error_indication (Live reference stage) s at Three is = where_fits _ (link_down s.link reference s) (of_link_down s.link reference s is)
+  of_error_indication (Live reference stage) s at Three is = where_fits IsNamed _ (link_down s.link reference s) (of_link_down s.link reference s is)
   of_error_indication _ s at sapi is = tt
 
   of_connection_failure : (state : State) (s : Connection) (at : Place) → s.request ≡ q → OfRow IsNamed (on_connection_failure state s at)
-  of_connection_failure WaitEstablish s at is = where_fits _ (dropping s) (is, (tt, tt))
-  of_connection_failure WaitConfirm s at is = where_fits _ (failing WaitConfirm s RADIO_INTERFACE_FAILURE) (of_failing WaitConfirm s RADIO_INTERFACE_FAILURE is)
+  of_connection_failure WaitEstablish s at is = where_fits IsNamed _ (dropping s) (is, (tt, tt))
+  of_connection_failure WaitConfirm s at is = where_fits IsNamed _ (failing WaitConfirm s RADIO_INTERFACE_FAILURE) (of_failing WaitConfirm s RADIO_INTERFACE_FAILURE is)
   of_connection_failure (Live reference (Changing target)) s at is = tt
-  of_connection_failure (Live reference stage) s at is = where_fits _ (failing (Live reference stage) s RADIO_INTERFACE_FAILURE) (of_failing (Live reference stage) s RADIO_INTERFACE_FAILURE is)
+  of_connection_failure (Live reference stage) s at is = where_fits IsNamed _ (failing (Live reference stage) s RADIO_INTERFACE_FAILURE) (of_failing (Live reference stage) s RADIO_INTERFACE_FAILURE is)
   of_connection_failure _ s at is = tt
 
   of_dtap_on_target : (reference : ℕ) (stage : Stage) (s : Connection) (at : Place) (sapi : Sapi) → s.request ≡ q → OfRow IsNamed (dtap_on_target reference stage s at sapi)
-  of_dtap_on_target reference (Changing target) s at Zero is = where_fits _ (failing (Live reference (Changing target)) s EQUIPMENT_FAILURE) (of_failing (Live reference (Changing target)) s EQUIPMENT_FAILURE is)
+  of_dtap_on_target reference (Changing target) s at Zero is = where_fits IsNamed _ (failing (Live reference (Changing target)) s EQUIPMENT_FAILURE) (of_failing (Live reference (Changing target)) s EQUIPMENT_FAILURE is)
   of_dtap_on_target reference _ s at _ is = tt
 
   of_dtap_in : (place : Option ℕ) (reference : ℕ) (stage : Stage) (s : Connection) (at : Place) (sapi : Sapi) (message : List ℕ) → s.request ≡ q → OfRow IsNamed (dtap_in place reference stage s at sapi message)
@@ -227,9 +185,9 @@ module _ (c : Channel) (q : RequestReference) where
   of_dtap_in None reference stage s at sapi message is = of_dtap_on_target reference stage s at sapi is
 
   of_dtap : (state : State) (s : Connection) (at : Place) (sapi : Sapi) (message : List ℕ) → s.request ≡ q → OfRow IsNamed (on_dtap state s at sapi message)
-  of_dtap WaitEstablish s at Zero message is = where_fits _ (dropping s) (is, (tt, tt))
+  of_dtap WaitEstablish s at Zero message is = where_fits IsNamed _ (dropping s) (is, (tt, tt))
   of_dtap WaitEstablish s at Three message is = tt
-  of_dtap WaitConfirm s at sapi message is = where_fits _ (hold_up WaitConfirm 0 sapi message s) (of_hold_up WaitConfirm 0 sapi message s is)
+  of_dtap WaitConfirm s at sapi message is = where_fits IsNamed _ (hold_up WaitConfirm 0 sapi message s) (of_hold_up WaitConfirm 0 sapi message s is)
   of_dtap (Live reference stage) s at sapi message is = of_dtap_in (tenure_at at s.serving s.draining) reference stage s at sapi message is
   of_dtap _ s at sapi message is = tt
 
@@ -238,9 +196,9 @@ module _ (c : Channel) (q : RequestReference) where
   change_end stage reference offer s outs first =
       let held : List Message = map (handing s.serving Zero) (messages s.down Zero) in
       let asked : List Message = request_for s.down.three s.serving in
-      join (outs ++ held ++ asked) (waiting_outs (s.waits && may_begin stage s.draining) reference offer)
-      (join (outs ++ held) asked (join outs held first (handed s.serving Zero (messages s.down Zero))) (requests_for s.down.three s.serving))
-      (waits (s.waits && may_begin stage s.draining) reference offer)
+      AllByRecursion-append (Names c q) (outs ++ held ++ asked) (waiting_outs (s.waits && may_begin stage s.draining) reference offer)
+      (AllByRecursion-append (Names c q) (outs ++ held) asked (AllByRecursion-append (Names c q) outs held first (all_handed (Names c q) named s.serving Zero (messages s.down Zero))) (requests_for (Names c q) named s.down.three s.serving))
+      (waits (Names c q) named (s.waits && may_begin stage s.draining) reference offer)
 
   completes : (reference : ℕ) (change : Change) (channel : Channel) (cause : ℕ) → Names c q (change_complete reference change channel cause)
   completes reference Assignment channel cause = tt
@@ -250,7 +208,7 @@ module _ (c : Channel) (q : RequestReference) where
   of_complete (Live reference (Changing target)) s at change cause offer is =
       let next : Connection = moved reference target.channel s in
       let rests : Connection = (ask_for_held (hand_held Zero next).next).next in
-      where_fits _ (complete reference change target.channel cause offer s) (
+      where_fits IsNamed _ (complete reference change target.channel cause offer s) (
         after_wait (rests.waits && may_begin Draining rests.draining) reference offer rests is,
         change_end Draining reference offer next (change_complete reference change target.channel cause ∷ rf_channel_release s.serving ∷ []) (completes reference change target.channel cause, (tt, tt)),
       )
@@ -264,9 +222,9 @@ module _ (c : Channel) (q : RequestReference) where
   of_failure (Live reference (Changing target)) s at change cause offer is =
       let next : Connection = resting reference s in
       let rests : Connection = (ask_for_held (hand_held Zero next).next).next in
-      where_fits _ (failure reference change target.channel cause offer s) (
+      where_fits IsNamed _ (failure reference change target.channel cause offer s) (
         after_wait (rests.waits && may_begin (resting_stage s.draining) rests.draining) reference offer rests is,
-        change_end (resting_stage s.draining) reference offer next (failure_outs change reference cause ++ rf_channel_release target.channel ∷ []) (join (failure_outs change reference cause) (rf_channel_release target.channel ∷ []) (fails reference change cause) (tt, tt)),
+        change_end (resting_stage s.draining) reference offer next (failure_outs change reference cause ++ rf_channel_release target.channel ∷ []) (AllByRecursion-append (Names c q) (failure_outs change reference cause) (rf_channel_release target.channel ∷ []) (fails reference change cause) (tt, tt)),
       )
   of_failure _ s at change cause offer is = tt
 
@@ -276,8 +234,8 @@ module _ (c : Channel) (q : RequestReference) where
       let rests : Connection = settled reference stage left.draining left in
       let first = of_leave reference (done_at place s.draining) s is in (
         after_wait (rests.waits && may_begin (settled_stage stage rests.draining) rests.draining) reference offer rests (after_settled reference stage left.draining left first.0),
-        join ((leave reference (done_at place s.draining) s).outs ++ []) (begin_waiting (settled_stage stage rests.draining) reference offer rests).outs
-            (join (leave reference (done_at place s.draining) s).outs [] first.1 tt) (waits (rests.waits && may_begin (settled_stage stage rests.draining) rests.draining) reference offer),
+        AllByRecursion-append (Names c q) ((leave reference (done_at place s.draining) s).outs ++ []) (begin_waiting (settled_stage stage rests.draining) reference offer rests).outs
+            (AllByRecursion-append (Names c q) (leave reference (done_at place s.draining) s).outs [] first.1 tt) (waits (Names c q) named (rests.waits && may_begin (settled_stage stage rests.draining) rests.draining) reference offer),
       )
 
   of_release_in : (place : Option ℕ) (reference : ℕ) (stage : Stage) (offer : Option Channel) (s : Connection) → s.request ≡ q → OfRow IsNamed (release_in place reference stage offer s)
@@ -289,11 +247,11 @@ module _ (c : Channel) (q : RequestReference) where
   of_release_ack _ s at offer is = tt
 
   of_move : (state : State) (s : Connection) (offer : Option Channel) → s.request ≡ q → OfRow IsNamed (on_move state s offer)
-  of_move (Live reference stage) s offer is = where_fits _ (begin reference Handover offer s) (begun reference Handover offer s is)
+  of_move (Live reference stage) s offer is = where_fits IsNamed _ (begin reference Handover offer s) (begun reference Handover offer s is)
   of_move _ s offer is = tt
 
   of_confirm : (state : State) (s : Connection) (reference : ℕ) → s.request ≡ q → OfRow IsNamed (on_confirm state s reference)
-  of_confirm WaitConfirm s reference is = (is, of_tenure reference (first_channel s.draining s.serving) s.up.tenures)
+  of_confirm WaitConfirm s reference is = (is, all_of_tenure (Names c q) named reference (first_channel s.draining s.serving) s.up.tenures)
   of_confirm (Closed (Due cause)) s reference is = (is, (tt, tt))
   of_confirm _ s reference is = tt
 
@@ -303,7 +261,7 @@ module _ (c : Channel) (q : RequestReference) where
   of_refused _ s is = tt
 
   ends_then : (state : State) (s : Connection) (message : Message) (cause : ℕ) → Names c q message → AllName (end_outs state s.serving cause ++ message ∷ [])
-  ends_then state s message cause last = join (end_outs state s.serving cause) (message ∷ []) (ends state s.serving cause) (last, tt)
+  ends_then state s message cause last = AllByRecursion-append (Names c q) (end_outs state s.serving cause) (message ∷ []) (ends state s.serving cause) (last, tt)
 
   of_released : (state : State) (s : Connection) (reference : ℕ) → s.request ≡ q → OfRow IsNamed (on_released state s reference)
   of_released WaitConfirm s reference is = (is, ends_then WaitConfirm s (release_complete reference) ABNORMAL_RELEASE tt)
@@ -319,13 +277,13 @@ module _ (c : Channel) (q : RequestReference) where
 
   of_speech : (reference : ℕ) (stage : Stage) (offer : Option Channel) (s : Connection) → s.request ≡ q → IsNamed (speech_request reference stage offer s)
   of_speech reference stage offer s is =
-      either (may_begin stage s.draining) (begin reference Assignment offer s) (if s.waits then row (assignment_failure reference PROTOCOL_ERROR None ∷ []) s else row [] (record s { waits = true }))
+      either IsNamed (may_begin stage s.draining) (begin reference Assignment offer s) (if s.waits then row (assignment_failure reference PROTOCOL_ERROR None ∷ []) s else row [] (record s { waits = true }))
       (begun reference Assignment offer s is)
-      (either s.waits (row (assignment_failure reference PROTOCOL_ERROR None ∷ []) s) (row [] (record s { waits = true })) (is, (tt, tt)) (is, tt))
+      (either IsNamed s.waits (row (assignment_failure reference PROTOCOL_ERROR None ∷ []) s) (row [] (record s { waits = true })) (is, (tt, tt)) (is, tt))
 
   of_assignment_request : (state : State) (s : Connection) (is_speech : Bool) (offer : Option Channel) → s.request ≡ q → OfRow IsNamed (on_assignment_request state s is_speech offer)
   of_assignment_request (Live reference stage) s is_speech offer is =
-      either is_speech (speech_request reference stage offer s) (row (assignment_failure reference BSS_NOT_EQUIPPED None ∷ []) s) (of_speech reference stage offer s is) (is, (tt, tt))
+      either IsNamed is_speech (speech_request reference stage offer s) (row (assignment_failure reference BSS_NOT_EQUIPPED None ∷ []) s) (of_speech reference stage offer s is) (is, (tt, tt))
   of_assignment_request _ s is_speech offer is = tt
 
   of_cipher_mode_command : (state : State) (s : Connection) → s.request ≡ q → OfRow IsNamed (on_cipher_mode_command state s)
@@ -345,17 +303,17 @@ module _ (c : Channel) (q : RequestReference) where
   of_expiry _ s is = tt
 
   of_drain_expiry : (state : State) (s : Connection) → s.request ≡ q → OfRow IsNamed (on_drain_expiry state s)
-  of_drain_expiry (Live reference stage) s is = where_fits _ (failing (Live reference stage) s EQUIPMENT_FAILURE) (of_failing (Live reference stage) s EQUIPMENT_FAILURE is)
+  of_drain_expiry (Live reference stage) s is = where_fits IsNamed _ (failing (Live reference stage) s EQUIPMENT_FAILURE) (of_failing (Live reference stage) s EQUIPMENT_FAILURE is)
   of_drain_expiry _ s is = tt
 
   without : (station : ℕ) (r : Row) → IsNamed r → IsNamed (without_station station r)
-  without station r named = (named.0, kept _ r.outs named.1)
+  without station r named = (named.0, AllByRecursion-filter (Names c q) _ r.outs named.1)
 
   of_station_down : (state : State) (s : Connection) (station : ℕ) → s.request ≡ q → OfRow IsNamed (on_station_down state s station)
-  of_station_down WaitActivation s station is = where_fits _ (without_station station (dropping s)) (without station (dropping s) (is, (tt, tt)))
-  of_station_down WaitEstablish s station is = where_fits _ (without_station station (dropping s)) (without station (dropping s) (is, (tt, tt)))
-  of_station_down WaitConfirm s station is = where_fits _ (without_station station (failing WaitConfirm s EQUIPMENT_FAILURE)) (without station (failing WaitConfirm s EQUIPMENT_FAILURE) (of_failing WaitConfirm s EQUIPMENT_FAILURE is))
-  of_station_down (Live reference stage) s station is = where_fits _ (without_station station (failing (Live reference stage) s EQUIPMENT_FAILURE)) (without station (failing (Live reference stage) s EQUIPMENT_FAILURE) (of_failing (Live reference stage) s EQUIPMENT_FAILURE is))
+  of_station_down WaitActivation s station is = where_fits IsNamed _ (without_station station (dropping s)) (without station (dropping s) (is, (tt, tt)))
+  of_station_down WaitEstablish s station is = where_fits IsNamed _ (without_station station (dropping s)) (without station (dropping s) (is, (tt, tt)))
+  of_station_down WaitConfirm s station is = where_fits IsNamed _ (without_station station (failing WaitConfirm s EQUIPMENT_FAILURE)) (without station (failing WaitConfirm s EQUIPMENT_FAILURE) (of_failing WaitConfirm s EQUIPMENT_FAILURE is))
+  of_station_down (Live reference stage) s station is = where_fits IsNamed _ (without_station station (failing (Live reference stage) s EQUIPMENT_FAILURE)) (without station (failing (Live reference stage) s EQUIPMENT_FAILURE) (of_failing (Live reference stage) s EQUIPMENT_FAILURE is))
   of_station_down _ s station is = tt
 
   of_switch_down : (state : State) (s : Connection) → s.request ≡ q → OfRow IsNamed (on_switch_down state s)

@@ -215,7 +215,8 @@ puts_one_frame : (named : NamesItsMobile 7 waiting acknowledges) → outs_of 7 n
 unfolding on_literals
 puts_one_frame named = sym named.outs
 
-names_by_what_was : (named : NamesItsMobile 7 waiting acknowledges) → NamesOf (Some (record own { state = WaitActivation })) named.put
+-- of the connection before the step, after which it isn't there
+names_by_what_was : (named : NamesItsMobile 7 busy (down 0)) → NamesOf (Some own) named.put
 names_by_what_was named = named.names
 
 -- the request before and after the step

@@ -5,6 +5,7 @@ use Rattle.std.specs.List.{AllByRecursion}
 use Rattle.conn_messages.specs.declared.channel.Channel.{Channel}
 use Rattle.conn_messages.specs.declared.channel.Place.{Place}
 use Rattle.conn_messages.specs.StationMessage.{rf_channel_release}
+use Rattle.conn_table.proofs.DownlinkMessages.{AllByRecursion-append}
 use Rattle.conn_table.proofs.RolesAccount.{undone-still_draining}
 use Rattle.conn_table.proofs.RolesApart.{IsPart, IsPart-step, AreApart-begin}
 use Rattle.conn_table.proofs.Standing.{AllByRecursion-push}
@@ -19,7 +20,7 @@ use Rattle.conn_table.specs.Roles.RoleStep.{stays, commands, completes, goes_bac
 use Rattle.conn_table.specs.Steps.{done_at}
 use Rattle.conn_table.specs.Streams.{AreApart, IsApart, undone}
 use Rattle.controller_laws.specs.Owning.{AreIn, Owns, is_link_up, used_in}
-use Rattle.controller_laws.proofs.Places.{IsIn, state_here, state_else, is_there, still_in}
+use Rattle.controller_laws.proofs.Places.{IsIn, state_here, state_else, is_there, still_in, use≢release, free≢use, free≢release}
 use Rattle.controller_table.specs.declared.channel_state.ChannelState.{ChannelState}
 use Rattle.controller_table.specs.declared.channel_state.ChannelState.TheVariants.{Free, InUse, Releasing}
 use Rattle.controller_table.specs.Controller.{channels_after, place_of, state_in, with_state}
@@ -28,21 +29,6 @@ abbrev States : Type 0
 States = List (List ChannelState)
 
 -- ---- states
-
-use_other : (m n : ℕ) → InUse m ≡ InUse n → m ≡ n
-use_other m n is = cc
-
-release_other : (m n : ℕ) → Releasing m ≡ Releasing n → m ≡ n
-release_other m n is = cc
-
-use≢release : (m n : ℕ) → InUse m ≢ Releasing n
-use≢release m n is = cc
-
-pub free≢use : (n : ℕ) → Free ≢ InUse n
-free≢use n is = cc
-
-free≢release : (n : ℕ) → Free ≢ Releasing n
-free≢release n is = cc
 
 -- two channels at different places
 places_differ : (c d : Channel) → IsApart c d → place_of c ≢ place_of d
@@ -210,10 +196,6 @@ new_places channels free was (c ∷ cs) used is_free all = (
   new_places channels free was cs used is_free all.1,
 )
 
-all_join : (P : Channel → Type 0) (xs ys : List Channel) → AllByRecursion P xs → AllByRecursion P ys → AllByRecursion P (xs ++ ys)
-all_join P [] ys one other = other
-all_join P (x ∷ xs) ys one other = (one.0, all_join P xs ys one.1 other)
-
 -- a channel that is offered
 pub record IsOffered (channels : States) (links : List Bool) (c : Channel) : Type 0 where
   pub is_free : state_in channels (place_of c) ≡ Free
@@ -225,7 +207,7 @@ pub begin_owns : (channels : States) (links : List Bool) (n : ℕ) (target : Tar
 begin_owns channels links n target input offer roles may offered owns =
     let next : States = with_state (place_of target.channel) (InUse n) channels in
     let is_new : IsNew (Some target.channel) (used_in roles) =
-    all_join (λ other. IsApart other target.channel) (undone roles.draining) (roles.serving ∷ target_channels roles.target)
+    AllByRecursion-append (λ other. IsApart other target.channel) (undone roles.draining) (roles.serving ∷ target_channels roles.target)
     (new_places channels target.channel (Releasing n) (undone roles.draining) (λ same. free≢release n (sym same)) offered.is_free owns.releasing)
     (new_places channels target.channel (InUse n) (roles.serving ∷ target_channels roles.target) (λ same. free≢use n (sym same)) offered.is_free owns.using) in
     let linked = owns.linked in
@@ -236,7 +218,7 @@ begin_owns channels links n target input offer roles may offered owns =
       );
       releasing = still_in channels (place_of target.channel) (InUse n) (Releasing n) (undone roles.draining) (λ is. free≢release n (sym offered.is_free ∙ is)) owns.releasing;
       apart = AreApart-begin (Some target) input offer roles may owns.apart (subst (λ (o : Option Channel). IsNew o (used_in roles)) (sym may.1) is_new);
-      linked = all_join (λ c. is_link_up links c.station ≡ true) (undone roles.draining) (roles.serving ∷ target.channel ∷ [])
+      linked = AllByRecursion-append (λ c. is_link_up links c.station ≡ true) (undone roles.draining) (roles.serving ∷ target.channel ∷ [])
           (front (undone roles.draining) (roles.serving ∷ target_channels roles.target) linked)
           ((behind (undone roles.draining) (roles.serving ∷ target_channels roles.target) linked).0, (offered.is_up, tt));
     }

@@ -6,6 +6,7 @@ use Rattle.std.specs.List.{AllByRecursion}
 use Rattle.conn_messages.specs.declared.channel.Channel.{Channel}
 use Rattle.conn_messages.specs.declared.message.Message.{Message}
 use Rattle.conn_messages.specs.declared.parameters.TheConstants.{SWITCH_LINK}
+use Rattle.conn_table.proofs.DownlinkMessages.{AllByRecursion-append}
 use Rattle.conn_table.proofs.StandingSteps.{by_state}
 use Rattle.conn_table.specs.declared.input.Input.{Input}
 use Rattle.conn_table.specs.declared.input.Input.TheVariants as inputs
@@ -163,10 +164,6 @@ drains_away station (d ∷ ds) is =
         of true is = is
         of false is = refl
 
-all_join : (P : Channel → Type 0) (xs ys : List Channel) → AllByRecursion P xs → AllByRecursion P ys → AllByRecursion P (xs ++ ys)
-all_join P [] ys one rest = rest
-all_join P (x ∷ xs) ys one rest = (one.0, all_join P xs ys one.1 rest)
-
 target_away : (station reference : ℕ) (stage : Stage) → targets station stage ≡ false → AllByRecursion (IsAwayFrom station) (target_channels (target_role (Live reference stage)))
 target_away station reference (Preparing target) is = (away_from station target.channel is, tt)
 target_away station reference (Changing target) is = (away_from station target.channel is, tt)
@@ -178,7 +175,7 @@ live_away : (s : Connection) (station reference : ℕ) (stage : Stage) → (s.se
 live_away s station reference stage miss =
     let one = or_false (s.serving.station == station || targets station stage) (drains_at station s.draining) miss in
     let other = or_false (s.serving.station == station) (targets station stage) one.0 in
-    all_join (IsAwayFrom station) (undone s.draining) (s.serving ∷ target_channels (target_role (Live reference stage))) (drains_away station s.draining one.1)
+    AllByRecursion-append (IsAwayFrom station) (undone s.draining) (s.serving ∷ target_channels (target_role (Live reference stage))) (drains_away station s.draining one.1)
     (away_from station s.serving other.0, target_away station reference stage other.1)
 
 -- before the switch confirmed there is no old channel and no target

@@ -1,5 +1,5 @@
 -- Whose channels are after a row of the table.
-use Rattle.std.proofs.Common.{◌≡◌, ◌≢◌, ◌⊎◌, ℕ, Bool, true, false, not, if◌then◌else◌, List, [], ◌∷◌, ◌++◌, fold, filter, Option, Some, None, refl, sym, subst, ap, ◌∙◌, inl, inr, true≢false}
+use Rattle.std.proofs.Common.{◌≡◌, ◌≢◌, ◌⊎◌, ℕ, Bool, true, false, not, if◌then◌else◌, List, [], ◌∷◌, fold, Option, Some, None, refl, sym, subst, ap, ◌∙◌, inl, inr, true≢false}
 use Rattle.std.proofs.lemmas.Bool.{cases_Bool, cond-true, cond-false}
 use Rattle.std.proofs.lemmas.Grind.{fold-append}
 use Rattle.std.specs.List.{AllByRecursion}
@@ -10,6 +10,7 @@ use Rattle.conn_messages.specs.declared.channel.Place.{Place}
 use Rattle.conn_messages.specs.declared.message.Message.{Message}
 use Rattle.conn_messages.specs.declared.message.Message.TheVariants.{Station, Request, Data, ReleaseComplete}
 use Rattle.conn_messages.specs.StationMessage.{change_activation, rf_channel_release}
+use Rattle.conn_table.proofs.DownlinkMessages.{AllByRecursion-append, AllByRecursion-filter}
 use Rattle.conn_table.specs.declared.input.Input.{Input}
 use Rattle.conn_table.specs.declared.input.Input.TheVariants as inputs
 use Rattle.conn_table.specs.declared.state.Target.{Target}
@@ -99,19 +100,8 @@ others_fold m n links roles channels (ReleaseComplete destination ∷ ms) differ
 
 -- ---- the orders of a row are its own
 
-all_filter : {A : Type 0} (P : A → Type 0) (test : A → Bool) (xs : List A) → AllByRecursion P xs → AllByRecursion P (filter test xs)
-all_filter P test [] all = tt
-all_filter P test (x ∷ xs) all = elim (cases_Bool (test x)) [
-  | inl hit ↦ subst (AllByRecursion P) (sym (cond-true _ (x ∷ filter test xs) (filter test xs) hit)) (all.0, all_filter P test xs all.1)
-  | inr miss ↦ subst (AllByRecursion P) (sym (cond-false _ (x ∷ filter test xs) (filter test xs) miss)) (all_filter P test xs all.1)
-]
-
-all_both : {A : Type 0} (P : A → Type 0) (xs ys : List A) → AllByRecursion P xs → AllByRecursion P ys → AllByRecursion P (xs ++ ys)
-all_both P [] ys one other = other
-all_both P (x ∷ xs) ys one other = (one.0, all_both P xs ys one.1 other)
-
 all_that_go : (P : Message → Type 0) (input : Input) (ms : List Message) → AllByRecursion P ms → AllByRecursion P (those_that_go input ms)
-all_that_go P (inputs.StationDown station) ms all = all_filter P (λ message. not (goes_to station message)) ms all
+all_that_go P (inputs.StationDown station) ms all = AllByRecursion-filter P (λ message. not (goes_to station message)) ms all
 all_that_go P _ ms all = all
 
 -- all orders go to stations
@@ -250,7 +240,7 @@ row_others m n channels links s input offer r roles differ (goes_on was_open is_
     let by = steps was_open is_open in
     subst (λ (now : States). Owns now links n roles) (sym (fold_orders m channels r.outs))
     (others_fold m n links roles channels (orders r.outs) differ
-    (subst (AllByRecursion (IsMineOrder m channels)) (sym on.ordered) (all_both (IsMineOrder m channels) (step_orders (step_by input (roles_of s)) (roles_of s)) (begin_orders on.begun) by.mine
+    (subst (AllByRecursion (IsMineOrder m channels)) (sym on.ordered) (AllByRecursion-append (IsMineOrder m channels) (step_orders (step_by input (roles_of s)) (roles_of s)) (begin_orders on.begun) by.mine
     (mine_begin m channels links on.begun (λ t is. offers is_open t.channel (begun_offer on.begun input offer (after_step (step_by input (roles_of s)) (roles_of s)) t on.may is))))) owns)
 row_others m n channels links s input offer r roles differ (ends was_open is_shut over) steps shut offers owns =
     let mine : AllByRecursion (IsMineOrder m channels) (end_messages over.end (roles_of s)) = elim (shut was_open is_shut over.end over) [
@@ -259,7 +249,7 @@ row_others m n channels links s input offer r roles differ (ends was_open is_shu
     ] in
     subst (λ (now : States). Owns now links n roles) (sym (fold_orders m channels r.outs ∙ ap (fold (channels_after m) channels) (sym (orders_to_stations r.outs))))
     (others_fold m n links roles channels (orders (to_stations r.outs)) differ
-    (all_filter (IsMineOrder m channels) is_order (to_stations r.outs) (subst (AllByRecursion (IsMineOrder m channels)) (sym over.ordered) (all_that_go (IsMineOrder m channels) input (end_messages over.end (roles_of s)) mine))) owns)
+    (AllByRecursion-filter (IsMineOrder m channels) is_order (to_stations r.outs) (subst (AllByRecursion (IsMineOrder m channels)) (sym over.ordered) (all_that_go (IsMineOrder m channels) input (end_messages over.end (roles_of s)) mine))) owns)
 row_others m n channels links s input offer r roles differ (had_ended was_shut is_shut nothing) steps shut offers owns =
     subst (λ (now : States). Owns now links n roles) (sym (fold_orders m channels r.outs ∙ ap (fold (channels_after m) channels) (sym (orders_to_stations r.outs) ∙ ap orders nothing))) owns
 

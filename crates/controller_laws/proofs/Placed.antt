@@ -1,17 +1,14 @@
 -- A step puts the messages of a connection on its own channels.
-use Rattle.std.proofs.Common.{◌≡◌, ℕ, ◌≤◌, ◌++◌, List, [], ◌∷◌, Option, Some, None, refl, sym, subst}
+use Rattle.std.proofs.Common.{◌≡◌, ℕ, ◌≤◌, List, [], Option, Some, None, refl, sym, subst}
 use Rattle.conn_messages.specs.declared.channel.Channel.{Channel}
 use Rattle.conn_messages.specs.declared.message.Message.{Message}
 use Rattle.conn_messages.specs.declared.parameters.TheConstants.{SWITCH_LINK}
 use Rattle.conn_table.proofs.PutRows.{puts_on_own}
-use Rattle.conn_table.specs.declared.state.Stage.TheVariants.{Active, Preparing, Changing, Draining}
-use Rattle.conn_table.specs.declared.state.State.{State}
-use Rattle.conn_table.specs.declared.state.State.TheVariants.{WaitActivation, WaitEstablish, WaitConfirm, Live, Closed, Removed}
 use Rattle.conn_table.specs.Connection.{Connection}
 use Rattle.conn_table.specs.Putting.{ArePutOn, PutsOnOwn, Using, uses_of}
-use Rattle.conn_table.specs.Roles.{channels_in_use, target_channels, target_role}
+use Rattle.conn_table.specs.Roles.{channels_in_use}
 use Rattle.conn_table.specs.Steps.{Row}
-use Rattle.conn_table.specs.Streams.{AreApart, IsOpen, OfRow, target_in, undone, used_channels}
+use Rattle.conn_table.specs.Streams.{AreApart, IsOpen, OfRow, used_channels}
 use Rattle.controller_laws.specs.Acts.{Acts, Brought, IsAged, brought_in}
 use Rattle.controller_laws.specs.Acts.Acts.{ages, goes, opens, rests}
 use Rattle.controller_laws.specs.History.{connection_of}
@@ -21,21 +18,11 @@ use Rattle.controller_laws.proofs.Fitting.{IsFine, aged_holds, fine_old}
 use Rattle.controller_laws.proofs.Lives.{life_fits}
 use Rattle.controller_laws.proofs.OwningLife.{life_owns}
 use Rattle.controller_laws.proofs.Turns.{step_does}
+use Rattle.controller_laws.proofs.UplinkLife.{used_apart}
 use Rattle.controller_table.specs.declared.step.Step.{Step}
 use Rattle.controller_table.specs.Controller.{Controller, is_up}
 use Rattle.controller_table.specs.Life.{life}
 use Rattle.settings.specs.Parameters.{AreAllowed, Parameters}
-
-same_targets : (state : State) → target_channels (target_role state) ≡ target_in state
-same_targets (Live reference (Preparing target)) = refl
-same_targets (Live reference (Changing target)) = refl
-same_targets (Live reference Active) = refl
-same_targets (Live reference Draining) = refl
-same_targets WaitActivation = refl
-same_targets WaitEstablish = refl
-same_targets WaitConfirm = refl
-same_targets (Closed clearing) = refl
-same_targets Removed = refl
 
 -- the channels of an open connection are apart
 ApartOf : Connection → Type 0
@@ -48,7 +35,7 @@ ApartIn (Some s) = ApartOf s
 owned_apart : (c : Controller) (n : ℕ) (o : Option Connection) → OwnsOpen c.channels c.links n o → ApartIn o
 unfolding ApartIn ApartOf
 owned_apart c n None owns = tt
-owned_apart c n (Some s) owns = λ is_open. subst (λ (cs : List Channel). AreApart (undone s.draining ++ s.serving ∷ cs)) (same_targets s.state) (owns is_open).apart
+owned_apart c n (Some s) owns = λ is_open. used_apart s (owns is_open).apart
 
 -- time changes no channel
 aged_apart : (old s : Connection) → IsAged old s → ApartOf old → ApartOf s

@@ -10,9 +10,29 @@ use Rattle.conn_messages.specs.declared.message.Message.TheVariants.{Station, Re
 use Rattle.conn_table.specs.Roles.{is_order, orders}
 use Rattle.controller_laws.specs.Owning.{AreIn}
 use Rattle.controller_table.specs.declared.channel_state.ChannelState.{ChannelState}
-use Rattle.controller_table.specs.declared.channel_state.ChannelState.TheVariants.{Free}
+use Rattle.controller_table.specs.declared.channel_state.ChannelState.TheVariants.{Free, InUse, Releasing}
 use Rattle.controller_table.specs.Controller.{channels_after, place_of, state_in, with_state}
 use Rattle.rsl_codec.specs.declared.rsl.Rsl.TheVariants as rsl
+
+-- ---- states
+
+pub use_other : (m n : ℕ) → InUse m ≡ InUse n → m ≡ n
+use_other m n is = cc
+
+pub release_other : (m n : ℕ) → Releasing m ≡ Releasing n → m ≡ n
+release_other m n is = cc
+
+pub use≢release : (m n : ℕ) → InUse m ≢ Releasing n
+use≢release m n is = cc
+
+pub release≢use : (m n : ℕ) → Releasing m ≢ InUse n
+release≢use m n is = cc
+
+pub free≢use : (n : ℕ) → Free ≢ InUse n
+free≢use n is = cc
+
+pub free≢release : (n : ℕ) → Free ≢ Releasing n
+free≢release n is = cc
 
 -- ---- lists, where an element is set
 

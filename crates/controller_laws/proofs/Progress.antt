@@ -1,5 +1,5 @@
 -- How far the switch knows a connection after a row: CR is put with the initial message, CC confirms it, and so it stays.
-use Rattle.std.proofs.Common.{◌≡◌, ◌⊎◌, ℕ, zero, suc, ◌==◌, ◌&&◌, nat_le, Bool, true, false, if◌then◌else◌, List, [], ◌∷◌, length, Option, Some, None, refl, sym, subst, inl, inr}
+use Rattle.std.proofs.Common.{◌≡◌, ◌⊎◌, ℕ, zero, suc, ◌==◌, ◌&&◌, nat_le, Bool, true, false, List, [], ◌∷◌, length, Option, Some, None, refl, sym, subst, inl, inr}
 use Rattle.conn_messages.specs.declared.causes.TheConstants.{EQUIPMENT_FAILURE}
 use Rattle.conn_messages.specs.declared.channel.Change.{Change}
 use Rattle.conn_messages.specs.declared.channel.Change.TheVariants.{Assignment, Handover}
@@ -19,8 +19,9 @@ use Rattle.conn_table.specs.declared.state.State.TheVariants.{WaitActivation, Wa
 use Rattle.conn_table.specs.Connection.{Connection, enter, tenure_at, drain_at}
 use Rattle.conn_table.specs.Steps.{Row, row, dropping, failing, begin, begin_waiting, after_waiting, hold_down, short_message, link_down, hold_up, relay_held, leave, shifted, settled, settled_stage, resting_stage, resting, moved, hand_held, ask_for_held, done_at, may_begin}
 use Rattle.conn_table.specs.Streams.{OfRow, IsOpen, received_by}
-use Rattle.conn_table.specs.Table.{row_of, row_if, refuse, access, complete, failure, speech_request, release_in, dtap_in, dtap_on_target, on_activation_ack, on_activation_nack, on_establish_indication, on_establish_confirm, on_release_indication, on_error_indication, on_connection_failure, on_dtap, on_complete, on_failure, on_release_ack, on_move, on_confirm, on_refused, on_released, on_downlink, on_assignment_request, on_cipher_mode_command, on_clear_command, on_expiry, on_drain_expiry, on_station_down, on_switch_down}
+use Rattle.conn_table.specs.Table.{row_of, refuse, access, complete, failure, speech_request, release_in, dtap_in, dtap_on_target, on_activation_ack, on_activation_nack, on_establish_indication, on_establish_confirm, on_release_indication, on_error_indication, on_connection_failure, on_dtap, on_complete, on_failure, on_release_ack, on_move, on_confirm, on_refused, on_released, on_downlink, on_assignment_request, on_cipher_mode_command, on_clear_command, on_expiry, on_drain_expiry, on_station_down, on_switch_down}
 use Rattle.controller_laws.specs.Downlink.{requests, is_confirm}
+use Rattle.controller_laws.proofs.PutLists.{either, where_fits}
 use Rattle.dtap_codec.specs.declared.sapi.Sapi.{Sapi}
 use Rattle.dtap_codec.specs.declared.sapi.Sapi.TheVariants.{Zero, Three}
 use Rattle.conn_messages.specs.SwitchMessage.{complete_layer3}
@@ -53,14 +54,6 @@ Next _ input next put = ⊥
 -- while it stays open
 abbrev pub Advances : State → Input → Row → Type 0
 Advances state input r = IsOpen r.next.state → Next state input r.next.state r.outs
-
-where_fits : (state : State) (input : Input) (b : Bool) (r : Row) → Advances state input r → OfRow (Advances state input) (row_if b r)
-where_fits state input true r h = h
-where_fits state input false r h = tt
-
-either : (P : Row → Type 0) (b : Bool) (r q : Row) → P r → P q → P (if b then r else q)
-either P true r q h k = h
-either P false r q h k = k
 
 live_from : (s : Connection) (reference : ℕ) (stage : Stage) → s.state ≡ Live reference stage → IsLive s.state
 live_from s reference stage is = subst IsLive (sym is) tt
@@ -128,48 +121,48 @@ of_access at (Some initial) s = either (λ r. Advances WaitEstablish (inputs.Est
 of_access at None s = λ there. absurd there
 
 of_activation_ack : (state : State) (s : Connection) (at : Place) → OfRow (Advances state (inputs.ActivationAck at)) (on_activation_ack state s at)
-of_activation_ack WaitActivation s at = where_fits WaitActivation (inputs.ActivationAck at) _ _ (λ there. (refl, refl, tt))
-of_activation_ack (Live reference (Preparing target)) s at = where_fits (Live reference (Preparing target)) (inputs.ActivationAck at) _ _ (λ there. tt)
+of_activation_ack WaitActivation s at = where_fits (Advances WaitActivation (inputs.ActivationAck at)) _ _ (λ there. (refl, refl, tt))
+of_activation_ack (Live reference (Preparing target)) s at = where_fits (Advances (Live reference (Preparing target)) (inputs.ActivationAck at)) _ _ (λ there. tt)
 of_activation_ack _ s at = tt
 
 of_activation_nack : (state : State) (s : Connection) (at : Place) (offer : Option Channel) → OfRow (Advances state (inputs.ActivationNack at)) (on_activation_nack state s at offer)
-of_activation_nack WaitActivation s at offer = where_fits WaitActivation (inputs.ActivationNack at) _ _ (λ there. absurd there)
-of_activation_nack (Live reference (Preparing target)) s at offer = where_fits (Live reference (Preparing target)) (inputs.ActivationNack at) _ (refuse reference target.change offer s) (λ there. live_begin_waiting (resting_stage s.draining) reference offer (resting reference s) tt)
+of_activation_nack WaitActivation s at offer = where_fits (Advances WaitActivation (inputs.ActivationNack at)) _ _ (λ there. absurd there)
+of_activation_nack (Live reference (Preparing target)) s at offer = where_fits (Advances (Live reference (Preparing target)) (inputs.ActivationNack at)) _ (refuse reference target.change offer s) (λ there. live_begin_waiting (resting_stage s.draining) reference offer (resting reference s) tt)
 of_activation_nack _ s at offer = tt
 
 of_establish_indication : (state : State) (s : Connection) → s.state ≡ state → (at : Place) (sapi : Sapi) (message : Option (List ℕ)) → OfRow (Advances state (inputs.EstablishIndication at sapi message)) (on_establish_indication state s at sapi message)
-of_establish_indication WaitEstablish s is at Zero message = where_fits WaitEstablish (inputs.EstablishIndication at Zero message) _ _ (of_access at message s)
+of_establish_indication WaitEstablish s is at Zero message = where_fits (Advances WaitEstablish (inputs.EstablishIndication at Zero message)) _ _ (of_access at message s)
 of_establish_indication (Live reference (Changing target)) s is at sapi message = tt
-of_establish_indication (Live reference stage) s is at Three message = where_fits (Live reference stage) (inputs.EstablishIndication at Three message) _ _ (λ there. live_from s reference stage is)
+of_establish_indication (Live reference stage) s is at Three message = where_fits (Advances (Live reference stage) (inputs.EstablishIndication at Three message)) _ _ (λ there. live_from s reference stage is)
 of_establish_indication _ s is at sapi message = tt
 
 of_establish_confirm : (state : State) (s : Connection) → s.state ≡ state → (at : Place) (sapi : Sapi) → OfRow (Advances state (inputs.EstablishConfirm at sapi)) (on_establish_confirm state s at sapi)
 of_establish_confirm (Live reference (Changing target)) s is at sapi = tt
-of_establish_confirm (Live reference stage) s is at Three = where_fits (Live reference stage) (inputs.EstablishConfirm at Three) _ _ (λ there. live_from s reference stage is)
+of_establish_confirm (Live reference stage) s is at Three = where_fits (Advances (Live reference stage) (inputs.EstablishConfirm at Three)) _ _ (λ there. live_from s reference stage is)
 of_establish_confirm _ s is at sapi = tt
 
 of_release_indication : (state : State) (s : Connection) → s.state ≡ state → (at : Place) (sapi : Sapi) → OfRow (Advances state (inputs.ReleaseIndication at sapi)) (on_release_indication state s at sapi)
-of_release_indication WaitEstablish s is at Zero = where_fits WaitEstablish (inputs.ReleaseIndication at Zero) _ _ (λ there. absurd there)
-of_release_indication WaitConfirm s is at Zero = where_fits WaitConfirm (inputs.ReleaseIndication at Zero) _ _ (λ there. absurd there)
+of_release_indication WaitEstablish s is at Zero = where_fits (Advances WaitEstablish (inputs.ReleaseIndication at Zero)) _ _ (λ there. absurd there)
+of_release_indication WaitConfirm s is at Zero = where_fits (Advances WaitConfirm (inputs.ReleaseIndication at Zero)) _ _ (λ there. absurd there)
 of_release_indication (Live reference (Changing target)) s is at sapi = tt
-of_release_indication (Live reference stage) s is at Zero = where_fits (Live reference stage) (inputs.ReleaseIndication at Zero) _ _ (λ there. absurd there)
-of_release_indication (Live reference stage) s is at Three = where_fits (Live reference stage) (inputs.ReleaseIndication at Three) _ _ (λ there. live_link_down s.link reference s (live_from s reference stage is))
+of_release_indication (Live reference stage) s is at Zero = where_fits (Advances (Live reference stage) (inputs.ReleaseIndication at Zero)) _ _ (λ there. absurd there)
+of_release_indication (Live reference stage) s is at Three = where_fits (Advances (Live reference stage) (inputs.ReleaseIndication at Three)) _ _ (λ there. live_link_down s.link reference s (live_from s reference stage is))
 of_release_indication _ s is at sapi = tt
 
 of_error_indication : (state : State) (s : Connection) → s.state ≡ state → (at : Place) (sapi : Sapi) → OfRow (Advances state (inputs.ErrorIndication at sapi)) (on_error_indication state s at sapi)
 of_error_indication (Live reference (Changing target)) s is at sapi = tt
-of_error_indication (Live reference stage) s is at Three = where_fits (Live reference stage) (inputs.ErrorIndication at Three) _ _ (λ there. live_link_down s.link reference s (live_from s reference stage is))
+of_error_indication (Live reference stage) s is at Three = where_fits (Advances (Live reference stage) (inputs.ErrorIndication at Three)) _ _ (λ there. live_link_down s.link reference s (live_from s reference stage is))
 of_error_indication _ s is at sapi = tt
 
 of_connection_failure : (state : State) (s : Connection) (at : Place) → OfRow (Advances state (inputs.ConnectionFailure at)) (on_connection_failure state s at)
-of_connection_failure WaitEstablish s at = where_fits WaitEstablish (inputs.ConnectionFailure at) _ _ (λ there. absurd there)
-of_connection_failure WaitConfirm s at = where_fits WaitConfirm (inputs.ConnectionFailure at) _ _ (λ there. absurd there)
+of_connection_failure WaitEstablish s at = where_fits (Advances WaitEstablish (inputs.ConnectionFailure at)) _ _ (λ there. absurd there)
+of_connection_failure WaitConfirm s at = where_fits (Advances WaitConfirm (inputs.ConnectionFailure at)) _ _ (λ there. absurd there)
 of_connection_failure (Live reference (Changing target)) s at = tt
-of_connection_failure (Live reference stage) s at = where_fits (Live reference stage) (inputs.ConnectionFailure at) _ _ (λ there. absurd there)
+of_connection_failure (Live reference stage) s at = where_fits (Advances (Live reference stage) (inputs.ConnectionFailure at)) _ _ (λ there. absurd there)
 of_connection_failure _ s at = tt
 
 of_dtap_on_target : (reference : ℕ) (stage : Stage) (s : Connection) (at of : Place) (sapi on : Sapi) (message : List ℕ) → OfRow (Advances (Live reference stage) (inputs.Dtap of on message)) (dtap_on_target reference stage s at sapi)
-of_dtap_on_target reference (Changing target) s at of Zero on message = where_fits (Live reference (Changing target)) (inputs.Dtap of on message) _ _ (λ there. absurd there)
+of_dtap_on_target reference (Changing target) s at of Zero on message = where_fits (Advances (Live reference (Changing target)) (inputs.Dtap of on message)) _ _ (λ there. absurd there)
 of_dtap_on_target reference _ s at of _ on message = tt
 
 of_dtap_in : (place : Option ℕ) (reference : ℕ) (stage : Stage) (s : Connection) → s.state ≡ Live reference stage → (at : Place) (sapi : Sapi) (message : List ℕ) → OfRow (Advances (Live reference stage) (inputs.Dtap at sapi message)) (dtap_in place reference stage s at sapi message)
@@ -182,18 +175,18 @@ waits_on : (sapi : Sapi) (at : Place) (message : List ℕ) (s : Connection) → 
 waits_on sapi at message s is = either (λ r. Advances WaitConfirm (inputs.Dtap at sapi message) r) (chain_count s.up == s.up.limit) (failing WaitConfirm s EQUIPMENT_FAILURE) (row [] (record s { up = record s.up { tenures = put_in 0 sapi message s.up.tenures } })) (λ there. absurd there) (λ there. (tt, inl (is, refl)))
 
 of_dtap : (state : State) (s : Connection) → s.state ≡ state → (at : Place) (sapi : Sapi) (message : List ℕ) → OfRow (Advances state (inputs.Dtap at sapi message)) (on_dtap state s at sapi message)
-of_dtap WaitEstablish s is at Zero message = where_fits WaitEstablish (inputs.Dtap at Zero message) _ _ (λ there. absurd there)
+of_dtap WaitEstablish s is at Zero message = where_fits (Advances WaitEstablish (inputs.Dtap at Zero message)) _ _ (λ there. absurd there)
 of_dtap WaitEstablish s is at Three message = tt
-of_dtap WaitConfirm s is at sapi message = where_fits WaitConfirm (inputs.Dtap at sapi message) _ _ (waits_on sapi at message s is)
+of_dtap WaitConfirm s is at sapi message = where_fits (Advances WaitConfirm (inputs.Dtap at sapi message)) _ _ (waits_on sapi at message s is)
 of_dtap (Live reference stage) s is at sapi message = of_dtap_in (tenure_at at s.serving s.draining) reference stage s is at sapi message
 of_dtap _ s is at sapi message = tt
 
 of_complete : (state : State) (s : Connection) (at : Place) (change : Change) (cause : _) (offer : Option Channel) → OfRow (Advances state (inputs.Complete at change cause)) (on_complete state s at change cause.0 offer)
-of_complete (Live reference (Changing target)) s at change cause offer = where_fits (Live reference (Changing target)) (inputs.Complete at change cause) _ (complete reference change target.channel cause.0 offer s) (λ there. live_begin_waiting Draining reference offer (ask_for_held (hand_held Zero (moved reference target.channel s)).next).next tt)
+of_complete (Live reference (Changing target)) s at change cause offer = where_fits (Advances (Live reference (Changing target)) (inputs.Complete at change cause)) _ (complete reference change target.channel cause.0 offer s) (λ there. live_begin_waiting Draining reference offer (ask_for_held (hand_held Zero (moved reference target.channel s)).next).next tt)
 of_complete _ s at change cause offer = tt
 
 of_failure : (state : State) (s : Connection) (at : Place) (change : Change) (cause : _) (offer : Option Channel) → OfRow (Advances state (inputs.Failure at change cause)) (on_failure state s at change cause.0 offer)
-of_failure (Live reference (Changing target)) s at change cause offer = where_fits (Live reference (Changing target)) (inputs.Failure at change cause) _ (failure reference change target.channel cause.0 offer s) (λ there. live_begin_waiting (resting_stage s.draining) reference offer (ask_for_held (hand_held Zero (resting reference s)).next).next tt)
+of_failure (Live reference (Changing target)) s at change cause offer = where_fits (Advances (Live reference (Changing target)) (inputs.Failure at change cause)) _ (failure reference change target.channel cause.0 offer s) (λ there. live_begin_waiting (resting_stage s.draining) reference offer (ask_for_held (hand_held Zero (resting reference s)).next).next tt)
 of_failure _ s at change cause offer = tt
 
 of_release : (reference : ℕ) (stage : Stage) (at : Place) (place : Option ℕ) (offer : Option Channel) (s : Connection) → s.state ≡ Live reference stage → OfRow (Advances (Live reference stage) (inputs.ReleaseAck at)) (release_in place reference stage offer s)
@@ -208,7 +201,7 @@ of_release_ack (Live reference stage) s is at offer = of_release reference stage
 of_release_ack _ s is at offer = tt
 
 of_move : (state : State) (s : Connection) → s.state ≡ state → (offer : Option Channel) → OfRow (Advances state inputs.Move) (on_move state s offer)
-of_move (Live reference stage) s is offer = where_fits (Live reference stage) inputs.Move _ (begin reference Handover offer s) (λ there. live_begin reference Handover offer s (live_from s reference stage is))
+of_move (Live reference stage) s is offer = where_fits (Advances (Live reference stage) inputs.Move) _ (begin reference Handover offer s) (λ there. live_begin reference Handover offer s (live_from s reference stage is))
 of_move _ s is offer = tt
 
 of_confirm : (state : State) (s : Connection) (source : _) → OfRow (Advances state (inputs.ConnectionConfirm source)) (on_confirm state s source)
@@ -259,14 +252,14 @@ of_expiry (Live reference (Changing target)) s = λ there. absurd there
 of_expiry _ s = tt
 
 of_drain_expiry : (state : State) (s : Connection) → OfRow (Advances state inputs.DrainExpiry) (on_drain_expiry state s)
-of_drain_expiry (Live reference stage) s = where_fits (Live reference stage) inputs.DrainExpiry _ _ (λ there. absurd there)
+of_drain_expiry (Live reference stage) s = where_fits (Advances (Live reference stage) inputs.DrainExpiry) _ _ (λ there. absurd there)
 of_drain_expiry _ s = tt
 
 of_station_down : (state : State) (s : Connection) (station : ℕ) → OfRow (Advances state (inputs.StationDown station)) (on_station_down state s station)
-of_station_down WaitActivation s station = where_fits WaitActivation (inputs.StationDown station) _ _ (λ there. absurd there)
-of_station_down WaitEstablish s station = where_fits WaitEstablish (inputs.StationDown station) _ _ (λ there. absurd there)
-of_station_down WaitConfirm s station = where_fits WaitConfirm (inputs.StationDown station) _ _ (λ there. absurd there)
-of_station_down (Live reference stage) s station = where_fits (Live reference stage) (inputs.StationDown station) _ _ (λ there. absurd there)
+of_station_down WaitActivation s station = where_fits (Advances WaitActivation (inputs.StationDown station)) _ _ (λ there. absurd there)
+of_station_down WaitEstablish s station = where_fits (Advances WaitEstablish (inputs.StationDown station)) _ _ (λ there. absurd there)
+of_station_down WaitConfirm s station = where_fits (Advances WaitConfirm (inputs.StationDown station)) _ _ (λ there. absurd there)
+of_station_down (Live reference stage) s station = where_fits (Advances (Live reference stage) (inputs.StationDown station)) _ _ (λ there. absurd there)
 of_station_down _ s station = tt
 
 of_switch_down : (state : State) (s : Connection) → OfRow (Advances state inputs.SwitchDown) (on_switch_down state s)

@@ -11,6 +11,7 @@ use Rattle.conn_messages.specs.declared.message.Message.{Message}
 use Rattle.conn_messages.specs.declared.message.Message.TheVariants.{Station}
 use Rattle.conn_messages.specs.StationMessage.{handing, rf_channel_release}
 use Rattle.conn_messages.specs.SwitchMessage.{assignment_failure, change_complete, complete_layer3, relaying}
+use Rattle.conn_table.proofs.DownlinkMessages.{AllByRecursion-append}
 use Rattle.conn_table.specs.declared.input.Input.{Input}
 use Rattle.conn_table.specs.declared.input.Input.TheVariants as inputs
 use Rattle.conn_table.specs.declared.state.Clearing.TheVariants.{Due, Asked as WasAsked}
@@ -24,7 +25,8 @@ use Rattle.conn_table.specs.declared.state.State.TheVariants.{WaitActivation, Wa
 use Rattle.conn_table.specs.Connection.{Connection, emptied, enter, first_channel, tenure_at, drain_at}
 use Rattle.conn_table.specs.Steps.{Row, row, ◌then◌, dropping, failing, link_up, without_station, begin, begin_outs, begin_waiting, waiting_outs, hold_down, hold_short_message, short_message, request_where, link_down, hold_up, relay_held, tenure_outs, leave, shifted, settled, settled_stage, resting_stage, resting, moved, request_for, done_at, may_begin}
 use Rattle.conn_table.specs.Streams.{OfRow, IsOpen, target_in}
-use Rattle.conn_table.specs.Table.{row_of, row_if, assign_immediately, command_to, refuse, nack_outs, access, release, complete, failure, failure_outs, speech_request, release_in, dtap_in, dtap_on_target, on_activation_ack, on_activation_nack, on_establish_indication, on_establish_confirm, on_release_indication, on_error_indication, on_connection_failure, on_dtap, on_complete, on_failure, on_release_ack, on_move, on_confirm, on_refused, on_released, on_downlink, on_assignment_request, on_cipher_mode_command, on_clear_command, on_expiry, on_drain_expiry, on_station_down, on_switch_down}
+use Rattle.conn_table.specs.Table.{row_of, assign_immediately, command_to, refuse, nack_outs, access, release, complete, failure, failure_outs, speech_request, release_in, dtap_in, dtap_on_target, on_activation_ack, on_activation_nack, on_establish_indication, on_establish_confirm, on_release_indication, on_error_indication, on_connection_failure, on_dtap, on_complete, on_failure, on_release_ack, on_move, on_confirm, on_refused, on_released, on_downlink, on_assignment_request, on_cipher_mode_command, on_clear_command, on_expiry, on_drain_expiry, on_station_down, on_switch_down}
+use Rattle.controller_laws.proofs.PutLists.{either, where_fits}
 use Rattle.dtap_codec.specs.declared.sapi.Sapi.{Sapi}
 use Rattle.dtap_codec.specs.declared.sapi.Sapi.TheVariants.{Zero, Three}
 use Rattle.hold_queue.specs.ChainState.{Tenure, chain_count, put_in}
@@ -36,10 +38,6 @@ abbrev pub Reaches : (ℕ → Type 0) → Message → Type 0
 Reaches P (Station station message) = P station
 Reaches P _ = Unit {0}
 
-pub all_join : {A : Type 0} (P : A → Type 0) (xs ys : List A) → AllByRecursion P xs → AllByRecursion P ys → AllByRecursion P (xs ++ ys)
-all_join P [] ys one rest = rest
-all_join P (x ∷ xs) ys one rest = (one.0, all_join P xs ys one.1 rest)
-
 module _ (P : ℕ → Type 0) where
   abbrev AllReach : List Message → Type 0
   AllReach outs = AllByRecursion (Reaches P) outs
@@ -47,14 +45,6 @@ module _ (P : ℕ → Type 0) where
   -- of a row that leaves the connection open
   abbrev pub Reaching : Row → Type 0
   Reaching r = IsOpen r.next.state → AllByRecursion (Reaches P) r.outs
-
-  either : (b : Bool) (r q : Row) → Reaching r → Reaching q → Reaching (if b then r else q)
-  either true r q h k = h
-  either false r q h k = k
-
-  where_fits : (b : Bool) (r : Row) → Reaching r → OfRow Reaching (row_if b r)
-  where_fits true r h = h
-  where_fits false r h = tt
 
   -- ---- messages
 
@@ -68,7 +58,7 @@ module _ (P : ℕ → Type 0) where
 
   all_of_tenure : (reference : ℕ) (c : Channel) (ts : List Tenure) → AllReach (tenure_outs reference c ts)
   all_of_tenure reference c [] = tt
-  all_of_tenure reference c (t ∷ ts) = all_join (Reaches P) (map (relaying reference c Zero) t.zero) (map (relaying reference c Three) t.three) (all_relayed reference c Zero t.zero) (all_relayed reference c Three t.three)
+  all_of_tenure reference c (t ∷ ts) = AllByRecursion-append (Reaches P) (map (relaying reference c Zero) t.zero) (map (relaying reference c Three) t.three) (all_relayed reference c Zero t.zero) (all_relayed reference c Three t.three)
 
   begins : (reference : ℕ) (change : Change) (offer : Option Channel) → AllByRecursion (λ (c : Channel). P c.station) (option_to_list offer) → AllReach (begin_outs reference change offer)
   begins reference Assignment (Some channel) there = there
@@ -100,11 +90,11 @@ module _ (P : ℕ → Type 0) where
   of_failing Removed s cause there = absurd there
 
   of_hold_down : (state : State) (sapi : Sapi) (message : List ℕ) (s : Connection) → Reaching (hold_down state sapi message s)
-  of_hold_down state sapi message s = either (count s.down == s.down.limit) (failing state s EQUIPMENT_FAILURE) (row [] (record s { down = with_messages s.down sapi (messages s.down sapi ++ message ∷ []) })) (of_failing state s EQUIPMENT_FAILURE) (λ _. tt)
+  of_hold_down state sapi message s = either Reaching (count s.down == s.down.limit) (failing state s EQUIPMENT_FAILURE) (row [] (record s { down = with_messages s.down sapi (messages s.down sapi ++ message ∷ []) })) (of_failing state s EQUIPMENT_FAILURE) (λ _. tt)
 
   of_hold_short_message : (state : State) (message : List ℕ) (s : Connection) → P s.serving.station → Reaching (hold_short_message state message s)
   of_hold_short_message state message s here =
-      either (count s.down == s.down.limit) (failing state s EQUIPMENT_FAILURE) (row (request_where s.link s.serving) (record s { link = Asked; down = with_messages s.down Three (messages s.down Three ++ message ∷ []) }))
+      either Reaching (count s.down == s.down.limit) (failing state s EQUIPMENT_FAILURE) (row (request_where s.link s.serving) (record s { link = Asked; down = with_messages s.down Three (messages s.down Three ++ message ∷ []) }))
       (of_failing state s EQUIPMENT_FAILURE) (λ _. requests s.link s.serving here)
 
   of_short_message : (state : State) (link : ShortMessageLink) (message : List ℕ) (s : Connection) → P s.serving.station → Reaching (short_message state link message s)
@@ -118,80 +108,76 @@ module _ (P : ℕ → Type 0) where
   of_link_down Down reference s there = tt
 
   of_hold_up : (state : State) (tenure : ℕ) (sapi : Sapi) (message : List ℕ) (s : Connection) → Reaching (hold_up state tenure sapi message s)
-  of_hold_up state tenure sapi message s = either (chain_count s.up == s.up.limit) (failing state s EQUIPMENT_FAILURE) (row [] (record s { up = record s.up { tenures = put_in tenure sapi message s.up.tenures } })) (of_failing state s EQUIPMENT_FAILURE) (λ _. tt)
-
-  either_outs : (b : Bool) (r q : Row) → AllReach r.outs → AllReach q.outs → AllReach (if b then r else q).outs
-  either_outs true r q h k = h
-  either_outs false r q h k = k
+  of_hold_up state tenure sapi message s = either Reaching (chain_count s.up == s.up.limit) (failing state s EQUIPMENT_FAILURE) (row [] (record s { up = record s.up { tenures = put_in tenure sapi message s.up.tenures } })) (of_failing state s EQUIPMENT_FAILURE) (λ _. tt)
 
   of_leave : (reference : ℕ) (draining : List Drain) (s : Connection) → AllReach (leave reference draining s).outs
   of_leave reference [] s = tt
   of_leave reference (d ∷ ds) s =
-      either_outs d.is_done (row [] (shifted ds s) then relay_held reference then leave reference ds) (row [] (record s { draining = d ∷ ds }))
-      (all_join (Reaches P) (relay_held reference (shifted ds s)).outs (leave reference ds (relay_held reference (shifted ds s)).next).outs
+      either (λ (r : Row). AllReach r.outs) d.is_done (row [] (shifted ds s) then relay_held reference then leave reference ds) (row [] (record s { draining = d ∷ ds }))
+      (AllByRecursion-append (Reaches P) (relay_held reference (shifted ds s)).outs (leave reference ds (relay_held reference (shifted ds s)).next).outs
       (all_of_tenure reference (first_channel ds s.serving) (shifted ds s).up.tenures) (of_leave reference ds (relay_held reference (shifted ds s)).next))
       tt
 
   -- ---- rows
 
   of_access : (message : Option (List ℕ)) (s : Connection) → Reaching (access message s)
-  of_access (Some initial) s = either (nat_le (length initial) INITIAL_LIMIT) (row (complete_layer3 s.serving initial ∷ []) (enter WaitConfirm s)) (dropping s) (λ _. (tt, tt)) (λ there. absurd there)
+  of_access (Some initial) s = either Reaching (nat_le (length initial) INITIAL_LIMIT) (row (complete_layer3 s.serving initial ∷ []) (enter WaitConfirm s)) (dropping s) (λ _. (tt, tt)) (λ there. absurd there)
   of_access None s = λ there. absurd there
 
   of_activation_ack : (state : State) (s : Connection) (at : Place) → P s.serving.station → OfRow Reaching (on_activation_ack state s at)
-  of_activation_ack WaitActivation s at here = where_fits _ (assign_immediately s) (λ _. (here, tt))
-  of_activation_ack (Live reference (Preparing target)) s at here = where_fits _ (command_to reference target s) (λ _. (here, tt))
+  of_activation_ack WaitActivation s at here = where_fits Reaching _ (assign_immediately s) (λ _. (here, tt))
+  of_activation_ack (Live reference (Preparing target)) s at here = where_fits Reaching _ (command_to reference target s) (λ _. (here, tt))
   of_activation_ack _ s at here = tt
 
   of_refuse : (reference : ℕ) (change : Change) (offer : Option Channel) (s : Connection) → AllByRecursion (λ (c : Channel). P c.station) (option_to_list offer) → Reaching (refuse reference change offer s)
   of_refuse reference change offer s there _ =
-      all_join (Reaches P) (nack_outs change reference) (begin_waiting (resting_stage s.draining) reference offer (resting reference s)).outs (nacks change) (waits (s.waits && may_begin (resting_stage s.draining) s.draining) reference offer there)
+      AllByRecursion-append (Reaches P) (nack_outs change reference) (begin_waiting (resting_stage s.draining) reference offer (resting reference s)).outs (nacks change) (waits (s.waits && may_begin (resting_stage s.draining) s.draining) reference offer there)
     where
       nacks : (change : Change) → AllReach (nack_outs change reference)
       nacks Assignment = (tt, tt)
       nacks Handover = tt
 
   of_activation_nack : (state : State) (s : Connection) (at : Place) (offer : Option Channel) → AllByRecursion (λ (c : Channel). P c.station) (option_to_list offer) → OfRow Reaching (on_activation_nack state s at offer)
-  of_activation_nack WaitActivation s at offer there = where_fits _ (row [] (emptied Removed s)) (λ is_open. absurd is_open)
-  of_activation_nack (Live reference (Preparing target)) s at offer there = where_fits _ (refuse reference target.change offer s) (of_refuse reference target.change offer s there)
+  of_activation_nack WaitActivation s at offer there = where_fits Reaching _ (row [] (emptied Removed s)) (λ is_open. absurd is_open)
+  of_activation_nack (Live reference (Preparing target)) s at offer there = where_fits Reaching _ (refuse reference target.change offer s) (of_refuse reference target.change offer s there)
   of_activation_nack _ s at offer there = tt
 
   of_link_up : (s : Connection) → P s.serving.station → AllReach (map (handing s.serving Three) (messages s.down Three))
   of_link_up s here = all_handed s.serving Three (messages s.down Three) here
 
   of_establish_indication : (state : State) (s : Connection) (at : Place) (sapi : Sapi) (message : Option (List ℕ)) → P s.serving.station → OfRow Reaching (on_establish_indication state s at sapi message)
-  of_establish_indication WaitEstablish s at Zero message here = where_fits _ (access message s) (of_access message s)
+  of_establish_indication WaitEstablish s at Zero message here = where_fits Reaching _ (access message s) (of_access message s)
   of_establish_indication (Live reference (Changing target)) s at sapi message here = tt
-  of_establish_indication (Live reference stage) s at Three message here = where_fits _ (link_up s) (λ _. of_link_up s here)
+  of_establish_indication (Live reference stage) s at Three message here = where_fits Reaching _ (link_up s) (λ _. of_link_up s here)
   of_establish_indication _ s at sapi message here = tt
 
   of_establish_confirm : (state : State) (s : Connection) (at : Place) (sapi : Sapi) → P s.serving.station → OfRow Reaching (on_establish_confirm state s at sapi)
   of_establish_confirm (Live reference (Changing target)) s at sapi here = tt
-  of_establish_confirm (Live reference stage) s at Three here = where_fits _ (link_up s) (λ _. of_link_up s here)
+  of_establish_confirm (Live reference stage) s at Three here = where_fits Reaching _ (link_up s) (λ _. of_link_up s here)
   of_establish_confirm _ s at sapi here = tt
 
   of_release_indication : (state : State) (s : Connection) (at : Place) (sapi : Sapi) → OfRow Reaching (on_release_indication state s at sapi)
-  of_release_indication WaitEstablish s at Zero = where_fits _ (dropping s) (λ is_open. absurd is_open)
-  of_release_indication WaitConfirm s at Zero = where_fits _ (failing WaitConfirm s RADIO_INTERFACE_FAILURE) (λ is_open. absurd is_open)
+  of_release_indication WaitEstablish s at Zero = where_fits Reaching _ (dropping s) (λ is_open. absurd is_open)
+  of_release_indication WaitConfirm s at Zero = where_fits Reaching _ (failing WaitConfirm s RADIO_INTERFACE_FAILURE) (λ is_open. absurd is_open)
   of_release_indication (Live reference (Changing target)) s at sapi = tt
-  of_release_indication (Live reference stage) s at Zero = where_fits _ (failing (Live reference stage) s RADIO_INTERFACE_FAILURE) (λ is_open. absurd is_open)
-  of_release_indication (Live reference stage) s at Three = where_fits _ (link_down s.link reference s) (of_link_down s.link reference s)
+  of_release_indication (Live reference stage) s at Zero = where_fits Reaching _ (failing (Live reference stage) s RADIO_INTERFACE_FAILURE) (λ is_open. absurd is_open)
+  of_release_indication (Live reference stage) s at Three = where_fits Reaching _ (link_down s.link reference s) (of_link_down s.link reference s)
   of_release_indication _ s at sapi = tt
 
   of_error_indication : (state : State) (s : Connection) (at : Place) (sapi : Sapi) → OfRow Reaching (on_error_indication state s at sapi)
   of_error_indication (Live reference (Changing target)) s at sapi = tt
-  of_error_indication (Live reference stage) s at Three = where_fits _ (link_down s.link reference s) (of_link_down s.link reference s)
+  of_error_indication (Live reference stage) s at Three = where_fits Reaching _ (link_down s.link reference s) (of_link_down s.link reference s)
   of_error_indication _ s at sapi = tt
 
   of_connection_failure : (state : State) (s : Connection) (at : Place) → OfRow Reaching (on_connection_failure state s at)
-  of_connection_failure WaitEstablish s at = where_fits _ (dropping s) (λ is_open. absurd is_open)
-  of_connection_failure WaitConfirm s at = where_fits _ (failing WaitConfirm s RADIO_INTERFACE_FAILURE) (λ is_open. absurd is_open)
+  of_connection_failure WaitEstablish s at = where_fits Reaching _ (dropping s) (λ is_open. absurd is_open)
+  of_connection_failure WaitConfirm s at = where_fits Reaching _ (failing WaitConfirm s RADIO_INTERFACE_FAILURE) (λ is_open. absurd is_open)
   of_connection_failure (Live reference (Changing target)) s at = tt
-  of_connection_failure (Live reference stage) s at = where_fits _ (failing (Live reference stage) s RADIO_INTERFACE_FAILURE) (λ is_open. absurd is_open)
+  of_connection_failure (Live reference stage) s at = where_fits Reaching _ (failing (Live reference stage) s RADIO_INTERFACE_FAILURE) (λ is_open. absurd is_open)
   of_connection_failure _ s at = tt
 
   of_dtap_on_target : (reference : ℕ) (stage : Stage) (s : Connection) (at : Place) (sapi : Sapi) → OfRow Reaching (dtap_on_target reference stage s at sapi)
-  of_dtap_on_target reference (Changing target) s at Zero = where_fits _ (failing (Live reference (Changing target)) s EQUIPMENT_FAILURE) (λ is_open. absurd is_open)
+  of_dtap_on_target reference (Changing target) s at Zero = where_fits Reaching _ (failing (Live reference (Changing target)) s EQUIPMENT_FAILURE) (λ is_open. absurd is_open)
   of_dtap_on_target reference _ s at _ = tt
 
   of_dtap_in : (place : Option ℕ) (reference : ℕ) (stage : Stage) (s : Connection) (at : Place) (sapi : Sapi) (message : List ℕ) → OfRow Reaching (dtap_in place reference stage s at sapi message)
@@ -200,9 +186,9 @@ module _ (P : ℕ → Type 0) where
   of_dtap_in None reference stage s at sapi message = of_dtap_on_target reference stage s at sapi
 
   of_dtap : (state : State) (s : Connection) (at : Place) (sapi : Sapi) (message : List ℕ) → OfRow Reaching (on_dtap state s at sapi message)
-  of_dtap WaitEstablish s at Zero message = where_fits _ (dropping s) (λ is_open. absurd is_open)
+  of_dtap WaitEstablish s at Zero message = where_fits Reaching _ (dropping s) (λ is_open. absurd is_open)
   of_dtap WaitEstablish s at Three message = tt
-  of_dtap WaitConfirm s at sapi message = where_fits _ (hold_up WaitConfirm 0 sapi message s) (of_hold_up WaitConfirm 0 sapi message s)
+  of_dtap WaitConfirm s at sapi message = where_fits Reaching _ (hold_up WaitConfirm 0 sapi message s) (of_hold_up WaitConfirm 0 sapi message s)
   of_dtap (Live reference stage) s at sapi message = of_dtap_in (tenure_at at s.serving s.draining) reference stage s at sapi message
   of_dtap _ s at sapi message = tt
 
@@ -216,13 +202,13 @@ module _ (P : ℕ → Type 0) where
   of_end stage reference offer s here there outs first =
       let held : List Message = map (handing s.serving Zero) (messages s.down Zero) in
       let asked : List Message = request_for s.down.three s.serving in
-      all_join (Reaches P) (outs ++ held ++ asked) (waiting_outs (s.waits && may_begin stage s.draining) reference offer)
-      (all_join (Reaches P) (outs ++ held) asked (all_join (Reaches P) outs held first (all_handed s.serving Zero (messages s.down Zero) here)) (requests_for s.down.three s.serving here))
+      AllByRecursion-append (Reaches P) (outs ++ held ++ asked) (waiting_outs (s.waits && may_begin stage s.draining) reference offer)
+      (AllByRecursion-append (Reaches P) (outs ++ held) asked (AllByRecursion-append (Reaches P) outs held first (all_handed s.serving Zero (messages s.down Zero) here)) (requests_for s.down.three s.serving here))
       (waits (s.waits && may_begin stage s.draining) reference offer there)
 
   of_complete : (state : State) (s : Connection) (at : Place) (change : Change) (cause : ℕ) (offer : Option Channel) → P s.serving.station → AllByRecursion (λ (c : Channel). P c.station) (target_in state) → AllByRecursion (λ (c : Channel). P c.station) (option_to_list offer) → OfRow Reaching (on_complete state s at change cause offer)
   of_complete (Live reference (Changing target)) s at change cause offer here target_there there =
-      where_fits _ (complete reference change target.channel cause offer s)
+      where_fits Reaching _ (complete reference change target.channel cause offer s)
       (λ _. of_end Draining reference offer (moved reference target.channel s) target_there.0 there (change_complete reference change target.channel cause ∷ rf_channel_release s.serving ∷ []) (completes reference change target.channel cause, (here, tt)))
   of_complete _ s at change cause offer here target_there there = tt
 
@@ -232,16 +218,16 @@ module _ (P : ℕ → Type 0) where
 
   of_failure : (state : State) (s : Connection) (at : Place) (change : Change) (cause : ℕ) (offer : Option Channel) → P s.serving.station → AllByRecursion (λ (c : Channel). P c.station) (target_in state) → AllByRecursion (λ (c : Channel). P c.station) (option_to_list offer) → OfRow Reaching (on_failure state s at change cause offer)
   of_failure (Live reference (Changing target)) s at change cause offer here target_there there =
-      where_fits _ (failure reference change target.channel cause offer s)
-      (λ _. of_end (resting_stage s.draining) reference offer (resting reference s) here there (failure_outs change reference cause ++ rf_channel_release target.channel ∷ []) (all_join (Reaches P) (failure_outs change reference cause) (rf_channel_release target.channel ∷ []) (fails reference change cause) (target_there.0, tt)))
+      where_fits Reaching _ (failure reference change target.channel cause offer s)
+      (λ _. of_end (resting_stage s.draining) reference offer (resting reference s) here there (failure_outs change reference cause ++ rf_channel_release target.channel ∷ []) (AllByRecursion-append (Reaches P) (failure_outs change reference cause) (rf_channel_release target.channel ∷ []) (fails reference change cause) (target_there.0, tt)))
   of_failure _ s at change cause offer here target_there there = tt
 
   of_release : (reference : ℕ) (stage : Stage) (place : ℕ) (offer : Option Channel) (s : Connection) → AllByRecursion (λ (c : Channel). P c.station) (option_to_list offer) → Reaching (release reference stage place offer s)
   of_release reference stage place offer s there _ =
       let left : Connection = (leave reference (done_at place s.draining) s).next in
       let rests : Connection = settled reference stage left.draining left in
-      all_join (Reaches P) ((leave reference (done_at place s.draining) s).outs ++ []) (begin_waiting (settled_stage stage rests.draining) reference offer rests).outs
-      (all_join (Reaches P) (leave reference (done_at place s.draining) s).outs [] (of_leave reference (done_at place s.draining) s) tt)
+      AllByRecursion-append (Reaches P) ((leave reference (done_at place s.draining) s).outs ++ []) (begin_waiting (settled_stage stage rests.draining) reference offer rests).outs
+      (AllByRecursion-append (Reaches P) (leave reference (done_at place s.draining) s).outs [] (of_leave reference (done_at place s.draining) s) tt)
       (waits (rests.waits && may_begin (settled_stage stage rests.draining) rests.draining) reference offer there)
 
   of_release_in : (place : Option ℕ) (reference : ℕ) (stage : Stage) (offer : Option Channel) (s : Connection) → AllByRecursion (λ (c : Channel). P c.station) (option_to_list offer) → OfRow Reaching (release_in place reference stage offer s)
@@ -253,7 +239,7 @@ module _ (P : ℕ → Type 0) where
   of_release_ack _ s at offer there = tt
 
   of_move : (state : State) (s : Connection) (offer : Option Channel) → AllByRecursion (λ (c : Channel). P c.station) (option_to_list offer) → OfRow Reaching (on_move state s offer)
-  of_move (Live reference stage) s offer there = where_fits _ (begin reference Handover offer s) (λ _. begins reference Handover offer there)
+  of_move (Live reference stage) s offer there = where_fits Reaching _ (begin reference Handover offer s) (λ _. begins reference Handover offer there)
   of_move _ s offer there = tt
 
   of_confirm : (state : State) (s : Connection) (reference : ℕ) → OfRow Reaching (on_confirm state s reference)
@@ -280,13 +266,13 @@ module _ (P : ℕ → Type 0) where
 
   of_speech : (reference : ℕ) (stage : Stage) (offer : Option Channel) (s : Connection) → AllByRecursion (λ (c : Channel). P c.station) (option_to_list offer) → Reaching (speech_request reference stage offer s)
   of_speech reference stage offer s there =
-      either (may_begin stage s.draining) (begin reference Assignment offer s) (if s.waits then row (assignment_failure reference PROTOCOL_ERROR None ∷ []) s else row [] (record s { waits = true }))
+      either Reaching (may_begin stage s.draining) (begin reference Assignment offer s) (if s.waits then row (assignment_failure reference PROTOCOL_ERROR None ∷ []) s else row [] (record s { waits = true }))
       (λ _. begins reference Assignment offer there)
-      (either s.waits (row (assignment_failure reference PROTOCOL_ERROR None ∷ []) s) (row [] (record s { waits = true })) (λ _. (tt, tt)) (λ _. tt))
+      (either Reaching s.waits (row (assignment_failure reference PROTOCOL_ERROR None ∷ []) s) (row [] (record s { waits = true })) (λ _. (tt, tt)) (λ _. tt))
 
   of_assignment_request : (state : State) (s : Connection) (is_speech : Bool) (offer : Option Channel) → AllByRecursion (λ (c : Channel). P c.station) (option_to_list offer) → OfRow Reaching (on_assignment_request state s is_speech offer)
   of_assignment_request (Live reference stage) s is_speech offer there =
-      either is_speech (speech_request reference stage offer s) (row (assignment_failure reference BSS_NOT_EQUIPPED None ∷ []) s) (of_speech reference stage offer s there) (λ _. (tt, tt))
+      either Reaching is_speech (speech_request reference stage offer s) (row (assignment_failure reference BSS_NOT_EQUIPPED None ∷ []) s) (of_speech reference stage offer s there) (λ _. (tt, tt))
   of_assignment_request _ s is_speech offer there = tt
 
   of_cipher_mode_command : (state : State) (s : Connection) → OfRow Reaching (on_cipher_mode_command state s)
@@ -306,14 +292,14 @@ module _ (P : ℕ → Type 0) where
   of_expiry _ s = tt
 
   of_drain_expiry : (state : State) (s : Connection) → OfRow Reaching (on_drain_expiry state s)
-  of_drain_expiry (Live reference stage) s = where_fits _ (failing (Live reference stage) s EQUIPMENT_FAILURE) (λ is_open. absurd is_open)
+  of_drain_expiry (Live reference stage) s = where_fits Reaching _ (failing (Live reference stage) s EQUIPMENT_FAILURE) (λ is_open. absurd is_open)
   of_drain_expiry _ s = tt
 
   of_station_down : (state : State) (s : Connection) (station : ℕ) → OfRow Reaching (on_station_down state s station)
-  of_station_down WaitActivation s station = where_fits _ (without_station station (dropping s)) (λ is_open. absurd is_open)
-  of_station_down WaitEstablish s station = where_fits _ (without_station station (dropping s)) (λ is_open. absurd is_open)
-  of_station_down WaitConfirm s station = where_fits _ (without_station station (failing WaitConfirm s EQUIPMENT_FAILURE)) (λ is_open. absurd is_open)
-  of_station_down (Live reference stage) s station = where_fits _ (without_station station (failing (Live reference stage) s EQUIPMENT_FAILURE)) (λ is_open. absurd is_open)
+  of_station_down WaitActivation s station = where_fits Reaching _ (without_station station (dropping s)) (λ is_open. absurd is_open)
+  of_station_down WaitEstablish s station = where_fits Reaching _ (without_station station (dropping s)) (λ is_open. absurd is_open)
+  of_station_down WaitConfirm s station = where_fits Reaching _ (without_station station (failing WaitConfirm s EQUIPMENT_FAILURE)) (λ is_open. absurd is_open)
+  of_station_down (Live reference stage) s station = where_fits Reaching _ (without_station station (failing (Live reference stage) s EQUIPMENT_FAILURE)) (λ is_open. absurd is_open)
   of_station_down _ s station = tt
 
   of_switch_down : (state : State) (s : Connection) → OfRow Reaching (on_switch_down state s)

@@ -9,6 +9,7 @@ use Rattle.conn_messages.specs.declared.message.Message.TheVariants.{Station, Re
 use Rattle.conn_messages.specs.declared.out.Out.{Out}
 use Rattle.conn_messages.specs.declared.parameters.TheConstants.{SWITCH_LINK}
 use Rattle.conn_messages.specs.Out.{IsReadOf, out_of, outs_of, station_out}
+use Rattle.conn_table.proofs.DownlinkMessages.{AllByRecursion-append}
 use Rattle.conn_table.specs.declared.state.State.{State}
 use Rattle.conn_table.specs.declared.state.State.TheVariants.{WaitActivation, WaitEstablish, WaitConfirm, Live, Closed, Removed}
 use Rattle.conn_table.specs.Connection.{Connection}
@@ -21,15 +22,14 @@ use Rattle.controller_laws.specs.Owning.{Owns, OwnsOpen}
 use Rattle.controller_laws.specs.Sending.{IsSent}
 use Rattle.controller_laws.proofs.DownlinkLife.{moments_of}
 use Rattle.controller_laws.proofs.Fitting.{Fits, step_fits}
-use Rattle.controller_laws.proofs.Owning.{free≢use}
 use Rattle.controller_laws.proofs.OwningWords.{Holds}
-use Rattle.controller_laws.proofs.Reaching.{all_join}
 use Rattle.controller_laws.proofs.SeenFrames.{IsText, both_filters, filter_first, goes_to_station, apart, texts_back, texts_of}
 use Rattle.controller_laws.proofs.Silence.{step_silence}
 use Rattle.controller_laws.proofs.Switched.{first_empty}
 use Rattle.controller_laws.proofs.Turns.{step_does}
 use Rattle.controller_laws.proofs.UsingLife.{run_step}
 use Rattle.controller_laws.proofs.UsingRows.{Uses}
+use Rattle.controller_laws.proofs.Places.{free≢use}
 use Rattle.controller_table.specs.declared.step.Step.{Step}
 use Rattle.controller_table.specs.Controller.{Controller, place_of}
 use Rattle.controller_table.specs.Life.{step}
@@ -186,7 +186,7 @@ right_run sapi number c from_one fits holds uses (s ∷ ss) =
     let after = run_step c s fits holds uses in
     let more : (n : ℕ) → 1 ≤ n → Fits n next = λ n first. step_fits n c s first (fits n first) in
     let silence = step_silence number c s from_one mine in
-    all_join (RightFor sapi) does.put (all_messages (moments_of number next from_one (more number from_one) ss))
+    AllByRecursion-append (RightFor sapi) does.put (all_messages (moments_of number next from_one (more number from_one) ss))
     (right_put sapi number next (connection_of next number) does.put after.uses (after.holds.each number) silence.serving silence.over)
     (right_run sapi number next from_one more after.holds after.uses ss)
 

@@ -29,13 +29,17 @@ use Rattle.dtap_codec.specs.declared.sapi.Sapi.TheVariants.{Zero, Three}
 
 -- ---- a connection after a row
 
+-- what holds of it, and where it is removed of none
+pub kept_holds : (P : Option Connection → Type 0) (state : State) (s : Connection) → P None → P (Some s) → P (kept_in state s)
+kept_holds P Removed s none some = none
+kept_holds P WaitActivation s none some = some
+kept_holds P WaitEstablish s none some = some
+kept_holds P WaitConfirm s none some = some
+kept_holds P (Live reference stage) s none some = some
+kept_holds P (Closed clearing) s none some = some
+
 pub kept_there : (state : State) (s : Connection) → IsThere (kept_in state s) → IsOpen s.state
-kept_there Removed s there = absurd there
-kept_there WaitActivation s there = there
-kept_there WaitEstablish s there = there
-kept_there WaitConfirm s there = there
-kept_there (Live reference stage) s there = there
-kept_there (Closed clearing) s there = there
+kept_there state s = kept_holds (λ (o : Option Connection). IsThere o → IsOpen s.state) state s (λ there. absurd there) (λ there. there)
 
 pub there_kept : (state : State) (s : Connection) → s.state ≡ state → IsOpen s.state → IsThere (kept_in state s)
 there_kept Removed s is there = absurd (subst IsOpen is there)
@@ -46,12 +50,7 @@ there_kept (Live reference stage) s is there = there
 there_kept (Closed clearing) s is there = there
 
 kept_away : (state : State) (s : Connection) → IsAway (kept_in state s) → IsChanging s.state
-kept_away Removed s away = absurd away
-kept_away WaitActivation s away = away
-kept_away WaitEstablish s away = away
-kept_away WaitConfirm s away = away
-kept_away (Live reference stage) s away = away
-kept_away (Closed clearing) s away = away
+kept_away state s = kept_holds (λ (o : Option Connection). IsAway o → IsChanging s.state) state s (λ away. absurd away) (λ away. away)
 
 pub same_state : (old s : Connection) → IsAged old s → s.state ≡ old.state
 same_state old s aged = aged_holds (λ (c : Connection). c.state ≡ old.state) (λ ms c is. is) old s aged refl

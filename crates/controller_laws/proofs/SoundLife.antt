@@ -23,6 +23,7 @@ use Rattle.conn_messages.specs.declared.parameters.TheConstants.{SWITCH_LINK}
 use Rattle.conn_messages.specs.Out.{IsReadOf, IsSound, out_of, outs_of}
 use Rattle.conn_messages.specs.StationMessage.{access_activation}
 use Rattle.conn_table.proofs.Channels.{all_within}
+use Rattle.conn_table.proofs.DownlinkMessages.{AllByRecursion-append}
 use Rattle.conn_table.specs.declared.input.Input.{Input}
 use Rattle.conn_table.specs.declared.input.Input.TheVariants as inputs
 use Rattle.conn_table.specs.declared.state.State.{State}
@@ -34,7 +35,7 @@ use Rattle.conn_table.specs.Streams.{OfRow, target_in}
 use Rattle.conn_table.specs.Table.{row_of, serving_after}
 use Rattle.controller_laws.specs.Acts.{IsTimer, kept_in}
 use Rattle.controller_laws.specs.History.{connection_of}
-use Rattle.controller_laws.specs.Numbers.{AreRising, IsAbove}
+use Rattle.controller_laws.specs.Numbers.{AreRising}
 use Rattle.controller_laws.specs.Sending.{ComesInOctets, IsOfOctets, IsSent, SendsMessages}
 use Rattle.controller_laws.proofs.Acting.{conn_of, row_found}
 use Rattle.controller_laws.proofs.Entries.{back_found, back_over, back_rising, behind_found, behind_over, find_below}
@@ -45,9 +46,9 @@ use Rattle.controller_laws.proofs.OwningWords.{Holds}
 use Rattle.controller_laws.proofs.Readings.{IsCarriedBy, word_carried}
 use Rattle.controller_laws.proofs.Sources.{IsAtPlace, IsFrom, word_from}
 use Rattle.controller_laws.proofs.SoundMessages.{IsSoundChannel, sound_access}
-use Rattle.controller_laws.proofs.SoundRows.{IsSoundRow, Refers, RefersBy, all_both, row_sound}
-use Rattle.controller_laws.proofs.Turns.{IsDue, all_found, all_two, expiry_own, told_tame, timed_tame}
-use Rattle.controller_laws.proofs.UsingLife.{aged_ready, all_here, expiry_numbers, new_uses, radio_of, ready_by, run_step, life_ready, told_numbers}
+use Rattle.controller_laws.proofs.SoundRows.{IsSoundRow, Refers, RefersBy, row_sound}
+use Rattle.controller_laws.proofs.Turns.{IsDue, all_found, expiry_own, told_tame, timed_tame}
+use Rattle.controller_laws.proofs.UsingLife.{aged_ready, all_here, expiry_numbers, life_ready, new_uses, radio_of, ready_by, run_step, still_here, told_numbers}
 use Rattle.controller_laws.proofs.UsingRows.{Uses}
 use Rattle.controller_laws.proofs.UsingWords.{IsHere, Ready, here_of}
 use Rattle.controller_laws.proofs.Words.{decide_same, measured_stays}
@@ -381,17 +382,9 @@ each_sound : (links : List Bool) (f : Controller → Entry → Turn) → ((c : C
 each_sound links f order leaves numbers keeps c [] sorted here sound = quiet_sound c sound
 each_sound links f order leaves numbers keeps c (x ∷ xs) sorted here sound =
     let one = keeps c x here.0 sound in
-    let later : AllByRecursion (IsHere links (f c x).next) xs = all_two (IsAbove x.connection.number) (IsHere links c) (IsHere links (f c x).next) xs
-    (λ y above is. record {
-      rising = order c x is.rising;
-      there = leaves y.connection.number c x (λ same. absurd (omega arith)) ∙ is.there;
-      stands = is.stands;
-      from_one = is.from_one;
-      below = subst (λ (k : ℕ). y.connection.number < k) (sym (numbers c x)) is.below;
-      linked = is.linked;
-    }) sorted.0 here.1 in
+    let later = still_here links f c x xs order leaves numbers sorted.0 here.1 in
     let rest = each_sound links f order leaves numbers keeps (f c x).next xs sorted.1 later one.sound in
-    record { sound = rest.sound; sent = all_both IsSent (f c x).outs (each f (f c x).next xs).outs one.sent rest.sent }
+    record { sound = rest.sound; sent = AllByRecursion-append IsSent (f c x).outs (each f (f c x).next xs).outs one.sent rest.sent }
 
 break_refers : (input : Input) → IsLinkBreak input → RefersBy input
 break_refers inputs.SwitchDown break = tt
@@ -495,7 +488,7 @@ sent_run c [] octets fits holds uses sound = tt
 sent_run c (s ∷ ss) octets fits holds uses sound =
     let after = run_step c s fits holds uses in
     let turn_sound = step_sound c s octets.0 (ready_by c fits holds uses) sound in
-    all_both IsSent (step c s).outs (each step (step c s).next ss).outs turn_sound.sent (sent_run (step c s).next ss octets.1 after.fits after.holds after.uses turn_sound.sound)
+    AllByRecursion-append IsSent (step c s).outs (each step (step c s).next ss).outs turn_sound.sent (sent_run (step c s).next ss octets.1 after.fits after.holds after.uses turn_sound.sound)
 
 -- all frames of a life
 pub life_sends_all : (p : Parameters) (steps : List Step) → AreAllowed p → AllByRecursion ComesInOctets steps → AllByRecursion IsSent (life p steps).outs

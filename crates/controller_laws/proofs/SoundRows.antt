@@ -1,5 +1,5 @@
 -- What every row puts can be written, and is read as it was put.
-use Rattle.std.proofs.Common.{◌≡◌, ℕ, zero, suc, ◌==◌, ◌&&◌, nat_le, Bool, true, false, if◌then◌else◌, List, [], ◌∷◌, ◌++◌, length, map, drop, filter, Option, Some, None, refl, sym, subst}
+use Rattle.std.proofs.Common.{◌≡◌, ℕ, zero, suc, ◌==◌, ◌&&◌, nat_le, Bool, true, false, if◌then◌else◌, List, [], ◌∷◌, ◌++◌, length, map, drop, Option, Some, None, refl, sym, subst}
 use Rattle.std.proofs.lemmas.Bool.{leb-true}
 use Rattle.std.specs.List.{AllByRecursion}
 use Rattle.bssmap_codec.specs.Layer3.{IsLayer3}
@@ -14,6 +14,7 @@ use Rattle.conn_messages.specs.declared.message.Message.{Message}
 use Rattle.conn_messages.specs.Out.{IsSound}
 use Rattle.conn_messages.specs.StationMessage.{handing, rf_channel_release}
 use Rattle.conn_messages.specs.SwitchMessage.{assignment_failure, change_complete, complete_layer3, clear_complete, release_complete, relaying}
+use Rattle.conn_table.proofs.DownlinkMessages.{AllByRecursion-append, AllByRecursion-filter}
 use Rattle.conn_table.specs.declared.input.Input.{Input}
 use Rattle.conn_table.specs.declared.input.Input.TheVariants as inputs
 use Rattle.conn_table.specs.declared.state.Clearing.TheVariants.{Due, Asked as WasAsked}
@@ -28,8 +29,9 @@ use Rattle.conn_table.specs.Connection.{Connection, emptied, enter, first_channe
 use Rattle.conn_table.specs.Standing.{IsCarried, IsHeldTenure}
 use Rattle.conn_table.specs.Steps.{Row, row, ◌then◌, after_waiting, ask_for_held, end_outs, ending, hand_held, dropping, failing, link_up, without_station, begin, begin_outs, begin_waiting, waiting_outs, hold_down, hold_short_message, short_message, request_where, link_down, hold_up, relay_held, tenure_outs, leave, shifted, settled, settled_stage, resting_stage, resting, moved, request_for, done_at, may_begin}
 use Rattle.conn_table.specs.Streams.{OfRow, target_in}
-use Rattle.conn_table.specs.Table.{row_of, row_if, assign_immediately, command_to, refuse, nack_outs, access, release, complete, failure, failure_outs, speech_request, release_in, dtap_in, dtap_on_target, on_activation_ack, on_activation_nack, on_establish_indication, on_establish_confirm, on_release_indication, on_error_indication, on_connection_failure, on_dtap, on_complete, on_failure, on_release_ack, on_move, on_confirm, on_refused, on_released, on_downlink, on_assignment_request, on_cipher_mode_command, on_clear_command, on_expiry, on_drain_expiry, on_station_down, on_switch_down}
+use Rattle.conn_table.specs.Table.{row_of, assign_immediately, command_to, refuse, nack_outs, access, release, complete, failure, failure_outs, speech_request, release_in, dtap_in, dtap_on_target, on_activation_ack, on_activation_nack, on_establish_indication, on_establish_confirm, on_release_indication, on_error_indication, on_connection_failure, on_dtap, on_complete, on_failure, on_release_ack, on_move, on_confirm, on_refused, on_released, on_downlink, on_assignment_request, on_cipher_mode_command, on_clear_command, on_expiry, on_drain_expiry, on_station_down, on_switch_down}
 use Rattle.controller_laws.proofs.SoundMessages.{IsSoundChannel, sound_assignment_failure, sound_change_activation, sound_cipher_reject, sound_clear_complete, sound_clear_request, sound_command, sound_complete, sound_establish, sound_handing, sound_immediate, sound_initial, sound_reject, sound_relaying, sound_release_command, sound_rf_release}
+use Rattle.controller_laws.proofs.PutLists.{either, where_fits}
 use Rattle.dtap_codec.specs.declared.sapi.Sapi.{Sapi}
 use Rattle.dtap_codec.specs.declared.sapi.Sapi.TheVariants.{Zero, Three}
 use Rattle.hold_queue.specs.ChainState.{Tenure, chain_count, first_cleared, put_in}
@@ -48,24 +50,12 @@ RefersBy (inputs.ConnectionConfirm source) = IsReference source
 RefersBy (inputs.Released source) = IsReference source
 RefersBy _ = Unit {0}
 
-pub all_both : {A : Type 0} (P : A → Type 0) (xs ys : List A) → AllByRecursion P xs → AllByRecursion P ys → AllByRecursion P (xs ++ ys)
-all_both P [] ys one rest = rest
-all_both P (x ∷ xs) ys one rest = (one.0, all_both P xs ys one.1 rest)
-
 abbrev AreSound : List Message → Type 0
 AreSound outs = AllByRecursion IsSound outs
 
 -- the messages of a row are sound, and the reference after it is one
 abbrev pub IsSoundRow : Row → Type 0
 IsSoundRow r = AllByRecursion IsSound r.outs × Refers r.next.state
-
-either : (b : Bool) (r q : Row) → IsSoundRow r → IsSoundRow q → IsSoundRow (if b then r else q)
-either true r q h k = h
-either false r q h k = k
-
-where_fits : (b : Bool) (r : Row) → IsSoundRow r → OfRow IsSoundRow (row_if b r)
-where_fits true r h = h
-where_fits false r h = tt
 
 -- ---- messages
 
@@ -79,7 +69,7 @@ all_relayed reference c sapi (m ∷ ms) is all = (sound_relaying reference c sap
 
 all_of_tenure : (reference : ℕ) (c : Channel) (ts : List Tenure) → IsReference reference → AllByRecursion IsHeldTenure ts → AreSound (tenure_outs reference c ts)
 all_of_tenure reference c [] is all = tt
-all_of_tenure reference c (t ∷ ts) is all = all_both IsSound (map (relaying reference c Zero) t.zero) (map (relaying reference c Three) t.three) (all_relayed reference c Zero t.zero is all.0.0) (all_relayed reference c Three t.three is all.0.1)
+all_of_tenure reference c (t ∷ ts) is all = AllByRecursion-append IsSound (map (relaying reference c Zero) t.zero) (map (relaying reference c Three) t.three) (all_relayed reference c Zero t.zero is all.0.0) (all_relayed reference c Three t.three is all.0.1)
 
 begins : (reference : ℕ) (change : Change) (offer : Option Channel) → IsReference reference → AllByRecursion IsSoundChannel (option_to_list offer) → AreSound (begin_outs reference change offer)
 begins reference change (Some channel) is there = (sound_change_activation change channel there.0, tt)
@@ -157,27 +147,19 @@ of_removing : (state : State) (s : Connection) (cause : ℕ) → IsSoundChannel 
 unfolding Refers
 of_removing state s cause sound targets = (end_sound state s.serving cause sound targets, tt)
 
-filtered : (test : Message → Bool) (ms : List Message) → AreSound ms → AreSound (filter test ms)
-filtered test [] all = tt
-filtered test (m ∷ ms) all = by (test m) (filtered test ms all.1)
-  where
-    by : (b : Bool) → AreSound (filter test ms) → AreSound (if b then m ∷ filter test ms else filter test ms)
-    by true rest = (all.0, rest)
-    by false rest = rest
-
 of_without : (station : ℕ) (r : Row) → IsSoundRow r → IsSoundRow (without_station station r)
-of_without station r sound = (filtered _ r.outs sound.0, sound.1)
+of_without station r sound = (AllByRecursion-filter IsSound _ r.outs sound.0, sound.1)
 
 -- ---- what is held
 
 of_hold_down : (state : State) (sapi : Sapi) (message : List ℕ) (s : Connection) → IsSoundChannel s.serving → Targets state → Refers state → Refers s.state → IsSoundRow (hold_down state sapi message s)
 of_hold_down state sapi message s sound targets refers own =
-    either (count s.down == s.down.limit) (failing state s EQUIPMENT_FAILURE) (row [] (record s { down = with_messages s.down sapi (messages s.down sapi ++ message ∷ []) }))
+    either IsSoundRow (count s.down == s.down.limit) (failing state s EQUIPMENT_FAILURE) (row [] (record s { down = with_messages s.down sapi (messages s.down sapi ++ message ∷ []) }))
     (of_failing state s EQUIPMENT_FAILURE sound targets refers) (tt, own)
 
 of_hold_short_message : (state : State) (message : List ℕ) (s : Connection) → IsSoundChannel s.serving → Targets state → Refers state → Refers s.state → IsSoundRow (hold_short_message state message s)
 of_hold_short_message state message s sound targets refers own =
-    either (count s.down == s.down.limit) (failing state s EQUIPMENT_FAILURE) (row (request_where s.link s.serving) (record s { link = Asked; down = with_messages s.down Three (messages s.down Three ++ message ∷ []) }))
+    either IsSoundRow (count s.down == s.down.limit) (failing state s EQUIPMENT_FAILURE) (row (request_where s.link s.serving) (record s { link = Asked; down = with_messages s.down Three (messages s.down Three ++ message ∷ []) }))
     (of_failing state s EQUIPMENT_FAILURE sound targets refers) (requests s.link s.serving sound, own)
 
 of_short_message : (state : State) (link : ShortMessageLink) (message : List ℕ) (s : Connection) → IsSoundChannel s.serving → Targets state → Refers state → Refers s.state → IsLayer3 message → IsSoundRow (short_message state link message s)
@@ -192,7 +174,7 @@ of_link_down Down reference s is own = (tt, own)
 
 of_hold_up : (state : State) (tenure : ℕ) (sapi : Sapi) (message : List ℕ) (s : Connection) → IsSoundChannel s.serving → Targets state → Refers state → Refers s.state → IsSoundRow (hold_up state tenure sapi message s)
 of_hold_up state tenure sapi message s sound targets refers own =
-    either (chain_count s.up == s.up.limit) (failing state s EQUIPMENT_FAILURE) (row [] (record s { up = record s.up { tenures = put_in tenure sapi message s.up.tenures } }))
+    either IsSoundRow (chain_count s.up == s.up.limit) (failing state s EQUIPMENT_FAILURE) (row [] (record s { up = record s.up { tenures = put_in tenure sapi message s.up.tenures } }))
     (of_failing state s EQUIPMENT_FAILURE sound targets refers) (tt, own)
 
 -- ---- old channels leave
@@ -205,16 +187,12 @@ cleared_held : (ts : List Tenure) → AllByRecursion IsHeldTenure ts → AllByRe
 cleared_held [] all = tt
 cleared_held (t ∷ ts) all = ((tt, tt), all.1)
 
-either_sound : (b : Bool) (r q : Row) → AreSound r.outs → AreSound q.outs → AreSound (if b then r else q).outs
-either_sound true r q h k = h
-either_sound false r q h k = k
-
 of_leave : (reference : ℕ) (draining : List Drain) (s : Connection) → IsReference reference → AllByRecursion IsHeldTenure s.up.tenures → AreSound (leave reference draining s).outs
 of_leave reference [] s is held = tt
 of_leave reference (d ∷ ds) s is held =
     let rest = tail_held s.up.tenures held in
-    either_sound d.is_done (row [] (shifted ds s) then relay_held reference then leave reference ds) (row [] (record s { draining = d ∷ ds }))
-    (all_both IsSound (relay_held reference (shifted ds s)).outs (leave reference ds (relay_held reference (shifted ds s)).next).outs
+    either (λ (r : Row). AreSound r.outs) d.is_done (row [] (shifted ds s) then relay_held reference then leave reference ds) (row [] (record s { draining = d ∷ ds }))
+    (AllByRecursion-append IsSound (relay_held reference (shifted ds s)).outs (leave reference ds (relay_held reference (shifted ds s)).next).outs
     (all_of_tenure reference (first_channel ds s.serving) (shifted ds s).up.tenures is rest) (of_leave reference ds (relay_held reference (shifted ds s)).next is (cleared_held (shifted ds s).up.tenures rest)))
     tt
 
@@ -246,14 +224,14 @@ of_access None s sound carried = of_dropping s sound
 
 of_activation_ack : (state : State) (s : Connection) (at : Place) → IsSoundIn s → Refers state → OfRow IsSoundRow (on_activation_ack state s at)
 unfolding Refers
-of_activation_ack WaitActivation s at k f = where_fits _ (assign_immediately s) ((sound_immediate s.serving s.request s.delay, tt), tt)
-of_activation_ack (Live reference (Preparing target)) s at k f = where_fits _ (command_to reference target s) ((sound_command s.serving target.change target.channel k.serving, tt), f)
+of_activation_ack WaitActivation s at k f = where_fits IsSoundRow _ (assign_immediately s) ((sound_immediate s.serving s.request s.delay, tt), tt)
+of_activation_ack (Live reference (Preparing target)) s at k f = where_fits IsSoundRow _ (command_to reference target s) ((sound_command s.serving target.change target.channel k.serving, tt), f)
 of_activation_ack _ s at k f = tt
 
 of_refuse : (reference : ℕ) (change : Change) (offer : Option Channel) (s : Connection) → IsReference reference → Offered offer → IsSoundRow (refuse reference change offer s)
 unfolding Refers
 of_refuse reference change offer s is there = (
-  all_both IsSound (nack_outs change reference) (begin_waiting (resting_stage s.draining) reference offer (resting reference s)).outs (nacks change) (waits (s.waits && may_begin (resting_stage s.draining) s.draining) reference offer is there),
+  AllByRecursion-append IsSound (nack_outs change reference) (begin_waiting (resting_stage s.draining) reference offer (resting reference s)).outs (nacks change) (waits (s.waits && may_begin (resting_stage s.draining) s.draining) reference offer is there),
   after_refers (s.waits && may_begin (resting_stage s.draining) s.draining) reference offer (resting reference s) is is,
 )
   where
@@ -263,50 +241,50 @@ of_refuse reference change offer s is there = (
 
 of_activation_nack : (state : State) (s : Connection) (at : Place) (offer : Option Channel) → Refers state → Offered offer → OfRow IsSoundRow (on_activation_nack state s at offer)
 unfolding Refers
-of_activation_nack WaitActivation s at offer f there = where_fits _ (row [] (emptied Removed s)) (tt, tt)
-of_activation_nack (Live reference (Preparing target)) s at offer f there = where_fits _ (refuse reference target.change offer s) (of_refuse reference target.change offer s f there)
+of_activation_nack WaitActivation s at offer f there = where_fits IsSoundRow _ (row [] (emptied Removed s)) (tt, tt)
+of_activation_nack (Live reference (Preparing target)) s at offer f there = where_fits IsSoundRow _ (refuse reference target.change offer s) (of_refuse reference target.change offer s f there)
 of_activation_nack _ s at offer f there = tt
 
 of_link_up : (s : Connection) → IsSoundIn s → IsSoundRow (link_up s)
 of_link_up s k = (all_handed s.serving Three (messages s.down Three) k.serving k.three, k.refers)
 
 of_establish_indication : (state : State) (s : Connection) (at : Place) (sapi : Sapi) (message : Option (List ℕ)) → IsSoundIn s → IsInitial message → OfRow IsSoundRow (on_establish_indication state s at sapi message)
-of_establish_indication WaitEstablish s at Zero message k carried = where_fits _ (access message s) (of_access message s k.serving carried)
+of_establish_indication WaitEstablish s at Zero message k carried = where_fits IsSoundRow _ (access message s) (of_access message s k.serving carried)
 of_establish_indication (Live reference (Changing target)) s at sapi message k carried = tt
-of_establish_indication (Live reference stage) s at Three message k carried = where_fits _ (link_up s) (of_link_up s k)
+of_establish_indication (Live reference stage) s at Three message k carried = where_fits IsSoundRow _ (link_up s) (of_link_up s k)
 of_establish_indication _ s at sapi message k carried = tt
 
 of_establish_confirm : (state : State) (s : Connection) (at : Place) (sapi : Sapi) → IsSoundIn s → OfRow IsSoundRow (on_establish_confirm state s at sapi)
 of_establish_confirm (Live reference (Changing target)) s at sapi k = tt
-of_establish_confirm (Live reference stage) s at Three k = where_fits _ (link_up s) (of_link_up s k)
+of_establish_confirm (Live reference stage) s at Three k = where_fits IsSoundRow _ (link_up s) (of_link_up s k)
 of_establish_confirm _ s at sapi k = tt
 
 of_release_indication : (state : State) (s : Connection) (at : Place) (sapi : Sapi) → IsSoundIn s → Targets state → Refers state → OfRow IsSoundRow (on_release_indication state s at sapi)
 unfolding Refers
-of_release_indication WaitEstablish s at Zero k t f = where_fits _ (dropping s) (of_dropping s k.serving)
-of_release_indication WaitConfirm s at Zero k t f = where_fits _ (failing WaitConfirm s RADIO_INTERFACE_FAILURE) (of_failing WaitConfirm s RADIO_INTERFACE_FAILURE k.serving tt tt)
+of_release_indication WaitEstablish s at Zero k t f = where_fits IsSoundRow _ (dropping s) (of_dropping s k.serving)
+of_release_indication WaitConfirm s at Zero k t f = where_fits IsSoundRow _ (failing WaitConfirm s RADIO_INTERFACE_FAILURE) (of_failing WaitConfirm s RADIO_INTERFACE_FAILURE k.serving tt tt)
 of_release_indication (Live reference (Changing target)) s at sapi k t f = tt
-of_release_indication (Live reference stage) s at Zero k t f = where_fits _ (failing (Live reference stage) s RADIO_INTERFACE_FAILURE) (of_failing (Live reference stage) s RADIO_INTERFACE_FAILURE k.serving t f)
-of_release_indication (Live reference stage) s at Three k t f = where_fits _ (link_down s.link reference s) (of_link_down s.link reference s f k.refers)
+of_release_indication (Live reference stage) s at Zero k t f = where_fits IsSoundRow _ (failing (Live reference stage) s RADIO_INTERFACE_FAILURE) (of_failing (Live reference stage) s RADIO_INTERFACE_FAILURE k.serving t f)
+of_release_indication (Live reference stage) s at Three k t f = where_fits IsSoundRow _ (link_down s.link reference s) (of_link_down s.link reference s f k.refers)
 of_release_indication _ s at sapi k t f = tt
 
 of_error_indication : (state : State) (s : Connection) (at : Place) (sapi : Sapi) → IsSoundIn s → Refers state → OfRow IsSoundRow (on_error_indication state s at sapi)
 unfolding Refers
 of_error_indication (Live reference (Changing target)) s at sapi k f = tt
-of_error_indication (Live reference stage) s at Three k f = where_fits _ (link_down s.link reference s) (of_link_down s.link reference s f k.refers)
+of_error_indication (Live reference stage) s at Three k f = where_fits IsSoundRow _ (link_down s.link reference s) (of_link_down s.link reference s f k.refers)
 of_error_indication _ s at sapi k f = tt
 
 of_connection_failure : (state : State) (s : Connection) (at : Place) → IsSoundIn s → Targets state → Refers state → OfRow IsSoundRow (on_connection_failure state s at)
 unfolding Refers
-of_connection_failure WaitEstablish s at k t f = where_fits _ (dropping s) (of_dropping s k.serving)
-of_connection_failure WaitConfirm s at k t f = where_fits _ (failing WaitConfirm s RADIO_INTERFACE_FAILURE) (of_failing WaitConfirm s RADIO_INTERFACE_FAILURE k.serving tt tt)
+of_connection_failure WaitEstablish s at k t f = where_fits IsSoundRow _ (dropping s) (of_dropping s k.serving)
+of_connection_failure WaitConfirm s at k t f = where_fits IsSoundRow _ (failing WaitConfirm s RADIO_INTERFACE_FAILURE) (of_failing WaitConfirm s RADIO_INTERFACE_FAILURE k.serving tt tt)
 of_connection_failure (Live reference (Changing target)) s at k t f = tt
-of_connection_failure (Live reference stage) s at k t f = where_fits _ (failing (Live reference stage) s RADIO_INTERFACE_FAILURE) (of_failing (Live reference stage) s RADIO_INTERFACE_FAILURE k.serving t f)
+of_connection_failure (Live reference stage) s at k t f = where_fits IsSoundRow _ (failing (Live reference stage) s RADIO_INTERFACE_FAILURE) (of_failing (Live reference stage) s RADIO_INTERFACE_FAILURE k.serving t f)
 of_connection_failure _ s at k t f = tt
 
 of_dtap_on_target : (reference : ℕ) (stage : Stage) (s : Connection) (at : Place) (sapi : Sapi) → IsSoundIn s → Targets (Live reference stage) → IsReference reference → OfRow IsSoundRow (dtap_on_target reference stage s at sapi)
 unfolding Refers
-of_dtap_on_target reference (Changing target) s at Zero k t is = where_fits _ (failing (Live reference (Changing target)) s EQUIPMENT_FAILURE) (of_failing (Live reference (Changing target)) s EQUIPMENT_FAILURE k.serving t is)
+of_dtap_on_target reference (Changing target) s at Zero k t is = where_fits IsSoundRow _ (failing (Live reference (Changing target)) s EQUIPMENT_FAILURE) (of_failing (Live reference (Changing target)) s EQUIPMENT_FAILURE k.serving t is)
 of_dtap_on_target reference _ s at _ k t is = tt
 
 of_dtap_in : (place : Option ℕ) (reference : ℕ) (stage : Stage) (s : Connection) (at : Place) (sapi : Sapi) (message : List ℕ) → IsSoundIn s → Targets (Live reference stage) → IsReference reference → IsLayer3 message → OfRow IsSoundRow (dtap_in place reference stage s at sapi message)
@@ -317,9 +295,9 @@ of_dtap_in None reference stage s at sapi message k t is layer3 = of_dtap_on_tar
 
 of_dtap : (state : State) (s : Connection) (at : Place) (sapi : Sapi) (message : List ℕ) → IsSoundIn s → Targets state → Refers state → IsLayer3 message → OfRow IsSoundRow (on_dtap state s at sapi message)
 unfolding Refers
-of_dtap WaitEstablish s at Zero message k t f layer3 = where_fits _ (dropping s) (of_dropping s k.serving)
+of_dtap WaitEstablish s at Zero message k t f layer3 = where_fits IsSoundRow _ (dropping s) (of_dropping s k.serving)
 of_dtap WaitEstablish s at Three message k t f layer3 = tt
-of_dtap WaitConfirm s at sapi message k t f layer3 = where_fits _ (hold_up WaitConfirm 0 sapi message s) (of_hold_up WaitConfirm 0 sapi message s k.serving tt tt k.refers)
+of_dtap WaitConfirm s at sapi message k t f layer3 = where_fits IsSoundRow _ (hold_up WaitConfirm 0 sapi message s) (of_hold_up WaitConfirm 0 sapi message s k.serving tt tt k.refers)
 of_dtap (Live reference stage) s at sapi message k t f layer3 = of_dtap_in (tenure_at at s.serving s.draining) reference stage s at sapi message k t f layer3
 of_dtap _ s at sapi message k t f layer3 = tt
 
@@ -329,8 +307,8 @@ of_end : (stage : Stage) (reference : ℕ) (offer : Option Channel) (s : Connect
 of_end stage reference offer s sound held_zero is there outs first =
     let held : List Message = map (handing s.serving Zero) (messages s.down Zero) in
     let asked : List Message = request_for s.down.three s.serving in
-    all_both IsSound (outs ++ held ++ asked) (waiting_outs (s.waits && may_begin stage s.draining) reference offer)
-    (all_both IsSound (outs ++ held) asked (all_both IsSound outs held first (all_handed s.serving Zero (messages s.down Zero) sound held_zero)) (requests_for s.down.three s.serving sound))
+    AllByRecursion-append IsSound (outs ++ held ++ asked) (waiting_outs (s.waits && may_begin stage s.draining) reference offer)
+    (AllByRecursion-append IsSound (outs ++ held) asked (AllByRecursion-append IsSound outs held first (all_handed s.serving Zero (messages s.down Zero) sound held_zero)) (requests_for s.down.three s.serving sound))
     (waits (s.waits && may_begin stage s.draining) reference offer is there)
 
 of_complete : (state : State) (s : Connection) (at : Place) (change : Change) (cause : ℕ) (offer : Option Channel) → IsSoundIn s → Targets state → Refers state → Offered offer → OfRow IsSoundRow (on_complete state s at change cause offer)
@@ -338,7 +316,7 @@ unfolding Refers
 of_complete (Live reference (Changing target)) s at change cause offer k t f there =
     let next : Connection = moved reference target.channel s in
     let rests : Connection = (ask_for_held (hand_held Zero next).next).next in
-    where_fits _ (complete reference change target.channel cause offer s) (
+    where_fits IsSoundRow _ (complete reference change target.channel cause offer s) (
       of_end Draining reference offer next t.0 k.zero f there (change_complete reference change target.channel cause ∷ rf_channel_release s.serving ∷ []) (sound_complete reference change target.channel cause f t.0, (sound_rf_release s.serving k.serving, tt)),
       after_refers (rests.waits && may_begin Draining rests.draining) reference offer rests f f,
     )
@@ -349,9 +327,9 @@ unfolding Refers
 of_failure (Live reference (Changing target)) s at change cause offer k t f there =
     let next : Connection = resting reference s in
     let rests : Connection = (ask_for_held (hand_held Zero next).next).next in
-    where_fits _ (failure reference change target.channel cause offer s) (
+    where_fits IsSoundRow _ (failure reference change target.channel cause offer s) (
       of_end (resting_stage s.draining) reference offer next k.serving k.zero f there (failure_outs change reference cause ++ rf_channel_release target.channel ∷ [])
-          (all_both IsSound (failure_outs change reference cause) (rf_channel_release target.channel ∷ []) (fails change) (sound_rf_release target.channel t.0, tt)),
+          (AllByRecursion-append IsSound (failure_outs change reference cause) (rf_channel_release target.channel ∷ []) (fails change) (sound_rf_release target.channel t.0, tt)),
       after_refers (rests.waits && may_begin (resting_stage s.draining) rests.draining) reference offer rests f f,
     )
   where
@@ -364,8 +342,8 @@ of_release : (reference : ℕ) (stage : Stage) (place : ℕ) (offer : Option Cha
 of_release reference stage place offer s k is there =
     let left : Connection = (leave reference (done_at place s.draining) s).next in
     let rests : Connection = settled reference stage left.draining left in (
-      all_both IsSound ((leave reference (done_at place s.draining) s).outs ++ []) (begin_waiting (settled_stage stage rests.draining) reference offer rests).outs
-          (all_both IsSound (leave reference (done_at place s.draining) s).outs [] (of_leave reference (done_at place s.draining) s is k.up) tt)
+      AllByRecursion-append IsSound ((leave reference (done_at place s.draining) s).outs ++ []) (begin_waiting (settled_stage stage rests.draining) reference offer rests).outs
+          (AllByRecursion-append IsSound (leave reference (done_at place s.draining) s).outs [] (of_leave reference (done_at place s.draining) s is k.up) tt)
           (waits (rests.waits && may_begin (settled_stage stage rests.draining) rests.draining) reference offer is there),
       after_refers (rests.waits && may_begin (settled_stage stage rests.draining) rests.draining) reference offer rests is
           (settled_refers reference stage left.draining left is (subst Refers (sym (leave_state reference (done_at place s.draining) s)) k.refers)),
@@ -387,7 +365,7 @@ of_begin reference change (Some channel) s is own there = (begins reference chan
 
 of_move : (state : State) (s : Connection) (offer : Option Channel) → IsSoundIn s → Refers state → Offered offer → OfRow IsSoundRow (on_move state s offer)
 unfolding Refers
-of_move (Live reference stage) s offer k f there = where_fits _ (begin reference Handover offer s) (of_begin reference Handover offer s f k.refers there)
+of_move (Live reference stage) s offer k f there = where_fits IsSoundRow _ (begin reference Handover offer s) (of_begin reference Handover offer s f k.refers there)
 of_move _ s offer k f there = tt
 
 of_confirm : (state : State) (s : Connection) (reference : ℕ) → IsSoundIn s → IsReference reference → OfRow IsSoundRow (on_confirm state s reference)
@@ -403,7 +381,7 @@ of_refused (Closed (Due cause)) s k = (tt, tt)
 of_refused _ s k = tt
 
 ending_then : (state : State) (s : Connection) (message : Message) (cause : ℕ) → IsSoundChannel s.serving → Targets state → IsSound message → AreSound (end_outs state s.serving cause ++ message ∷ [])
-ending_then state s message cause sound targets last = all_both IsSound (end_outs state s.serving cause) (message ∷ []) (end_sound state s.serving cause sound targets) (last, tt)
+ending_then state s message cause sound targets last = AllByRecursion-append IsSound (end_outs state s.serving cause) (message ∷ []) (end_sound state s.serving cause sound targets) (last, tt)
 
 of_released : (state : State) (s : Connection) (reference : ℕ) → IsSoundIn s → Targets state → IsReference reference → OfRow IsSoundRow (on_released state s reference)
 unfolding Refers
@@ -420,14 +398,14 @@ of_downlink _ s sapi message k t f layer3 = tt
 
 of_speech : (reference : ℕ) (stage : Stage) (offer : Option Channel) (s : Connection) → IsReference reference → Refers s.state → Offered offer → IsSoundRow (speech_request reference stage offer s)
 of_speech reference stage offer s is own there =
-    either (may_begin stage s.draining) (begin reference Assignment offer s) (if s.waits then row (assignment_failure reference PROTOCOL_ERROR None ∷ []) s else row [] (record s { waits = true }))
+    either IsSoundRow (may_begin stage s.draining) (begin reference Assignment offer s) (if s.waits then row (assignment_failure reference PROTOCOL_ERROR None ∷ []) s else row [] (record s { waits = true }))
     (of_begin reference Assignment offer s is own there)
-    (either s.waits (row (assignment_failure reference PROTOCOL_ERROR None ∷ []) s) (row [] (record s { waits = true })) ((sound_assignment_failure reference PROTOCOL_ERROR None is, tt), own) (tt, own))
+    (either IsSoundRow s.waits (row (assignment_failure reference PROTOCOL_ERROR None ∷ []) s) (row [] (record s { waits = true })) ((sound_assignment_failure reference PROTOCOL_ERROR None is, tt), own) (tt, own))
 
 of_assignment_request : (state : State) (s : Connection) (is_speech : Bool) (offer : Option Channel) → IsSoundIn s → Refers state → Offered offer → OfRow IsSoundRow (on_assignment_request state s is_speech offer)
 unfolding Refers
 of_assignment_request (Live reference stage) s is_speech offer k f there =
-    either is_speech (speech_request reference stage offer s) (row (assignment_failure reference BSS_NOT_EQUIPPED None ∷ []) s) (of_speech reference stage offer s f k.refers there) ((sound_assignment_failure reference BSS_NOT_EQUIPPED None f, tt), k.refers)
+    either IsSoundRow is_speech (speech_request reference stage offer s) (row (assignment_failure reference BSS_NOT_EQUIPPED None ∷ []) s) (of_speech reference stage offer s f k.refers there) ((sound_assignment_failure reference BSS_NOT_EQUIPPED None f, tt), k.refers)
 of_assignment_request _ s is_speech offer k f there = tt
 
 of_cipher_mode_command : (state : State) (s : Connection) → IsSoundIn s → Refers state → OfRow IsSoundRow (on_cipher_mode_command state s)
@@ -449,14 +427,14 @@ of_expiry (Live reference (Changing target)) s k t f = of_failing (Live referenc
 of_expiry _ s k t f = tt
 
 of_drain_expiry : (state : State) (s : Connection) → IsSoundIn s → Targets state → Refers state → OfRow IsSoundRow (on_drain_expiry state s)
-of_drain_expiry (Live reference stage) s k t f = where_fits _ (failing (Live reference stage) s EQUIPMENT_FAILURE) (of_failing (Live reference stage) s EQUIPMENT_FAILURE k.serving t f)
+of_drain_expiry (Live reference stage) s k t f = where_fits IsSoundRow _ (failing (Live reference stage) s EQUIPMENT_FAILURE) (of_failing (Live reference stage) s EQUIPMENT_FAILURE k.serving t f)
 of_drain_expiry _ s k t f = tt
 
 of_station_down : (state : State) (s : Connection) (station : ℕ) → IsSoundIn s → Targets state → Refers state → OfRow IsSoundRow (on_station_down state s station)
-of_station_down WaitActivation s station k t f = where_fits _ (without_station station (dropping s)) (of_without station (dropping s) (of_dropping s k.serving))
-of_station_down WaitEstablish s station k t f = where_fits _ (without_station station (dropping s)) (of_without station (dropping s) (of_dropping s k.serving))
-of_station_down WaitConfirm s station k t f = where_fits _ (without_station station (failing WaitConfirm s EQUIPMENT_FAILURE)) (of_without station (failing WaitConfirm s EQUIPMENT_FAILURE) (of_failing WaitConfirm s EQUIPMENT_FAILURE k.serving t f))
-of_station_down (Live reference stage) s station k t f = where_fits _ (without_station station (failing (Live reference stage) s EQUIPMENT_FAILURE)) (of_without station (failing (Live reference stage) s EQUIPMENT_FAILURE) (of_failing (Live reference stage) s EQUIPMENT_FAILURE k.serving t f))
+of_station_down WaitActivation s station k t f = where_fits IsSoundRow _ (without_station station (dropping s)) (of_without station (dropping s) (of_dropping s k.serving))
+of_station_down WaitEstablish s station k t f = where_fits IsSoundRow _ (without_station station (dropping s)) (of_without station (dropping s) (of_dropping s k.serving))
+of_station_down WaitConfirm s station k t f = where_fits IsSoundRow _ (without_station station (failing WaitConfirm s EQUIPMENT_FAILURE)) (of_without station (failing WaitConfirm s EQUIPMENT_FAILURE) (of_failing WaitConfirm s EQUIPMENT_FAILURE k.serving t f))
+of_station_down (Live reference stage) s station k t f = where_fits IsSoundRow _ (without_station station (failing (Live reference stage) s EQUIPMENT_FAILURE)) (of_without station (failing (Live reference stage) s EQUIPMENT_FAILURE) (of_failing (Live reference stage) s EQUIPMENT_FAILURE k.serving t f))
 of_station_down _ s station k t f = tt
 
 of_switch_down : (state : State) (s : Connection) → IsSoundIn s → Targets state → OfRow IsSoundRow (on_switch_down state s)

@@ -23,7 +23,7 @@ use Rattle.controller_laws.specs.Downlink.{Switched, comes, confirms, is_confirm
 use Rattle.controller_laws.specs.History.{word_by, word_in}
 use Rattle.controller_laws.proofs.Fitting.{IsFine, IsLinked, IsBreak, IsLinkBreak, aged_holds, fine_old}
 use Rattle.controller_laws.proofs.Progress.{Advances, IsLive, Next, NotDown, advances, confirm_fits, downlink_fits, received_none}
-use Rattle.controller_laws.proofs.Silence.{same_state}
+use Rattle.controller_laws.proofs.Silence.{kept_holds, same_state}
 use Rattle.controller_laws.proofs.Sources.{IsAtPlace, IsFrom, word_from}
 use Rattle.controller_table.specs.declared.step.Step.{Step}
 use Rattle.controller_table.specs.declared.step.Step.TheVariants.{Take, Tick}
@@ -332,12 +332,7 @@ aged_agrees sapi a old s aged agrees = aged_holds (λ (c : Connection). Flags c.
 
 kept_agrees : (sapi : Sapi) (number next : ℕ) (a : Switched) (state : State) (s : Connection) → s.state ≡ state → number < next → (IsOpen s.state → Flags s.state a × IsHeld sapi a s) → AgreesDown sapi number next a (kept_in state s)
 unfolding AgreesDown
-kept_agrees sapi number next a Removed s is less agrees = λ more. absurd (omega arith)
-kept_agrees sapi number next a WaitActivation s is less agrees = agrees
-kept_agrees sapi number next a WaitEstablish s is less agrees = agrees
-kept_agrees sapi number next a WaitConfirm s is less agrees = agrees
-kept_agrees sapi number next a (Live reference stage) s is less agrees = agrees
-kept_agrees sapi number next a (Closed clearing) s is less agrees = agrees
+kept_agrees sapi number next a state s is less agrees = kept_holds (AgreesDown sapi number next a) state s (λ more. absurd (omega arith)) agrees
 
 -- a connection that is there has a number below the next one
 unfoldable pub IsBegun : ℕ → ℕ → Option Connection → Type 0

@@ -5,15 +5,16 @@ use Rattle.conn_messages.specs.declared.channel.Channel.{Channel}
 use Rattle.conn_messages.specs.declared.message.Message.{Message}
 use Rattle.conn_messages.specs.declared.parameters.TheConstants.{SWITCH_LINK}
 use Rattle.conn_messages.specs.StationMessage.{access_activation}
+use Rattle.conn_table.proofs.DownlinkMessages.{AllByRecursion-append}
+use Rattle.conn_table.proofs.RolesApart.{target_in-role}
 use Rattle.conn_table.proofs.StandingSteps.{by_state}
 use Rattle.conn_table.specs.declared.state.Drain.{Drain}
-use Rattle.conn_table.specs.declared.state.Stage.TheVariants.{Active, Preparing, Changing, Draining}
 use Rattle.conn_table.specs.declared.state.State.{State}
 use Rattle.conn_table.specs.declared.state.State.TheVariants.{WaitActivation, WaitEstablish, WaitConfirm, Live, Closed, Removed}
 use Rattle.conn_table.specs.Connection.{Connection, new_connection}
-use Rattle.conn_table.specs.Roles.{roles_of, target_channels, target_role}
+use Rattle.conn_table.specs.Roles.{roles_of}
 use Rattle.conn_table.specs.Standing.{Stands}
-use Rattle.conn_table.specs.Streams.{AreApart, IsOpen, OfRow, relayed, still_of, target_in, undone, used_channels}
+use Rattle.conn_table.specs.Streams.{AreApart, IsOpen, OfRow, relayed, still_of, undone, used_channels}
 use Rattle.conn_table.specs.Timers.{after_pass}
 use Rattle.controller_laws.specs.Acts.{Acts, Brought, FitsNone, IsAged, brought_in, kept_in}
 use Rattle.controller_laws.specs.Acts.Acts.{ages, goes, opens, rests}
@@ -31,12 +32,12 @@ use Rattle.controller_laws.proofs.Lives.{life_fits}
 use Rattle.controller_laws.proofs.OwningLife.{AllFine, fine_at, new_holds, step_holds}
 use Rattle.controller_laws.proofs.OwningWords.{Holds}
 use Rattle.controller_laws.proofs.SeenFrames.{forwarded_seen}
-use Rattle.controller_laws.proofs.Silence.{same_state}
+use Rattle.controller_laws.proofs.Silence.{kept_holds, same_state}
 use Rattle.controller_laws.proofs.SoundLife.{life_sends_all}
 use Rattle.controller_laws.proofs.Switched.{IsBegun, some_begun, was}
 use Rattle.controller_laws.proofs.Tenures.{joined_none}
 use Rattle.controller_laws.proofs.Turns.{step_does}
-use Rattle.controller_laws.proofs.UsualRows.{AreUsual, PutsUsual, usual_join, usual_row}
+use Rattle.controller_laws.proofs.UsualRows.{AreUsual, IsUsual, PutsUsual, usual_row}
 use Rattle.controller_table.specs.declared.step.Step.{Step}
 use Rattle.controller_table.specs.declared.word.Word.{Word}
 use Rattle.controller_table.specs.Controller.{Controller, Entry, Turn, each, entry_of, is_up, new_controller}
@@ -70,28 +71,12 @@ aged_owns c number old s aged owns = aged_holds (λ (d : Connection). Owns c.cha
 
 -- ---- a row
 
-targets_same : (state : State) → target_channels (target_role state) ≡ target_in state
-targets_same (Live reference (Preparing target)) = refl
-targets_same (Live reference (Changing target)) = refl
-targets_same (Live reference Active) = refl
-targets_same (Live reference Draining) = refl
-targets_same WaitActivation = refl
-targets_same WaitEstablish = refl
-targets_same WaitConfirm = refl
-targets_same (Closed clearing) = refl
-targets_same Removed = refl
-
-used_apart : (s : Connection) → AreApart (used_in (roles_of s)) → AreApart (used_channels s)
-used_apart s apart = subst (λ (cs : List Channel). AreApart (undone s.draining ++ s.serving ∷ cs)) (targets_same s.state) apart
+pub used_apart : (s : Connection) → AreApart (used_in (roles_of s)) → AreApart (used_channels s)
+used_apart s apart = subst (λ (cs : List Channel). AreApart (undone s.draining ++ s.serving ∷ cs)) (target_in-role s.state) apart
 
 kept_up : (number next : ℕ) (put : List Message) (ts : List Tenure) (state : State) (s : Connection) → s.state ≡ state → number < next → (IsOpen s.state → UpIn s.state s put ts) → AgreesUp number next put ts (kept_in state s)
 unfolding AgreesUp
-kept_up number next put ts Removed s is less up = λ more. absurd (omega arith)
-kept_up number next put ts WaitActivation s is less up = up
-kept_up number next put ts WaitEstablish s is less up = up
-kept_up number next put ts WaitConfirm s is less up = up
-kept_up number next put ts (Live reference stage) s is less up = up
-kept_up number next put ts (Closed clearing) s is less up = up
+kept_up number next put ts state s is less up = kept_holds (AgreesUp number next put ts) state s (λ more. absurd (omega arith)) up
 
 some_up : (number next : ℕ) (put : List Message) (ts : List Tenure) (before : Option Connection) (s : Connection) → before ≡ Some s → AgreesUp number next put ts before → IsOpen s.state → UpIn s.state s put ts
 unfolding AgreesUp
@@ -239,7 +224,7 @@ usual_run number c from_one fits [] = tt
 usual_run number c from_one fits (s ∷ ss) =
     let does = step_does number c s from_one fits.numbered in
     let next = step_fits number c s from_one fits in
-    usual_join does.put (all_messages (moments_of number (step c s).next from_one next ss))
+    AllByRecursion-append IsUsual does.put (all_messages (moments_of number (step c s).next from_one next ss))
     (acts_usual number c.next_number (is_up c SWITCH_LINK) (brought_in c number s) (connection_of c number) (connection_of (step c s).next number) does.put does.acts)
     (usual_run number (step c s).next from_one next ss)
 

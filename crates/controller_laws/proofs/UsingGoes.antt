@@ -9,6 +9,7 @@ use Rattle.conn_messages.specs.declared.message.Message.TheVariants.{Station, Re
 use Rattle.conn_messages.specs.declared.out.Out.{Out}
 use Rattle.conn_messages.specs.declared.parameters.TheConstants.{SWITCH_LINK}
 use Rattle.conn_messages.specs.Out.{out_of, outs_of}
+use Rattle.conn_table.proofs.DownlinkMessages.{AllByRecursion-filter}
 use Rattle.conn_table.specs.declared.input.Input.{Input}
 use Rattle.conn_table.specs.declared.input.Input.TheVariants as inputs
 use Rattle.conn_table.specs.declared.state.Stage.TheVariants.{Active, Preparing, Changing, Draining}
@@ -65,16 +66,8 @@ from_stations P (Request message ∷ ms) all = (tt, from_stations P ms all)
 from_stations P (Data destination message ∷ ms) all = (tt, from_stations P ms all)
 from_stations P (ReleaseComplete destination ∷ ms) all = (tt, from_stations P ms all)
 
-kept_reaches : (P : ℕ → Type 0) (test : Message → Bool) (ms : List Message) → AllByRecursion (Reaches P) ms → AllByRecursion (Reaches P) (filter test ms)
-kept_reaches P test [] all = tt
-kept_reaches P test (m ∷ ms) all = by (test m) (kept_reaches P test ms all.1)
-  where
-    by : (b : Bool) → AllByRecursion (Reaches P) (filter test ms) → AllByRecursion (Reaches P) (if b then m ∷ filter test ms else filter test ms)
-    by true rest = (all.0, rest)
-    by false rest = rest
-
 that_go_reach : (P : ℕ → Type 0) (input : Input) (ms : List Message) → AllByRecursion (Reaches P) ms → AllByRecursion (Reaches P) (those_that_go input ms)
-that_go_reach P (inputs.StationDown station) ms all = kept_reaches P _ ms all
+that_go_reach P (inputs.StationDown station) ms all = AllByRecursion-filter (Reaches P) _ ms all
 that_go_reach P _ ms all = all
 
 end_reaches : (P : ℕ → Type 0) (end : RoleEnd) (roles : Roles) (target : Option TargetRole) → OwnAlive P (record roles { target = target }) → AllByRecursion (Reaches P) (end_messages end (record roles { target = target }))

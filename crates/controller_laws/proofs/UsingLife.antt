@@ -17,6 +17,7 @@ use Rattle.conn_messages.specs.declared.channel.Channel.{Channel}
 use Rattle.conn_messages.specs.declared.channel.Place.{Place}
 use Rattle.conn_messages.specs.declared.out.Out.{Out}
 use Rattle.conn_messages.specs.declared.parameters.TheConstants.{SWITCH_LINK}
+use Rattle.conn_table.proofs.DownlinkMessages.{AllByRecursion-append}
 use Rattle.conn_table.specs.declared.input.Input.{Input}
 use Rattle.conn_table.specs.declared.input.Input.TheVariants as inputs
 use Rattle.conn_table.specs.declared.state.State.{State}
@@ -37,12 +38,12 @@ use Rattle.controller_laws.proofs.Entries.{find_above}
 use Rattle.controller_laws.proofs.Fitting.{Fits, IsLinkBreak, IsLinked, new_fits, own_carried, pass_stands, step_fits}
 use Rattle.controller_laws.proofs.OwningLife.{AllFine, aged_owns, break_shut, fine_at, fine_stand, new_holds, step_holds, timer_shut, told_holds}
 use Rattle.controller_laws.proofs.OwningWords.{AllStand, Holds, changes_of}
-use Rattle.controller_laws.proofs.Reaching.{all_join}
 use Rattle.controller_laws.proofs.Sources.{word_from}
 use Rattle.controller_laws.proofs.Turns.{IsDue, aged_numbered, all_found, all_two, expiry_own, told_tame, timed_tame}
 use Rattle.controller_laws.proofs.UsingGoes.{break_goes, row_goes, still_alive}
-use Rattle.controller_laws.proofs.UsingRows.{IsAlive, Uses, all_contained, alive_or, contains_none, free≢use, mapped}
+use Rattle.controller_laws.proofs.UsingRows.{IsAlive, Uses, all_contained, alive_or, contains_none, mapped}
 use Rattle.controller_laws.proofs.UsingWords.{IsAskedOf, IsHere, IsNoBreak, IsNoNack, Ready, Sends, fitting_sends, here_of, ignoring_sends, no_break_of, no_nack_of, own_alive, word_sends}
+use Rattle.controller_laws.proofs.Places.{free≢use}
 use Rattle.controller_table.proofs.Others.{all_age}
 use Rattle.controller_table.specs.declared.channel_state.ChannelState.{ChannelState}
 use Rattle.controller_table.specs.declared.channel_state.ChannelState.TheVariants.{Free, InUse, Releasing}
@@ -132,13 +133,12 @@ pub expiry_numbers : (o : Option Input) (c : Controller) (e : Entry) → (expire
 expiry_numbers None c e = refl
 expiry_numbers (Some input) c e = told_numbers input c e
 
-each_sends : (old new : List Bool) (f : Controller → Entry → Turn) → ((c : Controller) (e : Entry) → AreRising c.entries → AreRising (f c e).next.entries) → ((m : ℕ) (c : Controller) (e : Entry) → m ≢ e.connection.number → entry_of (f c e).next m ≡ entry_of c m) →
-    ((c : Controller) (e : Entry) → (f c e).next.next_number ≡ c.next_number) → ((c : Controller) (e : Entry) → IsHere old c e → Holds old c → Uses old new c → Holds old (f c e).next × Sends old new (f c e)) →
-    (c : Controller) (xs : List Entry) → AreRising xs → AllByRecursion (IsHere old c) xs → Holds old c → Uses old new c → Holds old (each f c xs).next × Sends old new (each f c xs)
-each_sends old new f order leaves numbers keeps c [] sorted here holds uses = (holds, record { uses = uses; outs = tt })
-each_sends old new f order leaves numbers keeps c (x ∷ xs) sorted here holds uses =
-    let one = keeps c x here.0 holds uses in
-    let later : AllByRecursion (IsHere old (f c x).next) xs = all_two (IsAbove x.connection.number) (IsHere old c) (IsHere old (f c x).next) xs
+-- the later ones are still there after a step of the first
+pub still_here : (links : List Bool) (f : Controller → Entry → Turn) (c : Controller) (x : Entry) (xs : List Entry) →
+    ((c : Controller) (e : Entry) → AreRising c.entries → AreRising (f c e).next.entries) → ((m : ℕ) (c : Controller) (e : Entry) → m ≢ e.connection.number → entry_of (f c e).next m ≡ entry_of c m) →
+    ((c : Controller) (e : Entry) → (f c e).next.next_number ≡ c.next_number) →
+    AllByRecursion (IsAbove x.connection.number) xs → AllByRecursion (IsHere links c) xs → AllByRecursion (IsHere links (f c x).next) xs
+still_here links f c x xs order leaves numbers = all_two (IsAbove x.connection.number) (IsHere links c) (IsHere links (f c x).next) xs
     (λ y above is. record {
       rising = order c x is.rising;
       there = leaves y.connection.number c x (λ same. absurd (omega arith)) ∙ is.there;
@@ -146,9 +146,17 @@ each_sends old new f order leaves numbers keeps c (x ∷ xs) sorted here holds u
       from_one = is.from_one;
       below = subst (λ (k : ℕ). y.connection.number < k) (sym (numbers c x)) is.below;
       linked = is.linked;
-    }) sorted.0 here.1 in
+    })
+
+each_sends : (old new : List Bool) (f : Controller → Entry → Turn) → ((c : Controller) (e : Entry) → AreRising c.entries → AreRising (f c e).next.entries) → ((m : ℕ) (c : Controller) (e : Entry) → m ≢ e.connection.number → entry_of (f c e).next m ≡ entry_of c m) →
+    ((c : Controller) (e : Entry) → (f c e).next.next_number ≡ c.next_number) → ((c : Controller) (e : Entry) → IsHere old c e → Holds old c → Uses old new c → Holds old (f c e).next × Sends old new (f c e)) →
+    (c : Controller) (xs : List Entry) → AreRising xs → AllByRecursion (IsHere old c) xs → Holds old c → Uses old new c → Holds old (each f c xs).next × Sends old new (each f c xs)
+each_sends old new f order leaves numbers keeps c [] sorted here holds uses = (holds, record { uses = uses; outs = tt })
+each_sends old new f order leaves numbers keeps c (x ∷ xs) sorted here holds uses =
+    let one = keeps c x here.0 holds uses in
+    let later = still_here old f c x xs order leaves numbers sorted.0 here.1 in
     let rest = each_sends old new f order leaves numbers keeps (f c x).next xs sorted.1 later one.0 one.1.uses in
-    (rest.0, record { uses = rest.1.uses; outs = all_join (λ (out : Out). is_link_up new out.to ≡ true) (f c x).outs (each f (f c x).next xs).outs one.1.outs rest.1.outs })
+    (rest.0, record { uses = rest.1.uses; outs = AllByRecursion-append (λ (out : Out). is_link_up new out.to ≡ true) (f c x).outs (each f (f c x).next xs).outs one.1.outs rest.1.outs })
 
 pub all_here : (c : Controller) (xs : List Entry) → Ready c → AllByRecursion (λ (x : Entry). entry_of c x.connection.number ≡ Some x) xs → AllByRecursion (IsHere c.links c) xs
 all_here c [] ready there = tt

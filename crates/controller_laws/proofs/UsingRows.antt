@@ -33,7 +33,7 @@ use Rattle.controller_laws.specs.Owning.{is_link_up}
 use Rattle.controller_laws.specs.Using.{used_places}
 use Rattle.controller_laws.proofs.Acting.{row_found}
 use Rattle.controller_laws.proofs.Entries.{back_over}
-use Rattle.controller_laws.proofs.Places.{all_at, is_there, set_or_not, state_else, state_here}
+use Rattle.controller_laws.proofs.Places.{all_at, is_there, set_or_not, state_else, state_here, use_other, release_other, use≢release, release≢use, free≢use}
 use Rattle.controller_laws.proofs.Reaching.{Reaches}
 use Rattle.controller_laws.proofs.Words.{decide_same}
 use Rattle.controller_table.proofs.Numbers.{keeps_number}
@@ -100,21 +100,6 @@ in_map f (y ∷ xs) x there = elim (contains_cases y x xs there) [
 
 -- ---- what orders make of one channel
 
-use_same : (m n : ℕ) → InUse m ≡ InUse n → n ≡ m
-use_same m n is = cc
-
-release_same : (m n : ℕ) → Releasing m ≡ Releasing n → n ≡ m
-release_same m n is = cc
-
-release≢use : (m n : ℕ) → Releasing m ≢ InUse n
-release≢use m n is = cc
-
-use≢release : (m n : ℕ) → InUse m ≢ Releasing n
-use≢release m n is = cc
-
-pub free≢use : (n : ℕ) → Free ≢ InUse n
-free≢use n is = cc
-
 same_or : (at other : Place) → (other ≡ at) ⊎ (other ≢ at)
 same_or at other = elim (cases_Bool ((other.station == at.station) && (other.number == at.number))) [
   | inl hit ↦
@@ -140,7 +125,7 @@ Spares at _ = Unit {0}
 pub take_use : (m n : ℕ) (p at : Place) (channels : States) → state_in (with_state p (InUse m) channels) at ≡ InUse n → ((n ≡ m) × (p ≡ at)) ⊎ ((state_in channels at ≡ InUse n) × Unit {0})
 take_use m n p at channels is = elim (same_or p at) [
   | inl same ↦ elim (set_or_not channels p at (InUse m)) [
-    | inl hit ↦ inl (use_same m n (sym hit ∙ is), sym same)
+    | inl hit ↦ inl (sym (use_other m n (sym hit ∙ is)), sym same)
     | inr kept ↦ inr (sym kept ∙ is, tt)
   ]
   | inr differ ↦ inr (sym (state_else channels p at (InUse m) differ) ∙ is, tt)
@@ -179,7 +164,7 @@ fold_use m n at channels (x ∷ xs) is = elim (fold_use m n at (channels_after m
 
 set_release : (m n : ℕ) (p at : Place) (channels : States) → state_in (with_state p (Releasing m) channels) at ≡ Releasing n → (n ≡ m) ⊎ (state_in channels at ≡ Releasing n)
 set_release m n p at channels is = elim (set_or_not channels p at (Releasing m)) [
-  | inl hit ↦ inl (release_same m n (sym hit ∙ is))
+  | inl hit ↦ inl (sym (release_other m n (sym hit ∙ is)))
   | inr kept ↦ inr (sym kept ∙ is)
 ]
 

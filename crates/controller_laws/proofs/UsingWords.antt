@@ -28,10 +28,10 @@ use Rattle.controller_laws.specs.Using.{used_places}
 use Rattle.controller_laws.proofs.Entries.{back_over, back_found, back_rising, behind_found, behind_over, find_below}
 use Rattle.controller_laws.proofs.OwningSteps.{IsShaped}
 use Rattle.controller_laws.proofs.OwningWords.{AllStand, Holds, at_number, changes_of, owns_entry}
-use Rattle.controller_laws.proofs.Places.{is_there, set_or_not, state_else, state_here}
+use Rattle.controller_laws.proofs.Places.{is_there, set_or_not, state_else, state_here, free≢use}
 use Rattle.controller_laws.proofs.Sources.{IsAtPlace, IsFrom, IsOfSwitch}
 use Rattle.controller_laws.proofs.UsingGoes.{OwnAlive, outs_up, row_goes, targets_in}
-use Rattle.controller_laws.proofs.UsingRows.{IsAlive, RowUses, Uses, all_contained, alive_or, by_row_uses, contains_first, free≢use, set_use, take_use}
+use Rattle.controller_laws.proofs.UsingRows.{IsAlive, RowUses, Uses, all_contained, alive_or, by_row_uses, contains_first, set_use, take_use}
 use Rattle.controller_laws.proofs.Words.{decide_same, measured_stays}
 use Rattle.controller_table.specs.declared.channel_kind.ChannelKind.{ChannelKind}
 use Rattle.controller_table.specs.declared.channel_kind.ChannelKind.TheVariants.{Sdcch, Tch}

@@ -1,5 +1,5 @@
 -- What rows put: in CR the initial message alone, and in DT1 no initial message.
-use Rattle.std.proofs.Common.{◌≡◌, ℕ, refl, zero, suc, ◌==◌, ◌&&◌, nat_le, Bool, true, false, not, if◌then◌else◌, List, [], ◌∷◌, ◌++◌, filter, length, map, Option, Some, None}
+use Rattle.std.proofs.Common.{◌≡◌, ℕ, refl, zero, suc, ◌==◌, ◌&&◌, nat_le, Bool, true, false, not, if◌then◌else◌, List, [], ◌∷◌, ◌++◌, length, map, Option, Some, None}
 use Rattle.std.specs.List.{AllByRecursion}
 use Rattle.bssmap_codec.specs.declared.bssap.Bssap.TheVariants.{Management, Transfer}
 use Rattle.bssmap_codec.specs.declared.bssmap.Bssmap.TheVariants.{CompleteLayer3Information}
@@ -12,8 +12,9 @@ use Rattle.conn_messages.specs.declared.channel.Channel.{Channel}
 use Rattle.conn_messages.specs.declared.channel.Place.{Place}
 use Rattle.conn_messages.specs.declared.message.Message.{Message}
 use Rattle.conn_messages.specs.declared.message.Message.TheVariants.{Data, Request}
-use Rattle.conn_messages.specs.StationMessage.{handing, rf_channel_release}
-use Rattle.conn_messages.specs.SwitchMessage.{assignment_failure, change_complete, clear_complete, complete_layer3, dlci_on, relaying, release_complete}
+use Rattle.conn_messages.specs.StationMessage.{change_activation, handing, rf_channel_release}
+use Rattle.conn_messages.specs.SwitchMessage.{assignment_failure, change_complete, clear_complete, complete_layer3, dlci_on, release_complete}
+use Rattle.conn_table.proofs.DownlinkMessages.{AllByRecursion-append, AllByRecursion-filter}
 use Rattle.conn_table.specs.declared.input.Input.{Input}
 use Rattle.conn_table.specs.declared.input.Input.TheVariants as inputs
 use Rattle.conn_table.specs.declared.state.Clearing.TheVariants.{Due, Asked as WasAsked}
@@ -25,12 +26,13 @@ use Rattle.conn_table.specs.declared.state.Stage.TheVariants.{Active, Preparing,
 use Rattle.conn_table.specs.declared.state.State.{State}
 use Rattle.conn_table.specs.declared.state.State.TheVariants.{WaitActivation, WaitEstablish, WaitConfirm, Live, Closed, Removed}
 use Rattle.conn_table.specs.Connection.{Connection, drain_at, emptied, enter, first_channel, tenure_at}
-use Rattle.conn_table.specs.Steps.{Row, row, ◌then◌, begin, begin_outs, begin_waiting, done_at, dropping, end_outs, failing, goes_to, hold_down, hold_short_message, hold_up, leave, link_down, link_up, may_begin, moved, relay_held, request_for, request_where, resting, resting_stage, settled, settled_stage, shifted, short_message, target_release, tenure_outs, waiting_outs, without_station}
+use Rattle.conn_table.specs.Steps.{Row, row, ◌then◌, begin, begin_waiting, done_at, dropping, end_outs, failing, goes_to, hold_down, hold_short_message, hold_up, leave, link_down, link_up, may_begin, moved, relay_held, request_for, request_where, resting, resting_stage, settled, settled_stage, shifted, short_message, target_release, waiting_outs, without_station}
 use Rattle.conn_table.specs.Streams.{OfRow}
-use Rattle.conn_table.specs.Table.{access, assign_immediately, command_to, complete, dtap_in, dtap_on_target, failure, failure_outs, nack_outs, on_activation_ack, on_activation_nack, on_assignment_request, on_cipher_mode_command, on_clear_command, on_complete, on_confirm, on_connection_failure, on_downlink, on_drain_expiry, on_dtap, on_error_indication, on_establish_confirm, on_establish_indication, on_expiry, on_failure, on_move, on_refused, on_release_ack, on_release_indication, on_released, on_station_down, on_switch_down, refuse, release, release_in, row_if, row_of, speech_request}
+use Rattle.conn_table.specs.Table.{access, assign_immediately, command_to, complete, dtap_in, dtap_on_target, failure, failure_outs, nack_outs, on_activation_ack, on_activation_nack, on_assignment_request, on_cipher_mode_command, on_clear_command, on_complete, on_confirm, on_connection_failure, on_downlink, on_drain_expiry, on_dtap, on_error_indication, on_establish_confirm, on_establish_indication, on_expiry, on_failure, on_move, on_refused, on_release_ack, on_release_indication, on_released, on_station_down, on_switch_down, refuse, release, release_in, row_of, speech_request}
+use Rattle.controller_laws.proofs.PutLists.{all_handed, all_of_tenure, begins, either, HoldsOfEach, requests_for, requests_where, waits, where_fits}
 use Rattle.dtap_codec.specs.declared.sapi.Sapi.{Sapi}
 use Rattle.dtap_codec.specs.declared.sapi.Sapi.TheVariants.{Zero, Three}
-use Rattle.hold_queue.specs.ChainState.{Tenure, chain_count, put_in}
+use Rattle.hold_queue.specs.ChainState.{chain_count, put_in}
 use Rattle.hold_queue.specs.HoldState.{count, messages, with_messages}
 use Rattle.rsl_codec.specs.declared.channel_number.TheConstants.{FIRST_SDCCH}
 use Rattle.octets.specs.declared.limits.TheConstants.{INITIAL_LIMIT}
@@ -48,31 +50,7 @@ AreUsual outs = AllByRecursion IsUsual outs
 abbrev pub PutsUsual : Row → Type 0
 PutsUsual r = AreUsual r.outs
 
-pub usual_join : (xs ys : List Message) → AreUsual xs → AreUsual ys → AreUsual (xs ++ ys)
-usual_join [] ys one rest = rest
-usual_join (x ∷ xs) ys one rest = (one.0, usual_join xs ys one.1 rest)
-
-usual_filter : (test : Message → Bool) (xs : List Message) → AreUsual xs → AreUsual (filter test xs)
-usual_filter test [] all = tt
-usual_filter test (x ∷ xs) all = by (test x) (usual_filter test xs all.1)
-  where
-    by : (b : Bool) → AreUsual (filter test xs) → AreUsual (if b then x ∷ filter test xs else filter test xs)
-    by true rest = (all.0, rest)
-    by false rest = rest
-
-either : (b : Bool) (r q : Row) → PutsUsual r → PutsUsual q → PutsUsual (if b then r else q)
-either true r q h k = h
-either false r q h k = k
-
-where_fits : (b : Bool) (r : Row) → PutsUsual r → OfRow PutsUsual (row_if b r)
-where_fits true r h = h
-where_fits false r h = tt
-
 -- ---- messages
-
-all_handed : (c : Channel) (sapi : Sapi) (ms : List (List ℕ)) → AreUsual (map (handing c sapi) ms)
-all_handed c sapi [] = tt
-all_handed c sapi (m ∷ ms) = (tt, all_handed c sapi ms)
 
 dlci_usual : (number : ℕ) (sapi : Sapi) → is_dlci (dlci_on number sapi) ≡ true
 dlci_usual number Zero = refl
@@ -82,32 +60,12 @@ dlci_usual number Three = by (nat_le FIRST_SDCCH number)
     by true = refl
     by false = refl
 
-all_relayed : (reference : ℕ) (c : Channel) (sapi : Sapi) (ms : List (List ℕ)) → AreUsual (map (relaying reference c sapi) ms)
-all_relayed reference c sapi [] = tt
-all_relayed reference c sapi (m ∷ ms) = (dlci_usual c.number sapi, all_relayed reference c sapi ms)
+activates : (change : Change) (c : Channel) → IsUsual (change_activation change c)
+activates Assignment c = tt
+activates Handover c = tt
 
-all_of_tenure : (reference : ℕ) (c : Channel) (ts : List Tenure) → AreUsual (tenure_outs reference c ts)
-all_of_tenure reference c [] = tt
-all_of_tenure reference c (t ∷ ts) = usual_join (map (relaying reference c Zero) t.zero) (map (relaying reference c Three) t.three) (all_relayed reference c Zero t.zero) (all_relayed reference c Three t.three)
-
-begins : (reference : ℕ) (change : Change) (offer : Option Channel) → AreUsual (begin_outs reference change offer)
-begins reference Assignment (Some channel) = (tt, tt)
-begins reference Handover (Some channel) = (tt, tt)
-begins reference Assignment None = (tt, tt)
-begins reference Handover None = tt
-
-waits : (b : Bool) (reference : ℕ) (offer : Option Channel) → AreUsual (waiting_outs b reference offer)
-waits true reference offer = begins reference Assignment offer
-waits false reference offer = tt
-
-requests_where : (link : ShortMessageLink) (c : Channel) → AreUsual (request_where link c)
-requests_where Down c = (tt, tt)
-requests_where Asked c = tt
-requests_where Up c = tt
-
-requests_for : (ms : List (List ℕ)) (c : Channel) → AreUsual (request_for ms c)
-requests_for [] c = tt
-requests_for (m ∷ ms) c = (tt, tt)
+usual : HoldsOfEach IsUsual
+usual = record { activates = activates; fails = λ reference cause. tt; establishes = λ c. tt; hands = λ c sapi message. tt; relays = λ reference c sapi message. dlci_usual c.number sapi }
 
 releases : (state : State) → AreUsual (target_release state)
 releases (Live reference (Preparing target)) = (tt, tt)
@@ -134,12 +92,12 @@ of_failing (Closed clearing) s cause = of_end_outs (Closed clearing) s.serving A
 of_failing Removed s cause = of_end_outs Removed s.serving ABNORMAL_RELEASE
 
 of_hold_down : (state : State) (sapi : Sapi) (message : List ℕ) (s : Connection) → PutsUsual (hold_down state sapi message s)
-of_hold_down state sapi message s = either (count s.down == s.down.limit) (failing state s EQUIPMENT_FAILURE) (row [] (record s { down = with_messages s.down sapi (messages s.down sapi ++ message ∷ []) })) (of_failing state s EQUIPMENT_FAILURE) tt
+of_hold_down state sapi message s = either PutsUsual (count s.down == s.down.limit) (failing state s EQUIPMENT_FAILURE) (row [] (record s { down = with_messages s.down sapi (messages s.down sapi ++ message ∷ []) })) (of_failing state s EQUIPMENT_FAILURE) tt
 
 of_hold_short_message : (state : State) (message : List ℕ) (s : Connection) → PutsUsual (hold_short_message state message s)
 of_hold_short_message state message s =
-    either (count s.down == s.down.limit) (failing state s EQUIPMENT_FAILURE) (row (request_where s.link s.serving) (record s { link = Asked; down = with_messages s.down Three (messages s.down Three ++ message ∷ []) }))
-    (of_failing state s EQUIPMENT_FAILURE) (requests_where s.link s.serving)
+    either PutsUsual (count s.down == s.down.limit) (failing state s EQUIPMENT_FAILURE) (row (request_where s.link s.serving) (record s { link = Asked; down = with_messages s.down Three (messages s.down Three ++ message ∷ []) }))
+    (of_failing state s EQUIPMENT_FAILURE) (requests_where IsUsual usual s.link s.serving)
 
 of_short_message : (state : State) (link : ShortMessageLink) (message : List ℕ) (s : Connection) → PutsUsual (short_message state link message s)
 of_short_message state Up message s = (tt, tt)
@@ -152,25 +110,25 @@ of_link_down Asked reference s = (tt, tt)
 of_link_down Down reference s = tt
 
 of_hold_up : (state : State) (tenure : ℕ) (sapi : Sapi) (message : List ℕ) (s : Connection) → PutsUsual (hold_up state tenure sapi message s)
-of_hold_up state tenure sapi message s = either (chain_count s.up == s.up.limit) (failing state s EQUIPMENT_FAILURE) (row [] (record s { up = record s.up { tenures = put_in tenure sapi message s.up.tenures } })) (of_failing state s EQUIPMENT_FAILURE) tt
+of_hold_up state tenure sapi message s = either PutsUsual (chain_count s.up == s.up.limit) (failing state s EQUIPMENT_FAILURE) (row [] (record s { up = record s.up { tenures = put_in tenure sapi message s.up.tenures } })) (of_failing state s EQUIPMENT_FAILURE) tt
 
 of_leave : (reference : ℕ) (draining : List Drain) (s : Connection) → PutsUsual (leave reference draining s)
 of_leave reference [] s = tt
 of_leave reference (d ∷ ds) s =
-    either d.is_done (row [] (shifted ds s) then relay_held reference then leave reference ds) (row [] (record s { draining = d ∷ ds }))
-    (usual_join (relay_held reference (shifted ds s)).outs (leave reference ds (relay_held reference (shifted ds s)).next).outs
-    (all_of_tenure reference (first_channel ds s.serving) (shifted ds s).up.tenures) (of_leave reference ds (relay_held reference (shifted ds s)).next))
+    either PutsUsual d.is_done (row [] (shifted ds s) then relay_held reference then leave reference ds) (row [] (record s { draining = d ∷ ds }))
+    (AllByRecursion-append IsUsual (relay_held reference (shifted ds s)).outs (leave reference ds (relay_held reference (shifted ds s)).next).outs
+    (all_of_tenure IsUsual usual reference (first_channel ds s.serving) (shifted ds s).up.tenures) (of_leave reference ds (relay_held reference (shifted ds s)).next))
     tt
 
 -- ---- rows
 
 of_access : (message : Option (List ℕ)) (s : Connection) → PutsUsual (access message s)
-of_access (Some initial) s = either (nat_le (length initial) INITIAL_LIMIT) (row (complete_layer3 s.serving initial ∷ []) (enter WaitConfirm s)) (dropping s) (tt, tt) (tt, tt)
+of_access (Some initial) s = either PutsUsual (nat_le (length initial) INITIAL_LIMIT) (row (complete_layer3 s.serving initial ∷ []) (enter WaitConfirm s)) (dropping s) (tt, tt) (tt, tt)
 of_access None s = (tt, tt)
 
 of_activation_ack : (state : State) (s : Connection) (at : Place) → OfRow PutsUsual (on_activation_ack state s at)
-of_activation_ack WaitActivation s at = where_fits _ (assign_immediately s) (tt, tt)
-of_activation_ack (Live reference (Preparing target)) s at = where_fits _ (command_to reference target s) (tt, tt)
+of_activation_ack WaitActivation s at = where_fits PutsUsual _ (assign_immediately s) (tt, tt)
+of_activation_ack (Live reference (Preparing target)) s at = where_fits PutsUsual _ (command_to reference target s) (tt, tt)
 of_activation_ack _ s at = tt
 
 nacks : (change : Change) (reference : ℕ) → AreUsual (nack_outs change reference)
@@ -179,46 +137,46 @@ nacks Handover reference = tt
 
 of_refuse : (reference : ℕ) (change : Change) (offer : Option Channel) (s : Connection) → PutsUsual (refuse reference change offer s)
 of_refuse reference change offer s =
-    usual_join (nack_outs change reference) (begin_waiting (resting_stage s.draining) reference offer (resting reference s)).outs (nacks change reference) (waits (s.waits && may_begin (resting_stage s.draining) s.draining) reference offer)
+    AllByRecursion-append IsUsual (nack_outs change reference) (begin_waiting (resting_stage s.draining) reference offer (resting reference s)).outs (nacks change reference) (waits IsUsual usual (s.waits && may_begin (resting_stage s.draining) s.draining) reference offer)
 
 of_activation_nack : (state : State) (s : Connection) (at : Place) (offer : Option Channel) → OfRow PutsUsual (on_activation_nack state s at offer)
-of_activation_nack WaitActivation s at offer = where_fits _ (row [] (emptied Removed s)) tt
-of_activation_nack (Live reference (Preparing target)) s at offer = where_fits _ (refuse reference target.change offer s) (of_refuse reference target.change offer s)
+of_activation_nack WaitActivation s at offer = where_fits PutsUsual _ (row [] (emptied Removed s)) tt
+of_activation_nack (Live reference (Preparing target)) s at offer = where_fits PutsUsual _ (refuse reference target.change offer s) (of_refuse reference target.change offer s)
 of_activation_nack _ s at offer = tt
 
 of_establish_indication : (state : State) (s : Connection) (at : Place) (sapi : Sapi) (message : Option (List ℕ)) → OfRow PutsUsual (on_establish_indication state s at sapi message)
-of_establish_indication WaitEstablish s at Zero message = where_fits _ (access message s) (of_access message s)
+of_establish_indication WaitEstablish s at Zero message = where_fits PutsUsual _ (access message s) (of_access message s)
 of_establish_indication (Live reference (Changing target)) s at sapi message = tt
-of_establish_indication (Live reference stage) s at Three message = where_fits _ (link_up s) (all_handed s.serving Three (messages s.down Three))
+of_establish_indication (Live reference stage) s at Three message = where_fits PutsUsual _ (link_up s) (all_handed IsUsual usual s.serving Three (messages s.down Three))
 of_establish_indication _ s at sapi message = tt
 
 of_establish_confirm : (state : State) (s : Connection) (at : Place) (sapi : Sapi) → OfRow PutsUsual (on_establish_confirm state s at sapi)
 of_establish_confirm (Live reference (Changing target)) s at sapi = tt
-of_establish_confirm (Live reference stage) s at Three = where_fits _ (link_up s) (all_handed s.serving Three (messages s.down Three))
+of_establish_confirm (Live reference stage) s at Three = where_fits PutsUsual _ (link_up s) (all_handed IsUsual usual s.serving Three (messages s.down Three))
 of_establish_confirm _ s at sapi = tt
 
 of_release_indication : (state : State) (s : Connection) (at : Place) (sapi : Sapi) → OfRow PutsUsual (on_release_indication state s at sapi)
-of_release_indication WaitEstablish s at Zero = where_fits _ (dropping s) (tt, tt)
-of_release_indication WaitConfirm s at Zero = where_fits _ (failing WaitConfirm s RADIO_INTERFACE_FAILURE) (of_failing WaitConfirm s RADIO_INTERFACE_FAILURE)
+of_release_indication WaitEstablish s at Zero = where_fits PutsUsual _ (dropping s) (tt, tt)
+of_release_indication WaitConfirm s at Zero = where_fits PutsUsual _ (failing WaitConfirm s RADIO_INTERFACE_FAILURE) (of_failing WaitConfirm s RADIO_INTERFACE_FAILURE)
 of_release_indication (Live reference (Changing target)) s at sapi = tt
-of_release_indication (Live reference stage) s at Zero = where_fits _ (failing (Live reference stage) s RADIO_INTERFACE_FAILURE) (of_failing (Live reference stage) s RADIO_INTERFACE_FAILURE)
-of_release_indication (Live reference stage) s at Three = where_fits _ (link_down s.link reference s) (of_link_down s.link reference s)
+of_release_indication (Live reference stage) s at Zero = where_fits PutsUsual _ (failing (Live reference stage) s RADIO_INTERFACE_FAILURE) (of_failing (Live reference stage) s RADIO_INTERFACE_FAILURE)
+of_release_indication (Live reference stage) s at Three = where_fits PutsUsual _ (link_down s.link reference s) (of_link_down s.link reference s)
 of_release_indication _ s at sapi = tt
 
 of_error_indication : (state : State) (s : Connection) (at : Place) (sapi : Sapi) → OfRow PutsUsual (on_error_indication state s at sapi)
 of_error_indication (Live reference (Changing target)) s at sapi = tt
-of_error_indication (Live reference stage) s at Three = where_fits _ (link_down s.link reference s) (of_link_down s.link reference s)
+of_error_indication (Live reference stage) s at Three = where_fits PutsUsual _ (link_down s.link reference s) (of_link_down s.link reference s)
 of_error_indication _ s at sapi = tt
 
 of_connection_failure : (state : State) (s : Connection) (at : Place) → OfRow PutsUsual (on_connection_failure state s at)
-of_connection_failure WaitEstablish s at = where_fits _ (dropping s) (tt, tt)
-of_connection_failure WaitConfirm s at = where_fits _ (failing WaitConfirm s RADIO_INTERFACE_FAILURE) (of_failing WaitConfirm s RADIO_INTERFACE_FAILURE)
+of_connection_failure WaitEstablish s at = where_fits PutsUsual _ (dropping s) (tt, tt)
+of_connection_failure WaitConfirm s at = where_fits PutsUsual _ (failing WaitConfirm s RADIO_INTERFACE_FAILURE) (of_failing WaitConfirm s RADIO_INTERFACE_FAILURE)
 of_connection_failure (Live reference (Changing target)) s at = tt
-of_connection_failure (Live reference stage) s at = where_fits _ (failing (Live reference stage) s RADIO_INTERFACE_FAILURE) (of_failing (Live reference stage) s RADIO_INTERFACE_FAILURE)
+of_connection_failure (Live reference stage) s at = where_fits PutsUsual _ (failing (Live reference stage) s RADIO_INTERFACE_FAILURE) (of_failing (Live reference stage) s RADIO_INTERFACE_FAILURE)
 of_connection_failure _ s at = tt
 
 of_dtap_on_target : (reference : ℕ) (stage : Stage) (s : Connection) (at : Place) (sapi : Sapi) → OfRow PutsUsual (dtap_on_target reference stage s at sapi)
-of_dtap_on_target reference (Changing target) s at Zero = where_fits _ (failing (Live reference (Changing target)) s EQUIPMENT_FAILURE) (of_failing (Live reference (Changing target)) s EQUIPMENT_FAILURE)
+of_dtap_on_target reference (Changing target) s at Zero = where_fits PutsUsual _ (failing (Live reference (Changing target)) s EQUIPMENT_FAILURE) (of_failing (Live reference (Changing target)) s EQUIPMENT_FAILURE)
 of_dtap_on_target reference _ s at _ = tt
 
 of_dtap_in : (place : Option ℕ) (reference : ℕ) (stage : Stage) (s : Connection) (at : Place) (sapi : Sapi) (message : List ℕ) → OfRow PutsUsual (dtap_in place reference stage s at sapi message)
@@ -227,9 +185,9 @@ of_dtap_in (Some (suc tenure)) reference stage s at sapi message = of_hold_up (L
 of_dtap_in None reference stage s at sapi message = of_dtap_on_target reference stage s at sapi
 
 of_dtap : (state : State) (s : Connection) (at : Place) (sapi : Sapi) (message : List ℕ) → OfRow PutsUsual (on_dtap state s at sapi message)
-of_dtap WaitEstablish s at Zero message = where_fits _ (dropping s) (tt, tt)
+of_dtap WaitEstablish s at Zero message = where_fits PutsUsual _ (dropping s) (tt, tt)
 of_dtap WaitEstablish s at Three message = tt
-of_dtap WaitConfirm s at sapi message = where_fits _ (hold_up WaitConfirm 0 sapi message s) (of_hold_up WaitConfirm 0 sapi message s)
+of_dtap WaitConfirm s at sapi message = where_fits PutsUsual _ (hold_up WaitConfirm 0 sapi message s) (of_hold_up WaitConfirm 0 sapi message s)
 of_dtap (Live reference stage) s at sapi message = of_dtap_in (tenure_at at s.serving s.draining) reference stage s at sapi message
 of_dtap _ s at sapi message = tt
 
@@ -243,13 +201,13 @@ of_end : (stage : Stage) (reference : ℕ) (offer : Option Channel) (s : Connect
 of_end stage reference offer s outs first =
     let held : List Message = map (handing s.serving Zero) (messages s.down Zero) in
     let asked : List Message = request_for s.down.three s.serving in
-    usual_join (outs ++ held ++ asked) (waiting_outs (s.waits && may_begin stage s.draining) reference offer)
-    (usual_join (outs ++ held) asked (usual_join outs held first (all_handed s.serving Zero (messages s.down Zero))) (requests_for s.down.three s.serving))
-    (waits (s.waits && may_begin stage s.draining) reference offer)
+    AllByRecursion-append IsUsual (outs ++ held ++ asked) (waiting_outs (s.waits && may_begin stage s.draining) reference offer)
+    (AllByRecursion-append IsUsual (outs ++ held) asked (AllByRecursion-append IsUsual outs held first (all_handed IsUsual usual s.serving Zero (messages s.down Zero))) (requests_for IsUsual usual s.down.three s.serving))
+    (waits IsUsual usual (s.waits && may_begin stage s.draining) reference offer)
 
 of_complete : (state : State) (s : Connection) (at : Place) (change : Change) (cause : ℕ) (offer : Option Channel) → OfRow PutsUsual (on_complete state s at change cause offer)
 of_complete (Live reference (Changing target)) s at change cause offer =
-    where_fits _ (complete reference change target.channel cause offer s)
+    where_fits PutsUsual _ (complete reference change target.channel cause offer s)
     (of_end Draining reference offer (moved reference target.channel s) (change_complete reference change target.channel cause ∷ rf_channel_release s.serving ∷ []) ((completes reference change target.channel cause, (tt, tt))))
 of_complete _ s at change cause offer = tt
 
@@ -259,17 +217,17 @@ fails reference Handover cause = tt
 
 of_failure : (state : State) (s : Connection) (at : Place) (change : Change) (cause : ℕ) (offer : Option Channel) → OfRow PutsUsual (on_failure state s at change cause offer)
 of_failure (Live reference (Changing target)) s at change cause offer =
-    where_fits _ (failure reference change target.channel cause offer s)
-    (of_end (resting_stage s.draining) reference offer (resting reference s) (failure_outs change reference cause ++ rf_channel_release target.channel ∷ []) (usual_join (failure_outs change reference cause) (rf_channel_release target.channel ∷ []) (fails reference change cause) (tt, tt)))
+    where_fits PutsUsual _ (failure reference change target.channel cause offer s)
+    (of_end (resting_stage s.draining) reference offer (resting reference s) (failure_outs change reference cause ++ rf_channel_release target.channel ∷ []) (AllByRecursion-append IsUsual (failure_outs change reference cause) (rf_channel_release target.channel ∷ []) (fails reference change cause) (tt, tt)))
 of_failure _ s at change cause offer = tt
 
 of_release : (reference : ℕ) (stage : Stage) (place : ℕ) (offer : Option Channel) (s : Connection) → PutsUsual (release reference stage place offer s)
 of_release reference stage place offer s =
     let left : Connection = (leave reference (done_at place s.draining) s).next in
     let rests : Connection = settled reference stage left.draining left in
-    usual_join ((leave reference (done_at place s.draining) s).outs ++ []) (begin_waiting (settled_stage stage rests.draining) reference offer rests).outs
-    (usual_join (leave reference (done_at place s.draining) s).outs [] (of_leave reference (done_at place s.draining) s) tt)
-    (waits (rests.waits && may_begin (settled_stage stage rests.draining) rests.draining) reference offer)
+    AllByRecursion-append IsUsual ((leave reference (done_at place s.draining) s).outs ++ []) (begin_waiting (settled_stage stage rests.draining) reference offer rests).outs
+    (AllByRecursion-append IsUsual (leave reference (done_at place s.draining) s).outs [] (of_leave reference (done_at place s.draining) s) tt)
+    (waits IsUsual usual (rests.waits && may_begin (settled_stage stage rests.draining) rests.draining) reference offer)
 
 of_release_in : (place : Option ℕ) (reference : ℕ) (stage : Stage) (offer : Option Channel) (s : Connection) → OfRow PutsUsual (release_in place reference stage offer s)
 of_release_in (Some place) reference stage offer s = of_release reference stage place offer s
@@ -280,11 +238,11 @@ of_release_ack (Live reference stage) s at offer = of_release_in (drain_at at s.
 of_release_ack _ s at offer = tt
 
 of_move : (state : State) (s : Connection) (offer : Option Channel) → OfRow PutsUsual (on_move state s offer)
-of_move (Live reference stage) s offer = where_fits _ (begin reference Handover offer s) (begins reference Handover offer)
+of_move (Live reference stage) s offer = where_fits PutsUsual _ (begin reference Handover offer s) (begins IsUsual usual reference Handover offer)
 of_move _ s offer = tt
 
 of_confirm : (state : State) (s : Connection) (reference : ℕ) → OfRow PutsUsual (on_confirm state s reference)
-of_confirm WaitConfirm s reference = all_of_tenure reference (first_channel s.draining s.serving) s.up.tenures
+of_confirm WaitConfirm s reference = all_of_tenure IsUsual usual reference (first_channel s.draining s.serving) s.up.tenures
 of_confirm (Closed (Due cause)) s reference = (tt, tt)
 of_confirm _ s reference = tt
 
@@ -294,8 +252,8 @@ of_refused (Closed (Due cause)) s = tt
 of_refused _ s = tt
 
 of_released : (state : State) (s : Connection) (reference : ℕ) → OfRow PutsUsual (on_released state s reference)
-of_released WaitConfirm s reference = usual_join (end_outs WaitConfirm s.serving ABNORMAL_RELEASE) (release_complete reference ∷ []) (of_end_outs WaitConfirm s.serving ABNORMAL_RELEASE) (tt, tt)
-of_released (Live own stage) s reference = usual_join (end_outs (Live own stage) s.serving ABNORMAL_RELEASE) (release_complete reference ∷ []) (of_end_outs (Live own stage) s.serving ABNORMAL_RELEASE) (tt, tt)
+of_released WaitConfirm s reference = AllByRecursion-append IsUsual (end_outs WaitConfirm s.serving ABNORMAL_RELEASE) (release_complete reference ∷ []) (of_end_outs WaitConfirm s.serving ABNORMAL_RELEASE) (tt, tt)
+of_released (Live own stage) s reference = AllByRecursion-append IsUsual (end_outs (Live own stage) s.serving ABNORMAL_RELEASE) (release_complete reference ∷ []) (of_end_outs (Live own stage) s.serving ABNORMAL_RELEASE) (tt, tt)
 of_released (Closed clearing) s reference = (tt, tt)
 of_released _ s reference = tt
 
@@ -307,13 +265,13 @@ of_downlink _ s sapi message = tt
 
 of_speech : (reference : ℕ) (stage : Stage) (offer : Option Channel) (s : Connection) → PutsUsual (speech_request reference stage offer s)
 of_speech reference stage offer s =
-    either (may_begin stage s.draining) (begin reference Assignment offer s) (if s.waits then row (assignment_failure reference PROTOCOL_ERROR None ∷ []) s else row [] (record s { waits = true }))
-    (begins reference Assignment offer)
-    (either s.waits (row (assignment_failure reference PROTOCOL_ERROR None ∷ []) s) (row [] (record s { waits = true })) (tt, tt) tt)
+    either PutsUsual (may_begin stage s.draining) (begin reference Assignment offer s) (if s.waits then row (assignment_failure reference PROTOCOL_ERROR None ∷ []) s else row [] (record s { waits = true }))
+    (begins IsUsual usual reference Assignment offer)
+    (either PutsUsual s.waits (row (assignment_failure reference PROTOCOL_ERROR None ∷ []) s) (row [] (record s { waits = true })) (tt, tt) tt)
 
 of_assignment_request : (state : State) (s : Connection) (is_speech : Bool) (offer : Option Channel) → OfRow PutsUsual (on_assignment_request state s is_speech offer)
 of_assignment_request (Live reference stage) s is_speech offer =
-    either is_speech (speech_request reference stage offer s) (row (assignment_failure reference BSS_NOT_EQUIPPED None ∷ []) s) (of_speech reference stage offer s) (tt, tt)
+    either PutsUsual is_speech (speech_request reference stage offer s) (row (assignment_failure reference BSS_NOT_EQUIPPED None ∷ []) s) (of_speech reference stage offer s) (tt, tt)
 of_assignment_request _ s is_speech offer = tt
 
 of_cipher_mode_command : (state : State) (s : Connection) → OfRow PutsUsual (on_cipher_mode_command state s)
@@ -321,7 +279,7 @@ of_cipher_mode_command (Live reference stage) s = (tt, tt)
 of_cipher_mode_command _ s = tt
 
 of_clear_command : (state : State) (s : Connection) → OfRow PutsUsual (on_clear_command state s)
-of_clear_command (Live reference stage) s = usual_join (end_outs (Live reference stage) s.serving NORMAL_EVENT) (clear_complete reference ∷ []) (of_end_outs (Live reference stage) s.serving NORMAL_EVENT) (tt, tt)
+of_clear_command (Live reference stage) s = AllByRecursion-append IsUsual (end_outs (Live reference stage) s.serving NORMAL_EVENT) (clear_complete reference ∷ []) (of_end_outs (Live reference stage) s.serving NORMAL_EVENT) (tt, tt)
 of_clear_command (Closed (WasAsked reference)) s = (tt, tt)
 of_clear_command _ s = tt
 
@@ -333,14 +291,14 @@ of_expiry (Live reference (Changing target)) s = of_failing (Live reference (Cha
 of_expiry _ s = tt
 
 of_drain_expiry : (state : State) (s : Connection) → OfRow PutsUsual (on_drain_expiry state s)
-of_drain_expiry (Live reference stage) s = where_fits _ (failing (Live reference stage) s EQUIPMENT_FAILURE) (of_failing (Live reference stage) s EQUIPMENT_FAILURE)
+of_drain_expiry (Live reference stage) s = where_fits PutsUsual _ (failing (Live reference stage) s EQUIPMENT_FAILURE) (of_failing (Live reference stage) s EQUIPMENT_FAILURE)
 of_drain_expiry _ s = tt
 
 of_station_down : (state : State) (s : Connection) (station : ℕ) → OfRow PutsUsual (on_station_down state s station)
-of_station_down WaitActivation s station = where_fits _ (without_station station (dropping s)) (usual_filter (λ message. not (goes_to station message)) (dropping s).outs (tt, tt))
-of_station_down WaitEstablish s station = where_fits _ (without_station station (dropping s)) (usual_filter (λ message. not (goes_to station message)) (dropping s).outs (tt, tt))
-of_station_down WaitConfirm s station = where_fits _ (without_station station (failing WaitConfirm s EQUIPMENT_FAILURE)) (usual_filter (λ message. not (goes_to station message)) (failing WaitConfirm s EQUIPMENT_FAILURE).outs (of_failing WaitConfirm s EQUIPMENT_FAILURE))
-of_station_down (Live reference stage) s station = where_fits _ (without_station station (failing (Live reference stage) s EQUIPMENT_FAILURE)) (usual_filter (λ message. not (goes_to station message)) (failing (Live reference stage) s EQUIPMENT_FAILURE).outs (of_failing (Live reference stage) s EQUIPMENT_FAILURE))
+of_station_down WaitActivation s station = where_fits PutsUsual _ (without_station station (dropping s)) (AllByRecursion-filter IsUsual (λ message. not (goes_to station message)) (dropping s).outs (tt, tt))
+of_station_down WaitEstablish s station = where_fits PutsUsual _ (without_station station (dropping s)) (AllByRecursion-filter IsUsual (λ message. not (goes_to station message)) (dropping s).outs (tt, tt))
+of_station_down WaitConfirm s station = where_fits PutsUsual _ (without_station station (failing WaitConfirm s EQUIPMENT_FAILURE)) (AllByRecursion-filter IsUsual (λ message. not (goes_to station message)) (failing WaitConfirm s EQUIPMENT_FAILURE).outs (of_failing WaitConfirm s EQUIPMENT_FAILURE))
+of_station_down (Live reference stage) s station = where_fits PutsUsual _ (without_station station (failing (Live reference stage) s EQUIPMENT_FAILURE)) (AllByRecursion-filter IsUsual (λ message. not (goes_to station message)) (failing (Live reference stage) s EQUIPMENT_FAILURE).outs (of_failing (Live reference stage) s EQUIPMENT_FAILURE))
 of_station_down _ s station = tt
 
 of_switch_down : (state : State) (s : Connection) → OfRow PutsUsual (on_switch_down state s)

@@ -1,5 +1,27 @@
-use Rattle.controller.proofs.LifeLaws.{channels_of, downlink_of, if_so, sent_of, silence_of, uplink_of, used_of}
+use Rattle.std.proofs.Common.{ℕ, ◌≤◌, ◌<◌, List, arith}
+use Rattle.conn_messages.specs.declared.parameters.TheConstants.{SWITCH_LINK}
+use Rattle.controller.proofs.LifeLaws.{channels_of, downlink_of, if_so, next_of, sent_of, silence_of, uplink_of, used_of}
 use Rattle.controller.proofs.life.run.Goals as goal
+use Rattle.controller_laws.proofs.Concerning.{frame_leaves}
+use Rattle.controller_laws.proofs.Lives.{life_acts, life_fits}
+use Rattle.controller_laws.proofs.NamingLife.{life_names}
+use Rattle.controller_laws.proofs.OwningLife.{life_linked}
+use Rattle.controller_laws.proofs.Placed.{life_placed}
+use Rattle.controller_laws.proofs.Silence.{stays_silent}
+use Rattle.controller_laws.proofs.UsingLife.{life_reaches}
+use Rattle.controller_laws.specs.Acts.{ActsOn}
+use Rattle.controller_laws.specs.Concern.{FrameLeaves}
+use Rattle.controller_laws.specs.End.{IsThere, StaysSilent}
+use Rattle.controller_laws.specs.History.{connection_of}
+use Rattle.controller_laws.specs.Naming.{NamesItsMobile}
+use Rattle.controller_laws.specs.Numbers.{IsNumbered}
+use Rattle.controller_laws.specs.Owning.{LinkedOf}
+use Rattle.controller_laws.specs.Placing.{KeepsToChannels}
+use Rattle.controller_laws.specs.Reach.{GoesToUp}
+use Rattle.controller_table.specs.declared.step.Step.{Step}
+use Rattle.controller_table.specs.Controller.{Controller, is_up}
+use Rattle.controller_table.specs.Life.{life}
+use Rattle.ipa_framing.specs.declared.frame.Frame.{Frame}
 
 pub returns-clause-uplink : goal.returns-clause-uplink
 returns-clause-uplink c = if_so _ _ c.live.result (λ both is. uplink_of c.args.settings c.args.steps.items both.0 both.1.outs c.live.ensures.allowed is) c.live.ensures.life
@@ -18,3 +40,27 @@ returns-clause-used c = if_so _ _ c.live.result (λ both is. used_of c.args.sett
 
 pub returns-clause-sent : goal.returns-clause-sent
 returns-clause-sent c = if_so _ _ c.live.result (λ both is. sent_of c.args.settings c.args.steps.items both.0 both.1.outs c.live.ensures.allowed is) c.live.ensures.life
+
+pub returns-clause-closed : goal.returns-clause-closed
+returns-clause-closed c = if_so _ _ c.live.result (λ both is. next_of (λ (d : Controller). (rest : List Step) (number : ℕ) → 1 ≤ number → number < d.next_number → (IsThere (connection_of d number) → ⊥) → StaysSilent number d rest) c.args.settings c.args.steps.items both.0 both.1.outs is (λ rest number from_one below over. stays_silent number (life c.args.settings c.args.steps.items).next rest from_one (life_fits c.args.settings c.args.steps.items number from_one) below over)) c.live.ensures.life
+
+pub returns-clause-numbers : goal.returns-clause-numbers
+returns-clause-numbers c = if_so _ _ c.live.result (λ both is. next_of (λ (d : Controller). IsNumbered d) c.args.settings c.args.steps.items both.0 both.1.outs is ((life_fits c.args.settings c.args.steps.items 1 (omega arith)).numbered)) c.live.ensures.life
+
+pub returns-clause-linked : goal.returns-clause-linked
+returns-clause-linked c = if_so _ _ c.live.result (λ both is. next_of (λ (d : Controller). (number : ℕ) → 1 ≤ number → LinkedOf (is_up d SWITCH_LINK) (connection_of d number)) c.args.settings c.args.steps.items both.0 both.1.outs is (life_linked c.args.settings c.args.steps.items)) c.live.ensures.life
+
+pub returns-clause-rows : goal.returns-clause-rows
+returns-clause-rows c = if_so _ _ c.live.result (λ both is. next_of (λ (d : Controller). (next : Step) (number : ℕ) → 1 ≤ number → ActsOn number d next) c.args.settings c.args.steps.items both.0 both.1.outs is (life_acts c.args.settings c.args.steps.items)) c.live.ensures.life
+
+pub returns-clause-placed : goal.returns-clause-placed
+returns-clause-placed c = if_so _ _ c.live.result (λ both is. next_of (λ (d : Controller). (next : Step) (number : ℕ) → 1 ≤ number → KeepsToChannels number d next) c.args.settings c.args.steps.items both.0 both.1.outs is (λ next number from_one. life_placed c.args.settings c.args.steps.items next number c.live.ensures.allowed from_one)) c.live.ensures.life
+
+pub returns-clause-reach : goal.returns-clause-reach
+returns-clause-reach c = if_so _ _ c.live.result (λ both is. next_of (λ (d : Controller). (next : Step) → GoesToUp d next) c.args.settings c.args.steps.items both.0 both.1.outs is (λ next. life_reaches c.args.settings c.args.steps.items next c.live.ensures.allowed)) c.live.ensures.life
+
+pub returns-clause-named : goal.returns-clause-named
+returns-clause-named c = if_so _ _ c.live.result (λ both is. next_of (λ (d : Controller). (next : Step) (number : ℕ) → 1 ≤ number → NamesItsMobile number d next) c.args.settings c.args.steps.items both.0 both.1.outs is (life_names c.args.settings c.args.steps.items)) c.live.ensures.life
+
+pub returns-clause-others : goal.returns-clause-others
+returns-clause-others c = if_so _ _ c.live.result (λ both is. next_of (λ (d : Controller). (number source : ℕ) (frame : Frame) → 1 ≤ number → FrameLeaves number d source frame) c.args.settings c.args.steps.items both.0 both.1.outs is (λ number source frame from_one. frame_leaves c.args.settings c.args.steps.items number source frame c.live.ensures.allowed from_one)) c.live.ensures.life
