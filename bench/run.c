@@ -1,5 +1,5 @@
 /* Plays the switch and the stations of a `bsc run` over loopback, and measures it. Usage: run PROGRAM SETTINGS, where SETTINGS
-   names a file that is written. Counts and time are bounded: a measurement ends after 60 seconds at the latest. */
+   names a file that is written; with CELLS MOBILES ROUNDS behind them it measures that many rounds of so many calls alone. Counts and time are bounded: a measurement ends after 60 seconds at the latest. */
 #define _GNU_SOURCE
 #include <arpa/inet.h>
 #include <dirent.h>
@@ -16,7 +16,7 @@
 #include <time.h>
 #include <unistd.h>
 
-enum { CELLS = 8, CHANNELS = 64, ROOM = 1 << 18, PATIENCE = 60, RSL = 0x00, SCCP = 0xfd };
+enum { MOST_CELLS = 32, CELLS = 8, CHANNELS = 64, ROOM = 1 << 18, PATIENCE = 60, RSL = 0x00, SCCP = 0xfd };
 enum { UP = 24, UPPED = 25, DOWN = 25, DOWNED = 24 }; /* octets of the frames of a message, as sent and as relayed */
 
 /* A link: what was read of it and not handled, and what is to be sent. */
@@ -25,11 +25,11 @@ struct link {
   unsigned char in[ROOM], out[ROOM];
   size_t held, left;
 };
-static struct link links[CELLS + 1]; /* the switch's first */
+static struct link links[MOST_CELLS + 1]; /* the switch's first */
 static int cells;
 static pid_t relay;
-static unsigned numbers[CELLS + 1]; /* of a cell's one call */
-static int channels[CELLS + 1];
+static unsigned numbers[MOST_CELLS + 1]; /* of a cell's one call */
+static int channels[MOST_CELLS + 1];
 
 static void fail(const char *what) {
   fprintf(stderr, "bench/run: %s: %s\n", what, strerror(errno));
@@ -62,6 +62,16 @@ static double used(void) {
   }
   if (folder) closedir(folder);
   return sum;
+}
+/* Those of the call worker, which has the thread that the program began with. */
+static double called(void) {
+  char name[64];
+  unsigned long long ns = 0;
+  snprintf(name, sizeof name, "/proc/%d/task/%d/schedstat", relay, relay);
+  FILE *file = fopen(name, "r");
+  if (file && fscanf(file, "%llu", &ns) != 1) ns = 0;
+  if (file) fclose(file);
+  return ns / 1e9;
 }
 /* A line of the relay's status in KiB: VmRSS, or VmHWM, its peak. */
 static long memory(const char *what) {
@@ -96,7 +106,7 @@ static int connected(int port) {
 
 /* Starts the relay with so many cells, and opens its links. */
 static void start(const char *program, const char *settings, int count) {
-  int port, ports[CELLS + 1], closed[CELLS + 1];
+  int port, ports[MOST_CELLS + 1], closed[MOST_CELLS + 1];
   cells = count;
   int server = listening(&port);
   for (int cell = 1; cell <= cells; cell++) closed[cell] = listening(&ports[cell]);
@@ -113,7 +123,10 @@ static void start(const char *program, const char *settings, int count) {
   relay = fork();
   if (!relay) {
     setenv("BSC_LOG", "warn", 1);
-    execl(program, program, "run", "--config", settings, (char *)NULL);
+    /* VALGRIND: the words before the program */
+    char command[2000];
+    snprintf(command, sizeof command, "exec %s %s run --config %s", getenv("VALGRIND") ? getenv("VALGRIND") : "", program, settings);
+    execl("/bin/sh", "sh", "-c", command, (char *)NULL);
     _exit(127);
   }
   links[0].fd = accept4(server, NULL, NULL, SOCK_CLOEXEC);
@@ -168,7 +181,7 @@ static int accesses, ended, released; /* what was seen of a burst */
 static void answer(int link, const unsigned char *b, size_t size) {
   if (link == 0 && b[0] == 0x01) {
     unsigned n = b[1] << 16 | b[2] << 8 | b[3];
-    numbers[b[24] <= CELLS ? b[24] : 0] = n;
+    numbers[b[24] <= MOST_CELLS ? b[24] : 0] = n;
     PUT(0, SCCP, 0x02, REF(n), REF(n | 0x400000), 0x02, 0x00);
     accesses++;
   } else if (link == 0 && b[0] == 0x06 && size > 9 && b[9] == 0x21) {
@@ -188,7 +201,7 @@ static void answer(int link, const unsigned char *b, size_t size) {
 }
 /* Takes what comes on all links, and answers. */
 static void turn(void) {
-  struct pollfd polled[CELLS + 1];
+  struct pollfd polled[MOST_CELLS + 1];
   for (int link = 0; link <= cells; link++) polled[link] = (struct pollfd){links[link].fd, POLLIN, 0};
   if (poll(polled, cells + 1, 5000) <= 0) fail("no answer for five seconds");
   for (int link = 0; link <= cells; link++) {
@@ -229,7 +242,7 @@ static void put_down(int cell) {
 /* Messages a second both ways, with a call in each cell. */
 static void throughput(int messages) {
   enum { BLOCK = 2048 };
-  size_t size[CELLS + 1], sent[CELLS + 1] = {0}, got[CELLS + 1] = {0}, wanted[CELLS + 1], all[CELLS + 1];
+  size_t size[MOST_CELLS + 1], sent[MOST_CELLS + 1] = {0}, got[MOST_CELLS + 1] = {0}, wanted[MOST_CELLS + 1], all[MOST_CELLS + 1];
   begin_calls();
   for (int cell = 1; cell <= cells; cell++)
     for (int place = 0; place < BLOCK; place++) put_up(cell, place);
@@ -244,7 +257,7 @@ static void throughput(int messages) {
   double begin = now(), cpu = used(), mine = clock() / (double)CLOCKS_PER_SEC;
   int open = cells + 1;
   while (open) {
-    struct pollfd polled[CELLS + 1];
+    struct pollfd polled[MOST_CELLS + 1];
     for (int link = 0; link <= cells; link++)
       polled[link] = (struct pollfd){links[link].fd, (got[link] < wanted[link] ? POLLIN : 0) | (sent[link] < all[link] ? POLLOUT : 0), 0};
     if (poll(polled, cells + 1, 5000) <= 0 || now() - begin > PATIENCE) fail("messages don't come");
@@ -309,7 +322,7 @@ static void idle(int seconds) {
 }
 /* Set-ups a second, from access to the switch's CC, in bursts of all channels. */
 static void setups(int bursts) {
-  double took = 0, most = 0, cpu = 0;
+  double took = 0, most = 0, cpu = 0, lives = called();
   int all = cells * CHANNELS;
   for (int burst = 0; burst < bursts; burst++) {
     double begin = now(), before = used();
@@ -328,13 +341,48 @@ static void setups(int bursts) {
     usleep(20000);
   }
   printf("set-ups: %d in bursts of %d, %.0f a second, in the slowest burst %.0f; %.3f processor seconds of the relay per "
-         "100,000; resident %ld KiB, peak %ld KiB; load %.1f\n",
-         bursts * all, all, bursts * all / took, all / most, cpu / (bursts * all) * 1e5, memory("VmRSS:"), memory("VmHWM:"), load());
+         "100,000; %.0f lives (access to clear) a processor second of the call worker; resident %ld KiB, peak %ld KiB; load %.1f\n",
+         bursts * all, all, bursts * all / took, all / most, cpu / (bursts * all) * 1e5, bursts * all / (called() - lives), memory("VmRSS:"), memory("VmHWM:"), load());
+}
+
+/* Rounds of a message each way and a report, of so many calls in each cell, each awaited before the next. */
+static void rounds(int mobiles, int count) {
+  static unsigned char room[ROOM];
+  access_cells(mobiles);
+  usleep(200000);
+  double cpu = called();
+  for (int round = 0; round < count; round++) {
+    for (int cell = 1; cell <= cells; cell++)
+      for (int one = 0; one < mobiles; one++) {
+        channels[cell] = 0x40 + one;
+        put_up(cell, round);
+        PUT(cell, RSL, 0x08, 0x28, 0x01, channels[cell], 0x1b, 0x05, 0x19, 0x03, 0x14, 0x14, 0x00, 0x04, 0x00, 0x0b, 0x00, 0x12, 0x06,
+            0x15, 0x14, 0x14, 0x00, 0x54, 0x02, 0x40, 0, 0, 0, 0, 0, 0, 0, 0, 0, 0);
+        numbers[cell] = (cell - 1) * mobiles + one + 1;
+        put_down(cell);
+      }
+    flush();
+    for (int link = 0; link <= cells; link++)
+      for (size_t left = (size_t)mobiles * (link ? DOWNED : UPPED * cells); left;) {
+        ssize_t more = recv(links[link].fd, room, left < ROOM ? left : ROOM, 0);
+        if (more <= 0) fail("a link ended");
+        left -= more;
+      }
+  }
+  cpu = called() - cpu;
+  printf("%d connections, %d rounds of 3 items each: %.0f items a processor second of the call worker; load %.1f\n",
+         cells * mobiles, count, 3.0 * cells * mobiles * count / cpu, load());
 }
 
 int main(int count, char **words) {
   if (count < 3) return 2;
   setvbuf(stdout, NULL, _IOLBF, 0);
+  if (count == 6) { /* PROGRAM SETTINGS CELLS MOBILES ROUNDS */
+    start(words[1], words[2], atoi(words[3]));
+    rounds(atoi(words[4]), atoi(words[5]));
+    stop();
+    return 0;
+  }
   int times[2] = {1, CELLS};
   for (int which = 0; which < 2; which++) {
     start(words[1], words[2], times[which]);
