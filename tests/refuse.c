@@ -1,5 +1,6 @@
 /* Preloaded before a program: refuses the call of malloc, realloc or their kin whose number, from 1, is REFUSE, and writes
-   how many blocks were not given back to the file LIVE, if one is named, as the program ends. */
+   how many blocks were not given back to the file LIVE, if one is named, as the program ends, and how many calls there were
+   to the file CALLS. */
 #define _GNU_SOURCE
 #include <dlfcn.h>
 #include <errno.h>
@@ -55,15 +56,20 @@ void free(void *block) {
   if (block) __atomic_sub_fetch(&live, 1, __ATOMIC_SEQ_CST);
   real(block);
 }
-void _exit(int status) {
-  static void (*real)(int) __attribute__((noreturn));
-  const char *name = getenv("LIVE");
-  long left = live;
+static void tell(const char *variable, long count) {
+  const char *name = getenv(variable);
   FILE *file = name ? fopen(name, "w") : NULL;
   if (file) {
-    fprintf(file, "%ld\n", left);
+    fprintf(file, "%ld\n", count);
     fclose(file);
   }
+}
+void _exit(int status) {
+  static void (*real)(int) __attribute__((noreturn));
+  long left = live;
+  long all = calls;
+  tell("LIVE", left);
+  tell("CALLS", all);
   real = dlsym(RTLD_NEXT, "_exit");
   real(status);
 }
