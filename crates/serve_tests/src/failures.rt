@@ -1,0 +1,184 @@
+use crate::relay::{Ended, IDLE, Play, serve};
+use crate::texts::{answered, answers, first, released, requested, requests, whole_frames};
+use link_io::IoFault;
+use std::alloc::{AllocError, Global};
+use std::sync::Wait;
+use std::test::Fail;
+use std::thread::Threads;
+use std::time::Clock;
+
+/// How often in a row a gate may refuse an item, which doesn't happen.
+const LIMIT: u32 = 20_000;
+
+/// All octets that a station sends.
+const ALL: usize = 42;
+
+#[derive(Clone, Copy)]
+enum Device {
+    Reader,
+    Writer,
+}
+
+/// A device that fails.
+#[derive(Clone, Copy)]
+struct Failure {
+    link: usize,
+    device: Device,
+    /// After so many octets.
+    place: usize,
+}
+
+impl Failure {
+    /// Where the reader of a link fails.
+    fn read_at(&self, link: usize) -> Option<usize> {
+        match self.device {
+            Device::Reader if self.link == link => Some(self.place),
+            _ => None,
+        }
+    }
+
+    /// Where the writer of a link fails.
+    fn written_at(&self, link: usize) -> Option<usize> {
+        match self.device {
+            Device::Writer if self.link == link => Some(self.place),
+            _ => None,
+        }
+    }
+
+    /// How many frames a station sends.
+    fn frames(&self, link: usize) -> u32 {
+        whole_frames(self.read_at(link).unwrap_or(ALL))
+    }
+
+    /// Whether a link ends so.
+    fn ends(&self, link: usize, fault: Option<IoFault>) -> bool {
+        match fault {
+            None => self.link != link,
+            Some(IoFault::ReadFailed) => self.read_at(link).is_some(),
+            Some(IoFault::WriteFailed) => self.written_at(link).is_some(),
+            Some(_) => false,
+        }
+    }
+
+    /// A station's link, whose `Down` goes on once it has got all.
+    fn station(&self, link: usize) -> Play {
+        let frames = self.frames(link);
+        let all = answered(frames).saturating_add(released(frames));
+        let read_at = self.read_at(link);
+        let mut down_after = [0; 3];
+        if let Some(after) = down_after.get_mut(link) {
+            *after = all;
+        }
+        Play {
+            octets: first(read_at.unwrap_or(ALL)),
+            read_fails: read_at.is_some(),
+            room: self.written_at(link).unwrap_or(usize::MAX),
+            frames,
+            down_after,
+            ..IDLE
+        }
+    }
+
+    /// The second station comes first, then the first one. The switch goes down once all of this was answered.
+    fn plays(&self) -> [Play; 3] {
+        let one = self.frames(1);
+        let second = self.frames(2);
+        let switch = Play {
+            read_fails: self.read_at(0).is_some(),
+            room: self.written_at(0).unwrap_or(usize::MAX),
+            down_after: [
+                requested(one).saturating_add(requested(second)),
+                answered(one),
+                answered(second),
+            ],
+            ..IDLE
+        };
+        let station = Play {
+            frames_after: [requested(second), 0, answered(second)],
+            ..self.station(1)
+        };
+        [switch, station, self.station(2)]
+    }
+
+    /// What the switch gets, as far as its writer works.
+    fn requests(&self, alloc: Global) -> Result<Vec<u8>, AllocError> {
+        let one = self.frames(1) > 2;
+        let second = self.frames(2) > 2;
+        // the numbers go by the mobiles that have asked for a channel
+        let number = if self.frames(2) > 0 { 2 } else { 1 };
+        match (second, one) {
+            (true, true) => requests(alloc, &[(1, 2), (number, 1)]),
+            (true, false) => requests(alloc, &[(1, 2)]),
+            (false, true) => requests(alloc, &[(number, 1)]),
+            (false, false) => requests(alloc, &[]),
+        }
+    }
+
+    /// Whether a link ended as it should, its writer having got the first of these octets.
+    fn is_right<R>(&self, link: usize, ended: &Ended<R>, mut text: Vec<u8>) -> bool {
+        if let Some(place) = self.written_at(link) {
+            text.truncate(place);
+        }
+        ended.0.writer.kept.as_slice() == text.as_slice() && self.ends(link, ended.1)
+    }
+}
+
+/// Whether all links end as they should where this device fails.
+fn all_right<R>(rt: R, alloc: Global, failure: Failure) -> Result<bool, Fail>
+where
+    R: Clock + Threads + Wait + Copy + Drop + Send + 'static,
+{
+    let requests = failure.requests(alloc)?;
+    let one = answers(alloc, 1, failure.frames(1))?;
+    let second = answers(alloc, 2, failure.frames(2))?;
+    let ended = serve(rt, alloc, &failure.plays(), LIMIT)?;
+    match ended.as_slice() {
+        [a, b, c] => Ok(
+            failure.is_right(0, a, requests)
+                && failure.is_right(1, b, one)
+                && failure.is_right(2, c, second),
+        ),
+        _ => Ok(false),
+    }
+}
+
+/// The first of so many places at which this device can't fail without harm to the other links, if there is one.
+fn first_harm<R>(
+    rt: R,
+    alloc: Global,
+    link: usize,
+    device: Device,
+    places: usize,
+) -> Result<Option<usize>, Fail>
+where
+    R: Clock + Threads + Wait + Copy + Drop + Send + 'static,
+{
+    for place in 0..places {
+        let failure = Failure {
+            link,
+            device,
+            place,
+        };
+        if !all_right(rt, alloc, failure)? {
+            return Ok(Some(place));
+        }
+    }
+    Ok(None)
+}
+
+#[test]
+fn the_others_relay_on_wherever_a_device_fails(rt: HostRuntime) -> Result<(), Fail> {
+    let devices = [
+        (0, Device::Reader, 1),
+        (1, Device::Reader, 43),
+        (2, Device::Reader, 43),
+        (0, Device::Writer, 68),
+        (1, Device::Writer, 73),
+        (2, Device::Writer, 73),
+    ];
+    for (link, device, places) in devices {
+        let harm = first_harm(rt, rt.alloc(), link, device, places)?;
+        assert!(rt; harm.is_none(), "link {link}, place {harm:?}");
+    }
+    Ok(())
+}

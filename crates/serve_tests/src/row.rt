@@ -1,0 +1,69 @@
+use crate::relay::{Ended, IDLE, Play, serve};
+use crate::texts::{answers, first, requests};
+use link_io::IoFault;
+use std::alloc::{AllocError, Global};
+use std::test::Fail;
+
+/// How often in a row a gate may refuse an item. It sleeps a millisecond each time.
+const LIMIT: u32 = 3_000;
+
+/// The second station sends three frames. The first sends them once the switch has got a connection request, and the link of
+/// the switch goes down once it has got two.
+fn plays() -> [Play; 3] {
+    let switch = Play {
+        down_after: [68, 0, 0],
+        ..IDLE
+    };
+    let second = Play {
+        octets: first(38),
+        frames: 3,
+        ..IDLE
+    };
+    let one = Play {
+        frames_after: [34, 0, 0],
+        ..second
+    };
+    [switch, one, second]
+}
+
+/// What each link gets. A station gets the last of it only where the switch goes down before the station does.
+fn texts(alloc: Global) -> Result<[Vec<u8>; 3], AllocError> {
+    let switch = requests(alloc, &[(1, 2), (2, 1)])?;
+    let one = answers(alloc, 1, 3)?;
+    let second = answers(alloc, 2, 3)?;
+    Ok([switch, one, second])
+}
+
+/// Looks at how the links ended. Where one wanted memory each has got a first part, and a gate may have stayed shut.
+fn judge<R>(ended: &[Ended<R>], texts: &[Vec<u8>; 3]) -> Result<(), Fail> {
+    let mut wanting = false;
+    let mut shut = false;
+    let mut octets = [0; 3];
+    for ((link, fault), (text, octets)) in ended.iter().zip(texts.iter().zip(octets.iter_mut())) {
+        let kept = link.writer.kept.as_slice();
+        if !text.as_slice().starts_with(kept) {
+            return Err(Fail::new("other octets"));
+        }
+        *octets = kept.len();
+        match fault {
+            None => {}
+            Some(IoFault::Memory) => wanting = true,
+            Some(IoFault::GateShut) => shut = true,
+            Some(_) => return Err(Fail::new("another fault")),
+        }
+    }
+    match octets {
+        _ if wanting => Err(Fail::new("a link wanted memory")),
+        _ if shut => Err(Fail::new("a gate stayed shut")),
+        [68, 47 | 69, 47 | 69] => Ok(()),
+        _ => Err(Fail::new("too few octets")),
+    }
+}
+
+#[test]
+fn the_stations_reach_the_switch_in_the_order_of_the_gates(rt: HostRuntime) -> Result<(), Fail> {
+    let alloc = rt.alloc();
+    let texts = texts(alloc)?;
+    let ended = serve(rt, alloc, &plays(), LIMIT)?;
+    judge(ended.as_slice(), &texts)
+}
