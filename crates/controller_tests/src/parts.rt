@@ -1,4 +1,4 @@
-use crate::exchanges::Event::Comes;
+use crate::exchanges::Event::{Breaks, Comes, Passes};
 use crate::exchanges::Exchange;
 
 /// A mobile gets through to the switch, on 41 of cell 1.
@@ -141,4 +141,30 @@ pub(crate) const LIFE: &[&[Exchange]] = &[
     HANDED_OVER,
     ASSIGNED,
     CLEARED,
+];
+
+/// An old channel drains for two seconds at most, and a mobile that asks is dropped as the link of the switch breaks.
+pub(crate) const EXPIRES_AND_BREAKS: &[Exchange] = &[
+    (
+        Comes(2, "0302014102000b0003062c00"),
+        &[
+            (0, "06800001000110000e1704010c05080000f11000010002"),
+            (1, "082e0141"),
+        ],
+    ),
+    (Passes(1999), &[]),
+    // The drain time is over: CLEAR REQUEST, CHANNEL RELEASE, RF CHANNEL RELEASE.
+    (
+        Passes(1),
+        &[
+            (0, "06800001000106000422040120"),
+            (2, "0301014102000b0003060d01"),
+            (2, "082e0141"),
+        ],
+    ),
+    (
+        Comes(1, "0c130188137f01021105"),
+        &[(1, "082101490300060400030100")],
+    ),
+    (Breaks(0), &[(1, "082e0149")]),
 ];
