@@ -23,8 +23,6 @@ mod reading;
 #[cfg(test)]
 mod reception;
 #[cfg(test)]
-mod relay_life;
-#[cfg(test)]
 mod settings_text;
 #[cfg(test)]
 mod switch;

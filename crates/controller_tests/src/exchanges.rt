@@ -1,0 +1,118 @@
+use controller::{Controller, Item, Outputs, Settings, Step, What};
+use ipa_framing::{Frame, RSL_STREAM, SCCP_STREAM};
+use octets::Octets;
+use std::alloc::Global;
+use std::process::Abort;
+use std::test::Fail;
+
+/// A frame: its link, 0 the switch's, 1 and 2 those of the stations, and its body in hexadecimal digits.
+pub(crate) type Line<'a> = (u16, &'a str);
+
+/// What comes to the controller.
+#[derive(Clone, Copy)]
+pub(crate) enum Event<'a> {
+    /// A frame: its link, and its body in hexadecimal digits.
+    Comes(u16, &'a str),
+    /// So many milliseconds pass.
+    Passes(u32),
+    /// The link of this number breaks.
+    Breaks(u16),
+}
+
+/// What comes to the controller, and the frames that it puts then.
+pub(crate) type Exchange<'a> = (Event<'a>, &'a [Line<'a>]);
+
+const TWO_CELLS: &str =
+    "[network]\nmcc = \"001\"\nmnc = \"01\"\n[switch]\naddress = \"127.0.0.1:5000\"\n\
+[[cell]]\nlisten = \"127.0.0.1:3003\"\nlac = 1\nci = 1\narfcn = 20\nbsic = 9\nchannels = [0x41, 0x49, 0x0a]\n\
+[[cell]]\nlisten = \"127.0.0.1:3004\"\nlac = 1\nci = 2\narfcn = 30\nbsic = 18\nchannels = [0x41, 0x0a]\n";
+
+/// The settings of two cells.
+pub(crate) fn two_cells(alloc: Global) -> Result<Settings, Fail> {
+    Ok(Settings::read(alloc, TWO_CELLS)?)
+}
+
+/// A controller of two cells.
+pub(crate) fn opened(alloc: Global) -> Result<Controller, Fail> {
+    Ok(Controller::new(alloc, two_cells(alloc)?)?)
+}
+
+/// What the switch sends is SCCP, and what a station sends is RSL.
+fn stream_of(link: u16) -> u8 {
+    if link == 0 { SCCP_STREAM } else { RSL_STREAM }
+}
+
+/// What comes, as a step of a controller.
+pub(crate) fn step_of(alloc: Global, event: Event) -> Result<Step, Fail> {
+    let (source, what) = match event {
+        Event::Passes(ms) => return Ok(Step::Tick(ms)),
+        Event::Breaks(source) => (source, What::Down),
+        Event::Comes(source, digits) => {
+            let body = Octets::new(hex::decode(alloc, digits)?);
+            let stream = stream_of(source);
+            (source, What::Frame(Frame { stream, body }))
+        }
+    };
+    Ok(Step::Take(Item { source, what }))
+}
+
+/// Asserts that these frames were put.
+pub(crate) fn are(
+    rt: &(impl Abort + AllocGlobal),
+    outputs: &Outputs,
+    expected: &[Line],
+) -> Result<(), Fail> {
+    assert!(rt; outputs.len() == expected.len());
+    for (out, (link, digits)) in outputs.as_slice().iter().zip(expected.iter()) {
+        assert!(rt; out.to == *link && out.frame.stream == stream_of(*link));
+        let found = hex::encode(rt.alloc(), out.frame.body.as_slice())?;
+        assert_eq!(rt; found.as_str(), *digits);
+    }
+    Ok(())
+}
+
+/// Asserts what the controller puts at each of these events, one after the other.
+pub(crate) fn plays(
+    rt: &(impl Abort + AllocGlobal),
+    controller: &mut Controller,
+    exchanges: &[Exchange],
+) -> Result<(), Fail> {
+    for (event, expected) in exchanges {
+        let mut outputs = Outputs::new(rt.alloc());
+        let step = step_of(rt.alloc(), *event)?;
+        controller.run_one(step, &mut outputs)?;
+        are(rt, &outputs, expected)?;
+    }
+    Ok(())
+}
+
+/// A controller after these parts of a life, of which it has put what is expected.
+pub(crate) fn lived(
+    rt: &(impl Abort + AllocGlobal),
+    parts: &[&[Exchange]],
+) -> Result<Controller, Fail> {
+    let mut controller = opened(rt.alloc())?;
+    for part in parts {
+        plays(rt, &mut controller, part)?;
+    }
+    Ok(controller)
+}
+
+/// All frames of these parts of a life, in order.
+pub(crate) fn lines_of<'a>(
+    alloc: Global,
+    parts: &[&[Exchange<'a>]],
+) -> Result<Vec<Line<'a>>, Fail> {
+    let mut lines = Vec::new(alloc);
+    for part in parts {
+        add_lines(part, &mut lines)?;
+    }
+    Ok(lines)
+}
+
+fn add_lines<'a>(part: &[Exchange<'a>], lines: &mut Vec<Line<'a>>) -> Result<(), Fail> {
+    for (_, expected) in part {
+        lines.extend_from_slice(expected)?;
+    }
+    Ok(())
+}
