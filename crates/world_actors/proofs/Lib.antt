@@ -1,2 +1,3 @@
+mod Pushing
 mod Turning
 mod Upper

@@ -4,6 +4,7 @@
 
 pub use network::Network;
 
+mod handling;
 mod network;
 mod queues;
 mod upper_layers;
