@@ -1,3 +1,6 @@
+mod Airing
+mod Departing
 mod Pushing
+mod Sitting
 mod Turning
 mod Upper

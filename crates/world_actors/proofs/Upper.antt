@@ -21,7 +21,7 @@ length-place number p ps false is = ap (λ (b : Bool). cond (not b) (1 + place_i
   one : (n : ℕ) → 1 + n ≡ suc n
   one n = omega arith
 
-back_at : (mobiles : List Mobile) (q : Mobile) → put_back q mobiles ≡ set mobiles (place_in q.number mobiles) q
+pub back_at : (mobiles : List Mobile) (q : Mobile) → put_back q mobiles ≡ set mobiles (place_in q.number mobiles) q
 back_at [] q = refl
 back_at (p ∷ ps) q =
     elim (cases_Bool (has_number q.number p)) [
@@ -32,7 +32,7 @@ back_at (p ∷ ps) q =
           ∙ sym (ap (λ (k : ℕ). set (p ∷ ps) k q) (length-place q.number p ps false other))
     ]
 
-found_number : (number : ℕ) (mobiles : List Mobile) (p : Mobile) → find (has_number number) mobiles ≡ Some p → p.number ≡ number
+pub found_number : (number : ℕ) (mobiles : List Mobile) (p : Mobile) → find (has_number number) mobiles ≡ Some p → p.number ≡ number
 found_number number [] p is = absurd cc
 found_number number (x ∷ xs) p is =
     elim (cases_Bool (has_number number x)) [
@@ -96,7 +96,7 @@ upper_is w number sapi message = by_found (mobile_of w number) ∙ by_itself w n
 
 -- ---- a part of the world that takes an event takes it for the world
 
-takes_for : (w : Actors) (o : Option MobilesState) (taken : Bool) (new : MobilesState) → Takes (mobiles_of w) o taken new → Takes w (option_map (with_mobiles w) o) taken (with_mobiles w new)
+pub takes_for : (w : Actors) (o : Option MobilesState) (taken : Bool) (new : MobilesState) → Takes (mobiles_of w) o taken new → Takes w (option_map (with_mobiles w) o) taken (with_mobiles w new)
 takes_for w None taken new (not, same) = (not, ap (with_mobiles w) same)
 takes_for w (Some next) taken new (is, same) = (is, ap (with_mobiles w) same)
 

@@ -4,6 +4,9 @@
 
 pub use network::Network;
 
+mod air;
+mod changes;
+mod departure;
 mod handling;
 mod network;
 mod queues;
