@@ -1,4 +1,5 @@
 mod Airing
+mod Coming
 mod Departing
 mod Pushing
 mod Sitting

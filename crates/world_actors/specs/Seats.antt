@@ -1,6 +1,6 @@
 -- The channel that a mobile is on, where it can act there.
-use Rattle.std.specs.Prelude.{ℕ, if◌then◌else◌, Option, Some, None}
-use Rattle.std.specs.Option.{option_and_then}
+use Rattle.std.specs.Prelude.{ℕ, ◌&&◌, nat_lt, Bool, if◌then◌else◌, Option, Some, None}
+use Rattle.std.specs.Option.{is_none, option_and_then}
 use Rattle.world_mobiles.specs.Mobiles.{mobile_in}
 use Rattle.world_table.specs.World.{Actors, is_reached}
 use Rattle.world_actors.specs.declared.departure.Departure.{Departure}
@@ -31,3 +31,8 @@ moving_from seat = None
 -- of the mobile of a number
 abbrev pub of_seat : (Seat → Option Departure) → Actors → ℕ → Option Departure
 of_seat reads w number = option_and_then (λ p. reads p.seat) (mobile_in number w.mobiles)
+
+-- ---- whether a mobile of a number is new
+
+abbrev pub is_new_by : Actors → ℕ → Bool
+is_new_by w number = nat_lt 0 number && is_none (mobile_in number w.mobiles)

@@ -4,6 +4,7 @@
 
 pub use network::Network;
 
+mod access;
 mod air;
 mod changes;
 mod departure;

@@ -1,11 +1,11 @@
-use Rattle.std.proofs.Common.{◌≡◌, sym, ap, ◌∙◌, Bool, true, false, IsSome, OnErr, Some, None, Option, subst}
+use Rattle.std.proofs.Common.{◌≡◌, sym, ◌∙◌, subst}
 use Rattle.world_table.specs.Mobiles.{after_air_ack}
 use Rattle.world_table.specs.Takes.{Takes}
 use Rattle.world_table.specs.World.{Actors}
 use Rattle.world_actors.specs.contracts.network.Network.{the_view}
 use Rattle.world_actors.specs.Seats.{reached_by}
 use Rattle.world_actors.proofs.Airing.{ack_idle, ack_takes}
-use Rattle.world_actors.proofs.Sitting.{reaches, some_reached, none_reached}
+use Rattle.world_actors.proofs.Sitting.{some_reached, none_reached}
 use Rattle.world_actors.proofs.Upper.{with_mobiles}
 use Rattle.world_actors.proofs.network.Network.air_ack.Goals as goal
 

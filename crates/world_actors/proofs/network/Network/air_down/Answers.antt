@@ -1,4 +1,4 @@
-use Rattle.std.proofs.Common.{◌≡◌, sym, ap, ◌∙◌, Bool, true, false, IsSome, OnErr, Some, None, Option, subst}
+use Rattle.std.proofs.Common.{◌≡◌, sym, ◌∙◌, true, false, IsSome, OnErr, Some, subst}
 use Rattle.world_table.specs.Mobiles.{after_air_down, hearing}
 use Rattle.world_table.specs.Takes.{Takes}
 use Rattle.world_table.specs.World.{Actors}

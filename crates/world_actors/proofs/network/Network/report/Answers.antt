@@ -1,4 +1,4 @@
-use Rattle.std.proofs.Common.{◌≡◌, sym, ap, ◌∙◌, Bool, true, false, IsSome, OnErr, Some, None, Option, subst}
+use Rattle.std.proofs.Common.{◌≡◌, sym, ◌∙◌, true, Some, subst}
 use Rattle.world_table.specs.Mobiles.{after_report}
 use Rattle.world_table.specs.Takes.{Takes}
 use Rattle.world_table.specs.World.{Actors}
@@ -6,7 +6,6 @@ use Rattle.world_actors.specs.contracts.network.Network.{the_view}
 use Rattle.world_actors.specs.Seats.{reached_by}
 use Rattle.world_actors.proofs.Airing.{report_done, report_unreached, report_wants}
 use Rattle.world_actors.proofs.Sitting.{reaches}
-use Rattle.dtap_codec.specs.declared.report.TheConstants.{REPORT_LENGTH}
 use Rattle.world_actors.proofs.network.Network.report.Goals as goal
 
 pub returns-in_default-clause-ok : goal.returns-in_default-clause-ok

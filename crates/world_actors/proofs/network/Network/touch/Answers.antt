@@ -1,4 +1,4 @@
-use Rattle.std.proofs.Common.{◌≡◌, sym, ◌∙◌, true, false, Some, subst}
+use Rattle.std.proofs.Common.{◌≡◌, sym, ◌∙◌, true, Some, subst}
 use Rattle.world_table.specs.Mobiles.{after_touch}
 use Rattle.world_table.specs.Takes.{Takes}
 use Rattle.world_table.specs.World.{Actors, is_reached}
