@@ -1,4 +1,5 @@
 mod Airing
+mod Bringing
 mod Coming
 mod Departing
 mod Pushing

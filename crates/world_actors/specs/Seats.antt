@@ -1,8 +1,8 @@
 -- The channel that a mobile is on, where it can act there.
-use Rattle.std.specs.Prelude.{ℕ, ◌&&◌, nat_lt, Bool, if◌then◌else◌, Option, Some, None}
+use Rattle.std.specs.Prelude.{ℕ, ◌&&◌, nat_lt, Bool, false, if◌then◌else◌, Option, Some, None}
 use Rattle.std.specs.Option.{is_none, option_and_then}
 use Rattle.world_mobiles.specs.Mobiles.{mobile_in}
-use Rattle.world_table.specs.World.{Actors, is_reached}
+use Rattle.world_table.specs.World.{Actors, Mobile, is_reached}
 use Rattle.world_actors.specs.declared.departure.Departure.{Departure}
 use Rattle.world_table.specs.declared.seat.Seat.{Seat}
 use Rattle.world_table.specs.declared.seat.Seat.TheVariants.{On, Moving}
@@ -32,7 +32,14 @@ moving_from seat = None
 abbrev pub of_seat : (Seat → Option Departure) → Actors → ℕ → Option Departure
 of_seat reads w number = option_and_then (λ p. reads p.seat) (mobile_in number w.mobiles)
 
--- ---- whether a mobile of a number is new
+-- ---- whether a mobile of a number is new, and whether the next frame of one on SAPI 0 is its initial message
 
 abbrev pub is_new_by : Actors → ℕ → Bool
 is_new_by w number = nat_lt 0 number && is_none (mobile_in number w.mobiles)
+
+abbrev pub opens_in : Option Mobile → Bool
+opens_in None = false
+opens_in (Some p) = p.opens
+
+abbrev pub opens_by : Actors → ℕ → Bool
+opens_by w number = opens_in (mobile_in number w.mobiles)

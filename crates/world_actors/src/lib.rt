@@ -11,4 +11,5 @@ mod departure;
 mod handling;
 mod network;
 mod queues;
+mod uplink;
 mod upper_layers;
