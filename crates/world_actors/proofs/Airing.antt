@@ -1,5 +1,5 @@
 -- What goes between a mobile and the station of its channel.
-use Rattle.std.proofs.Common.{◌≡◌, ℕ, ◌+◌, ◌-◌, ◌%◌, ◌==◌, ◌&&◌, Bool, true, false, if◌then◌else◌, List, [], ◌∷◌, ◌++◌, length, set, slice_index_or, Option, Some, None, Result, Ok, Err, OnErr, IsSome, refl, sym, ap, ◌∙◌, subst}
+use Rattle.std.proofs.Common.{◌≡◌, ℕ, ◌+◌, ◌-◌, ◌%◌, ◌==◌, ◌&&◌, Bool, true, false, if◌then◌else◌, List, [], ◌∷◌, ◌++◌, length, set, Option, Some, None, Result, Ok, Err, OnErr, IsSome, refl, sym, ap, ◌∙◌, subst}
 use Rattle.std.specs.Option.{is_some, option_and_then, option_map}
 use Rattle.std.proofs.lemmas.Bool.{eq-eqb}
 use Rattle.std.proofs.lemmas.List.{set-get_or}
@@ -12,14 +12,14 @@ use Rattle.mobile_end.specs.Mobile.{after_acked, is_acknowledged}
 use Rattle.octets.specs.declared.memory.Memory.{Memory}
 use Rattle.world_mobiles.specs.Mobiles.{acknowledging, at_mobile, by_mobile as by_mobile_in}
 use Rattle.world_mobiles.specs.MobilesState.{MobilesState}
-use Rattle.world_stations.specs.Stations.{at_station, first_in_air, messages_behind_first, reported_on, spot_of, taken_on, told_to, with_spot_of}
+use Rattle.world_stations.specs.Stations.{at_station, first_in_air, messages_behind_first, reported_on, taken_on, told_to, with_spot_of}
 use Rattle.world_table.specs.declared.line.AirMessage.{AirMessage}
 use Rattle.world_table.specs.declared.seat.Seat.{Seat}
 use Rattle.world_table.specs.declared.seat.Seat.TheVariants.{Asking, On, Moving, Gone}
 use Rattle.world_table.specs.declared.seat.Tenure.{Tenure}
 use Rattle.world_table.specs.Mobiles.{acknowledged, after_air_ack, after_air_down, after_air_down_lost, after_report, brought_down, by_mobile, controlled, hearing, measurement_result, only_if, reported, reported_at, taken_from_air, unheard}
 use Rattle.world_table.specs.Takes.{Takes}
-use Rattle.world_table.specs.World.{Actors, Mobile, Spot, Station, is_reached, mobile_of, new_spot, no_station, spot_at, station_of, with_mobile, with_spot}
+use Rattle.world_table.specs.World.{Actors, Mobile, Spot, Station, is_reached, new_spot, no_station, spot_at, station_of, with_mobile, with_spot}
 use Rattle.world_table.proofs.Ticketing.{same-number}
 use Rattle.world_actors.specs.Seats.{reached_by}
 use Rattle.world_actors.proofs.Sitting.{Reached, at_mobile_is, at_reached, put_back_same, same_acts, twice, when_not_reached, when_reached}

@@ -13,7 +13,7 @@ use Rattle.rsl_codec.specs.RslText.{rsl_write_fault}
 use Rattle.world_mobiles.specs.MobilesState.{MobilesState}
 use Rattle.world_stations.specs.Stations.{at_station, told_to}
 use Rattle.world_stations.proofs.Written.{request_written}
-use Rattle.world_table.specs.Mobiles.{after_connecting, channel_required, connected, is_new, only_if, told}
+use Rattle.world_table.specs.Mobiles.{after_connecting, channel_required, connected, only_if, told}
 use Rattle.world_table.specs.Takes.{Takes}
 use Rattle.world_table.specs.World.{Actors, Mobile, Station, has_number, is_station_up}
 use Rattle.world_actors.specs.Seats.{is_new_by}

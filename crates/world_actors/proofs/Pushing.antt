@@ -1,5 +1,5 @@
 -- A station's first message goes to the inbox's end.
-use Rattle.std.proofs.Common.{◌≡◌, ℕ, ◌-◌, Bool, true, false, List, [], ◌∷◌, set, Option, Some, None, refl, sym, ap, ◌∙◌, subst}
+use Rattle.std.proofs.Common.{◌≡◌, ℕ, ◌-◌, true, false, List, [], ◌∷◌, set, Option, Some, None, refl, sym, ap, ◌∙◌, subst}
 use Rattle.std.proofs.lemmas.List.{set-get_or}
 use Rattle.link_model.specs.Base.{first_message, first_of_messages, messages_behind_first}
 use Rattle.rsl_codec.specs.declared.rsl.Rsl.{Rsl}

@@ -1,10 +1,9 @@
 -- The mobile of a number, and the channel that it is on.
-use Rattle.std.proofs.Common.{◌≡◌, ℕ, ◌-◌, zero, suc, ◌==◌, Bool, true, false, cond, if◌then◌else◌, List, [], ◌∷◌, set, slice_index_or, find, Option, Some, None, refl, sym, ap, ◌∙◌, subst, inl, inr}
+use Rattle.std.proofs.Common.{◌≡◌, ℕ, zero, suc, Bool, true, false, cond, if◌then◌else◌, List, [], ◌∷◌, set, slice_index_or, find, Option, Some, None, refl, sym, ap, ◌∙◌, subst, inl, inr}
 use Rattle.std.specs.Option.{is_some, option_and_then, option_map}
 use Rattle.std.proofs.lemmas.Bool.{cases_Bool}
 use Rattle.std.proofs.lemmas.List.Folds.{find_at}
-use Rattle.world_mobiles.specs.Mobiles.{at_found, at_mobile, mobile_in, place_in, with_mobile_in}
-use Rattle.world_mobiles.specs.MobilesState.{MobilesState}
+use Rattle.world_mobiles.specs.Mobiles.{at_found, at_mobile, mobile_in, place_in}
 use Rattle.world_table.specs.declared.seat.Command.{Command}
 use Rattle.world_table.specs.declared.seat.Seat.{Seat}
 use Rattle.world_table.specs.declared.seat.Seat.TheVariants.{Asking, On, Moving, Gone}

@@ -1,5 +1,5 @@
 -- What the controller puts joins the outboxes, and nothing else of the world changes.
-use Rattle.std.proofs.Common.{◌≡◌, ℕ, Bool, true, false, if◌then◌else◌, List, [], ◌∷◌, ◌++◌, fold, set, Option, Some, None, Result, Ok, Err, OnOk, OnErr, IsSome, refl, sym, ap, ◌∙◌, subst}
+use Rattle.std.proofs.Common.{◌≡◌, ℕ, Bool, true, false, if◌then◌else◌, List, [], ◌∷◌, ◌++◌, fold, Option, Some, None, Result, Ok, Err, OnOk, OnErr, IsSome, refl, sym, ap, ◌∙◌, subst}
 use Rattle.conn_messages.specs.declared.out.Out.{Out}
 use Rattle.controller_table.specs.Controller.{Turn}
 use Rattle.controller_table.specs.Life.{take, tick}
@@ -8,11 +8,11 @@ use Rattle.relay_items.specs.declared.Item.{Item}
 use Rattle.world_table.specs.declared.seat.Tenure.{Tenure}
 use Rattle.world_table.specs.Relay.{after_handle, after_tick, entry_of, handled, joined_by, target_in, with_turn}
 use Rattle.world_table.specs.Takes.{Takes}
-use Rattle.world_table.specs.World.{Actors, Link, is_up, link_of, outbox_of, with_outbox}
+use Rattle.world_table.specs.World.{Actors, is_up, outbox_of, with_outbox}
 use Rattle.world_relay.specs.Relay.{first_item, handling, items_behind_first, ticking}
 use Rattle.world_relay.specs.RelayState.{RelayState}
 use Rattle.world_actors.specs.Handling.{after_item}
-use Rattle.world_relay.specs.Links.{all_joined_in, is_up_in, joined_in, outbox_in, with_outbox_in}
+use Rattle.world_relay.specs.Links.{all_joined_in, joined_in, outbox_in, with_outbox_in}
 
 joined_is : (target : Option Tenure) (w : Actors) (out : Out) → joined_by target w out ≡ record w { links = joined_in target w.links out }
 joined_is target w out = by_link (is_up w out.to) where

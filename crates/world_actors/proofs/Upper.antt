@@ -1,13 +1,12 @@
 -- What happens to a mobile happens to the one of its number.
-use Rattle.std.proofs.Common.{◌≡◌, ℕ, zero, suc, ◌+◌, ◌==◌, nat_eq, Bool, true, false, cond, not, ◌&&◌, if◌then◌else◌, List, [], ◌∷◌, set, slice_get, find, Option, Some, None, Result, Ok, Err, IfOk, OnErr, IsSome, refl, sym, ap, ◌∙◌, subst, inl, inr, arith, add-one}
-use Rattle.std.specs.List.{position_or_len, prefix_len}
+use Rattle.std.proofs.Common.{◌≡◌, ℕ, zero, suc, ◌+◌, Bool, true, false, cond, not, ◌&&◌, if◌then◌else◌, List, [], ◌∷◌, set, find, Option, Some, None, Result, Ok, Err, IfOk, OnErr, IsSome, refl, sym, ap, ◌∙◌, subst, inl, inr, arith}
 use Rattle.std.specs.Option.{is_none, option_and_then, option_map}
 use Rattle.std.proofs.lemmas.Bool.{cases_Bool, eqb-true}
 use Rattle.std.proofs.lemmas.List.Folds.{find_at}
 use Rattle.dtap_codec.specs.declared.sapi.Sapi.{Sapi}
 use Rattle.mobile_end.specs.Mobile.{after_queue, refusal_of_send}
 use Rattle.octets.specs.declared.memory.Memory.{Memory}
-use Rattle.world_mobiles.specs.Mobiles.{by_mobile as by_mobile_in, mobile_in, place_in, sending, with_mobile_in}
+use Rattle.world_mobiles.specs.Mobiles.{by_mobile as by_mobile_in, place_in, sending, with_mobile_in}
 use Rattle.world_mobiles.specs.MobilesState.{MobilesState}
 use Rattle.world_table.specs.Mobiles.{after_upper, by_mobile, may_send, only_if, sent_by}
 use Rattle.world_table.specs.Takes.{Takes}
