@@ -1,2 +1,8 @@
+mod Airing
+mod Bringing
+mod Coming
+mod Departing
+mod Pushing
+mod Sitting
 mod Turning
 mod Upper

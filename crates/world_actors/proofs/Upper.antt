@@ -1,13 +1,12 @@
 -- What happens to a mobile happens to the one of its number.
-use Rattle.std.proofs.Common.{◌≡◌, ℕ, zero, suc, ◌+◌, ◌==◌, nat_eq, Bool, true, false, cond, not, ◌&&◌, if◌then◌else◌, List, [], ◌∷◌, set, slice_get, find, Option, Some, None, Result, Ok, Err, IfOk, OnErr, IsSome, refl, sym, ap, ◌∙◌, subst, inl, inr, arith, add-one}
-use Rattle.std.specs.List.{position_or_len, prefix_len}
+use Rattle.std.proofs.Common.{◌≡◌, ℕ, zero, suc, ◌+◌, Bool, true, false, cond, not, ◌&&◌, if◌then◌else◌, List, [], ◌∷◌, set, find, Option, Some, None, Result, Ok, Err, IfOk, OnErr, IsSome, refl, sym, ap, ◌∙◌, subst, inl, inr, arith}
 use Rattle.std.specs.Option.{is_none, option_and_then, option_map}
 use Rattle.std.proofs.lemmas.Bool.{cases_Bool, eqb-true}
 use Rattle.std.proofs.lemmas.List.Folds.{find_at}
 use Rattle.dtap_codec.specs.declared.sapi.Sapi.{Sapi}
 use Rattle.mobile_end.specs.Mobile.{after_queue, refusal_of_send}
 use Rattle.octets.specs.declared.memory.Memory.{Memory}
-use Rattle.world_mobiles.specs.Mobiles.{by_mobile as by_mobile_in, mobile_in, place_in, sending, with_mobile_in}
+use Rattle.world_mobiles.specs.Mobiles.{by_mobile as by_mobile_in, place_in, sending, with_mobile_in}
 use Rattle.world_mobiles.specs.MobilesState.{MobilesState}
 use Rattle.world_table.specs.Mobiles.{after_upper, by_mobile, may_send, only_if, sent_by}
 use Rattle.world_table.specs.Takes.{Takes}
@@ -21,7 +20,7 @@ length-place number p ps false is = ap (λ (b : Bool). cond (not b) (1 + place_i
   one : (n : ℕ) → 1 + n ≡ suc n
   one n = omega arith
 
-back_at : (mobiles : List Mobile) (q : Mobile) → put_back q mobiles ≡ set mobiles (place_in q.number mobiles) q
+pub back_at : (mobiles : List Mobile) (q : Mobile) → put_back q mobiles ≡ set mobiles (place_in q.number mobiles) q
 back_at [] q = refl
 back_at (p ∷ ps) q =
     elim (cases_Bool (has_number q.number p)) [
@@ -32,7 +31,7 @@ back_at (p ∷ ps) q =
           ∙ sym (ap (λ (k : ℕ). set (p ∷ ps) k q) (length-place q.number p ps false other))
     ]
 
-found_number : (number : ℕ) (mobiles : List Mobile) (p : Mobile) → find (has_number number) mobiles ≡ Some p → p.number ≡ number
+pub found_number : (number : ℕ) (mobiles : List Mobile) (p : Mobile) → find (has_number number) mobiles ≡ Some p → p.number ≡ number
 found_number number [] p is = absurd cc
 found_number number (x ∷ xs) p is =
     elim (cases_Bool (has_number number x)) [
@@ -96,7 +95,7 @@ upper_is w number sapi message = by_found (mobile_of w number) ∙ by_itself w n
 
 -- ---- a part of the world that takes an event takes it for the world
 
-takes_for : (w : Actors) (o : Option MobilesState) (taken : Bool) (new : MobilesState) → Takes (mobiles_of w) o taken new → Takes w (option_map (with_mobiles w) o) taken (with_mobiles w new)
+pub takes_for : (w : Actors) (o : Option MobilesState) (taken : Bool) (new : MobilesState) → Takes (mobiles_of w) o taken new → Takes w (option_map (with_mobiles w) o) taken (with_mobiles w new)
 takes_for w None taken new (not, same) = (not, ap (with_mobiles w) same)
 takes_for w (Some next) taken new (is, same) = (is, ap (with_mobiles w) same)
 

@@ -4,6 +4,12 @@
 
 pub use network::Network;
 
+mod access;
+mod air;
+mod changes;
+mod departure;
+mod handling;
 mod network;
 mod queues;
+mod uplink;
 mod upper_layers;

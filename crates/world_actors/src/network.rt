@@ -1,8 +1,8 @@
 ghost use Rattle.std.specs.Prelude.{◌≡◌, IfOk, if◌then◌else◌};
 ghost use Rattle.dtap_codec.specs.Number.{count_of};
-ghost use Rattle.world_table.specs.World.{is_reached, is_station_up, is_up, modulus_in, new_actors};
+ghost use Rattle.world_table.specs.World.{is_reached, is_station_up, is_up, modulus_in, new_actors, tenure_at};
 
-use conn_messages::SWITCH_LINK;
+use conn_messages::{Place, SWITCH_LINK};
 use dtap_codec::Modulus;
 use octets::Memory;
 use settings::Settings;
@@ -78,6 +78,16 @@ impl Network {
         ensures { result ≡ is_reached self.now tenure.now }
     {
         self.is_station_up(tenure.at.station) && self.stations.is_present(tenure)
+    }
+
+    /// The last tenure of a channel, which is its present one while it is active.
+    pub(crate) fn last_tenure(&self, at: Place) -> Tenure
+        ensures { result ≡ tenure_at self.now at }
+    {
+        Tenure {
+            at,
+            number: self.stations.last_tenure(&at),
+        }
     }
 }
 

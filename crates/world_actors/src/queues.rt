@@ -1,6 +1,8 @@
 ghost use Rattle.std.specs.Prelude.{◌≡◌, IfOk, IsSome, OnErr, OnOk, Some};
-ghost use Rattle.world_table.specs.Relay.{after_break, after_tick};
+ghost use Rattle.link_model.specs.Base.{first_message};
+ghost use Rattle.world_table.specs.Relay.{after_base_push, after_break, after_tick, pushed_by_station, pushed_by_switch};
 ghost use Rattle.world_table.specs.Takes.{Takes};
+ghost use Rattle.world_table.specs.World.{base_of};
 
 use crate::Network;
 use conn_messages::SWITCH_LINK;
@@ -13,6 +15,44 @@ impl Network {
         ensures { OnOk result (after_tick self.old ms ≡ Some self.new) }
     {
         self.relay.tick(ms)
+    }
+
+    /// The first item that a source made goes to the inbox's end.
+    pub fn base_push(&mut self, source: u16) -> Result<bool, Memory>
+        ensures ok { IfOk result (λ taken. Takes self.old (after_base_push self.old source) taken self.new) }
+        ensures memory { OnErr result (IsSome (after_base_push self.old source)) }
+    {
+        if source == SWITCH_LINK {
+            self.switch_pushes()
+        } else {
+            self.station_pushes(source)
+        }
+    }
+
+    fn switch_pushes(&mut self) -> Result<bool, Memory>
+        ensures ok { IfOk result (λ taken. Takes self.old (pushed_by_switch self.old.switch_made self.old) taken self.new) }
+        ensures memory { OnErr result (IsSome (pushed_by_switch self.old.switch_made self.old)) }
+    {
+        match self.switch.next() {
+            Some(message) => {
+                self.relay.push_from_switch(&message)?;
+                Ok(true)
+            }
+            None => Ok(false),
+        }
+    }
+
+    fn station_pushes(&mut self, station: u16) -> Result<bool, Memory>
+        ensures ok { IfOk result (λ taken. Takes self.old (pushed_by_station station (first_message (base_of self.old station)) self.old) taken self.new) }
+        ensures memory { OnErr result (IsSome (pushed_by_station station (first_message (base_of self.old station)) self.old)) }
+    {
+        match self.stations.next(station) {
+            Some(message) => {
+                self.relay.push_from_station(station, &message)?;
+                Ok(true)
+            }
+            None => Ok(false),
+        }
     }
 
     /// The link of a source breaks: what was made for it and what its outbox has is lost.

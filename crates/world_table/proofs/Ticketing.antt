@@ -178,7 +178,7 @@ controls owner p here None (Ok (HandoverCommand cell channel reference)) own lea
 controls owner p here target (Ok _) own leads sits = sits
 controls owner p here target (Err fault) own leads sits = sits
 
-same-number : (p : Mobile) (target : Option Tenure) (r : Result RrMessage RrFault) → (controlled p target r).number ≡ p.number
+pub same-number : (p : Mobile) (target : Option Tenure) (r : Result RrMessage RrFault) → (controlled p target r).number ≡ p.number
 same-number p target (Ok (ChannelRelease cause)) = refl
 same-number p (Some target) (Ok (AssignmentCommand channel)) = by p.seat
   where

@@ -1,0 +1,45 @@
+-- The channel that a mobile is on, where it can act there.
+use Rattle.std.specs.Prelude.{ℕ, ◌&&◌, nat_lt, Bool, false, if◌then◌else◌, Option, Some, None}
+use Rattle.std.specs.Option.{is_none, option_and_then}
+use Rattle.world_mobiles.specs.Mobiles.{mobile_in}
+use Rattle.world_table.specs.World.{Actors, Mobile, is_reached}
+use Rattle.world_actors.specs.declared.departure.Departure.{Departure}
+use Rattle.world_table.specs.declared.seat.Seat.{Seat}
+use Rattle.world_table.specs.declared.seat.Seat.TheVariants.{On, Moving}
+use Rattle.world_table.specs.declared.seat.Tenure.{Tenure}
+
+abbrev pub reached_from : Actors → Seat → Option Tenure
+reached_from w (On tenure command) = if is_reached w tenure then Some tenure else None
+reached_from w seat = None
+
+-- the present tenure of a mobile, where its station is up
+abbrev pub reached_by : Actors → ℕ → Option Tenure
+reached_by w number = option_and_then (λ p. reached_from w p.seat) (mobile_in number w.mobiles)
+
+-- ---- where a mobile left, or may leave, and what it was told
+
+-- on a channel where it is reached
+abbrev pub told_from : Actors → Seat → Option Departure
+told_from w (On tenure (Some command)) = if is_reached w tenure then Some (record { from = tenure; command = command }) else None
+told_from w seat = None
+
+-- once it left
+abbrev pub moving_from : Seat → Option Departure
+moving_from (Moving from command) = Some (record { from = from; command = command })
+moving_from seat = None
+
+-- of the mobile of a number
+abbrev pub of_seat : (Seat → Option Departure) → Actors → ℕ → Option Departure
+of_seat reads w number = option_and_then (λ p. reads p.seat) (mobile_in number w.mobiles)
+
+-- ---- whether a mobile of a number is new, and whether the next frame of one on SAPI 0 is its initial message
+
+abbrev pub is_new_by : Actors → ℕ → Bool
+is_new_by w number = nat_lt 0 number && is_none (mobile_in number w.mobiles)
+
+abbrev pub opens_in : Option Mobile → Bool
+opens_in None = false
+opens_in (Some p) = p.opens
+
+abbrev pub opens_by : Actors → ℕ → Bool
+opens_by w number = opens_in (mobile_in number w.mobiles)

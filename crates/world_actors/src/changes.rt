@@ -1,0 +1,145 @@
+ghost use Rattle.std.specs.Prelude.{◌≡◌, IfOk, IsSome, OnErr};
+ghost use Rattle.world_table.specs.Mobiles.{after_arriving, after_move, after_return, after_touch, is_to_handover};
+ghost use Rattle.world_table.specs.Takes.{Takes};
+ghost use Rattle.world_actors.specs.Seats.{moving_from, of_seat, told_from};
+
+use crate::Network;
+use crate::departure::Departure;
+use conn_messages::Change;
+use octets::Memory;
+use rsl_codec::{Detection, Rsl};
+use world_table::Seat;
+
+/// How mobiles change their channels.
+impl Network {
+    // What a mobile was told on a channel where it is reached.
+    fn told(&self, mobile: u8) -> Option<Departure>
+        ensures { result ≡ of_seat (told_from self.now) self.now mobile }
+    {
+        match self.mobiles.get(mobile) {
+            Some(mobile) => self.told_from(mobile.seat()),
+            None => None,
+        }
+    }
+
+    fn told_from(&self, seat: Seat) -> Option<Departure>
+        ensures { result ≡ told_from self.now seat }
+    {
+        match seat {
+            Seat::On {
+                tenure,
+                command: Some(command),
+            } => {
+                if self.is_reached(&tenure) {
+                    Some(Departure {
+                        from: tenure,
+                        command,
+                    })
+                } else {
+                    None
+                }
+            }
+            _ => None,
+        }
+    }
+
+    // The way of a mobile that left its channel.
+    fn moving(&self, mobile: u8) -> Option<Departure>
+        ensures { result ≡ of_seat moving_from self.now mobile }
+    {
+        match self.mobiles.get(mobile) {
+            Some(mobile) => moving_from(mobile.seat()),
+            None => None,
+        }
+    }
+
+    /// A mobile leaves its channel as a command told it.
+    pub fn leave(&mut self, mobile: u8) -> bool
+        ensures { Takes self.old (after_move self.old mobile) result self.new }
+    {
+        let Some(departure) = self.told(mobile) else {
+            return false;
+        };
+        self.stations.leave(&departure.from.at);
+        self.mobiles
+            .leave(mobile, departure.from, departure.command);
+        true
+    }
+
+    /// A mobile is heard on the channel of a handover.
+    pub fn touch(&mut self, mobile: u8) -> Result<bool, Memory>
+        ensures ok { IfOk result (λ taken. Takes self.old (after_touch self.old mobile) taken self.new) }
+        ensures memory { OnErr result (IsSome (after_touch self.old mobile)) }
+    {
+        let Some(departure) = self.moving(mobile) else {
+            return Ok(false);
+        };
+        let target = departure.command.target;
+        if !is_to_handover(departure.command.change) {
+            return Ok(false);
+        }
+        if !self.is_reached(&target) {
+            return Ok(false);
+        }
+        let detection = Detection {
+            channel: target.at.number,
+            access_delay: None,
+        };
+        self.stations
+            .tell(target.at.station, Rsl::HandoverDetection(detection))?;
+        Ok(true)
+    }
+
+    /// A mobile arrives on the channel to which it was told to change.
+    pub fn arrive(&mut self, mobile: u8) -> Result<bool, Memory>
+        ensures ok { IfOk result (λ taken. Takes self.old (after_arriving self.old mobile) taken self.new) }
+        ensures memory { OnErr result (IsSome (after_arriving self.old mobile)) }
+    {
+        let Some(departure) = self.moving(mobile) else {
+            return Ok(false);
+        };
+        let command = departure.command;
+        if !self.is_reached(&command.target) {
+            return Ok(false);
+        }
+        self.stations.establish(&command.target.at)?;
+        self.mobiles.arrive(mobile, command.target, command.change)?;
+        Ok(true)
+    }
+
+    /// A mobile returns to the channel that it left.
+    pub fn give_up(&mut self, mobile: u8) -> Result<bool, Memory>
+        ensures ok { IfOk result (λ taken. Takes self.old (after_return self.old mobile) taken self.new) }
+        ensures memory { OnErr result (IsSome (after_return self.old mobile)) }
+    {
+        let Some(departure) = self.moving(mobile) else {
+            return Ok(false);
+        };
+        let from = departure.from;
+        if !self.is_reached(&from) {
+            return Ok(false);
+        }
+        self.stations.establish(&from.at)?;
+        self.mobiles
+            .give_up(mobile, from, departure.command.change)?;
+        Ok(true)
+    }
+}
+
+fn moving_from(seat: Seat) -> Option<Departure>
+    ensures { result ≡ moving_from seat }
+{
+    match seat {
+        Seat::Moving { from, command } => Some(Departure { from, command }),
+        _ => None,
+    }
+}
+
+fn is_to_handover(change: Change) -> bool
+    ensures { result ≡ is_to_handover change }
+{
+    match change {
+        Change::Handover => true,
+        Change::Assignment => false,
+    }
+}

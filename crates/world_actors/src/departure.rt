@@ -1,0 +1,10 @@
+use world_table::{Command, Tenure};
+
+/// A mobile's way to another channel.
+#[derive(Clone, Copy)]
+pub(crate) struct Departure {
+    /// Where it left, or may leave.
+    pub from: Tenure,
+    /// What it was told.
+    pub command: Command,
+}

@@ -1,0 +1,63 @@
+ghost use Rattle.std.specs.Prelude.{◌≡◌, IfOk, IsSome, OnErr, OnOk};
+ghost use Rattle.world_table.specs.Relay.{acknowledged_tenure, after_handle, target_in};
+ghost use Rattle.world_table.specs.Stations.{rsl_in as message_in};
+ghost use Rattle.world_table.specs.Takes.{Takes};
+ghost use Rattle.world_actors.specs.Handling.{after_item};
+
+use crate::Network;
+use conn_messages::Place;
+use ipa_framing::Frame;
+use octets::Memory;
+use relay_items::{Item, What};
+use rsl_codec::Rsl;
+use world_stations::rsl_in;
+use world_table::Tenure;
+
+/// The controller's turn.
+impl Network {
+    /// The controller handles the first item of the inbox, and what it puts joins the outboxes.
+    pub fn handle(&mut self) -> Result<bool, Memory>
+        ensures ok { IfOk result (λ taken. Takes self.old (after_handle self.old) taken self.new) }
+        ensures memory { OnErr result (IsSome (after_handle self.old)) }
+    {
+        match self.relay.take_item() {
+            Some(item) => {
+                self.handle_item(item)?;
+                Ok(true)
+            }
+            None => Ok(false),
+        }
+    }
+
+    fn handle_item(&mut self, item: Item) -> Result<(), Memory>
+        ensures { OnOk result (self.new ≡ after_item item self.old) }
+    {
+        let target = self.target_of(&item)?;
+        self.relay.handle(&target, item)
+    }
+
+    // The tenure that an item begins for the controller, which an ACTIVATION ACK does.
+    fn target_of(&self, item: &Item) -> Result<Option<Tenure>, Memory>
+        ensures { IfOk result (λ target. target ≡ target_in self.now item.now.source item.now.what) }
+    {
+        match &item.what {
+            What::Frame(frame) => self.acknowledged_tenure(item.source, frame),
+            What::Down => Ok(None),
+        }
+    }
+
+    fn acknowledged_tenure(&self, station: u16, frame: &Frame) -> Result<Option<Tenure>, Memory>
+        ensures { IfOk result (λ target. target ≡ acknowledged_tenure self.now station (message_in frame.now)) }
+    {
+        let message = rsl_in(self.alloc, frame)?;
+        match &message {
+            Some(Rsl::ChannelActivationAck(acknowledged)) => {
+                Ok(Some(self.last_tenure(Place {
+                    station,
+                    number: acknowledged.channel,
+                })))
+            }
+            _ => Ok(None),
+        }
+    }
+}
