@@ -39,7 +39,11 @@ fn faults_of_the_models_are_told(rt: HostRuntime) -> Result<(), Fail> {
 #[test]
 fn faults_of_the_program_are_told(rt: HostRuntime) -> Result<(), Fail> {
     tells(&rt, LineFault::BadEvent, "bad event")?;
-    tells(&rt, Failure::Unsupported, "replay --config and --break are not supported yet")?;
+    tells(
+        &rt,
+        Failure::Unsupported,
+        "replay --config and --break are not supported yet",
+    )?;
     tells(&rt, Failure::BadEvent(7), "line 7: bad event")?;
     tells(&rt, Failure::Device, "device failed")
 }
