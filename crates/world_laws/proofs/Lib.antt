@@ -39,5 +39,6 @@ pub mod OwnHandled
 pub mod OwnFrame
 pub mod OwnFrames
 pub mod OwnFrameLaw
+pub mod Standing
 pub mod Opening
 pub mod InOrder

@@ -9,4 +9,5 @@ pub mod OwnRow
 pub mod OwnItem
 pub mod OwnHandle
 pub mod OwnFrame
+pub mod FromTheBeginning
 pub mod InOrder

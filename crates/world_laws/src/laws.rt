@@ -6,6 +6,7 @@ ghost use Rattle.conn_table.specs.Steps.{Row};
 ghost use Rattle.settings.specs.Parameters.{Parameters};
 ghost use Rattle.world_table.specs.declared.event.Event.{Event as WorldEvent};
 ghost use Rattle.world_table.specs.World.{Actors};
+ghost use Rattle.world_laws.specs.FromTheBeginning.{ConnectionsStand};
 ghost use Rattle.world_laws.specs.InOrder.{LineUpsAreInOrder};
 ghost use Rattle.relay_items.specs.declared.Item.{Item as ItemValue};
 ghost use Rattle.world_laws.specs.OwnFrame.{FrameIsHandled};
@@ -72,6 +73,11 @@ pub fn rows_keep_line_ups()
 /// to the roles of channels: so COMPLETE, FAILURE, releases and DTAP are all of it.
 pub fn inputs_keep_line_ups()
     ensures { (m : ℕ) (s : Connection) (input : Input) (offer : Option Channel) (r : Row) → InputKeepsLineUp m s input offer r }
+{}
+
+/// Law: whatever events happened, each connection of the controller stands.
+pub fn connections_stand()
+    ensures { (settings : Parameters) (events : List WorldEvent) → ConnectionsStand settings events }
 {}
 
 /// Law: a connection is lined up from the row on that puts CR with its initial message.
