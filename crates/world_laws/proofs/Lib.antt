@@ -40,5 +40,6 @@ pub mod OwnFrame
 pub mod OwnFrames
 pub mod OwnFrameLaw
 pub mod Standing
+pub mod Whole
 pub mod Opening
 pub mod InOrder

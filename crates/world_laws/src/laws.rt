@@ -6,7 +6,7 @@ ghost use Rattle.conn_table.specs.Steps.{Row};
 ghost use Rattle.settings.specs.Parameters.{Parameters};
 ghost use Rattle.world_table.specs.declared.event.Event.{Event as WorldEvent};
 ghost use Rattle.world_table.specs.World.{Actors};
-ghost use Rattle.world_laws.specs.FromTheBeginning.{ConnectionsStand};
+ghost use Rattle.world_laws.specs.FromTheBeginning.{ConnectionsStand, MessagesAreWhole};
 ghost use Rattle.world_laws.specs.InOrder.{LineUpsAreInOrder};
 ghost use Rattle.relay_items.specs.declared.Item.{Item as ItemValue};
 ghost use Rattle.world_laws.specs.OwnFrame.{FrameIsHandled};
@@ -78,6 +78,11 @@ pub fn inputs_keep_line_ups()
 /// Law: whatever events happened, each connection of the controller stands.
 pub fn connections_stand()
     ensures { (settings : Parameters) (events : List WorldEvent) → ConnectionsStand settings events }
+{}
+
+/// Law: whatever events happened, the messages on their way up from a channel are whole: each has 1 to 251 octets.
+pub fn messages_are_whole()
+    ensures { (settings : Parameters) (events : List WorldEvent) → MessagesAreWhole settings events }
 {}
 
 /// Law: a connection is lined up from the row on that puts CR with its initial message.
