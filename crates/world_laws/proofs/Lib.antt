@@ -24,6 +24,7 @@ pub mod OwnSteps
 pub mod OwnRowLaw
 mod StepRows
 mod HandleRows
+mod AcknowledgedRows
 pub mod RolesAfter
 pub mod OwnRoles
 pub mod OwnFuture
@@ -41,5 +42,6 @@ pub mod OwnFrames
 pub mod OwnFrameLaw
 pub mod Standing
 pub mod Whole
+pub mod Acknowledged
 pub mod Opening
 pub mod InOrder

@@ -10,4 +10,5 @@ pub mod OwnItem
 pub mod OwnHandle
 pub mod OwnFrame
 pub mod FromTheBeginning
+pub mod Acknowledged
 pub mod InOrder

@@ -6,6 +6,7 @@ ghost use Rattle.conn_table.specs.Steps.{Row};
 ghost use Rattle.settings.specs.Parameters.{Parameters};
 ghost use Rattle.world_table.specs.declared.event.Event.{Event as WorldEvent};
 ghost use Rattle.world_table.specs.World.{Actors};
+ghost use Rattle.world_laws.specs.Acknowledged.{AcksFlow, AllAcksTell};
 ghost use Rattle.world_laws.specs.FromTheBeginning.{ConnectionsStand, MessagesAreWhole};
 ghost use Rattle.world_laws.specs.InOrder.{LineUpsAreInOrder};
 ghost use Rattle.relay_items.specs.declared.Item.{Item as ItemValue};
@@ -83,6 +84,14 @@ pub fn connections_stand()
 /// Law: whatever events happened, the messages on their way up from a channel are whole: each has 1 to 251 octets.
 pub fn messages_are_whole()
     ensures { (settings : Parameters) (events : List WorldEvent) → MessagesAreWhole settings events }
+{}
+
+/// Law: whatever events happened, the acknowledgements of a channel that are on their way up tell whether it ends. Where an RF
+/// CHANNEL RELEASE ACK is the last of them, nothing comes behind it; where there is none, what comes of the channel doesn't end. And
+/// while the link is up, those that the controller took, those on their way and those still due are what is due for all that it put.
+pub fn acknowledgements_tell()
+    ensures ends { (settings : Parameters) (events : List WorldEvent) → AllAcksTell settings events }
+    ensures flow { (settings : Parameters) (events : List WorldEvent) → AcksFlow settings events }
 {}
 
 /// Law: a connection is lined up from the row on that puts CR with its initial message.
