@@ -43,5 +43,6 @@ pub mod OwnFrameLaw
 pub mod Standing
 pub mod Whole
 pub mod Acknowledged
+pub mod Handled
 pub mod Opening
 pub mod InOrder

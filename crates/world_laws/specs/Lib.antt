@@ -11,4 +11,5 @@ pub mod OwnHandle
 pub mod OwnFrame
 pub mod FromTheBeginning
 pub mod Acknowledged
+pub mod Handled
 pub mod InOrder

@@ -8,6 +8,7 @@ ghost use Rattle.world_table.specs.declared.event.Event.{Event as WorldEvent};
 ghost use Rattle.world_table.specs.World.{Actors};
 ghost use Rattle.world_laws.specs.Acknowledged.{AcksFlow, AllAcksTell};
 ghost use Rattle.world_laws.specs.FromTheBeginning.{ConnectionsStand, MessagesAreWhole};
+ghost use Rattle.world_laws.specs.Handled.{FramesKeepLineUps};
 ghost use Rattle.world_laws.specs.InOrder.{LineUpsAreInOrder};
 ghost use Rattle.relay_items.specs.declared.Item.{Item as ItemValue};
 ghost use Rattle.world_laws.specs.OwnFrame.{FrameIsHandled};
@@ -60,6 +61,14 @@ pub fn handle_keeps_line_ups()
 /// brings what the input says.
 pub fn frames_are_handled()
     ensures { (w : Actors) (item : ItemValue) (s : Connection) (input : Input) (offer : Option Channel) (r : Row) → FrameIsHandled w item s input offer r }
+{}
+
+/// Law: so a connection stays lined up when the controller handles a frame that says an input to it, while the connection stays
+/// open: where the link of the switch is up, an RF CHANNEL RELEASE ACK is the last acknowledgement on its way on an old channel and
+/// none is on its way on another, a target is silent before its COMMAND, and what the row puts is read as it was put. That the
+/// connection stands, that all on its way is whole, and what acknowledgements tell are laws, and no premises.
+pub fn frames_keep_line_ups()
+    ensures { (settings : Parameters) (events : List WorldEvent) → FramesKeepLineUps settings events }
 {}
 
 /// Law: a row of the table by which a connection stays open keeps it lined up: what it relays joins what waits for the switch, and
