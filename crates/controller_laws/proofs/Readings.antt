@@ -57,7 +57,7 @@ use Rattle.rsl_codec.specs.RslType.{rsl_type}
 -- ---- a station's messages
 
 -- what DATA INDICATION and ESTABLISH INDICATION bring
-abbrev IsFull : Rsl → Type 0
+abbrev pub IsFull : Rsl → Type 0
 IsFull (rsl.DataIndication d) = IsL3 (Some d.l3)
 IsFull (rsl.EstablishIndication e) = IsL3 e.l3
 IsFull _ = Unit {0}
@@ -107,7 +107,7 @@ reading_by_full : (kind : Option RslType) (body : List ℕ) (v : Rsl) → rsl_re
 reading_by_full None body v h = absurd cc
 reading_by_full (Some kind) body v h = message_full kind (elements_of body) v (guard {A = Rsl} {F = RslFault} (breaks_off body) faults.Short (rsl_message_at kind (elements_of body)) v h).1
 
-rsl_full : (octets : List ℕ) (v : Rsl) → rsl_reading octets ≡ Ok v → IsFull v
+pub rsl_full : (octets : List ℕ) (v : Rsl) → rsl_reading octets ≡ Ok v → IsFull v
 unfolding rsl_reading
 rsl_full [] v h = absurd cc
 rsl_full (a ∷ []) v h = absurd cc

@@ -5,7 +5,7 @@ use Rattle.conn_table.specs.declared.input.Input.TheVariants as inputs
 use Rattle.conn_messages.specs.declared.channel.Channel.{Channel}
 use Rattle.conn_messages.specs.declared.channel.Place.{Place}
 use Rattle.conn_table.specs.Connection.{Connection, new_connection}
-use Rattle.conn_table.specs.declared.state.Stage.TheVariants.{Active, Changing}
+use Rattle.conn_table.specs.declared.state.Stage.TheVariants.{Active, Preparing, Changing, Draining}
 use Rattle.conn_table.specs.declared.state.State.TheVariants.{WaitActivation, WaitEstablish, WaitConfirm, Live, Removed}
 use Rattle.conn_table.specs.Roles.RoleStep.{stays as roles_stay, commands as role_commands, completes as role_completes, goes_back as role_goes_back}
 use Rattle.controller_table.specs.Controller.{place_at}
@@ -13,6 +13,7 @@ use Rattle.dtap_codec.specs.declared.sapi.Sapi.TheVariants.{Zero, Three}
 use Rattle.lineup.specs.LineUp.{Item}
 use Rattle.lineup.specs.LineUp.Item.{brought, released}
 use Rattle.lineup.specs.LineUp.Seat.{on_serving, on_target, moving, gone}
+use Rattle.world_laws.specs.Handled.{awaited_in}
 use Rattle.world_laws.specs.OwnFrame.{IsRequested}
 use Rattle.world_laws.specs.OwnItem.{is_same, said_by, IsRead, IsBesideTarget, CommandsAfter, seat_after, Finds}
 
@@ -74,10 +75,18 @@ requested_is = (tt, tt)
 requested_isnt : (IsRequested WaitActivation → ⊥) × (IsRequested WaitEstablish → ⊥) × (IsRequested Removed → ⊥)
 requested_isnt = (λ is. is, λ is. is, λ is. is)
 
--- ---- COMPLETE, first on its way on the target
+-- ---- the target for which the mobile isn't commanded yet
 
 abbrev channel_at : ℕ → Channel
 channel_at number = record { station = 1; number = number; cell = 1 ∷ []; description = record { arfcn = 20; ncc = 1; bcc = 1 }; reference = record { 0 = 0 } }
+
+awaited : awaited_in (Live 5 (Preparing (record { change = Assignment; channel = channel_at 0x0a }))) ≡ channel_at 0x0a ∷ []
+awaited = refl
+
+none_is_awaited : map awaited_in (WaitConfirm ∷ Live 5 Active ∷ Live 5 (Changing (record { change = Assignment; channel = channel_at 0x0a })) ∷ Live 5 Draining ∷ Removed ∷ []) ≡ [] ∷ [] ∷ [] ∷ [] ∷ [] ∷ []
+none_is_awaited = refl
+
+-- ---- COMPLETE, first on its way on the target
 
 abbrev changing_connection : Connection
 changing_connection = record (new_connection 1 (channel_at 0x41) (record { access = 1; frame = 1 }) 0) { state = Live 5 (Changing (record { change = Assignment; channel = channel_at 0x0a })) }

@@ -24,6 +24,7 @@ pub mod OwnSteps
 pub mod OwnRowLaw
 mod StepRows
 mod HandleRows
+mod AcknowledgedRows
 pub mod RolesAfter
 pub mod OwnRoles
 pub mod OwnFuture
@@ -39,5 +40,9 @@ pub mod OwnHandled
 pub mod OwnFrame
 pub mod OwnFrames
 pub mod OwnFrameLaw
+pub mod Standing
+pub mod Whole
+pub mod Acknowledged
+pub mod Handled
 pub mod Opening
 pub mod InOrder

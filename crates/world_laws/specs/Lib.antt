@@ -9,4 +9,7 @@ pub mod OwnRow
 pub mod OwnItem
 pub mod OwnHandle
 pub mod OwnFrame
+pub mod FromTheBeginning
+pub mod Acknowledged
+pub mod Handled
 pub mod InOrder

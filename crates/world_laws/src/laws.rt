@@ -6,6 +6,9 @@ ghost use Rattle.conn_table.specs.Steps.{Row};
 ghost use Rattle.settings.specs.Parameters.{Parameters};
 ghost use Rattle.world_table.specs.declared.event.Event.{Event as WorldEvent};
 ghost use Rattle.world_table.specs.World.{Actors};
+ghost use Rattle.world_laws.specs.Acknowledged.{AcksFlow, AllAcksTell};
+ghost use Rattle.world_laws.specs.FromTheBeginning.{ConnectionsStand, MessagesAreWhole};
+ghost use Rattle.world_laws.specs.Handled.{FramesKeepLineUps};
 ghost use Rattle.world_laws.specs.InOrder.{LineUpsAreInOrder};
 ghost use Rattle.relay_items.specs.declared.Item.{Item as ItemValue};
 ghost use Rattle.world_laws.specs.OwnFrame.{FrameIsHandled};
@@ -60,6 +63,14 @@ pub fn frames_are_handled()
     ensures { (w : Actors) (item : ItemValue) (s : Connection) (input : Input) (offer : Option Channel) (r : Row) → FrameIsHandled w item s input offer r }
 {}
 
+/// Law: so a connection stays lined up when the controller handles a frame that says an input to it, while the connection stays
+/// open: where the link of the switch is up, an RF CHANNEL RELEASE ACK is the last acknowledgement on its way on an old channel and
+/// none is on its way on another, a target is silent before its COMMAND, and what the row puts is read as it was put. That the
+/// connection stands, that all on its way is whole, and what acknowledgements tell are laws, and no premises.
+pub fn frames_keep_line_ups()
+    ensures { (settings : Parameters) (events : List WorldEvent) → FramesKeepLineUps settings events }
+{}
+
 /// Law: a row of the table by which a connection stays open keeps it lined up: what it relays joins what waits for the switch, and
 /// its channels change their roles. What is on its way up is said as lists; the step is one that what is on its way allows.
 pub fn rows_keep_line_ups()
@@ -72,6 +83,24 @@ pub fn rows_keep_line_ups()
 /// to the roles of channels: so COMPLETE, FAILURE, releases and DTAP are all of it.
 pub fn inputs_keep_line_ups()
     ensures { (m : ℕ) (s : Connection) (input : Input) (offer : Option Channel) (r : Row) → InputKeepsLineUp m s input offer r }
+{}
+
+/// Law: whatever events happened, each connection of the controller stands.
+pub fn connections_stand()
+    ensures { (settings : Parameters) (events : List WorldEvent) → ConnectionsStand settings events }
+{}
+
+/// Law: whatever events happened, the messages on their way up from a channel are whole: each has 1 to 251 octets.
+pub fn messages_are_whole()
+    ensures { (settings : Parameters) (events : List WorldEvent) → MessagesAreWhole settings events }
+{}
+
+/// Law: whatever events happened, the acknowledgements of a channel that are on their way up tell whether it ends. Where an RF
+/// CHANNEL RELEASE ACK is the last of them, nothing comes behind it; where there is none, what comes of the channel doesn't end. And
+/// while the link is up, those that the controller took, those on their way and those still due are what is due for all that it put.
+pub fn acknowledgements_tell()
+    ensures ends { (settings : Parameters) (events : List WorldEvent) → AllAcksTell settings events }
+    ensures flow { (settings : Parameters) (events : List WorldEvent) → AcksFlow settings events }
 {}
 
 /// Law: a connection is lined up from the row on that puts CR with its initial message.

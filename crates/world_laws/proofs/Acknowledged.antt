@@ -1,0 +1,261 @@
+-- What the acknowledgements of a channel tell of what is on its way up from it.
+use Rattle.std.proofs.Common.{◌≡◌, ◌≢◌, ℕ, ◌==◌, nat_eq, Bool, true, false, cond, if◌then◌else◌, List, [], ◌∷◌, ◌++◌, map, Option, Some, None, option_to_list, Result, Ok, Err, refl, sym, ap, ◌∙◌, subst, append_assoc, inl, inr, arith, ◌≤◌}
+use Rattle.std.specs.List.{flat_map, AllByRecursion}
+use Rattle.std.specs.Result.{result_ok}
+use Rattle.std.proofs.lemmas.Bool.{cases_Bool, cond-true, cond-false, eqb-true, eqb-false, eq-eqb, ne_eqb}
+use Rattle.std.proofs.lemmas.Grind.{flat_map-append}
+use Rattle.std.proofs.lemmas.List.{append-nil}
+use Rattle.std.proofs.lemmas.List.Elements.{filter-append}
+use Rattle.bssmap_codec.specs.declared.sccp.Sccp.{Sccp}
+use Rattle.conn_messages.specs.declared.channel.Place.{Place}
+use Rattle.conn_messages.specs.declared.parameters.TheConstants.{SWITCH_LINK}
+use Rattle.controller_table.specs.Reading.{sapi_of}
+use Rattle.dtap_codec.specs.declared.sapi.Sapi.{Sapi}
+use Rattle.dtap_codec.specs.declared.sapi.Sapi.TheVariants.{Zero, Three}
+use Rattle.lineup.specs.LineUp.{Item as Brought}
+use Rattle.lineup.specs.LineUp.Item.{brought, released}
+use Rattle.link_model.specs.Base.{first_message, first_of_messages, is_active}
+use Rattle.link_model.specs.Message.{activation_ack}
+use Rattle.link_model.specs.Tenures.{Tenures, is_bound_of, is_brought_on}
+use Rattle.link_model.specs.Tenures.Tenures.{over, begins, brings as tenure_brings, ends, apart}
+use Rattle.relay_items.specs.declared.Item.{Item}
+use Rattle.relay_items.specs.declared.What.{What}
+use Rattle.relay_items.specs.declared.What.TheVariants as whats
+use Rattle.rsl_codec.specs.declared.rsl.Rsl.{Rsl}
+use Rattle.rsl_codec.specs.declared.rsl.Rsl.TheVariants as rsl
+use Rattle.settings.specs.Parameters.{Parameters}
+use Rattle.world_table.specs.declared.event.Event.{Event}
+use Rattle.world_table.specs.declared.event.Event.TheVariants.{BasePush, BaseDown}
+use Rattle.world_table.specs.Honest.{given, all_given}
+use Rattle.world_table.specs.Life.{actors_after, actors_after_all}
+use Rattle.world_table.specs.Pipe.{acknowledgements, due}
+use Rattle.world_table.specs.Queues.{first_of, made_item, pushed, all_pushed, all_popped, all_put}
+use Rattle.world_table.specs.Relay.{station_item, switch_item}
+use Rattle.world_table.specs.Stations.{rsl_in}
+use Rattle.world_table.specs.World.{Actors, base_of, is_up, new_actors, outbox_of}
+use Rattle.world_table.proofs.Heard.{Good, end-of, good-new, good-step}
+use Rattle.world_table.proofs.Honesty.{AreHonest-new}
+use Rattle.world_table.proofs.Outboxes.{KeepsQueues-new}
+use Rattle.world_table.proofs.Piping.{ArePipes-new}
+use Rattle.world_table.proofs.Soundness.{IsSound, sound-read}
+use Rattle.world_laws.specs.Acknowledged.{read_by, read_of, messages_up, acknowledgements_up, acknowledgements_taken, is_release_ack, NoneReleases, ReleasesLast, AcksTell, AllAcksTell, AcksFlow}
+use Rattle.world_laws.specs.ComingUp.{of_main, of_establishment, brings, brings_if, brings_by, brings_in, coming_up}
+use Rattle.world_laws.specs.LineUps.{is_ended}
+use Rattle.world_laws.specs.Staying.{EndsLast}
+
+never : false ≡ true → ⊥
+never h = absurd cc
+
+-- ---- what comes of a channel is what a station's messages bring
+
+if-read : (channel : ℕ) (b : Bool) (o : Option Rsl) → (if b then brings_if channel o else []) ≡ flat_map (brings channel) (if b then option_to_list o else [])
+if-read channel true None = refl
+if-read channel true (Some m) = sym (append-nil (brings channel m))
+if-read channel false o = refl
+
+by-read : (at : Place) (source : ℕ) (what : What) → brings_by at source what ≡ flat_map (brings at.number) (read_by at.station source what)
+by-read at source (whats.Frame frame) = if-read at.number (source == at.station) (rsl_in frame)
+by-read at source whats.Down = refl
+
+inbox-read : (at : Place) (items : List Item) → flat_map (brings_in at) items ≡ flat_map (brings at.number) (flat_map (read_of at.station) items)
+inbox-read at [] = refl
+inbox-read at (item ∷ items) =
+    ap (λ (xs : List Brought). xs ++ flat_map (brings_in at) items) (by-read at item.source item.what)
+    ∙ ap (λ (xs : List Brought). flat_map (brings at.number) (read_of at.station item) ++ xs) (inbox-read at items)
+    ∙ sym (flat_map-append (brings at.number) (read_of at.station item) (flat_map (read_of at.station) items))
+
+coming-read : (w : Actors) (at : Place) → coming_up w at ≡ flat_map (brings at.number) (messages_up w at.station)
+coming-read w at =
+    ap (λ (xs : List Brought). xs ++ flat_map (brings at.number) (base_of w at.station).messages) (inbox-read at w.inbox)
+    ∙ sym (flat_map-append (brings at.number) (flat_map (read_of at.station) w.inbox) (base_of w at.station).messages)
+
+-- ---- one message
+
+unbound : (k : ℕ) (m : Rsl) (ms : List Rsl) → is_bound_of k m ≡ false → acknowledgements k (m ∷ ms) ≡ acknowledgements k ms
+unbound k m ms is = cond-false _ (m ∷ acknowledgements k ms) (acknowledgements k ms) is
+
+bound : (k : ℕ) (m : Rsl) (ms : List Rsl) → is_bound_of k m ≡ true → acknowledgements k (m ∷ ms) ≡ m ∷ acknowledgements k ms
+bound k m ms is = cond-true _ (m ∷ acknowledgements k ms) (acknowledgements k ms) is
+
+brought-unbound : (k : ℕ) (m : Rsl) → is_brought_on k m ≡ true → is_bound_of k m ≡ false
+brought-unbound k (rsl.EstablishIndication e) is = refl
+brought-unbound k (rsl.DataIndication d) is = refl
+brought-unbound k _ is = absurd (never is)
+
+-- messages alone, before others
+Leads : List Brought → Type 0
+Leads first = (rest : List Brought) → (EndsLast rest → EndsLast (first ++ rest)) × (is_ended (first ++ rest) ≡ is_ended rest)
+
+leads-none : Leads []
+unfolding Leads
+leads-none rest = ((λ last. last), refl)
+
+leads-main : (o : Option Sapi) (message : List ℕ) → Leads (of_main o message)
+unfolding Leads
+leads-main (Some Zero) message rest = ((λ last. last), refl)
+leads-main (Some Three) message rest = ((λ last. last), refl)
+leads-main None message rest = ((λ last. last), refl)
+
+leads-establishment : (o : Option Sapi) (initial : Option (List ℕ)) → Leads (of_establishment o initial)
+leads-establishment o None = leads-none
+leads-establishment o (Some message) = leads-main o message
+
+leads-if : (b : Bool) (first : List Brought) → Leads first → Leads (if b then first else [])
+leads-if true first leads = leads
+leads-if false first leads = leads-none
+
+-- all but an RF CHANNEL RELEASE ACK of the channel bring messages alone
+leads-of : (k : ℕ) (m : Rsl) → is_release_ack m ≡ false → Leads (brings k m)
+leads-of k (rsl.EstablishIndication e) is = leads-if (e.channel == k) (of_establishment (sapi_of e.link) e.l3) (leads-establishment (sapi_of e.link) e.l3)
+leads-of k (rsl.DataIndication d) is = leads-if (d.channel == k) (of_main (sapi_of d.link) d.l3) (leads-main (sapi_of d.link) d.l3)
+leads-of k (rsl.RfChannelReleaseAck channel) is = absurd (never (sym is))
+leads-of k _ is = leads-none
+
+brought-leads : (k : ℕ) (m : Rsl) → is_brought_on k m ≡ true → Leads (brings k m)
+brought-leads k (rsl.EstablishIndication e) is = leads-of k (rsl.EstablishIndication e) refl
+brought-leads k (rsl.DataIndication d) is = leads-of k (rsl.DataIndication d) refl
+brought-leads k _ is = absurd (never is)
+
+apart-brings : (k : ℕ) (m : Rsl) → is_brought_on k m ≡ false → is_bound_of k m ≡ false → brings k m ≡ []
+apart-brings k (rsl.EstablishIndication e) is not_bound = cond-false _ (of_establishment (sapi_of e.link) e.l3) [] is
+apart-brings k (rsl.DataIndication d) is not_bound = cond-false _ (of_main (sapi_of d.link) d.l3) [] is
+apart-brings k (rsl.RfChannelReleaseAck channel) is not_bound = cond-false _ (released ∷ []) [] not_bound
+apart-brings k _ is not_bound = refl
+
+-- ---- what acknowledgements tell
+
+-- outside a tenure nothing comes before the next ACTIVATION ACK
+nothing-outside : {end : Bool} (k : ℕ) (ms : List Rsl) → Tenures k false ms end → acknowledgements k ms ≡ [] → flat_map (brings k) ms ≡ []
+nothing-outside k [] (over within) none = refl
+nothing-outside k (m ∷ ms) (begins t) none = absurd (let some : m ∷ acknowledgements k ms ≡ [] = sym (bound k m ms (eq-eqb k k refl)) ∙ none in cc)
+nothing-outside k (m ∷ ms) (ends t) none = absurd (let some : m ∷ acknowledgements k ms ≡ [] = sym (bound k m ms (eq-eqb k k refl)) ∙ none in cc)
+nothing-outside k (m ∷ ms) (apart not_brought not_bound t) none =
+    ap (λ (xs : List Brought). xs ++ flat_map (brings k) ms) (apart-brings k m not_brought not_bound) ∙ nothing-outside k ms t (sym (unbound k m ms not_bound) ∙ none)
+
+released-alone : (k : ℕ) (rest : List Brought) → rest ≡ [] → EndsLast (brings k (rsl.RfChannelReleaseAck k) ++ rest)
+released-alone k rest none = subst (λ (b : Bool). EndsLast ((if b then released ∷ [] else []) ++ rest)) (sym (eq-eqb k k refl)) none
+
+ends-last : {within end : Bool} (k : ℕ) (ms : List Rsl) → Tenures k within ms end → ReleasesLast (acknowledgements k ms) → EndsLast (flat_map (brings k) ms)
+unfolding Leads
+ends-last k [] (over within) last = tt
+ends-last k (m ∷ ms) (begins t) last = ends-last k ms t (subst ReleasesLast (bound k m ms (eq-eqb k k refl)) last).1
+ends-last k (m ∷ ms) (tenure_brings is t) last =
+    (brought-leads k m is (flat_map (brings k) ms)).0 (ends-last k ms t (subst ReleasesLast (unbound k m ms (brought-unbound k m is)) last))
+ends-last k (m ∷ ms) (ends t) last = released-alone k (flat_map (brings k) ms) (nothing-outside k ms t ((subst ReleasesLast (bound k m ms (eq-eqb k k refl)) last).0 refl))
+ends-last k (m ∷ ms) (apart not_brought not_bound t) last =
+    subst (λ (xs : List Brought). EndsLast (xs ++ flat_map (brings k) ms)) (sym (apart-brings k m not_brought not_bound)) (ends-last k ms t (subst ReleasesLast (unbound k m ms not_bound) last))
+
+-- without an RF CHANNEL RELEASE ACK of the channel
+tail-none : (b : Bool) (m : Rsl) (ms : List Rsl) → NoneReleases (if b then m ∷ ms else ms) → NoneReleases ms
+tail-none true m ms none = none.1
+tail-none false m ms none = none
+
+goes-on : (k : ℕ) (ms : List Rsl) → NoneReleases (acknowledgements k ms) → is_ended (flat_map (brings k) ms) ≡ false
+unfolding Leads
+goes-on k [] none = refl
+goes-on k (m ∷ ms) none = by m none (goes-on k ms (tail-none (is_bound_of k m) m (acknowledgements k ms) none)) where
+  releases : (b : Bool) (channel : ℕ) → NoneReleases (if b then rsl.RfChannelReleaseAck channel ∷ acknowledgements k ms else acknowledgements k ms) → is_ended (flat_map (brings k) ms) ≡ false
+      → is_ended ((if b then released ∷ [] else []) ++ flat_map (brings k) ms) ≡ false
+  releases true channel all rest = absurd (never (sym all.0))
+  releases false channel all rest = rest
+
+  by : (x : Rsl) → NoneReleases (acknowledgements k (x ∷ ms)) → is_ended (flat_map (brings k) ms) ≡ false → is_ended (brings k x ++ flat_map (brings k) ms) ≡ false
+  by (rsl.RfChannelReleaseAck channel) all rest = releases (channel == k) channel all rest
+  by x all rest = (leads-of k x refl (flat_map (brings k) ms)).1 ∙ rest
+
+-- ---- what stations gave is what is read of the inbox
+
+same-if : (b : Bool) → [] ≡ (let xs : List Rsl = if b then [] else [] in xs)
+same-if true = refl
+same-if false = refl
+
+station-read : (station source : ℕ) (messages : List Rsl) → AllByRecursion IsSound messages →
+    flat_map (read_of station) (map (station_item source) (option_to_list (first_of_messages messages))) ≡ (if source == station then option_to_list (first_of_messages messages) else [])
+station-read station source [] sound = same-if (source == station)
+station-read station source (first ∷ others) sound =
+    append-nil (read_of station (station_item source first)) ∙ ap (λ (r : Result Rsl _). if source == station then option_to_list (result_ok r) else []) (sound-read first sound.0)
+
+of-other : (station source : ℕ) (what : What) → source == station ≡ false → read_by station source what ≡ []
+of-other station source (whats.Frame frame) other = cond-false _ (option_to_list (rsl_in frame)) [] other
+of-other station source whats.Down other = refl
+
+switch-read : (station : ℕ) (made : List Sccp) → station ≢ SWITCH_LINK → flat_map (read_of station) (map switch_item (first_of made)) ≡ []
+switch-read station [] other = refl
+switch-read station (first ∷ others) other =
+    append-nil (read_of station (switch_item first)) ∙ of-other station SWITCH_LINK (switch_item first).what (ne_eqb SWITCH_LINK station (λ same. other (sym same)))
+
+own-first : (w : Actors) (station source : ℕ) → (if source == station then option_to_list (first_message (base_of w source)) else []) ≡ given station w (BasePush source)
+own-first w station source = elim (cases_Bool (nat_eq source station)) [
+  | inl same ↦ ap (λ (n : ℕ). if source == station then option_to_list (first_message (base_of w n)) else []) (eqb-true source station same)
+  | inr other ↦ cond-false _ (option_to_list (first_message (base_of w source))) [] other ∙ sym (cond-false _ (option_to_list (first_message (base_of w station))) [] other)
+]
+
+pushed-read : (station : ℕ) (w : Actors) (event : Event) → station ≢ SWITCH_LINK → Good w → flat_map (read_of station) (pushed w event) ≡ given station w event
+pushed-read station w (BasePush source) other good = elim (cases_Bool (nat_eq source SWITCH_LINK)) [
+  | inl switch ↦
+      ap (flat_map (read_of station)) (cond-true _ (map switch_item (first_of w.switch_made)) (map (station_item source) (option_to_list (first_message (base_of w source)))) switch)
+      ∙ switch-read station w.switch_made other
+      ∙ sym (cond-false _ (option_to_list (first_message (base_of w station))) [] (ne_eqb source station (λ same. other (sym same ∙ eqb-true source SWITCH_LINK switch))))
+  | inr of_station ↦
+      ap (flat_map (read_of station)) (cond-false _ (map switch_item (first_of w.switch_made)) (map (station_item source) (option_to_list (first_message (base_of w source)))) of_station)
+      ∙ station-read station source (base_of w source).messages (end-of w source good).made
+      ∙ own-first w station source
+]
+pushed-read station w (BaseDown source) other good = by (is_up w source) where
+  by : (b : Bool) → flat_map (read_of station) (if b then record { source = source; what = whats.Down } ∷ [] else []) ≡ []
+  by true = refl
+  by false = refl
+pushed-read station w _ other good = refl
+
+all-read : (station : ℕ) (w : Actors) (events : List Event) → station ≢ SWITCH_LINK → Good w → flat_map (read_of station) (all_pushed w events) ≡ all_given station w events
+all-read station w [] other good = refl
+all-read station w (event ∷ events) other good =
+    flat_map-append (read_of station) (pushed w event) (all_pushed (actors_after w event) events)
+    ∙ ap (λ (ms : List Rsl). ms ++ flat_map (read_of station) (all_pushed (actors_after w event) events)) (pushed-read station w event other good)
+    ∙ ap (λ (ms : List Rsl). given station w event ++ ms) (all-read station (actors_after w event) events other (good-step w event good))
+
+-- what was given is what the controller took, and what stands in the inbox
+given-read : (settings : Parameters) (events : List Event) (station : ℕ) → station ≢ SWITCH_LINK →
+    all_given station (new_actors settings) events ≡ flat_map (read_of station) (all_popped (new_actors settings) events) ++ flat_map (read_of station) (actors_after_all (new_actors settings) events).inbox
+given-read settings events station other =
+    sym (all-read station (new_actors settings) events other (good-new settings))
+    ∙ ap (flat_map (read_of station)) (KeepsQueues-new settings events).inbox
+    ∙ flat_map-append (read_of station) (all_popped (new_actors settings) events) (actors_after_all (new_actors settings) events).inbox
+
+-- ---- the laws
+
+behind : {within end : Bool} (k : ℕ) (xs ys : List Rsl) → Tenures k within (xs ++ ys) end → (b : Bool) × Tenures k b ys end
+behind {within} k [] ys t = (within, t)
+behind k (x ∷ xs) ys (begins t) = behind k xs ys t
+behind k (x ∷ xs) ys (tenure_brings is t) = behind k xs ys t
+behind k (x ∷ xs) ys (ends t) = behind k xs ys t
+behind k (x ∷ xs) ys (apart not_brought not_bound t) = behind k xs ys t
+
+pub AllAcksTell-new : (settings : Parameters) (events : List Event) → AllAcksTell settings events
+AllAcksTell-new settings events at other =
+    let w : Actors = actors_after_all (new_actors settings) events in
+    let taken : List Rsl = flat_map (read_of at.station) (all_popped (new_actors settings) events) in
+    let honest = AreHonest-new settings events at.station other at.number in
+    let up = behind at.number taken (messages_up w at.station)
+    (subst (λ (ms : List Rsl). Tenures at.number false ms honest.0)
+    (ap (λ (ms : List Rsl). ms ++ (base_of w at.station).messages) (given-read settings events at.station other) ∙ append_assoc taken (flat_map (read_of at.station) w.inbox) (base_of w at.station).messages) honest.1) in
+    record {
+      last = λ releases. subst EndsLast (sym (coming-read w at)) (ends-last at.number (messages_up w at.station) up.1 releases);
+      none = λ releases. ap is_ended (coming-read w at) ∙ goes-on at.number (messages_up w at.station) releases;
+    }
+
+pub AcksFlow-new : (settings : Parameters) (events : List Event) → AcksFlow settings events
+AcksFlow-new settings events at least most up =
+    let w : Actors = actors_after_all (new_actors settings) events in
+    let taken : List Rsl = flat_map (read_of at.station) (all_popped (new_actors settings) events) in
+    let came : List Rsl = flat_map (read_of at.station) w.inbox in
+    let made : List Rsl = (base_of w at.station).messages in
+    let still : List Rsl = due at.number (is_active (base_of w at.station).active at.number) (outbox_of w at.station) in
+    (ArePipes-new settings events at.station at.number least most).flows up
+    ∙ ap (λ (ms : List Rsl). acknowledgements at.number ms ++ (acknowledgements at.number made ++ still)) (given-read settings events at.station (λ is. not_zero is least))
+    ∙ ap (λ (ms : List Rsl). ms ++ (acknowledgements at.number made ++ still)) (filter-append (is_bound_of at.number) taken came)
+    ∙ append_assoc (acknowledgements at.number taken) (acknowledgements at.number came) (acknowledgements at.number made ++ still)
+    ∙ ap (λ (ms : List Rsl). acknowledgements at.number taken ++ ms) (sym (append_assoc (acknowledgements at.number came) (acknowledgements at.number made) still))
+    ∙ ap (λ (ms : List Rsl). acknowledgements at.number taken ++ (ms ++ still)) (sym (filter-append (is_bound_of at.number) came made)) where
+      not_zero : at.station ≡ 0 → 1 ≤ at.station → ⊥
+      not_zero is least = absurd (omega arith)

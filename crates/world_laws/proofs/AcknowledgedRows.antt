@@ -1,0 +1,67 @@
+-- Definitions of acknowledgements on their way up, at literal values.
+use Rattle.std.proofs.Common.{◌≡◌, ℕ, Bool, true, false, List, [], ◌∷◌, ◌++◌, map, refl}
+use Rattle.controller_table.specs.Controller.{place_at}
+use Rattle.controller_table.proofs.Lives.{usual_settings}
+use Rattle.dtap_codec.specs.declared.sapi.Sapi.TheVariants.{Zero}
+use Rattle.link_model.specs.Message.{activation_ack, data_indication}
+use Rattle.relay_items.specs.declared.Item.{Item}
+use Rattle.relay_items.specs.declared.What.TheVariants as whats
+use Rattle.rsl_codec.specs.declared.rsl.Rsl.{Rsl}
+use Rattle.rsl_codec.specs.declared.rsl.Rsl.TheVariants.{RfChannelRelease, RfChannelReleaseAck}
+use Rattle.world_table.specs.Relay.{station_item}
+use Rattle.world_table.specs.World.{Actors, base_of, new_actors, with_base}
+use Rattle.world_table.proofs.Worlds.{on_literals}
+use Rattle.world_laws.specs.Acknowledged.{read_of, messages_up, acknowledgements_up, acknowledgements_taken, is_release_ack, NoneReleases, ReleasesLast}
+
+abbrev text_on : ℕ → Rsl
+text_on channel = data_indication channel Zero (0x03 ∷ 0x05 ∷ [])
+
+-- of station 1 two messages stand in the inbox, and it made two more
+abbrev world : Actors
+world = record (with_base 1 (record (base_of (new_actors usual_settings) 1) { messages = text_on 0x41 ∷ RfChannelReleaseAck 0x41 ∷ [] }) (new_actors usual_settings)) {
+  inbox = station_item 1 (activation_ack 0x41) ∷ station_item 2 (RfChannelReleaseAck 0x41) ∷ station_item 1 (activation_ack 0x0a) ∷ [];
+}
+
+read_of_its_station : read_of 1 (station_item 1 (RfChannelReleaseAck 0x41)) ≡ RfChannelReleaseAck 0x41 ∷ []
+unfolding on_literals
+read_of_its_station = refl
+
+none_of_another_station : read_of 2 (station_item 1 (RfChannelReleaseAck 0x41)) ≡ []
+none_of_another_station = refl
+
+none_of_a_break : read_of 1 (record { source = 1; what = whats.Down }) ≡ []
+none_of_a_break = refl
+
+inbox_comes_first : messages_up world 1 ≡ activation_ack 0x41 ∷ activation_ack 0x0a ∷ text_on 0x41 ∷ RfChannelReleaseAck 0x41 ∷ []
+unfolding on_literals
+inbox_comes_first = refl
+
+of_its_channel : acknowledgements_up world (place_at 1 0x41) ≡ activation_ack 0x41 ∷ RfChannelReleaseAck 0x41 ∷ []
+unfolding on_literals
+of_its_channel = refl
+
+of_another_channel : acknowledgements_up world (place_at 1 0x0a) ≡ activation_ack 0x0a ∷ []
+unfolding on_literals
+of_another_channel = refl
+
+taken_of_its_channel : acknowledgements_taken (place_at 1 0x41) (station_item 1 (activation_ack 0x41) ∷ station_item 1 (text_on 0x41) ∷ station_item 2 (activation_ack 0x41) ∷ []) ≡ activation_ack 0x41 ∷ []
+unfolding on_literals
+taken_of_its_channel = refl
+
+releases_are : map is_release_ack (RfChannelReleaseAck 0x41 ∷ RfChannelRelease 0x41 ∷ activation_ack 0x41 ∷ text_on 0x41 ∷ []) ≡ true ∷ false ∷ false ∷ false ∷ []
+releases_are = refl
+
+none_is_there : NoneReleases (activation_ack 0x41 ∷ []) × (NoneReleases (activation_ack 0x41 ∷ RfChannelReleaseAck 0x41 ∷ []) → ⊥)
+none_is_there = ((refl, tt), λ none. absurd (never none.1.0)) where
+  never : true ≡ false → ⊥
+  never h = absurd cc
+
+last_is : ReleasesLast (activation_ack 0x41 ∷ RfChannelReleaseAck 0x41 ∷ [])
+last_is = ((λ is. absurd (never is)), ((λ is. refl), tt)) where
+  never : false ≡ true → ⊥
+  never h = absurd cc
+
+last_isnt : ReleasesLast (RfChannelReleaseAck 0x41 ∷ activation_ack 0x41 ∷ []) → ⊥
+last_isnt last = absurd (never (last.0 refl)) where
+  never : (let xs : List Rsl = activation_ack 0x41 ∷ [] in xs) ≡ [] → ⊥
+  never h = absurd cc

@@ -1,0 +1,78 @@
+-- The acknowledgements of a channel that are on their way up.
+use Rattle.std.specs.Prelude.{◌≡◌, ◌≢◌, ℕ, ◌+◌, ◌≤◌, ◌==◌, Bool, true, false, if◌then◌else◌, List, [], ◌∷◌, ◌++◌, length, option_to_list}
+use Rattle.std.specs.List.{flat_map, AllByRecursion}
+use Rattle.conn_messages.specs.declared.channel.Place.{Place}
+use Rattle.conn_messages.specs.declared.parameters.TheConstants.{SWITCH_LINK}
+use Rattle.controller_table.specs.Controller.{place_at}
+use Rattle.link_model.specs.Base.{is_active}
+use Rattle.relay_items.specs.declared.Item.{Item}
+use Rattle.relay_items.specs.declared.What.{What}
+use Rattle.relay_items.specs.declared.What.TheVariants as whats
+use Rattle.rsl_codec.specs.declared.rsl.Rsl.{Rsl}
+use Rattle.rsl_codec.specs.declared.rsl.Rsl.TheVariants.{RfChannelReleaseAck}
+use Rattle.settings.specs.Parameters.{Parameters}
+use Rattle.world_table.specs.declared.event.Event.{Event}
+use Rattle.world_table.specs.Life.{actors_after_all}
+use Rattle.world_table.specs.Pipe.{acknowledgements, due}
+use Rattle.world_table.specs.Queues.{all_popped, all_put}
+use Rattle.world_table.specs.Stations.{rsl_in}
+use Rattle.world_table.specs.World.{Actors, base_of, is_up, new_actors, outbox_of}
+use Rattle.world_laws.specs.ComingUp.{coming_up}
+use Rattle.world_laws.specs.LineUps.{is_ended}
+use Rattle.world_laws.specs.Staying.{EndsLast}
+
+-- what is read of an item, where it is of this station
+abbrev pub read_by : ℕ → ℕ → What → List Rsl
+read_by station source (whats.Frame frame) = if source == station then option_to_list (rsl_in frame) else []
+read_by station source whats.Down = []
+
+abbrev pub read_of : ℕ → Item → List Rsl
+read_of station item = read_by station item.source item.what
+
+-- the messages of a station that are on their way up: those in the inbox come first
+abbrev pub messages_up : Actors → ℕ → List Rsl
+messages_up w station = flat_map (read_of station) w.inbox ++ (base_of w station).messages
+
+abbrev pub acknowledgements_up : Actors → Place → List Rsl
+acknowledgements_up w at = acknowledgements at.number (messages_up w at.station)
+
+-- those that the controller took
+abbrev pub acknowledgements_taken : Place → List Item → List Rsl
+acknowledgements_taken at items = acknowledgements at.number (flat_map (read_of at.station) items)
+
+-- ---- what they tell of all that is on its way
+
+abbrev pub is_release_ack : Rsl → Bool
+is_release_ack (RfChannelReleaseAck channel) = true
+is_release_ack _ = false
+
+-- there is no RF CHANNEL RELEASE ACK
+abbrev pub NoneReleases : List Rsl → Type 0
+NoneReleases messages = AllByRecursion (λ m. is_release_ack m ≡ false) messages
+
+-- an RF CHANNEL RELEASE ACK is the last
+abbrev pub ReleasesLast : List Rsl → Type 0
+ReleasesLast [] = Unit {0}
+ReleasesLast (m ∷ ms) = (is_release_ack m ≡ true → ms ≡ []) × ReleasesLast ms
+
+-- Where an RF CHANNEL RELEASE ACK is the last acknowledgement of a channel, it is the last of all that comes of it; where there is
+-- none, what comes of it doesn't end.
+pub record AcksTell (w : Actors) (at : Place) : Type 0 where
+  pub last : ReleasesLast (acknowledgements_up w at) → EndsLast (coming_up w at)
+  pub none : NoneReleases (acknowledgements_up w at) → is_ended (coming_up w at) ≡ false
+
+-- whatever happened before
+abbrev pub AllAcksTell : Parameters → List Event → Type 0
+AllAcksTell settings events = (at : Place) → at.station ≢ SWITCH_LINK → AcksTell (actors_after_all (new_actors settings) events) at
+
+-- ---- which they are
+
+-- While the link of the station is up, the acknowledgements due for all that the controller put are those that it took, those on
+-- their way up, and those due for what stands in the outbox.
+abbrev pub AcksFlow : Parameters → List Event → Type 0
+AcksFlow settings events =
+    (at : Place) → 1 ≤ at.station → at.station ≤ length settings.cells → is_up (actors_after_all (new_actors settings) events) at.station ≡ true
+    → due at.number false (all_put at.station (new_actors settings) events) ≡
+    acknowledgements_taken at (all_popped (new_actors settings) events)
+    ++ (acknowledgements_up (actors_after_all (new_actors settings) events) at
+    ++ due at.number (is_active (base_of (actors_after_all (new_actors settings) events) at.station).active at.number) (outbox_of (actors_after_all (new_actors settings) events) at.station))

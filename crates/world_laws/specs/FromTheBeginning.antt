@@ -1,0 +1,22 @@
+-- What holds of a world whatever happened, from its beginning on.
+use Rattle.std.specs.Prelude.{◌≡◌, ℕ, List, Option, Some}
+use Rattle.conn_messages.specs.declared.channel.Place.{Place}
+use Rattle.conn_table.specs.Connection.{Connection}
+use Rattle.conn_table.specs.Standing.{Stands}
+use Rattle.controller_laws.specs.History.{connection_of}
+use Rattle.lineup.specs.LineUp.{messages_in}
+use Rattle.settings.specs.Parameters.{Parameters}
+use Rattle.world_table.specs.declared.event.Event.{Event}
+use Rattle.world_table.specs.Life.{actors_after_all}
+use Rattle.world_table.specs.World.{new_actors}
+use Rattle.world_laws.specs.ComingUp.{coming_up}
+use Rattle.world_laws.specs.ToCome.{AreLayer3}
+
+-- Each connection of the controller stands: it is as the table leaves connections.
+abbrev pub ConnectionsStand : Parameters → List Event → Type 0
+ConnectionsStand settings events =
+    (number : ℕ) (s : Connection) → connection_of (actors_after_all (new_actors settings) events).controller number ≡ Some s → Stands s
+
+-- What is on its way up from a channel is whole: each message has 1 to 251 octets.
+abbrev pub MessagesAreWhole : Parameters → List Event → Type 0
+MessagesAreWhole settings events = (at : Place) → AreLayer3 (messages_in (coming_up (actors_after_all (new_actors settings) events) at))

@@ -1,0 +1,51 @@
+-- The controller handles a frame for the connection that it says an input to, whatever happened before.
+use Rattle.std.specs.Prelude.{◌≡◌, ℕ, true, List, [], ◌∷◌, Option}
+use Rattle.std.specs.List.{AllByRecursion}
+use Rattle.conn_messages.specs.declared.channel.Channel.{Channel}
+use Rattle.conn_messages.specs.declared.parameters.TheConstants.{SWITCH_LINK}
+use Rattle.conn_table.specs.declared.input.Input.{Input}
+use Rattle.conn_table.specs.declared.state.Stage.TheVariants.{Preparing}
+use Rattle.conn_table.specs.declared.state.State.{State}
+use Rattle.conn_table.specs.declared.state.State.TheVariants.{Live}
+use Rattle.conn_table.specs.Connection.{Connection}
+use Rattle.conn_table.specs.Steps.{Row}
+use Rattle.conn_table.specs.Streams.{target_in, undone}
+use Rattle.controller_table.specs.Controller.{place_of}
+use Rattle.lineup.specs.LineUp.{messages_in}
+use Rattle.relay_items.specs.declared.Item.{Item as RelayItem}
+use Rattle.settings.specs.Parameters.{Parameters}
+use Rattle.world_table.specs.declared.event.Event.{Event}
+use Rattle.world_table.specs.declared.event.Event.TheVariants.{Handle}
+use Rattle.world_table.specs.Life.{actors_after, actors_after_all}
+use Rattle.world_table.specs.World.{Actors, is_up, modulus_in, new_actors}
+use Rattle.world_laws.specs.Acknowledged.{acknowledgements_up, NoneReleases, ReleasesLast}
+use Rattle.world_laws.specs.ComingUp.{coming_up}
+use Rattle.world_laws.specs.GoingDown.{going_down}
+use Rattle.world_laws.specs.OwnFrame.{IsFrameFor}
+use Rattle.world_laws.specs.OwnHandle.{IsPutAsRead}
+use Rattle.world_laws.specs.OwnItem.{IsBesideTarget}
+use Rattle.world_laws.specs.Staying.{AreLinedUp}
+
+-- the target of a change for which the mobile isn't commanded yet
+abbrev pub awaited_in : State → List Channel
+awaited_in (Live reference (Preparing target)) = target.channel ∷ []
+awaited_in _ = []
+
+-- What is said of the connection's channels alone:
+pub record IsReadyFor (w : Actors) (s : Connection) (input : Input) : Type 0 where
+  pub switch_up : is_up w SWITCH_LINK ≡ true
+  -- of the acknowledgements on their way an RF CHANNEL RELEASE ACK is the last of an old channel, and there is none of another
+  pub old_end : AllByRecursion (λ c. ReleasesLast (acknowledgements_up w (place_of c))) (undone s.draining)
+  pub others_go_on : AllByRecursion (λ c. NoneReleases (acknowledgements_up w (place_of c))) (s.serving ∷ target_in s.state)
+  -- nothing came of a target before the COMMAND, or of one from which the mobile came back
+  pub silent : IsBesideTarget input → AllByRecursion (λ c. messages_in (coming_up w (place_of c)) ≡ []) (target_in s.state)
+  -- and no COMMAND is on its way there
+  pub uncommanded : AllByRecursion (λ c. going_down w (place_of c) ≡ []) (awaited_in s.state)
+
+-- the first item of the inbox is the frame
+abbrev pub FramesKeepLineUps : Parameters → List Event → Type 0
+FramesKeepLineUps settings events =
+    (mobile : ℕ) (s : Connection) (item : RelayItem) (items : List RelayItem) (input : Input) (offer : Option Channel) (r : Row) → (actors_after_all (new_actors settings) events).inbox ≡ item ∷ items
+    → IsFrameFor (actors_after_all (new_actors settings) events) item s input offer r → IsReadyFor (actors_after_all (new_actors settings) events) s input → IsPutAsRead s offer r
+    → AreLinedUp (modulus_in settings) (actors_after_all (new_actors settings) events) mobile s
+    → AreLinedUp (modulus_in settings) (actors_after (actors_after_all (new_actors settings) events) Handle) mobile r.next
