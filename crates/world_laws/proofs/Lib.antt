@@ -41,3 +41,4 @@ pub mod OwnFrames
 pub mod OwnFrameLaw
 pub mod Opening
 pub mod InOrder
+pub mod OthersFrame

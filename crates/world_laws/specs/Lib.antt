@@ -10,3 +10,4 @@ pub mod OwnItem
 pub mod OwnHandle
 pub mod OwnFrame
 pub mod InOrder
+pub mod OthersFrame
