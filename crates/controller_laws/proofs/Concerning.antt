@@ -88,9 +88,9 @@ report_on_silent n at of report c Free differ = refl
 report_on_silent n at of report c (InUse m) differ = report_silent n m at of report c (entry_of c m) (λ same. differ (ap (λ (k : ℕ). Some k) (sym same))) refl
 report_on_silent n at of report c (Releasing m) differ = report_silent n m at of report c (entry_of c m) (λ same. differ (ap (λ (k : ℕ). Some k) (sym same))) refl
 
-word_silent : (n source : ℕ) (word : Word) (c : Controller) → 1 ≤ n → concerned c word ≢ Some n → outs_for n (on_word source word c).outs ≡ []
+word_silent : (n source : ℕ) (word : Word) (c : Controller) → (word ≡ Ping → 1 ≤ n) → concerned c word ≢ Some n → outs_for n (on_word source word c).outs ≡ []
 word_silent n source Nothing c from_one differ = refl
-word_silent n source Ping c from_one differ = cond-false _ _ _ (ne_eqb 0 n (λ same. absurd (omega arith)))
+word_silent n source Ping c from_one differ = let first = from_one refl in cond-false _ _ _ (ne_eqb 0 n (λ same. absurd (omega arith)))
 word_silent n source (Asks request delay) c from_one differ =
     if_silent n (may_open c) c (given c request delay (access_channel c source)) (given_silent n c request delay (access_channel c source) (λ same. differ (ap (λ (k : ℕ). Some k) (sym same))))
 word_silent n source (OnChannel at input) c from_one differ = channel_silent n at input c (channel_state c at) differ
@@ -103,7 +103,7 @@ frame_entry : (up : Bool) (n source : ℕ) (frame : Frame) (c : Controller) → 
 frame_entry true n source frame c differ = word_leaves n source (word_of source frame) c differ
 frame_entry false n source frame c differ = refl
 
-frame_silent : (up : Bool) (n source : ℕ) (frame : Frame) (c : Controller) → 1 ≤ n → concerned c (word_of source frame) ≢ Some n → outs_for n (on_what up source (whats.Frame frame) c).outs ≡ []
+pub frame_silent : (up : Bool) (n source : ℕ) (frame : Frame) (c : Controller) → (word_of source frame ≡ Ping → 1 ≤ n) → concerned c (word_of source frame) ≢ Some n → outs_for n (on_what up source (whats.Frame frame) c).outs ≡ []
 frame_silent true n source frame c from_one differ = word_silent n source (word_of source frame) c from_one differ
 frame_silent false n source frame c from_one differ = refl
 
@@ -130,7 +130,7 @@ frame_leaves p steps n source frame allowed from_one differ =
     let leaves : Leaves n c (step c s).next = frame_entry (is_up c source) n source frame c differ in
     record {
       entry = leaves;
-      outs = frame_silent (is_up c source) n source frame c from_one differ;
+      outs = frame_silent (is_up c source) n source frame c (λ is. from_one) differ;
       using = same_channels n c (step c s).next (ready_uses c ready) (ready_uses (step c s).next (ready_by (step c s).next after.fits after.holds after.uses)) leaves;
       releasing = λ at. (λ is. keeps.was at is, λ is. keeps.still at is);
     }

@@ -49,7 +49,7 @@ States = List (List ChannelState)
 
 -- ---- orders that pass a channel by
 
-abbrev Avoids : Place → Message → Type 0
+abbrev pub Avoids : Place → Message → Type 0
 Avoids at (Station station (rsl.ChannelActivation a)) = place_at station a.channel ≢ at
 Avoids at (Station station (rsl.RfChannelRelease channel)) = place_at station channel ≢ at
 Avoids at _ = Unit {0}
@@ -66,7 +66,7 @@ fold_avoids m at channels (x ∷ xs) all = fold_avoids m at (channels_after m ch
     of (Data destination message) differ = refl
     of (ReleaseComplete destination) differ = refl
 
-from_orders : (at : Place) (ms : List Message) → AllByRecursion (Avoids at) (orders ms) → AllByRecursion (Avoids at) ms
+pub from_orders : (at : Place) (ms : List Message) → AllByRecursion (Avoids at) (orders ms) → AllByRecursion (Avoids at) ms
 from_orders at [] all = tt
 from_orders at (Station station (rsl.ChannelActivation a) ∷ ms) all = (all.0, from_orders at ms all.1)
 from_orders at (Station station (rsl.RfChannelRelease channel) ∷ ms) all = (all.0, from_orders at ms all.1)
@@ -75,22 +75,22 @@ from_orders at (Request message ∷ ms) all = (tt, from_orders at ms all)
 from_orders at (Data destination message ∷ ms) all = (tt, from_orders at ms all)
 from_orders at (ReleaseComplete destination ∷ ms) all = (tt, from_orders at ms all)
 
-from_stations : (at : Place) (ms : List Message) → AllByRecursion (Avoids at) (to_stations ms) → AllByRecursion (Avoids at) ms
+pub from_stations : (at : Place) (ms : List Message) → AllByRecursion (Avoids at) (to_stations ms) → AllByRecursion (Avoids at) ms
 from_stations at [] all = tt
 from_stations at (Station station message ∷ ms) all = (all.0, from_stations at ms all.1)
 from_stations at (Request message ∷ ms) all = (tt, from_stations at ms all)
 from_stations at (Data destination message ∷ ms) all = (tt, from_stations at ms all)
 from_stations at (ReleaseComplete destination ∷ ms) all = (tt, from_stations at ms all)
 
-that_go_avoid : (at : Place) (input : Input) (ms : List Message) → AllByRecursion (Avoids at) ms → AllByRecursion (Avoids at) (those_that_go input ms)
+pub that_go_avoid : (at : Place) (input : Input) (ms : List Message) → AllByRecursion (Avoids at) ms → AllByRecursion (Avoids at) (those_that_go input ms)
 that_go_avoid at (inputs.StationDown station) ms all = AllByRecursion-filter (Avoids at) _ ms all
 that_go_avoid at _ ms all = all
 
 -- the channels that a connection uses are elsewhere
-abbrev AreElsewhere : Place → Roles → Type 0
+abbrev pub AreElsewhere : Place → Roles → Type 0
 AreElsewhere at roles = AllByRecursion (λ (c : Channel). place_of c ≢ at) (roles.serving ∷ target_channels roles.target)
 
-step_avoids : (at : Place) (step : RoleStep) (roles : Roles) (target : Option TargetRole) → AreElsewhere at (record roles { target = target }) → AllByRecursion (Avoids at) (step_orders step (record roles { target = target }))
+pub step_avoids : (at : Place) (step : RoleStep) (roles : Roles) (target : Option TargetRole) → AreElsewhere at (record roles { target = target }) → AllByRecursion (Avoids at) (step_orders step (record roles { target = target }))
 step_avoids at stays roles target away = tt
 step_avoids at commands roles target away = tt
 step_avoids at completes roles target away = (away.0, tt)
@@ -110,7 +110,7 @@ begin_avoids at (Some target) input offer roles may offered = by target.change
     by Assignment = (offered target.channel may.1, tt)
     by Handover = (offered target.channel may.1, tt)
 
-end_avoids : (at : Place) (end : RoleEnd) (roles : Roles) (target : Option TargetRole) → AreElsewhere at (record roles { target = target }) → AllByRecursion (Avoids at) (end_messages end (record roles { target = target }))
+pub end_avoids : (at : Place) (end : RoleEnd) (roles : Roles) (target : Option TargetRole) → AreElsewhere at (record roles { target = target }) → AllByRecursion (Avoids at) (end_messages end (record roles { target = target }))
 end_avoids at refused roles target away = tt
 end_avoids at drops roles target away = (away.0, tt)
 end_avoids at (dismisses cause) roles None away = (tt, (away.0, tt))
@@ -135,16 +135,16 @@ pub record Keeps (n : ℕ) (before after : States) : Type 0 where
 pub keeps_same : (n : ℕ) (channels : States) → Keeps n channels channels
 keeps_same n channels = record { still = λ at is. is; was = λ at is. is }
 
-elsewhere : (channels : States) (m n : ℕ) (at : Place) (cs : List Channel) → AreIn channels (InUse m) cs → state_in channels at ≡ Releasing n → AllByRecursion (λ (c : Channel). place_of c ≢ at) cs
-elsewhere channels m n at [] all is = tt
-elsewhere channels m n at (c ∷ cs) all is = (λ same. use≢release m n (sym all.0 ∙ ap (state_in channels) same ∙ is), elsewhere channels m n at cs all.1 is)
+pub elsewhere : (channels : States) (m : ℕ) (state : ChannelState) (at : Place) (cs : List Channel) → InUse m ≢ state → AreIn channels (InUse m) cs → state_in channels at ≡ state → AllByRecursion (λ (c : Channel). place_of c ≢ at) cs
+elsewhere channels m state at [] differ all is = tt
+elsewhere channels m state at (c ∷ cs) differ all is = (λ same. differ (sym all.0 ∙ ap (state_in channels) same ∙ is), elsewhere channels m state at cs differ all.1 is)
 
 -- no channel that a connection uses is releasing by another
 abbrev IsElsewhere : Controller → ℕ → Entry → Type 0
 IsElsewhere c n e = (at : Place) → channel_state c at ≡ Releasing n → IsOpen e.connection.state → AreElsewhere at (roles_of e.connection)
 
 own_elsewhere : (links : List Bool) (c : Controller) (e : Entry) (n : ℕ) → entry_of c e.connection.number ≡ Some e → Holds links c → IsElsewhere c n e
-own_elsewhere links c e n there holds at is is_open = elsewhere c.channels e.connection.number n at (e.connection.serving ∷ target_channels (roles_of e.connection).target) (owns_entry links c e there holds is_open).using is
+own_elsewhere links c e n there holds at is is_open = elsewhere c.channels e.connection.number (Releasing n) at (e.connection.serving ∷ target_channels (roles_of e.connection).target) (use≢release e.connection.number n) (owns_entry links c e there holds is_open).using is
 
 -- the channels are those of the controller, one perhaps freed
 row_keeps : (links : List Bool) (c : Controller) (channels : States) (e : Entry) (input : Input) (offer : Option Channel) (r : Row) (n : ℕ) → n ≢ e.connection.number → Stands e.connection → IsElsewhere c n e → row_of e.connection input offer ≡ Some r → Keeps n c.channels channels →

@@ -50,3 +50,4 @@ pub mod DownlinkLaw
 pub mod Placed
 pub mod Naming
 pub mod NamingLife
+pub mod Passing

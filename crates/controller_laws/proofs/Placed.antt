@@ -28,11 +28,11 @@ use Rattle.settings.specs.Parameters.{AreAllowed, Parameters}
 ApartOf : Connection → Type 0
 ApartOf s = IsOpen s.state → AreApart (used_channels s)
 
-ApartIn : Option Connection → Type 0
+pub ApartIn : Option Connection → Type 0
 ApartIn None = Unit {0}
 ApartIn (Some s) = ApartOf s
 
-owned_apart : (c : Controller) (n : ℕ) (o : Option Connection) → OwnsOpen c.channels c.links n o → ApartIn o
+pub owned_apart : (c : Controller) (n : ℕ) (o : Option Connection) → OwnsOpen c.channels c.links n o → ApartIn o
 unfolding ApartIn ApartOf
 owned_apart c n None owns = tt
 owned_apart c n (Some s) owns = λ is_open. used_apart s (owns is_open).apart
@@ -52,7 +52,7 @@ some_apart : (before : Option Connection) (old : Connection) → before ≡ Some
 unfolding ApartIn
 some_apart before old is apart = subst ApartIn is apart
 
-acts_placed : (number next : ℕ) (up : _) (brought : Brought) (before after : Option Connection) (put : List Message) → Acts number next up brought before put after → IsFine before → ApartIn before → ArePutOn (used_by before) put
+pub acts_placed : (number next : ℕ) (up : _) (brought : Brought) (before after : Option Connection) (put : List Message) → Acts number next up brought before put after → IsFine before → ApartIn before → ArePutOn (used_by before) put
 unfolding ApartOf
 acts_placed number next up brought before after put (rests silent same none) fine apart = nothing_put (used_by before) put silent
 acts_placed number next up brought before after put (ages old s is_time is aged silent same) fine apart = nothing_put (used_by before) put silent

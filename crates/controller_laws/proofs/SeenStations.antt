@@ -45,18 +45,26 @@ use Rattle.rsl_codec.specs.RslType.{rsl_discriminator, rsl_octet, type_of}
 
 -- ---- two messages in one frame
 
-is_request : Rsl → Bool
+pub is_request : Rsl → Bool
 is_request x = (rsl_discriminator (type_of x) == 3) && (rsl_octet (type_of x) == 1)
 
-request_is : (x : Rsl) → is_request x ≡ true → (r : DataMessage) × (x ≡ rsl.DataRequest r)
+pub request_is : (x : Rsl) → is_request x ≡ true → (r : DataMessage) × (x ≡ rsl.DataRequest r)
 unfolding is_request
 request_is (rsl.DataRequest r) is = (r, refl)
 request_is _ is = absurd (true≢false (sym is))
+
+pub request_known : (r : DataMessage) → is_request (rsl.DataRequest r) ≡ true
+unfolding is_request
+request_known r = refl
 
 hands_none : (x : Rsl) → is_request x ≡ false → (sapi : Sapi) → handed_by sapi (Ok x) ≡ []
 unfolding is_request
 hands_none (rsl.DataRequest r) is sapi = absurd (true≢false is)
 hands_none _ is sapi = refl
+
+pub same_channel : (r r' : DataMessage) → rsl_text (rsl.DataRequest r) ≡ rsl_text (rsl.DataRequest r') → r.channel ≡ r'.channel
+unfolding rsl_element_text
+same_channel r r' same = ap (λ (xs : List ℕ). slice_index_or xs 3 0) same
 
 same_request : (sapi : Sapi) (r r' : DataMessage) → rsl_text (rsl.DataRequest r) ≡ rsl_text (rsl.DataRequest r') → handed_by sapi (Ok (rsl.DataRequest r')) ≡ handed_by sapi (Ok (rsl.DataRequest r))
 unfolding rsl_element_text
@@ -66,7 +74,7 @@ same_request sapi r r' same =
     ap (λ (k : ℕ). if is_of sapi k && is_dtap r'.l3 then r'.l3 ∷ [] else []) (sym links)
     ∙ ap (λ (xs : List ℕ). if is_of sapi r.link && is_dtap xs then xs ∷ [] else []) (sym messages)
 
-same_kind : (x x' : Rsl) → rsl_text x ≡ rsl_text x' → is_request x ≡ is_request x'
+pub same_kind : (x x' : Rsl) → rsl_text x ≡ rsl_text x' → is_request x ≡ is_request x'
 unfolding is_request
 same_kind x x' same = ap (λ (xs : List ℕ). (slice_index_or xs 0 0 == 3) && (slice_index_or xs 1 0 == 1)) same
 

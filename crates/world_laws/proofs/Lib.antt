@@ -46,3 +46,4 @@ pub mod Acknowledged
 pub mod Handled
 pub mod Opening
 pub mod InOrder
+pub mod OthersFrame

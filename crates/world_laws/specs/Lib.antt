@@ -13,3 +13,4 @@ pub mod FromTheBeginning
 pub mod Acknowledged
 pub mod Handled
 pub mod InOrder
+pub mod OthersFrame

@@ -14,6 +14,7 @@ ghost use Rattle.relay_items.specs.declared.Item.{Item as ItemValue};
 ghost use Rattle.world_laws.specs.OwnFrame.{FrameIsHandled};
 ghost use Rattle.world_laws.specs.OwnHandle.{HandleKeepsLineUps, TimeAgesLineUps};
 ghost use Rattle.world_laws.specs.OwnItem.{InputKeepsLineUp};
+ghost use Rattle.world_laws.specs.OthersFrame.{FramesAreForOthers};
 ghost use Rattle.world_laws.specs.OwnRow.{OpeningLinesUp, RowKeepsLineUp};
 ghost use Rattle.world_laws.specs.Staying.{MobilesKeepLineUps, RelayLeavesOthers, StationBreaksKeepLineUps, StationsKeepLineUps, SwitchKeepsLineUps, TimeLeavesOthers};
 
@@ -46,6 +47,13 @@ pub fn station_breaks_keep_line_ups()
 pub fn relay_leaves_others()
     ensures handled { (settings : Parameters) (events : List WorldEvent) → RelayLeavesOthers settings events }
     ensures passed { (settings : Parameters) (events : List WorldEvent) (ms : ℕ) → TimeLeavesOthers settings events ms }
+{}
+
+/// Law: whatever events happened, what the controller puts by a frame that concerns another connection isn't the connection's: it
+/// carries none of its messages to the switch, and no command goes to its serving channel or to the target of its mobile. So it is
+/// with settings that are allowed, where what came was octets.
+pub fn frames_are_for_others()
+    ensures { (settings : Parameters) (events : List WorldEvent) → FramesAreForOthers settings events }
 {}
 
 /// Law: and it stays lined up when the controller handles an item for the connection itself, by the row that fits the input that

@@ -1,0 +1,149 @@
+-- What the controller puts by a frame is its connection's alone.
+use Rattle.std.proofs.Common.{◌≡◌, ◌≢◌, ℕ, ◌==◌, ◌&&◌, Bool, List, [], ◌∷◌, map, Option, Some, Result, Ok, Err, refl, sym, ap, ◌∙◌, subst, inl, inr}
+use Rattle.std.specs.List.{AllByRecursion, flat_map}
+use Rattle.std.specs.Result.{result_ok}
+use Rattle.std.proofs.lemmas.Bool.{cases_Bool, cond-false, eqb-true, ne_eqb}
+use Rattle.bssmap_codec.specs.SccpReading.{sccp_reading}
+use Rattle.conn_messages.specs.declared.channel.Channel.{Channel}
+use Rattle.conn_messages.specs.declared.message.Message.{Message}
+use Rattle.conn_messages.specs.declared.message.Message.TheVariants.{Station, Request, Data, ReleaseComplete}
+use Rattle.conn_messages.specs.declared.out.Out.{Out}
+use Rattle.conn_messages.specs.declared.parameters.TheConstants.{SWITCH_LINK}
+use Rattle.conn_messages.specs.Out.{out_of, outs_of}
+use Rattle.conn_table.specs.declared.state.Stage.TheVariants.{Active, Preparing, Changing, Draining}
+use Rattle.conn_table.specs.declared.state.State.{State}
+use Rattle.conn_table.specs.declared.state.State.TheVariants.{WaitActivation, WaitEstablish, WaitConfirm, Live, Closed, Removed}
+use Rattle.conn_table.specs.Connection.{Connection}
+use Rattle.conn_table.specs.Roles.{roles_of, target_channels, target_role}
+use Rattle.controller_laws.specs.History.{connection_of}
+use Rattle.controller_laws.specs.Owning.{Owns, OwnsOpen}
+use Rattle.controller_laws.specs.Sending.{IsSent}
+use Rattle.controller_laws.proofs.Acting.{conn_of}
+use Rattle.controller_laws.proofs.OwningLife.{life_owns}
+use Rattle.controller_laws.proofs.Passing.{IsNotOn, PassesBy, frame_passes, read_request}
+use Rattle.controller_laws.proofs.SeenFrames.{IsText, texts_back, texts_of}
+use Rattle.controller_laws.proofs.SoundLife.{life_sends}
+use Rattle.controller_table.specs.declared.channel_state.ChannelState.TheVariants.{InUse}
+use Rattle.controller_table.specs.declared.forwarded.Forwarded.{Forwarded}
+use Rattle.controller_table.specs.declared.step.Step.TheVariants.{Take}
+use Rattle.controller_table.specs.Controller.{Controller, channel_state, place_at, place_of}
+use Rattle.controller_table.specs.Life.{life, step, take}
+use Rattle.controller_table.specs.Ownership.{concerned}
+use Rattle.controller_table.specs.Reading.{word_of}
+use Rattle.controller_table.specs.Views.{forwarded, forwarded_by}
+use Rattle.relay_items.specs.declared.Item.{Item as RelayItem}
+use Rattle.relay_items.specs.declared.What.{What}
+use Rattle.relay_items.specs.declared.What.TheVariants as whats
+use Rattle.rsl_codec.specs.declared.fault.RslFault.{RslFault}
+use Rattle.rsl_codec.specs.declared.radio_link.Data.{Data as DataMessage}
+use Rattle.rsl_codec.specs.declared.rsl.Rsl.{Rsl}
+use Rattle.rsl_codec.specs.declared.rsl.Rsl.TheVariants as rsl
+use Rattle.rsl_codec.specs.RslReading.{rsl_reading}
+use Rattle.rsl_codec.specs.RslText.{rsl_text}
+use Rattle.settings.specs.Parameters.{AreAllowed, Parameters}
+use Rattle.world_table.specs.declared.event.Event.{Event}
+use Rattle.world_table.specs.declared.seat.Tenure.{Tenure}
+use Rattle.world_table.specs.Life.{actors_after_all}
+use Rattle.world_table.specs.Relay.{entry_of, target_in}
+use Rattle.world_table.specs.Stations.{rsl_in}
+use Rattle.world_table.specs.Steps.{all_steps}
+use Rattle.world_table.specs.World.{Actors, new_actors}
+use Rattle.world_table.proofs.Living.{LivesByTable-new}
+use Rattle.world_laws.specs.GoingDown.{leading, leading_by, leading_from_outbox}
+use Rattle.world_laws.specs.LineUps.{commanded_target}
+use Rattle.world_laws.specs.OthersFrame.{FramesAreForOthers}
+use Rattle.world_laws.specs.Seated.{commanded_channels}
+use Rattle.world_laws.specs.Staying.{IsForOthers, carried_for}
+use Rattle.world_laws.proofs.Others.{entry-out}
+
+-- ---- one output
+
+none-carried : (m n : ℕ) (message : Message) → m ≢ n → carried_for n (out_of m message) ≡ []
+unfolding forwarded
+none-carried m n message differ =
+    ap (λ (outs : List Out). map (λ (f : Forwarded). f.message) (flat_map (λ (out : Out). forwarded_by (sccp_reading out.frame.body)) outs))
+    (cond-false _ (out_of m message ∷ []) [] (ap (λ (b : Bool). b && ((out_of m message).to == SWITCH_LINK)) (ne_eqb (out_of m message).conn n (λ same. differ (sym (conn_of m message) ∙ same)))))
+
+-- no COMMAND on a channel that the message passes by
+none-leads : (m : ℕ) (c : Channel) (target : Option Tenure) (message : Message) → IsText m (out_of m message) → IsNotOn (place_of c) message → (out_of m message).to ≡ c.station → leading_by c.number target (rsl_in (out_of m message).frame) ≡ []
+unfolding out_of
+none-leads m c target (Station station x) text other to = by (rsl_reading (rsl_text x)) refl where
+  by : (r : Result Rsl RslFault) → rsl_reading (rsl_text x) ≡ r → leading_by c.number target (result_ok r) ≡ []
+  by (Ok (rsl.DataRequest d)) read = elim (cases_Bool (d.channel == c.number)) [
+    | inr miss ↦ cond-false _ (leading d.l3 target) [] miss
+    | inl hit ↦
+        let carries : (r : DataMessage) × (x ≡ rsl.DataRequest r) × (r.channel ≡ d.channel) = read_request m station x text.message text.put text.read d read in
+        let away : place_at station carries.0.channel ≢ place_of c = subst (λ (y : Rsl). IsNotOn (place_of c) (Station station y)) carries.1 other in
+        absurd (away (ap (λ (n : ℕ). place_at n carries.0.channel) to ∙ ap (place_at c.station) (carries.2 ∙ eqb-true d.channel c.number hit)))
+  ]
+  by (Ok _) read = refl
+  by (Err fault) read = refl
+none-leads m c target (Request message) text other to = refl
+none-leads m c target (Data destination message) text other to = refl
+none-leads m c target (ReleaseComplete destination) text other to = refl
+
+-- all channels of the list are passed by
+Passed : List Message → Channel → Type 0
+Passed put c = AllByRecursion (IsNotOn (place_of c)) put
+
+all-lead-none : (m : ℕ) (target : Option Tenure) (message : Message) (put : List Message) (cs : List Channel) → IsText m (out_of m message) → AllByRecursion (Passed (message ∷ put)) cs → AllByRecursion (λ c. (out_of m message).to ≡ c.station → leading_from_outbox c.number (entry_of target (out_of m message)) ≡ []) cs
+unfolding Passed
+all-lead-none m target message put [] text all = tt
+all-lead-none m target message put (c ∷ cs) text all = (
+  λ to. ap (λ (o : Out). leading_by c.number (entry_of target (out_of m message)).target (rsl_in o.frame)) (entry-out target (out_of m message)) ∙ none-leads m c (entry_of target (out_of m message)).target message text all.0.0 to,
+  all-lead-none m target message put cs text all.1,
+)
+
+behind-passed : (message : Message) (put : List Message) (cs : List Channel) → AllByRecursion (Passed (message ∷ put)) cs → AllByRecursion (Passed put) cs
+unfolding Passed
+behind-passed message put [] all = tt
+behind-passed message put (c ∷ cs) all = (all.0.1, behind-passed message put cs all.1)
+
+all-for-others : (m : ℕ) (target : Option Tenure) (s : Connection) (put : List Message) → m ≢ s.number → AllByRecursion (λ x. IsText m (out_of m x)) put → AllByRecursion (Passed put) (s.serving ∷ commanded_channels (commanded_target s.state)) → AllByRecursion (IsForOthers target s) (outs_of m put)
+all-for-others m target s [] differ texts passed = tt
+all-for-others m target s (message ∷ put) differ texts passed = (
+  record { carries = none-carried m s.number message differ; leads = all-lead-none m target message put (s.serving ∷ commanded_channels (commanded_target s.state)) texts.0 passed },
+  all-for-others m target s put differ texts.1 (behind-passed message put (s.serving ∷ commanded_channels (commanded_target s.state)) passed),
+)
+
+-- ---- the channels to that its mobile may be commanded are in use by it
+
+commanded-of : (P : Channel → Type 0) (state : State) → AllByRecursion P (target_channels (target_role state)) → AllByRecursion P (commanded_channels (commanded_target state))
+commanded-of P (Live reference Active) all = tt
+commanded-of P (Live reference (Preparing target)) all = tt
+commanded-of P (Live reference (Changing target)) all = all
+commanded-of P (Live reference Draining) all = tt
+commanded-of P WaitActivation all = tt
+commanded-of P WaitEstablish all = tt
+commanded-of P WaitConfirm all = tt
+commanded-of P (Closed clearing) all = tt
+commanded-of P Removed all = tt
+
+used-passed : (c : Controller) (n : ℕ) (put : List Message) (cs : List Channel) → ((at : _) → channel_state c at ≡ InUse n → AllByRecursion (IsNotOn at) put) → AllByRecursion (λ (x : Channel). channel_state c (place_of x) ≡ InUse n) cs → AllByRecursion (Passed put) cs
+unfolding Passed
+used-passed c n put [] passes used = tt
+used-passed c n put (x ∷ xs) passes used = (passes (place_of x) used.0, used-passed c n put xs passes used.1)
+
+-- ---- the law, over the life of a controller
+
+owns-of : (p : Parameters) (steps : _) (s : Connection) → AreAllowed p → connection_of (life p steps).next s.number ≡ Some s → OwnsOpen (life p steps).next.channels (life p steps).next.links s.number (Some s)
+owns-of p steps s allowed there = subst (OwnsOpen (life p steps).next.channels (life p steps).next.links s.number) there (life_owns p steps s.number allowed)
+
+pub FramesAreForOthers-new : (settings : Parameters) (events : List Event) → FramesAreForOthers settings events
+FramesAreForOthers-new settings events s item allowed octets had another =
+    let w : Actors = actors_after_all (new_actors settings) events in
+    let steps = all_steps (new_actors settings) events in
+    let c : Controller = (life settings steps).next in
+    let lives : w.controller ≡ c = LivesByTable-new settings events in
+    let own : RelayItem = record { source = item.source; what = whats.Frame another.frame } in
+    let same : item ≡ own = ap (λ (x : What). record { source = item.source; what = x }) another.is in
+    let concerns : concerned c (word_of item.source another.frame) ≡ Some another.other = subst (λ (d : Controller). concerned d (word_of item.source another.frame) ≡ Some another.other) lives another.concerns in
+    let there : connection_of c s.number ≡ Some s = subst (λ (d : Controller). connection_of d s.number ≡ Some s) lives had.there in
+    let passes : PassesBy s.number another.other c (Take own) = frame_passes settings steps s.number another.other item.source another.frame allowed had.from_one another.from_one another.differs concerns in
+    let owns : Owns c.channels c.links s.number (roles_of s) = owns-of settings steps s allowed there had.is_open in
+    let sent : AllByRecursion IsSent (step c (Take own)).outs = life_sends settings steps (Take own) allowed octets another.octets in
+    let texts : AllByRecursion (λ x. IsText another.other (out_of another.other x)) passes.put = texts_back another.other passes.put (subst (AllByRecursion (IsText another.other)) passes.own (texts_of another.other (step c (Take own)).outs another.from_one sent)) in
+    let all : AllByRecursion (IsForOthers (target_in w item.source item.what) s) (outs_of another.other passes.put) =
+    all-for-others another.other (target_in w item.source item.what) s passes.put (λ is. another.differs (sym is)) texts
+    (used-passed c s.number passes.put (s.serving ∷ commanded_channels (commanded_target s.state)) passes.passes (owns.using.0, commanded-of (λ (x : Channel). channel_state c (place_of x) ≡ InUse s.number) s.state owns.using.1)) in
+    subst (AllByRecursion (IsForOthers (target_in w item.source item.what) s)) (sym (ap (λ (d : Controller). (take item d).outs) lives ∙ ap (λ (i : RelayItem). (take i c).outs) same ∙ passes.outs)) all
