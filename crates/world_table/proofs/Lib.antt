@@ -22,3 +22,5 @@ mod StationRows
 pub mod Worlds
 pub mod Ticketing
 mod TicketRows
+mod OwnerRows
+pub mod OwnerLines
