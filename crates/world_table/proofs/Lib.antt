@@ -24,3 +24,5 @@ pub mod Ticketing
 mod TicketRows
 mod OwnerRows
 pub mod OwnerLines
+pub mod OwnerKeeping
+pub mod OwnerTenures
