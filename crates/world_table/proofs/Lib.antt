@@ -26,3 +26,4 @@ mod OwnerRows
 pub mod OwnerLines
 pub mod OwnerKeeping
 pub mod OwnerTenures
+pub mod OwnerEvents
