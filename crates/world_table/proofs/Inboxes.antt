@@ -52,7 +52,7 @@ took-stays w station target o v is = took-leads (Stays w) station target o v (re
 
 -- ---- an event: what stands there and what it puts is what it takes and what stands there then
 
-abbrev Goes : Actors → Event → Type 0
+abbrev pub Goes : Actors → Event → Type 0
 Goes w event = w.inbox ++ pushed w event ≡ popped w event ++ (actors_after w event).inbox
 
 quietly : (w : Actors) (o : Option Actors) → OfTaken (Stays w) o → w.inbox ++ [] ≡ (unwrap_or o w).inbox
@@ -92,7 +92,7 @@ handle-goes w [] is = sym is
 handle-goes w (item ∷ items) is =
     ap (λ (others : List Item). item ∷ others) (sym (turn-stays (target_in w item.source item.what) (take item w.controller) (record w { inbox = items })))
 
-inbox-goes : (w : Actors) (event : Event) → Goes w event
+pub inbox-goes : (w : Actors) (event : Event) → Goes w event
 unfolding event_after FromAir
 inbox-goes w (Upper number sapi message) = quietly w (after_upper w number sapi message) (upper-leads (Stays w) w number sapi message (λ p _. refl))
 inbox-goes w (Connect number station initial accepts) = quietly w (after_connecting w number station initial accepts) (connect-leads (Stays w) w number station initial accepts (λ _. refl))

@@ -22,3 +22,8 @@ mod StationRows
 pub mod Worlds
 pub mod Ticketing
 mod TicketRows
+mod OwnerRows
+pub mod OwnerLines
+pub mod OwnerKeeping
+pub mod OwnerTenures
+pub mod OwnerEvents

@@ -42,7 +42,7 @@ other_link w number other link differs = get_or-set_other w.links other number l
 -- ---- what an event does to a link
 
 -- it goes on: what stands there and what is put is what is taken and what stands there then; or it breaks
-data Step (link : ℕ) (w : Actors) (event : Event) (v : Actors) : Type 0 where
+pub data Step (link : ℕ) (w : Actors) (event : Event) (v : Actors) : Type 0 where
   goes : is_up v link ≡ is_up w link → outbox_of w link ++ put link w event ≡ taken link w event ++ outbox_of v link → Step link w event v
   breaks : link_of v link ≡ broken_link → put link w event ≡ [] → taken link w event ≡ [] → Step link w event v
 
@@ -276,7 +276,7 @@ break-step link source w = by_link (is_up w source) refl where
 
 -- ---- each event
 
-step : (link : ℕ) (w : Actors) (event : Event) → Step link w event (actors_after w event)
+pub step : (link : ℕ) (w : Actors) (event : Event) → Step link w event (actors_after w event)
 unfolding event_after FromAir
 step link w (Upper number sapi message) = quietly link w (Upper number sapi message) (after_upper w number sapi message) refl refl (upper-leads (Stays w) w number sapi message (λ p _. refl))
 step link w (Connect number station initial accepts) = quietly link w (Connect number station initial accepts) (after_connecting w number station initial accepts) refl refl (connect-leads (Stays w) w number station initial accepts (λ _. refl))

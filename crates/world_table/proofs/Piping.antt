@@ -99,7 +99,7 @@ seated-quiet n k w p tenure control n_is reached =
 
 -- ---- what an event does to the pipe
 
-data Step (n k : ℕ) (w : Actors) (event : Event) (v : Actors) : Type 0 where
+pub data Step (n k : ℕ) (w : Actors) (event : Event) (v : Actors) : Type 0 where
   flows : acknowledgements k (given n w event ++ (base_of v n).messages) ≡ acknowledgements k (base_of w n).messages ++ due k (is_active (base_of w n).active k) (taken n w event) → is_active (base_of v n).active k ≡ active_all k (is_active (base_of w n).active k) (taken n w event) → Step n k w event v
   stops : is_up v n ≡ false → (base_of v n).messages ≡ [] → outbox_of v n ≡ [] → given n w event ≡ [] → taken n w event ≡ [] → Step n k w event v
 
@@ -195,7 +195,7 @@ takes-flows n s k w o n_is there is takes =
 
 -- ---- each event
 
-step : (n k : ℕ) (w : Actors) (event : Event) → n ≢ 0 → n - 1 < length w.stations → (is_up w n ≡ false → outbox_of w n ≡ []) → Step n k w event (actors_after w event)
+pub step : (n k : ℕ) (w : Actors) (event : Event) → n ≢ 0 → n - 1 < length w.stations → (is_up w n ≡ false → outbox_of w n ≡ []) → Step n k w event (actors_after w event)
 unfolding event_after FromAir OfTaken
 step n k w (Upper number sapi message) n_is there none = quietly n k w (Upper number sapi message) (after_upper w number sapi message) refl refl (upper-leads (Quiet n k w) w number sapi message (λ p _. quiet-base refl))
 step n k w (Connect number station initial accepts) n_is there none =
@@ -230,14 +230,14 @@ step n k w (Report number report) n_is there none =
 
 -- ---- all events
 
-due-append : (k : ℕ) (active : Bool) (xs ys : List OutboxEntry) → due k active (xs ++ ys) ≡ due k active xs ++ due k (active_all k active xs) ys
+pub due-append : (k : ℕ) (active : Bool) (xs ys : List OutboxEntry) → due k active (xs ++ ys) ≡ due k active xs ++ due k (active_all k active xs) ys
 due-append k active [] ys = refl
 due-append k active (x ∷ xs) ys =
     let m : Option Rsl = rsl_in x.out.frame in
     ap (λ (ms : List Rsl). acknowledgement k active m ++ ms) (due-append k (is_active_then k active m) xs ys)
     ∙ sym (append_assoc (acknowledgement k active m) (due k (is_active_then k active m) xs) (due k (active_all k (is_active_then k active m) xs) ys))
 
-active-append : (k : ℕ) (active : Bool) (xs ys : List OutboxEntry) → active_all k active (xs ++ ys) ≡ active_all k (active_all k active xs) ys
+pub active-append : (k : ℕ) (active : Bool) (xs ys : List OutboxEntry) → active_all k active (xs ++ ys) ≡ active_all k (active_all k active xs) ys
 active-append k active [] ys = refl
 active-append k active (x ∷ xs) ys = active-append k (is_active_then k active (rsl_in x.out.frame)) xs ys
 
@@ -246,7 +246,7 @@ data Kept (n k : ℕ) (gave : List Rsl) (took_so_far : List OutboxEntry) (w : Ac
   works : acknowledgements k (gave ++ (base_of w n).messages) ≡ due k false took_so_far → is_active (base_of w n).active k ≡ active_all k false took_so_far → Kept n k gave took_so_far w
   rested : is_up w n ≡ false → outbox_of w n ≡ [] → acknowledgements k (base_of w n).messages ≡ [] → IsPrefix (acknowledgements k gave) (due k false took_so_far) → Kept n k gave took_so_far w
 
-acks-append : (k : ℕ) (xs ys : List Rsl) → acknowledgements k (xs ++ ys) ≡ acknowledgements k xs ++ acknowledgements k ys
+pub acks-append : (k : ℕ) (xs ys : List Rsl) → acknowledgements k (xs ++ ys) ≡ acknowledgements k xs ++ acknowledgements k ys
 acks-append k xs ys = filter-append (is_bound_of k) xs ys
 
 works-begins : (k : ℕ) (gave made : List Rsl) (ds : List Rsl) → acknowledgements k (gave ++ made) ≡ ds → IsPrefix (acknowledgements k gave) ds
@@ -298,7 +298,7 @@ length-stations_from : (from : ℕ) (cells : List CellParameters) → length (st
 length-stations_from from [] = refl
 length-stations_from from (cell ∷ cells) = ap suc (length-stations_from (from + 1) cells)
 
-new_end : (k from j : ℕ) (cells : List CellParameters) → (acknowledgements k (get_or (stations_from from cells) j no_station).base.messages ≡ []) × (is_active (get_or (stations_from from cells) j no_station).base.active k ≡ false)
+pub new_end : (k from j : ℕ) (cells : List CellParameters) → (acknowledgements k (get_or (stations_from from cells) j no_station).base.messages ≡ []) × (is_active (get_or (stations_from from cells) j no_station).base.active k ≡ false)
 new_end k from j [] = (refl, refl)
 new_end k from zero (cell ∷ cells) = (refl, refl)
 new_end k from (suc j) (cell ∷ cells) = new_end k (from + 1) j cells

@@ -53,7 +53,7 @@ set-spots (first ∷ stations) zero (suc j) station same = refl
 set-spots (first ∷ stations) (suc k) zero station same = refl
 set-spots (first ∷ stations) (suc k) (suc j) station same = set-spots stations k j station same
 
-spot-with_base : (n : ℕ) (base : BaseState) (w : Actors) (at : Place) → spot_at (with_base n base w) at ≡ spot_at w at
+pub spot-with_base : (n : ℕ) (base : BaseState) (w : Actors) (at : Place) → spot_at (with_base n base w) at ≡ spot_at w at
 spot-with_base n base w at = ap (λ (spots : List Spot). slice_index_or spots at.number new_spot) (set-spots w.stations (n - 1) (at.station - 1) _ refl)
 
 spots-here : (spots : List Spot) (k : ℕ) (spot : Spot) → (slice_index_or (set spots k spot) k new_spot ≡ spot) ⊎ (slice_index_or (set spots k spot) k new_spot ≡ slice_index_or spots k new_spot)
@@ -69,7 +69,7 @@ spots-elsewhere (first ∷ spots) (suc k) zero spot differ = refl
 spots-elsewhere (first ∷ spots) (suc k) (suc j) spot differ = spots-elsewhere spots k j spot (λ same. differ (ap suc same))
 
 -- one channel is set: of its station it is the one, and else as it was
-set-at : (w : Actors) (p : Place) (spot : Spot) → (spot_at (with_spot p spot w) p ≡ spot) ⊎ (spot_at (with_spot p spot w) p ≡ spot_at w p)
+pub set-at : (w : Actors) (p : Place) (spot : Spot) → (spot_at (with_spot p spot w) p ≡ spot) ⊎ (spot_at (with_spot p spot w) p ≡ spot_at w p)
 set-at w p spot =
     let station : Station = record (station_of w p.station) { spots = set (station_of w p.station).spots p.number spot } in
     elim (set-or-not w.stations (p.station - 1) station) [
@@ -92,7 +92,7 @@ number-else w p spot number differ =
     ]
 
 -- what holds of all channels, where one is set
-spot-all : (P : Place → Spot → Type 0) (w : Actors) (p : Place) (spot : Spot) → p.station ≢ 0 → P p spot → ((at : Place) → at.station ≢ 0 → P at (spot_at w at)) → (at : Place) → at.station ≢ 0 → P at (spot_at (with_spot p spot w) at)
+pub spot-all : (P : Place → Spot → Type 0) (w : Actors) (p : Place) (spot : Spot) → p.station ≢ 0 → P p spot → ((at : Place) → at.station ≢ 0 → P at (spot_at w at)) → (at : Place) → at.station ≢ 0 → P at (spot_at (with_spot p spot w) at)
 spot-all P w p spot p_is here all at at_is =
     elim (cases_Bool (nat_eq at.station p.station)) [
       | inr other ↦ subst (P at) (sym (ap (λ (s : Station). slice_index_or s.spots at.number new_spot) (set-elsewhere w.stations (p.station - 1) (at.station - 1) _ (less-one at.station p.station at_is p_is (eqb-false at.station p.station other))))) (all at at_is)
@@ -160,7 +160,7 @@ on-own owner number tenure (Some command) sits = sits.0
 reached-is : (w : Actors) (tenure : Tenure) → is_reached w tenure ≡ true → record { at = tenure.at; number = (spot_at w tenure.at).tenure } ≡ tenure
 reached-is w tenure reached = ap (λ (n : ℕ). record { at = tenure.at; number = n }) (eqb-true (spot_at w tenure.at).tenure tenure.number (and-right (is_station_up w tenure.at.station && is_active_at w tenure.at) ((spot_at w tenure.at).tenure == tenure.number) reached))
 
-reached-station : (w : Actors) (tenure : Tenure) → is_reached w tenure ≡ true → tenure.at.station ≢ 0
+pub reached-station : (w : Actors) (tenure : Tenure) → is_reached w tenure ≡ true → tenure.at.station ≢ 0
 reached-station w tenure reached = (up-right tenure.at.station w (reached-up w tenure reached).0).0
 
 remembers : (owner : Tenure → ℕ) (p : Mobile) (change : Change) (target here : Tenure) (seat : Seat) → p.seat ≡ seat → owner target ≡ p.number → SitsBy owner p.number seat → SitsBy owner p.number (remembering p change target seat).seat

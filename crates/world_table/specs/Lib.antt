@@ -15,3 +15,4 @@ pub mod Sized
 pub mod Takes
 pub mod Lists
 pub mod Tickets
+pub mod OwnerLines
