@@ -64,12 +64,17 @@ static void tell(const char *variable, long count) {
     fclose(file);
   }
 }
-void _exit(int status) {
-  static void (*real)(int) __attribute__((noreturn));
+/* A program with threads ends by `_exit`; one without returns from `main`, and then the C library runs this and calls an
+   `_exit` of its own. */
+__attribute__((destructor)) static void tell_all(void) {
   long left = live;
   long all = calls;
   tell("LIVE", left);
   tell("CALLS", all);
+}
+void _exit(int status) {
+  static void (*real)(int) __attribute__((noreturn));
+  tell_all();
   real = dlsym(RTLD_NEXT, "_exit");
   real(status);
 }
