@@ -111,7 +111,7 @@ cleared-same number (suc n) (x ∷ cs) c is = by_peer (is_of_peer number x) (cle
   by_peer true others = refl
   by_peer false others = others
 
-clear-same : (number n : ℕ) (cs : List SwitchConnection) → taken_in (find (is_of_peer number) (connections_after_clear cs n (connection_of cs n))) ≡ taken_in (find (is_of_peer number) cs)
+pub clear-same : (number n : ℕ) (cs : List SwitchConnection) → taken_in (find (is_of_peer number) (connections_after_clear cs n (connection_of cs n))) ≡ taken_in (find (is_of_peer number) cs)
 clear-same number n cs = by_number (nat_eq n 0) where
   by_connection : (o : Option SwitchConnection) → slice_get cs (n - 1) ≡ o → taken_in (find (is_of_peer number) (connections_after_clear cs n o)) ≡ taken_in (find (is_of_peer number) cs)
   by_connection None is = refl

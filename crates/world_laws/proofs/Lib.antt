@@ -47,3 +47,7 @@ pub mod Handled
 pub mod Opening
 pub mod InOrder
 pub mod OthersFrame
+pub mod SentGrows
+pub mod SwitchTook
+pub mod Ending
+mod EndedRows

@@ -36,6 +36,7 @@ use Rattle.world_table.specs.World.{Actors, Mobile, World, mobile_of, new_link, 
 use Rattle.world_table.proofs.Rows.{opened}
 use Rattle.world_table.proofs.Worlds.{on_literals, after_all}
 use Rattle.world_laws.specs.ComingUp.{coming_up}
+use Rattle.world_laws.specs.Ended.{HasEnded}
 use Rattle.world_laws.specs.GoingDown.{going_down}
 use Rattle.world_laws.specs.LineUps.{taken_of, line_up}
 use Rattle.controller_table.specs.Views.{forwarded}
@@ -43,6 +44,7 @@ use Rattle.world_laws.specs.Seated.{LinedUp, Sits}
 use Rattle.world_laws.specs.Seated.Remembers.{nothing}
 use Rattle.world_laws.specs.Seated.Sits.{stays}
 use Rattle.world_laws.specs.Staying.{is_beside_relay, carried_for, IsForOthers}
+use Rattle.world_laws.proofs.Ending.{EndedAreInOrder-new}
 
 -- of a mobile and a connection of these numbers
 abbrev line_up_of : World → ℕ → ℕ → Option LineUp
@@ -355,3 +357,10 @@ command_on_another_channel = record { carries = refl; leads = ((λ h. refl), tt)
 command_at_another_station : IsForOthers leads_to one (command_on 2 0x0a)
 unfolding on_literals forwarded
 command_at_another_station = record { carries = refl; leads = ((λ h. absurd cc), tt) }
+
+-- ---- a connection that closed
+
+-- where the switch took the third message without the second, it isn't in order
+skipping_is_out_of_order : HasEnded 4 (actors ((0x05 ∷ 0x24 ∷ 0x71 ∷ []) ∷ (0x03 ∷ 0x8f ∷ []) ∷ [])) 1 1 → ⊥
+unfolding on_literals forwarded
+skipping_is_out_of_order ended = let order = (EndedAreInOrder-new 4 (actors ((0x05 ∷ 0x24 ∷ 0x71 ∷ []) ∷ (0x03 ∷ 0x8f ∷ []) ∷ [])) 1 1 (omega arith) ended).no_gap in cc

@@ -7,6 +7,7 @@ ghost use Rattle.settings.specs.Parameters.{Parameters};
 ghost use Rattle.world_table.specs.declared.event.Event.{Event as WorldEvent};
 ghost use Rattle.world_table.specs.World.{Actors};
 ghost use Rattle.world_laws.specs.Acknowledged.{AcksFlow, AllAcksTell};
+ghost use Rattle.world_laws.specs.Ended.{EndedAreInOrder, EndedStayInOrder, LineUpsMayEnd};
 ghost use Rattle.world_laws.specs.FromTheBeginning.{ConnectionsStand, MessagesAreWhole};
 ghost use Rattle.world_laws.specs.Handled.{FramesKeepLineUps};
 ghost use Rattle.world_laws.specs.InOrder.{LineUpsAreInOrder};
@@ -120,4 +121,13 @@ pub fn opening_lines_up()
 /// order, and judged no gap.
 pub fn line_ups_are_in_order()
     ensures { (m : ℕ) (w : Actors) (mobile : ℕ) (s : Connection) → LineUpsAreInOrder m w mobile s }
+{}
+
+/// Law: a connection that is lined up may close or go. What the switch took of it, and what waits for it, is then in order, and stays
+/// so whatever happens, where the switch takes entries as they were put and no more of it is put. Of it, too, the switch accepted the
+/// first messages that its mobile's upper layers sent, once and in order, and judged no gap.
+pub fn ended_connections_stay_in_order()
+    ensures ends { (m : ℕ) (w : Actors) (mobile : ℕ) (s : Connection) → LineUpsMayEnd m w mobile s }
+    ensures stays { (settings : Parameters) (events : List WorldEvent) (event : WorldEvent) → EndedStayInOrder settings events event }
+    ensures accepted { (m : ℕ) (w : Actors) (mobile : ℕ) (number : ℕ) → EndedAreInOrder m w mobile number }
 {}

@@ -1,0 +1,63 @@
+-- A connection that ends while a message of it waits for the switch.
+use Rattle.std.proofs.Common.{◌≡◌, ℕ, List, [], ◌∷◌, map, Some, refl}
+use Rattle.dtap_codec.specs.declared.sapi.Sapi.TheVariants.{Zero, Three}
+use Rattle.dtap_codec.specs.Places.{Carries}
+use Rattle.dtap_codec.specs.Places.Rise.{over, next}
+use Rattle.controller_table.specs.Views.{forwarded}
+use Rattle.lineup.specs.LineUp.{flow}
+use Rattle.world_table.specs.declared.event.Event.TheVariants.{Upper, AirUp, AirAck, BasePush, BaseDown, Handle, SwitchTakes}
+use Rattle.world_table.specs.Queues.{put}
+use Rattle.world_table.specs.World.{World}
+use Rattle.world_table.proofs.Rows.{opened}
+use Rattle.world_table.proofs.Worlds.{on_literals, after_all}
+use Rattle.world_laws.specs.Ended.{HasEnded, PutsNoMore}
+use Rattle.world_laws.specs.LineUps.{taken_of, waiting_of}
+use Rattle.world_laws.specs.Staying.{carried_for}
+
+-- the second message of the mobile waits for the switch, which took the first
+abbrev waiting : World
+waiting = after_all opened (Upper 1 Zero (0x03 ∷ 0x05 ∷ []) ∷ AirUp 1 Zero ∷ Upper 1 Three (0x09 ∷ 0x01 ∷ []) ∷ AirUp 1 Three ∷ BasePush 1 ∷ Handle ∷ BasePush 1 ∷ Handle ∷ BasePush 1 ∷ Handle ∷ [])
+
+taken : flow (taken_of (waiting).actors 1) ≡ (0x05 ∷ 0x24 ∷ 0x71 ∷ []) ∷ []
+unfolding on_literals forwarded
+taken = refl
+
+-- a short message behind it is none of the flow
+waits : waiting_of (waiting).actors 1 ≡ (0x03 ∷ 0x45 ∷ []) ∷ (0x09 ∷ 0x01 ∷ []) ∷ []
+unfolding on_literals forwarded
+waits = refl
+
+waits_of_the_flow : flow (waiting_of (waiting).actors 1) ≡ (0x03 ∷ 0x45 ∷ []) ∷ []
+unfolding on_literals forwarded
+waits_of_the_flow = refl
+
+first : Carries 4 ((0x05 ∷ 0x24 ∷ 0x71 ∷ []) ∷ (0x03 ∷ 0x05 ∷ []) ∷ []) 0 (0x05 ∷ 0x24 ∷ 0x71 ∷ [])
+first = record { message = 0x05 ∷ 0x24 ∷ 0x71 ∷ []; is_sent = refl; is_clear = record { is_flow = refl; cleared = refl }; carries = refl }
+
+second : Carries 4 ((0x05 ∷ 0x24 ∷ 0x71 ∷ []) ∷ (0x03 ∷ 0x05 ∷ []) ∷ []) 1 (0x03 ∷ 0x45 ∷ [])
+second = record { message = 0x03 ∷ 0x05 ∷ []; is_sent = refl; is_clear = record { is_flow = refl; cleared = refl }; carries = refl }
+
+-- both are the first that it sent
+ends_in_order : HasEnded 4 (waiting).actors 1 1
+unfolding on_literals forwarded
+ends_in_order = record { one = _; found = refl; in_order = (2, next first (next second (over 2))) }
+
+-- ---- what the switch takes, and what the controller puts
+
+as_it_was_put : taken_of (after_all waiting (SwitchTakes ∷ [])).actors 1 ≡ (0x05 ∷ 0x24 ∷ 0x71 ∷ []) ∷ (0x03 ∷ 0x45 ∷ []) ∷ []
+unfolding on_literals forwarded
+as_it_was_put = refl
+
+no_more_at_a_break : PutsNoMore (waiting).actors 1 (BaseDown 1)
+unfolding on_literals forwarded
+no_more_at_a_break = tt
+
+-- one more is put where its message is handled
+one_more : map (λ entry. carried_for 1 entry.out) (put 0 (after_all waiting (Upper 1 Zero (0x03 ∷ 0x0f ∷ []) ∷ AirAck 1 Zero ∷ AirUp 1 Zero ∷ BasePush 1 ∷ [])).actors Handle) ≡ ((0x03 ∷ 0x8f ∷ []) ∷ []) ∷ []
+unfolding on_literals forwarded
+one_more = refl
+
+-- but not while the link of the switch is down
+none_at_a_broken_link : put 0 (after_all waiting (Upper 1 Zero (0x03 ∷ 0x0f ∷ []) ∷ AirAck 1 Zero ∷ AirUp 1 Zero ∷ BasePush 1 ∷ BaseDown 0 ∷ [])).actors Handle ≡ []
+unfolding on_literals forwarded
+none_at_a_broken_link = refl

@@ -1,0 +1,50 @@
+-- A connection that closed or went: what of it can still come to the switch stands in the outbox there.
+use Rattle.std.specs.Prelude.{◌≡◌, ℕ, ◌≤◌, List, [], ◌∷◌, map, Some}
+use Rattle.std.specs.List.{AllByRecursion}
+use Rattle.conn_messages.specs.declared.parameters.TheConstants.{SWITCH_LINK}
+use Rattle.conn_table.specs.Connection.{Connection}
+use Rattle.lineup.specs.LineUp.{flow}
+use Rattle.lineup.specs.Order.{Ended, IsInOrder}
+use Rattle.settings.specs.Parameters.{Parameters}
+use Rattle.world_table.specs.declared.event.Event.{Event}
+use Rattle.world_table.specs.declared.event.Event.TheVariants.{SwitchTakes}
+use Rattle.world_table.specs.Life.{actors_after, actors_after_all}
+use Rattle.world_table.specs.Queues.{put}
+use Rattle.world_table.specs.World.{Actors, Mobile, mobile_of, modulus_in, new_actors, outbox_of}
+use Rattle.world_laws.specs.LineUps.{taken_of, waiting_of}
+use Rattle.world_laws.specs.Staying.{AreLinedUp, DeliversFirst, carried_for}
+
+-- What the switch took of the connection, and what waits for it, are messages of this mobile, in order.
+pub record HasEnded (m : ℕ) (w : Actors) (mobile number : ℕ) : Type 0 where
+  pub one : Mobile
+  pub found : mobile_of w mobile ≡ Some one
+  pub in_order : Ended m one.end.sent (flow (waiting_of w number)) (flow (taken_of w number))
+
+-- ---- it ends
+
+-- A connection that is lined up may close or go.
+abbrev pub LineUpsMayEnd : ℕ → Actors → ℕ → Connection → Type 0
+LineUpsMayEnd m w mobile s = AreLinedUp m w mobile s → HasEnded m w mobile s.number
+
+-- ---- and stays in order
+
+-- what the switch takes of it is taken as it was put
+abbrev pub DeliversAt : Actors → ℕ → Event → Type 0
+DeliversAt w number SwitchTakes = DeliversFirst w number (outbox_of w SWITCH_LINK)
+DeliversAt w number _ = Unit {0}
+
+-- the controller puts no more of it for the switch
+abbrev pub PutsNoMore : Actors → ℕ → Event → Type 0
+PutsNoMore w number event = AllByRecursion (λ entry. carried_for number entry.out ≡ []) (put SWITCH_LINK w event)
+
+-- whatever happened before
+abbrev pub EndedStayInOrder : Parameters → List Event → Event → Type 0
+EndedStayInOrder settings events event =
+    (mobile number : ℕ) → DeliversAt (actors_after_all (new_actors settings) events) number event → PutsNoMore (actors_after_all (new_actors settings) events) number event
+    → HasEnded (modulus_in settings) (actors_after_all (new_actors settings) events) mobile number
+    → HasEnded (modulus_in settings) (actors_after (actors_after_all (new_actors settings) events) event) mobile number
+
+-- ---- what the switch accepted
+
+abbrev pub EndedAreInOrder : ℕ → Actors → ℕ → ℕ → Type 0
+EndedAreInOrder m w mobile number = 2 ≤ m → (ended : HasEnded m w mobile number) → IsInOrder m ended.one.end.sent (taken_of w number) (flow (waiting_of w number))
