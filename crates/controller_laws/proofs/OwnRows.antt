@@ -26,28 +26,28 @@ use Rattle.controller_table.specs.Life.{new_averages, pong, step}
 use Rattle.rsl_codec.specs.declared.rsl.Rsl.TheVariants.{ImmediateAssignCommand}
 use Rattle.rsl_codec.specs.declared.values.RequestReference.{RequestReference}
 
-abbrev entry : Connection → Entry
+abbrev pub entry : Connection → Entry
 entry s = record { connection = s; averages = new_averages usual_settings s.serving }
 
 -- connection 7 serves on 41 of station 1, another on 49
-abbrev own : Connection
+abbrev pub own : Connection
 own = record (connection (Live 5 Active)) { draining = [] }
 
-abbrev other : Connection
+abbrev pub other : Connection
 other = record own { number = 8; serving = channel 1 0x49 }
 
 -- these channels of station 1 are in a state
-abbrev with_channels : List ChannelState → List Connection → Controller
+abbrev pub with_channels : List ChannelState → List Connection → Controller
 with_channels channels connections = record (new_controller usual_settings) { channels = free_channels ∷ channels ∷ free_channels ∷ []; entries = map entry connections; next_number = 9 }
 
 -- 41 is in use by 7, 49 by 8; 0A is releasing by 7, 09 by 8
-abbrev channels : List ChannelState
+abbrev pub channels : List ChannelState
 channels = set (set (set (set free_channels 0x41 (InUse 7)) 0x49 (InUse 8)) 0x0a (Releasing 7)) 0x09 (Releasing 8)
 
-abbrev busy : Controller
+abbrev pub busy : Controller
 busy = with_channels channels (own ∷ other ∷ [])
 
-abbrev out_for : ℕ → Out
+abbrev pub out_for : ℕ → Out
 out_for number = record { to = 1; conn = number; frame = record { stream = 0x00; body = 1 ∷ [] } }
 
 -- ---- what is left of a connection
