@@ -1,16 +1,23 @@
 -- Definitions against literal values: two cells, and connections with the numbers 7 and 9.
-use Rattle.std.proofs.Common.{◌≡◌, ℕ, true, false, [], ◌∷◌, map, Some, None, codes, refl, arith}
+use Rattle.std.proofs.Common.{◌≡◌, ℕ, zero, suc, true, false, List, [], ◌∷◌, length, map, Option, Some, None, codes, refl, sym, ap, arith, true≢false}
+use Rattle.conn_fsm.specs.PlanState.{PlanState}
+use Rattle.conn_messages.specs.declared.channel.Change.TheVariants.{Handover}
 use Rattle.conn_messages.specs.declared.channel.Channel.{Channel}
-use Rattle.conn_table.specs.declared.input.Input.TheVariants.{Move}
-use Rattle.conn_table.specs.declared.state.State.TheVariants.{Removed}
-use Rattle.conn_table.specs.Connection.{emptied}
+use Rattle.conn_messages.specs.declared.out.Out.{Out}
+use Rattle.conn_table.specs.declared.input.Input.TheVariants as inputs
+use Rattle.conn_table.specs.declared.state.Stage.TheVariants.{Preparing}
+use Rattle.conn_table.specs.declared.state.State.TheVariants.{Live, Removed, WaitEstablish}
+use Rattle.conn_table.specs.Connection.{Connection, emptied}
 use Rattle.conn_table.specs.Steps.{row}
-use Rattle.controller_table.specs.Controller.{Entry}
-use Rattle.controller_table.specs.Life.{new_entry}
-use Rattle.ho_decision.specs.declared.decision.Decision.TheVariants.{Stay}
-use Rattle.settings.specs.Parameters.{CellParameters, Parameters}
-use Rattle.connections.specs.Entries.{AreRising, IsBelow, IsOfCell, IsOffer, decision_over_all, decision_with}
-use Rattle.connections.specs.Steps.{StepsFor, all_after, all_with_report}
+use Rattle.controller_table.specs.Controller.{Entry, place_at}
+use Rattle.controller_table.specs.Life.{new_entry, pong}
+use Rattle.controller_table.proofs.OnLiterals.{on_literals}
+use Rattle.dtap_codec.specs.declared.report.Report.{Report}
+use Rattle.ho_decision.specs.declared.decision.Decision.TheVariants.{Move, Stay}
+use Rattle.ho_decision.specs.Settings.{Settings as HandoverSettings}
+use Rattle.settings.specs.Parameters.{CellParameters, Parameters, handover_settings_of}
+use Rattle.connections.specs.Entries.{AreHandovers, AreKept, AreOfFirst, AreRising, IsBelow, IsKept, IsOfCell, IsOffer, decision_over_all, decision_with}
+use Rattle.connections.specs.Steps.{CommitsFor, IsLeft, IsPlanFor, StepsFor, all_after, all_with_report}
 
 abbrev cell : ℕ → CellParameters
 cell identity = record { listen = codes "a"; location_area_code = 1; cell_identity = identity; arfcn = 20; bsic = record { ncc = 1; bcc = 1 }; channels = 0x41 ∷ [] }
@@ -94,7 +101,7 @@ averages_begin_anew = refl
 averages_stay : map (λ e. e.averages.number) (all_after usual_settings (reported ∷ []) reported (Some (row [] (record reported.connection { waited = 3 })))) ≡ 4 ∷ []
 averages_stay = refl
 
-does_none : StepsFor usual_settings None Move None false (entry 7 ∷ []) (entry 7 ∷ []) [] []
+does_none : StepsFor usual_settings None inputs.Move None false (entry 7 ∷ []) (entry 7 ∷ []) [] []
 does_none = (refl, record { entries = refl; outputs = refl })
 
 report_of_none : all_with_report 4 (record { ba_used = 0; dtx_used = false; rxlev_full = 1; valid = true; rxlev_sub = 2; rxqual_full = 3; rxqual_sub = 4; no_ncell = 0; entries = [] }) None (entry 7 ∷ []) ≡ entry 7 ∷ []
@@ -108,3 +115,138 @@ stays_where_there_is_none = refl
 
 stays_without_a_report : decision_over_all (entry 7) ≡ Stay
 stays_without_a_report = refl
+
+-- ---- a step of one connection, which waits for the activation of 41
+
+-- a refusal removes it, and nothing is put
+does_one : StepsFor usual_settings (Some (entry 7)) (inputs.ActivationNack (place_at 1 0x41)) None true (entry 7 ∷ entry 9 ∷ []) (entry 9 ∷ []) (pong 1 ∷ []) (pong 1 ∷ [])
+unfolding on_literals
+does_one = (refl, record { entries = refl; outputs = refl; sound = tt })
+
+not_without_the_answer : StepsFor usual_settings (Some (entry 7)) (inputs.ActivationNack (place_at 1 0x41)) None false (entry 7 ∷ []) [] [] [] → ⊥
+unfolding on_literals
+not_without_the_answer steps = true≢false (sym steps.0)
+
+not_for_nothing : StepsFor usual_settings (Some (entry 7)) (inputs.ActivationNack (place_at 1 0x41)) None true (entry 7 ∷ entry 9 ∷ []) (entry 7 ∷ entry 9 ∷ []) [] [] → ⊥
+unfolding on_literals
+not_for_nothing steps = let same : 2 ≡ 1 = ap (λ (es : List Entry). length es) steps.1.entries in absurd (omega (arith, same))
+
+-- the acknowledgement puts an IMMEDIATE ASSIGN COMMAND
+not_without_its_frame : StepsFor usual_settings (Some (entry 7)) (inputs.ActivationAck (place_at 1 0x41)) None true (entry 7 ∷ []) (record (entry 7) { connection = record (entry 7).connection { state = WaitEstablish } } ∷ []) (pong 1 ∷ []) (pong 1 ∷ []) → ⊥
+unfolding on_literals
+not_without_its_frame steps = let same : 1 ≡ 2 = ap (λ (outs : List Out). length outs) steps.1.outputs in absurd (omega (arith, same))
+
+-- no row fits the acknowledgement of another channel
+does_no_row : StepsFor usual_settings (Some (entry 7)) (inputs.ActivationAck (place_at 1 0x49)) None false (entry 7 ∷ entry 9 ∷ []) (entry 7 ∷ entry 9 ∷ []) [] []
+unfolding on_literals
+does_no_row = (refl, record { entries = refl; outputs = refl; sound = tt })
+
+-- where there is none, nothing changes
+not_of_none : StepsFor usual_settings None (inputs.ActivationNack (place_at 1 0x41)) None false (entry 7 ∷ []) [] [] [] → ⊥
+not_of_none steps = let same : 0 ≡ 1 = ap (λ (es : List Entry). length es) steps.1.entries in absurd (omega (arith, same))
+
+puts_nothing_of_none : IsLeft [] [] [] (pong 1 ∷ []) → ⊥
+puts_nothing_of_none left = let same : 1 ≡ 0 = ap (λ (outs : List Out). length outs) left.outputs in absurd (omega (arith, same))
+
+-- ---- a plan
+
+abbrev plan : PlanState
+plan = record { outs = []; last = Some Removed; was = (entry 7).connection; input = inputs.StationDown 1 }
+
+planned_for_it : IsPlanFor plan (Some (record (entry 7) { connection = record (entry 7).connection { waited = 100 } }))
+planned_for_it = refl
+
+planned_for_nobody : IsPlanFor plan None → ⊥
+planned_for_nobody is = is
+
+planned_for_no_other : IsPlanFor plan (Some (entry 9)) → ⊥
+planned_for_no_other is = let same : 9 ≡ 7 = ap (λ (s : Connection). s.number) is in absurd (omega (arith, same))
+
+-- the break of its station removes it; that of another changes nothing
+commits_a_break : CommitsFor usual_settings (Some (entry 7)) (inputs.StationDown 1) (entry 7 ∷ entry 9 ∷ []) (entry 9 ∷ []) []
+unfolding on_literals
+commits_a_break = record { entries = refl; outputs = refl; sound = tt }
+
+commits_another_break : CommitsFor usual_settings (Some (entry 7)) (inputs.StationDown 2) (entry 7 ∷ entry 9 ∷ []) (entry 7 ∷ entry 9 ∷ []) []
+unfolding on_literals
+commits_another_break = record { entries = refl; outputs = refl; sound = tt }
+
+-- the break of the switch's link puts RF CHANNEL RELEASE
+not_without_its_release : CommitsFor usual_settings (Some (entry 7)) inputs.SwitchDown (entry 7 ∷ []) [] [] → ⊥
+unfolding on_literals
+not_without_its_release commits = let same : 0 ≡ 1 = ap (λ (outs : List Out). length outs) commits.outputs in absurd (omega (arith, same))
+
+commits_for_nobody : CommitsFor usual_settings None inputs.SwitchDown [] [] [] → ⊥
+commits_for_nobody commits = commits
+
+-- ---- what holds of the connections
+
+is_kept : IsKept usual_settings (entry 7)
+is_kept = record { serving = (omega arith, omega arith); target = tt; averages = refl }
+
+not_at_no_cell : IsKept usual_settings (record (entry 7) { connection = record (entry 7).connection { serving = channel 3 0x41 } }) → ⊥
+not_at_no_cell kept = omega (arith, kept.serving.1)
+
+-- to 0A of a cell that isn't there
+abbrev to_no_cell : Entry
+to_no_cell = record (entry 7) { connection = record (entry 7).connection { state = Live 5 (Preparing (record { change = Handover; channel = channel 3 0x0a })) } }
+
+not_to_no_cell : IsKept usual_settings to_no_cell → ⊥
+not_to_no_cell kept = omega (arith, kept.target.0.1)
+
+-- the averages are for the serving cell
+not_by_another : IsKept usual_settings (record (entry 7) { connection = record (entry 7).connection { serving = channel 2 0x41 } }) → ⊥
+not_by_another kept = let same : 1 ≡ 2 = ap (λ (s : HandoverSettings). s.serving) kept.averages in absurd (omega (arith, same))
+
+are_kept : AreKept usual_settings (entry 7 ∷ entry 9 ∷ [])
+are_kept = record { each = (is_kept, (record { serving = (omega arith, omega arith); target = tt; averages = refl }, tt)); rising = ((omega arith, tt), (tt, tt)) }
+
+not_in_another_order : AreKept usual_settings (entry 9 ∷ entry 7 ∷ []) → ⊥
+not_in_another_order kept = omega (arith, kept.rising.0.0)
+
+-- ---- the settings of the decision, by the cell that serves
+
+for_each_cell : AreHandovers usual_settings (handover_settings_of usual_settings 1 ∷ handover_settings_of usual_settings 2 ∷ [])
+for_each_cell = record { count = refl; each = each } where
+  each : AreOfFirst usual_settings (handover_settings_of usual_settings 1 ∷ handover_settings_of usual_settings 2 ∷ [])
+  each zero below = refl
+  each (suc zero) below = refl
+  each (suc (suc place)) below = absurd (omega (arith, below))
+
+not_for_one : AreHandovers usual_settings (handover_settings_of usual_settings 1 ∷ []) → ⊥
+not_for_one handovers = omega (arith, handovers.count)
+
+abbrev serving_of : Option HandoverSettings → ℕ
+serving_of None = 0
+serving_of (Some s) = s.serving
+
+not_the_other_way_round : AreOfFirst usual_settings (handover_settings_of usual_settings 2 ∷ handover_settings_of usual_settings 1 ∷ []) → ⊥
+not_the_other_way_round of_first = let same : 2 ≡ 1 = ap serving_of (of_first 0 (omega arith)) in absurd (omega (arith, same))
+
+-- ---- the decision with one report more: by every sixth number, 23 against 20 and a hysteresis of 3
+
+abbrev neighbour : ℕ → Report
+neighbour rxlev = record { ba_used = 0; dtx_used = false; rxlev_full = 20; valid = true; rxlev_sub = 20; rxqual_full = 0; rxqual_sub = 0; no_ncell = 1; entries = record { rxlev = rxlev; bcch_freq = 0; bsic = 18 } ∷ [] }
+
+abbrev two_airs : Parameters
+two_airs = record usual_settings { cells = cell 1 ∷ record (cell 2) { arfcn = 30; bsic = record { ncc = 2; bcc = 2 } } ∷ [] }
+
+abbrev at_the_first : Entry
+at_the_first = new_entry two_airs 7 (channel 1 0x41) (record { access = 0x7f; frame = 0x0102 }) 5
+
+moves_with_it : decision_with 5 (neighbour 23) (Some at_the_first) ≡ Move 2
+moves_with_it = refl
+
+stays_below_the_bound : decision_with 5 (neighbour 22) (Some at_the_first) ≡ Stay
+stays_below_the_bound = refl
+
+stays_between : decision_with 4 (neighbour 23) (Some at_the_first) ≡ Stay
+stays_between = refl
+
+-- with what was reported before: 20 and 23 are 21 on the average
+stays_on_the_average : decision_with 5 (neighbour 23) (Some (record at_the_first { averages = record at_the_first.averages { reports = neighbour 20 ∷ [] } })) ≡ Stay
+stays_on_the_average = refl
+
+-- the number is that of the last report
+decides_by_the_last : decision_over_all (record at_the_first { averages = record at_the_first.averages { reports = neighbour 23 ∷ []; number = 11 } }) ≡ Move 2
+decides_by_the_last = refl

@@ -1,5 +1,5 @@
 -- What a call makes of the controller and of the outputs, and what comes to its connections, against literal values.
-use Rattle.std.proofs.Common.{◌≡◌, ℕ, true, false, List, [], ◌∷◌, map, replicate, Some, None, refl, sym, ap, arith}
+use Rattle.std.proofs.Common.{◌≡◌, ℕ, Bool, true, false, List, [], ◌∷◌, map, replicate, Some, None, refl, sym, ap, arith}
 use Rattle.conn_messages.specs.declared.channel.Change.TheVariants.{Assignment, Handover}
 use Rattle.conn_messages.specs.declared.channel.Channel.{Channel}
 use Rattle.conn_messages.specs.declared.out.Out.{Out}
@@ -16,6 +16,7 @@ use Rattle.controller.specs.declared.many.Cause.TheVariants.{Time, Break}
 use Rattle.controller.specs.Doing.{Stays, Turns, by_offer, fits_in, fits_with}
 use Rattle.controller.specs.Many.{AreReady, Due, IsReadyFor, all_due, due, due_of}
 use Rattle.controller.specs.Offers.{HasCell, awaits, may_begin}
+use Rattle.controller.specs.Rest.{is_at_rest}
 use Rattle.controller.specs.Standing.{IsStanding}
 use Rattle.dtap_codec.specs.declared.sapi.Sapi.TheVariants.{Zero}
 use Rattle.ho_decision.specs.declared.decision.Decision.TheVariants.{Stay, Move}
@@ -243,3 +244,17 @@ number_of_25_bits standing = omega (arith, standing.numbers)
 
 link_is_missing : IsStanding usual_settings one_connection (true ∷ true ∷ []) 8 → ⊥
 link_is_missing standing = omega (arith, standing.links)
+
+-- ---- at rest: every link is down, and no connection is left
+
+abbrev broken : Controller
+broken = record fresh { links = false ∷ false ∷ false ∷ [] }
+
+rests : is_at_rest broken ≡ true
+rests = refl
+
+not_while_one_is_up : map (λ (links : List Bool). is_at_rest (record fresh { links = links })) ((true ∷ false ∷ false ∷ []) ∷ (false ∷ true ∷ false ∷ []) ∷ (false ∷ false ∷ true ∷ []) ∷ []) ≡ replicate 3 false
+not_while_one_is_up = refl
+
+not_with_a_connection : is_at_rest (record broken { entries = entry 7 ∷ [] }) ≡ false
+not_with_a_connection = refl

@@ -1,5 +1,5 @@
 -- A controller that has nothing left to do.
-use Rattle.std.specs.Prelude.{ℕ, ◌==◌, ◌&&◌, Bool, true, false, List, [], ◌∷◌, length}
+use Rattle.std.specs.Prelude.{◌==◌, ◌&&◌, Bool, true, false, List, [], ◌∷◌, length}
 use Rattle.controller_table.specs.Controller.{Controller}
 
 -- whether each link is up

@@ -43,6 +43,11 @@ pub mod Concerning
 mod UsedRows
 mod SentRows
 mod OwnRows
+mod ActRows
+mod EndRows
+mod HistoryRows
+mod NumberRows
+mod OwnedRows
 pub mod SeenFrames
 pub mod Keeping
 pub mod SeenStations

@@ -7,6 +7,7 @@ use Rattle.conn_messages.specs.declared.message.Message.TheVariants.{Station}
 use Rattle.conn_messages.specs.declared.out.Out.{Out}
 use Rattle.conn_messages.specs.Out.{outs_of}
 use Rattle.conn_messages.specs.StationMessage.{channel_release, immediate_assign_command, rf_channel_release}
+use Rattle.conn_table.specs.declared.input.Input.TheVariants as inputs
 use Rattle.conn_table.specs.declared.state.Clearing.TheVariants.{Asked}
 use Rattle.conn_table.specs.declared.state.Stage.TheVariants.{Active, Changing}
 use Rattle.conn_table.specs.declared.state.State.TheVariants.{Closed, Live, WaitActivation, WaitEstablish}
@@ -21,33 +22,39 @@ use Rattle.controller_table.proofs.OnLiterals.{on_literals}
 use Rattle.controller_table.specs.declared.channel_state.ChannelState.{ChannelState}
 use Rattle.controller_table.specs.declared.channel_state.ChannelState.TheVariants.{Free, InUse, Releasing}
 use Rattle.controller_table.specs.declared.step.Step.{Step}
+use Rattle.controller_table.specs.declared.word.Word.TheVariants.{Asks, Nothing, OnChannel, OnConnection, Ping, Reports}
 use Rattle.controller_table.specs.Controller.{Controller, Entry, free_channels, new_controller, place_at, turn}
 use Rattle.controller_table.specs.Life.{new_averages, pong, step}
+use Rattle.controller_table.specs.Ownership.{concerned}
+use Rattle.dtap_codec.specs.declared.report.Report.{Report}
 use Rattle.rsl_codec.specs.declared.rsl.Rsl.TheVariants.{ImmediateAssignCommand}
 use Rattle.rsl_codec.specs.declared.values.RequestReference.{RequestReference}
 
-abbrev entry : Connection → Entry
+abbrev pub entry : Connection → Entry
 entry s = record { connection = s; averages = new_averages usual_settings s.serving }
 
 -- connection 7 serves on 41 of station 1, another on 49
-abbrev own : Connection
+abbrev pub own : Connection
 own = record (connection (Live 5 Active)) { draining = [] }
 
-abbrev other : Connection
+abbrev pub other : Connection
 other = record own { number = 8; serving = channel 1 0x49 }
 
 -- these channels of station 1 are in a state
-abbrev with_channels : List ChannelState → List Connection → Controller
+abbrev pub with_channels : List ChannelState → List Connection → Controller
 with_channels channels connections = record (new_controller usual_settings) { channels = free_channels ∷ channels ∷ free_channels ∷ []; entries = map entry connections; next_number = 9 }
 
 -- 41 is in use by 7, 49 by 8; 0A is releasing by 7, 09 by 8
-abbrev channels : List ChannelState
+abbrev pub channels : List ChannelState
 channels = set (set (set (set free_channels 0x41 (InUse 7)) 0x49 (InUse 8)) 0x0a (Releasing 7)) 0x09 (Releasing 8)
 
-abbrev busy : Controller
+abbrev pub busy : Controller
 busy = with_channels channels (own ∷ other ∷ [])
 
-abbrev out_for : ℕ → Out
+abbrev no_report : Report
+no_report = record { ba_used = 0; dtx_used = false; rxlev_full = 0; valid = true; rxlev_sub = 0; rxqual_full = 0; rxqual_sub = 0; no_ncell = 0; entries = [] }
+
+abbrev pub out_for : ℕ → Out
 out_for number = record { to = 1; conn = number; frame = record { stream = 0x00; body = 1 ∷ [] } }
 
 -- ---- what is left of a connection
@@ -87,6 +94,31 @@ not_where_its_old_channel_is_freed left = absurd (cc ((left.releasing (place_at 
 
 not_where_another_is_releasing : IsLeft 7 busy (turn [] (with_channels (set channels 0x09 (Releasing 7)) (own ∷ other ∷ []))) → ⊥
 not_where_another_is_releasing left = absurd (cc ((left.releasing (place_at 1 0x09)).0 refl))
+
+-- ---- whom a frame concerns: the connection that has the channel or had it, the next one, that of its number
+
+concerns_who_has_the_channel : concerned busy (OnChannel (place_at 1 0x49) (inputs.ReleaseAck (place_at 1 0x49))) ≡ Some 8
+concerns_who_has_the_channel = refl
+
+concerns_who_releases_it : concerned busy (OnChannel (place_at 1 0x0a) (inputs.ReleaseAck (place_at 1 0x0a))) ≡ Some 7
+concerns_who_releases_it = refl
+
+concerns_nobody_on_a_free_channel : concerned busy (OnChannel (place_at 2 0x41) (inputs.ReleaseAck (place_at 2 0x41))) ≡ None
+concerns_nobody_on_a_free_channel = refl
+
+-- the channel of the report counts
+concerns_who_is_measured : concerned busy (Reports (place_at 1 0x41) 8 no_report) ≡ Some 7
+concerns_who_is_measured = refl
+
+concerns_the_next : concerned busy (Asks (record { access = 0x7f; frame = 0x0102 }) 8) ≡ Some 9
+concerns_the_next = refl
+
+-- also where there is none
+concerns_its_number : concerned busy (OnConnection 6 inputs.ClearCommand) ≡ Some 6
+concerns_its_number = refl
+
+concerns_nobody : map (concerned busy) (Nothing ∷ Ping ∷ []) ≡ None ∷ None ∷ []
+concerns_nobody = refl
 
 -- ---- a frame leaves all that it doesn't concern: RF CHANNEL RELEASE ACK of 0A, which 7 released
 
