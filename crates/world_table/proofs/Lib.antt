@@ -27,3 +27,5 @@ pub mod OwnerLines
 pub mod OwnerKeeping
 pub mod OwnerTenures
 pub mod OwnerEvents
+pub mod OwnerPuts
+pub mod OwnerTakes

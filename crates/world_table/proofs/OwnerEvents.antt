@@ -55,7 +55,7 @@ came at w event at_is pops good =
     ∙ acks-append at.number (flat_map (said at.station) w.inbox) (flat_map (said at.station) (pushed w event))
     ∙ ap (λ (ms : List Rsl). acknowledged_in at w.inbox ++ acknowledgements at.number ms) (said-pushed at.station w event at_is good)
 
-rests-keep : (owner : Tenure → ℕ) (at : Place) (w : Actors) (event : Event) → IsThere at w → Good w → Rests at w event → Agrees owner w at → Agrees owner (actors_after w event) at
+pub rests-keep : (owner : Tenure → ℕ) (at : Place) (w : Actors) (event : Event) → IsThere at w → Good w → Rests at w event → Agrees owner w at → Agrees owner (actors_after w event) at
 rests-keep owner at w event there good rests agrees = by (outbox-step n w event) (pipe-step n k w event there.station there.among there.none) where
   v : Actors
   v = actors_after w event
