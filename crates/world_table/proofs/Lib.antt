@@ -29,3 +29,5 @@ pub mod OwnerTenures
 pub mod OwnerEvents
 pub mod OwnerPuts
 pub mod OwnerTakes
+pub mod OwnerTurn
+pub mod OwnerRuns

@@ -24,7 +24,7 @@ use Rattle.world_table.specs.World.{Actors, Spot, Station, base_of, is_active_at
 use Rattle.world_table.proofs.Heard.{Good}
 use Rattle.world_table.proofs.Honesty.{up-right}
 use Rattle.world_table.proofs.Leads.{OfTaken, Seats, after-taken, assigned-leads, base_takes-leads, took-leads, unless_last-leads}
-use Rattle.world_table.proofs.OwnerEvents.{IsThere, rests-keep}
+use Rattle.world_table.proofs.OwnerEvents.{IsThere, Rests, rests-keep}
 use Rattle.world_table.proofs.OwnerTenures.{HaveSpots, set-spotted, spotted-at}
 use Rattle.world_table.proofs.Ticketing.{spot-all, spot-with_base}
 
@@ -206,10 +206,13 @@ taken-tenure owner at w s there all agrees = elim (cases_Bool (nat_eq s at.stati
       ∙ ap (tenure_all at.number (is_active_at w at) (spot_at w at).tenure) (sym (ap (λ (b : Bool). if b then (if is_some (after_base_takes w s) then first_of (outbox_of w at.station) else []) else []) miss))
 ]
 
-pub takes-keep : (owner : Tenure → ℕ) (at : Place) (w : Actors) (s : ℕ) → IsThere at w → Good w → HaveSpots w → Agrees owner w at → Agrees owner (actors_after w (BaseTakes s)) at
-takes-keep owner at w s there good all agrees = rests-keep owner at w (BaseTakes s) there good (record {
+pub takes-rests : (owner : Tenure → ℕ) (at : Place) (w : Actors) (s : ℕ) → IsThere at w → HaveSpots w → Agrees owner w at → Rests at w (BaseTakes s)
+takes-rests owner at w s there all agrees = record {
   outputs = refl;
   pops = refl;
   controller = kept-controller w s;
   tenure = taken-tenure owner at w s there all agrees;
-}) agrees
+}
+
+pub takes-keep : (owner : Tenure → ℕ) (at : Place) (w : Actors) (s : ℕ) → IsThere at w → Good w → HaveSpots w → Agrees owner w at → Agrees owner (actors_after w (BaseTakes s)) at
+takes-keep owner at w s there good all agrees = rests-keep owner at w (BaseTakes s) there good (takes-rests owner at w s there all agrees) agrees
