@@ -27,3 +27,7 @@ pub mod OwnerLines
 pub mod OwnerKeeping
 pub mod OwnerTenures
 pub mod OwnerEvents
+pub mod OwnerPuts
+pub mod OwnerTakes
+pub mod OwnerTurn
+pub mod OwnerRuns

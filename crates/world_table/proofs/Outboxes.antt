@@ -133,15 +133,15 @@ joins link target w out =
       }
 
 -- all outputs of a step
-record AllJoin (link : ℕ) (target : Option Tenure) (w : Actors) (outs : List Out) (v : Actors) : Type 0 where
-  up : is_up v link ≡ is_up w link
-  outbox : outbox_of v link ≡ outbox_of w link ++ (if is_up w link then to_link link (map (entry_of target) outs) else [])
+pub record AllJoin (link : ℕ) (target : Option Tenure) (w : Actors) (outs : List Out) (v : Actors) : Type 0 where
+  pub up : is_up v link ≡ is_up w link
+  pub outbox : outbox_of v link ≡ outbox_of w link ++ (if is_up w link then to_link link (map (entry_of target) outs) else [])
 
 both : (b : Bool) (link : ℕ) (first : OutboxEntry) (others : List OutboxEntry) → (if b then to_link link (first ∷ []) else []) ++ (if b then to_link link others else []) ≡ (if b then to_link link (first ∷ others) else [])
 both true link first others = sym (filter-append (λ entry. entry.out.to == link) (first ∷ []) others)
 both false link first others = refl
 
-all_join : (link : ℕ) (target : Option Tenure) (outs : List Out) (w : Actors) → AllJoin link target w outs (fold (joined_by target) w outs)
+pub all_join : (link : ℕ) (target : Option Tenure) (outs : List Out) (w : Actors) → AllJoin link target w outs (fold (joined_by target) w outs)
 all_join link target [] w = record { up = refl; outbox = none_joins link w (is_up w link) }
 all_join link target (out ∷ outs) w =
     let one : Joins link target w out (joined_by target w out) = joins link target w out in

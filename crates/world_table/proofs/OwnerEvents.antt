@@ -55,7 +55,7 @@ came at w event at_is pops good =
     ∙ acks-append at.number (flat_map (said at.station) w.inbox) (flat_map (said at.station) (pushed w event))
     ∙ ap (λ (ms : List Rsl). acknowledged_in at w.inbox ++ acknowledgements at.number ms) (said-pushed at.station w event at_is good)
 
-rests-keep : (owner : Tenure → ℕ) (at : Place) (w : Actors) (event : Event) → IsThere at w → Good w → Rests at w event → Agrees owner w at → Agrees owner (actors_after w event) at
+pub rests-keep : (owner : Tenure → ℕ) (at : Place) (w : Actors) (event : Event) → IsThere at w → Good w → Rests at w event → Agrees owner w at → Agrees owner (actors_after w event) at
 rests-keep owner at w event there good rests agrees = by (outbox-step n w event) (pipe-step n k w event there.station there.among there.none) where
   v : Actors
   v = actors_after w event
@@ -153,13 +153,16 @@ none-taken n w (BaseTakes station) n_is is = absurd cc
 none-taken n w SwitchTakes n_is is = ap (λ (b : Bool). if b then (if is_some (event_after w SwitchTakes) then first_of (outbox_of w n) else []) else []) (ne_eqb SWITCH_LINK n (λ same. n_is (sym same)))
 none-taken n w _ n_is is = refl
 
--- Each of them keeps the agreement of each channel.
-pub beside-keeps : (owner : Tenure → ℕ) (at : Place) (w : Actors) (event : Event) → is_beside event ≡ true → IsThere at w → Good w → Agrees owner w at → Agrees owner (actors_after w event) at
-beside-keeps owner at w event is there good agrees =
+pub beside-rests : (at : Place) (w : Actors) (event : Event) → is_beside event ≡ true → IsThere at w → Rests at w event
+beside-rests at w event is there =
     let b = beside-step w event is in
-    rests-keep owner at w event there good (record {
+    record {
       outputs = no-outputs w event is;
       pops = no-pops w event is;
       controller = b.controller;
       tenure = b.tenures at there.station ∙ sym (ap (tenure_all at.number (is_active_at w at) (spot_at w at).tenure) (none-taken at.station w event there.station is));
-    }) agrees
+    }
+
+-- Each of them keeps the agreement of each channel.
+pub beside-keeps : (owner : Tenure → ℕ) (at : Place) (w : Actors) (event : Event) → is_beside event ≡ true → IsThere at w → Good w → Agrees owner w at → Agrees owner (actors_after w event) at
+beside-keeps owner at w event is there good agrees = rests-keep owner at w event there good (beside-rests at w event is there) agrees

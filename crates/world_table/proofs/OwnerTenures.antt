@@ -28,7 +28,7 @@ HasSpots s = length s.spots ≡ CHANNEL_NUMBERS
 abbrev pub HaveSpots : Actors → Type 0
 HaveSpots w = AllByRecursion HasSpots w.stations
 
-set-spotted : (stations : List Station) (k : ℕ) (station : Station) → length station.spots ≡ length (get_or stations k no_station).spots → AllByRecursion HasSpots stations → AllByRecursion HasSpots (set stations k station)
+pub set-spotted : (stations : List Station) (k : ℕ) (station : Station) → length station.spots ≡ length (get_or stations k no_station).spots → AllByRecursion HasSpots stations → AllByRecursion HasSpots (set stations k station)
 set-spotted [] k station same all = tt
 set-spotted (first ∷ stations) zero station same all = (same ∙ all.0, all.1)
 set-spotted (first ∷ stations) (suc k) station same all = (all.0, set-spotted stations k station same all.1)
@@ -49,7 +49,7 @@ pub beside-itself : (w : Actors) → Beside w w
 beside-itself w = record { tenures = λ at at_is. refl; controller = refl; spots = λ all. all }
 
 -- an end of a station changes
-based : {w u : Actors} (n : ℕ) (base : BaseState) → Beside w u → Beside w (with_base n base u)
+pub based : {w u : Actors} (n : ℕ) (base : BaseState) → Beside w u → Beside w (with_base n base u)
 based {w} {u} n base b = record {
   tenures = λ at at_is. ap (λ (s : Spot). s.tenure) (spot-with_base n base u at) ∙ b.tenures at at_is;
   controller = b.controller;
@@ -57,7 +57,7 @@ based {w} {u} n base b = record {
 }
 
 -- a channel changes, but not its tenure
-spotted : {w u : Actors} (p : Place) (spot : Spot) → p.station ≢ SWITCH_LINK → spot.tenure ≡ (spot_at u p).tenure → Beside w u → Beside w (with_spot p spot u)
+pub spotted : {w u : Actors} (p : Place) (spot : Spot) → p.station ≢ SWITCH_LINK → spot.tenure ≡ (spot_at u p).tenure → Beside w u → Beside w (with_spot p spot u)
 spotted {w} {u} p spot p_is same b = record {
   tenures = spot-all (λ (at : Place) (s : Spot). s.tenure ≡ (spot_at w at).tenure) u p spot p_is (same ∙ b.tenures p p_is) b.tenures;
   controller = b.controller;
@@ -65,7 +65,7 @@ spotted {w} {u} p spot p_is same b = record {
 }
 
 -- a mobile changes
-put : {w u : Actors} (p : Mobile) → Beside w u → Beside w (with_mobile p u)
+pub put : {w u : Actors} (p : Mobile) → Beside w u → Beside w (with_mobile p u)
 put p b = record { tenures = b.tenures; controller = b.controller; spots = b.spots }
 
 brought-beside : (w : Actors) (p : Mobile) (tenure : Tenure) (sapi : Sapi) (frame : List ℕ) → tenure.at.station ≢ SWITCH_LINK → Beside w (brought w p tenure.at sapi frame)

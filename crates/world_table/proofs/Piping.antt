@@ -294,7 +294,7 @@ kept-all n k gave took_so_far w (event ∷ events) n_is there none kept =
 
 -- ---- from the beginning
 
-length-stations_from : (from : ℕ) (cells : List CellParameters) → length (stations_from from cells) ≡ length cells
+pub length-stations_from : (from : ℕ) (cells : List CellParameters) → length (stations_from from cells) ≡ length cells
 length-stations_from from [] = refl
 length-stations_from from (cell ∷ cells) = ap suc (length-stations_from (from + 1) cells)
 

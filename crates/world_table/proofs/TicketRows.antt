@@ -5,12 +5,12 @@ use Rattle.controller_table.specs.Controller.{place_at}
 use Rattle.controller_table.proofs.Lives.{usual_settings}
 use Rattle.dtap_codec.specs.declared.sapi.Sapi.TheVariants.{Zero}
 use Rattle.world_table.specs.declared.event.Event.{Event}
-use Rattle.world_table.specs.declared.event.Event.TheVariants.{Connect, AirUp, BaseTakes, BasePush, Handle}
+use Rattle.world_table.specs.declared.event.Event.TheVariants.{Connect, AirUp, BaseTakes, BasePush, Handle, BaseDown}
 use Rattle.world_table.specs.declared.seat.Seat.TheVariants.{Asking, On, Moving, Gone}
 use Rattle.world_table.specs.declared.seat.Tenure.{Tenure}
-use Rattle.world_table.specs.Tickets.{IsBy, LeadsBy, SitsBy, on_seat, senders}
+use Rattle.world_table.specs.Tickets.{IsBy, LeadsBy, SitsBy, TakesFirstBy, on_seat, senders}
 use Rattle.world_table.specs.Life.{actors_after_all}
-use Rattle.world_table.specs.World.{Actors, new_actors}
+use Rattle.world_table.specs.World.{Actors, new_actors, outbox_of}
 use Rattle.world_table.proofs.Worlds.{on_literals}
 
 begin : Actors
@@ -54,11 +54,16 @@ told = actors_after_all begin asking
 -- the IMMEDIATE ASSIGNMENT of channel 41 names mobile 1, and its tenure is the first
 agrees : IsBy (λ t. if t.at.number == 0x41 then t.number else 0) told (BaseTakes 1)
 unfolding on_literals begin told
-agrees = refl
+agrees = λ up. refl
 
-names_another : IsBy (λ t. 2) told (BaseTakes 1) → ⊥
+names_another : TakesFirstBy (λ t. 2) told 1 (outbox_of told 1) → ⊥
 unfolding on_literals begin told
 names_another is = cc
+
+-- where the link is down it takes nothing
+takes_nothing : IsBy (λ t. 2) (actors_after_all told (BaseDown 1 ∷ [])) (BaseTakes 1)
+unfolding on_literals begin told
+takes_nothing = λ up. absurd cc
 
 -- a command agrees where its target is of the mobile to which it is handed
 leads : LeadsBy (λ t. t.at.number) (tenure 0x41 3) (Some (tenure 0x41 5))

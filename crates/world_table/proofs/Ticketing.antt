@@ -315,7 +315,7 @@ sits-step owner w (Return number) by sits =
     put (record p { end = after_arrival p.end (failure command.change); seat = On from None }) (subst (SitsBy owner p.number) seat (sits-of number sits found)).0 (based from.at.station _ sits)))
 sits-step owner w (BaseTakes station) by sits =
     after-sits owner w (after_base_takes w station) sits (base_takes-leads (Sits owner) w station (λ first others up is.
-    took-sits owner (with_outbox station others w) station first.target (rsl_in first.out.frame) (up-right station w up).0 (took-by first others is) (same-sits sits refl (λ at. refl))))
+    took-sits owner (with_outbox station others w) station first.target (rsl_in first.out.frame) (up-right station w up).0 (took-by first others up is) (same-sits sits refl (λ at. refl))))
   where
     -- the outbox doesn't matter to it
     same-takes : (target : Option Tenure) (others : List OutboxEntry) (o : Option Rsl) → TakesBy owner w station target o → TakesBy owner (with_outbox station others w) station target o
@@ -329,8 +329,8 @@ sits-step owner w (BaseTakes station) by sits =
     same-takes target others None takes = tt
     same-takes target others (Some _) takes = tt
 
-    took-by : (first : OutboxEntry) (others : List OutboxEntry) → outbox_of w station ≡ first ∷ others → TakesBy owner (with_outbox station others w) station first.target (rsl_in first.out.frame)
-    took-by first others is = same-takes first.target others (rsl_in first.out.frame) (first-takes owner w station (outbox_of w station) first others is by)
+    took-by : (first : OutboxEntry) (others : List OutboxEntry) → is_station_up w station ≡ true → outbox_of w station ≡ first ∷ others → TakesBy owner (with_outbox station others w) station first.target (rsl_in first.out.frame)
+    took-by first others up is = same-takes first.target others (rsl_in first.out.frame) (first-takes owner w station (outbox_of w station) first others is (by up))
 sits-step owner w (BasePush source) by sits =
     after-sits owner w (after_base_push w source) sits (push-leads (Sits owner) w source (λ first others. same-sits sits refl (λ at. refl)) (λ message _. same-sits sits refl (λ at. spot-with_base source _ w at)))
 sits-step owner w Handle by sits =

@@ -16,3 +16,4 @@ pub mod Takes
 pub mod Lists
 pub mod Tickets
 pub mod OwnerLines
+pub mod Owners

@@ -1,5 +1,5 @@
 -- One mobile per tenure: what stations take, and where mobiles are, where a tenure of a channel is one mobile's.
-use Rattle.std.specs.Prelude.{◌≡◌, ℕ, if◌then◌else◌, is_some, List, [], ◌∷◌, ◌++◌, slice_index_or, Contains, Option, Some, None, Result, Ok}
+use Rattle.std.specs.Prelude.{◌≡◌, ℕ, true, if◌then◌else◌, is_some, List, [], ◌∷◌, ◌++◌, slice_index_or, Contains, Option, Some, None, Result, Ok}
 use Rattle.std.specs.List.{AllByRecursion}
 use Rattle.controller_table.specs.Controller.{place_at}
 use Rattle.dtap_codec.specs.declared.rr.RrMessage.{RrMessage}
@@ -16,7 +16,7 @@ use Rattle.world_table.specs.declared.seat.Seat.TheVariants.{On, Moving}
 use Rattle.world_table.specs.declared.seat.Tenure.{Tenure}
 use Rattle.world_table.specs.Life.{actors_after, event_after}
 use Rattle.world_table.specs.Stations.{rsl_in}
-use Rattle.world_table.specs.World.{Actors, Mobile, mobile_of, outbox_of, tenure_at}
+use Rattle.world_table.specs.World.{Actors, Mobile, is_station_up, mobile_of, outbox_of, tenure_at}
 
 -- ---- where mobiles are
 
@@ -52,9 +52,9 @@ abbrev pub TakesFirstBy : (Tenure → ℕ) → Actors → ℕ → List OutboxEnt
 TakesFirstBy owner w station [] = Unit {0}
 TakesFirstBy owner w station (first ∷ others) = TakesBy owner w station first.target (rsl_in first.out.frame)
 
--- at an event, and at all these
+-- at an event, where the link of the station is up, and at all these
 abbrev pub IsBy : (Tenure → ℕ) → Actors → Event → Type 0
-IsBy owner w (BaseTakes station) = TakesFirstBy owner w station (outbox_of w station)
+IsBy owner w (BaseTakes station) = is_station_up w station ≡ true → TakesFirstBy owner w station (outbox_of w station)
 IsBy owner w _ = Unit {0}
 
 abbrev pub AllAreBy : (Tenure → ℕ) → Actors → List Event → Type 0
