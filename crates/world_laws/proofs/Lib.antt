@@ -47,3 +47,6 @@ pub mod Handled
 pub mod Opening
 pub mod InOrder
 pub mod OthersFrame
+pub mod SapiThree
+pub mod SapiThreeHeld
+mod SapiThreeRows

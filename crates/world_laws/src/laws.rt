@@ -17,6 +17,7 @@ ghost use Rattle.world_laws.specs.OwnItem.{InputKeepsLineUp};
 ghost use Rattle.world_laws.specs.OthersFrame.{FramesAreForOthers};
 ghost use Rattle.world_laws.specs.OwnRow.{OpeningLinesUp, RowKeepsLineUp};
 ghost use Rattle.world_laws.specs.Staying.{MobilesKeepLineUps, RelayLeavesOthers, StationBreaksKeepLineUps, StationsKeepLineUps, SwitchKeepsLineUps, TimeLeavesOthers};
+ghost use Rattle.world_laws.specs.SapiThree.{FlowComesOnSapiZero};
 
 /// Law: whatever events happened, a connection that is lined up with its mobile, and whose channels no other mobile is on, stays
 /// lined up at what mobiles do, at what stations take from them and give to the inbox, and at what the switch does of its own.
@@ -120,4 +121,10 @@ pub fn opening_lines_up()
 /// order, and judged no gap.
 pub fn line_ups_are_in_order()
     ensures { (m : ℕ) (w : Actors) (mobile : ℕ) (s : Connection) → LineUpsAreInOrder m w mobile s }
+{}
+
+/// Law: whatever events happened, no message of the flow came to the controller on SAPI 3, none waits in the inbox there, and none
+/// is held there of a connection that is open. So SAPI 0 alone carries the flow.
+pub fn flow_comes_on_sapi_zero()
+    ensures { (settings : Parameters) (events : List WorldEvent) → FlowComesOnSapiZero settings events }
 {}
