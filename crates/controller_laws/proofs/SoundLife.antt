@@ -114,7 +114,7 @@ pub record SoundParts (s : Connection) : Type 0 where
   pub targets : AllByRecursion IsSoundChannel (target_in s.state)
   pub refers : Refers s.state
 
-pub SoundOf : Option Connection → Type 0
+unfoldable pub SoundOf : Option Connection → Type 0
 SoundOf None = Unit {0}
 SoundOf (Some s) = SoundParts s
 

@@ -50,3 +50,4 @@ pub mod OthersFrame
 pub mod SapiThree
 pub mod SapiThreeHeld
 mod SapiThreeRows
+pub mod PutAsRead

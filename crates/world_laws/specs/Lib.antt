@@ -15,3 +15,4 @@ pub mod Handled
 pub mod InOrder
 pub mod OthersFrame
 pub mod SapiThree
+pub mod PutAsRead

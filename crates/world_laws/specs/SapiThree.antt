@@ -6,7 +6,7 @@ use Rattle.conn_table.specs.declared.input.Input.TheVariants as inputs
 use Rattle.controller_laws.specs.End.{IsThere}
 use Rattle.controller_laws.specs.History.{connection_of, word_by, word_in}
 use Rattle.controller_table.specs.declared.word.Word.{Word}
-use Rattle.controller_table.specs.declared.word.Word.TheVariants.{OnChannel}
+use Rattle.controller_table.specs.declared.word.Word.TheVariants.{OnChannel, OnConnection}
 use Rattle.controller_table.specs.Views.{held_up}
 use Rattle.dtap_codec.specs.declared.sapi.Sapi.TheVariants.{Three}
 use Rattle.dtap_codec.specs.Message.{is_flow_message}
@@ -25,6 +25,7 @@ BringsBesideFlow _ = Unit {0}
 
 abbrev pub SaysBesideFlow : Word → Type 0
 SaysBesideFlow (OnChannel at input) = BringsBesideFlow input
+SaysBesideFlow (OnConnection number input) = BringsBesideFlow input
 SaysBesideFlow _ = Unit {0}
 
 -- no message that came on SAPI 3, waits in the inbox or is held is of the flow

@@ -18,6 +18,7 @@ ghost use Rattle.world_laws.specs.OthersFrame.{FramesAreForOthers};
 ghost use Rattle.world_laws.specs.OwnRow.{OpeningLinesUp, RowKeepsLineUp};
 ghost use Rattle.world_laws.specs.Staying.{MobilesKeepLineUps, RelayLeavesOthers, StationBreaksKeepLineUps, StationsKeepLineUps, SwitchKeepsLineUps, TimeLeavesOthers};
 ghost use Rattle.world_laws.specs.SapiThree.{FlowComesOnSapiZero};
+ghost use Rattle.world_laws.specs.PutAsRead.{FramesArePutAsRead};
 
 /// Law: whatever events happened, a connection that is lined up with its mobile, and whose channels no other mobile is on, stays
 /// lined up at what mobiles do, at what stations take from them and give to the inbox, and at what the switch does of its own.
@@ -127,4 +128,12 @@ pub fn line_ups_are_in_order()
 /// is held there of a connection that is open. So SAPI 0 alone carries the flow.
 pub fn flow_comes_on_sapi_zero()
     ensures { (settings : Parameters) (events : List WorldEvent) → FlowComesOnSapiZero settings events }
+{}
+
+/// Law: what the row that fits puts by a frame is read as it was put, whatever events happened, where the connection asked the
+/// switch for its connection and stays open. What it relays is the flow that goes to the switch, of whole messages; a COMMAND leads
+/// to the target; and after it the connection's channels are different ones, of stations. So it is with settings that are allowed,
+/// where what came was octets and the numbers of the target's cell fit their bits.
+pub fn frames_are_put_as_read()
+    ensures { (settings : Parameters) (events : List WorldEvent) → FramesArePutAsRead settings events }
 {}
