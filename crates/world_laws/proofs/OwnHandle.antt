@@ -16,7 +16,6 @@ use Rattle.conn_table.specs.Steps.{Row}
 use Rattle.conn_table.specs.Streams.{AreApart, IsApart, target_in, undone, used_channels}
 use Rattle.controller_table.specs.Controller.{Turn, place_of}
 use Rattle.controller_table.specs.Life.{take}
-use Rattle.dtap_codec.specs.Rr.{CellFits}
 use Rattle.dtap_codec.specs.RrText.{rr_text}
 use Rattle.relay_items.specs.declared.Item.{Item as RelayItem}
 use Rattle.world_table.specs.declared.line.AirMessage.{AirMessage}
@@ -90,7 +89,6 @@ record Puts (w : Actors) (item : RelayItem) (items : List RelayItem) (s : Connec
   outs : (take item w.controller).outs ≡ outs_of s.number r.outs
   puts : r.outs ≡ change_command s.serving t.target.change t.target.channel ∷ []
   read : IsReadOf s.number (change_command s.serving t.target.change t.target.channel) (out_of s.number (change_command s.serving t.target.change t.target.channel)).frame.body
-  fits : CellFits t.target.channel.description
   apart : is_at (place_of s.serving) t.target.channel ≡ false
 
 command-down : {w : Actors} {item : RelayItem} {items : List RelayItem} {s : Connection} {input : Input} {offer : Option Channel} {r : Row} {t : TargetRole} → Puts w item items s input offer r t → Downs w (handled_by w item items) s r.next
@@ -99,7 +97,7 @@ command-down {w} {item} {items} {s} {input} {offer} {r} {t} put =
     let now = channels-after role_commands (roles_of s) s.down input offer r put.goes in
     commanded (commanded-role s.state ∙ ap commanded_of put.role ∙ ap (λ (b : Bool). if b then Some t.target else None) put.waits) t.target (now.target ∙ ap (λ (o : Option TargetRole). commanded_of (role_commanded o)) put.role) now.serving serving_down.0
     (ap (λ (v : Actors). going_down v (place_of s.serving)) one_out ∙ serving_down.1) (serving_down.2 (λ (xs : List AirMessage). length xs ≤ 1) (omega arith) (omega arith))
-    (serving_down.2 (λ (xs : List AirMessage). AllByRecursion (λ a. Leads w a (Some t.target)) xs) tt (leads (change-read t.target.change t.target.channel put.fits) refl, tt))
+    (serving_down.2 (λ (xs : List AirMessage). AllByRecursion (λ a. Leads w a (Some t.target)) xs) tt (leads (change-read t.target.change t.target.channel) refl, tt))
     (ap (λ (v : Actors). going_down v (place_of t.target.channel)) one_out ∙ on_target (is_up u s.serving.station)) where
       tenure : Tenure
       tenure = tenure_at w (place_of t.target.channel)
@@ -118,10 +116,10 @@ command-down {w} {item} {items} {s} {input} {offer} {r} {t} put =
 
       serving_down : (more : List AirMessage) × (going_down (joined_by (Some tenure) u out) (place_of s.serving) ≡ going_down u (place_of s.serving) ++ more) × ((P : List AirMessage → Type 0) → P [] → P new → P more)
       serving_down = commanded-down (Some tenure) u out s.serving new refl
-          (command-leads s.number s.serving.number s.serving t.target.change t.target.channel tenure put.fits put.read ∙ ap (λ (b : Bool). if b then new else []) (eq-eqb s.serving.number s.serving.number refl))
+          (command-leads s.number s.serving.number s.serving t.target.change t.target.channel tenure put.read ∙ ap (λ (b : Bool). if b then new else []) (eq-eqb s.serving.number s.serving.number refl))
 
       elsewhere : s.serving.station ≡ t.target.channel.station → leading_from_outbox t.target.channel.number (entry_of (Some tenure) out) ≡ []
-      elsewhere there = command-leads s.number t.target.channel.number s.serving t.target.change t.target.channel tenure put.fits put.read
+      elsewhere there = command-leads s.number t.target.channel.number s.serving t.target.change t.target.channel tenure put.read
           ∙ ap (λ (b : Bool). if b then new else []) (sym (ap (λ (b : Bool). b && nat_eq s.serving.number t.target.channel.number) (eq-eqb s.serving.station t.target.channel.station there)) ∙ put.apart)
 
       on_target : (b : Bool) → going_down (if b then with_outbox s.serving.station (outbox_of u s.serving.station ++ entry_of (Some tenure) out ∷ []) u else u) (place_of t.target.channel) ≡ going_down w (place_of t.target.channel)
@@ -146,7 +144,6 @@ downs-of {w} {item} items {s} {input} {offer} {r} handles read apart goes = by (
         outs = handles.outs;
         puts = puts;
         read = (subst (AllByRecursion (λ m. IsReadOf s.number m (out_of s.number m).frame.body)) puts read.read).0;
-        fits = (subst (AllByRecursion (λ c. CellFits c.description)) (targets-of s awaits.t awaits.is) read.described).0;
         apart = (subst (AllByRecursion (IsApart s.serving)) (targets-of s awaits.t awaits.is) (apart-right (undone s.draining) (s.serving ∷ target_in s.state) apart).0).0;
       })
   by roles_stay is none goes = others-down w item items s r.next none

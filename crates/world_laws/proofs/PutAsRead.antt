@@ -340,7 +340,7 @@ next-owns : (c : Controller) (r : Row) → OwnsOpen c.channels c.links r.next.nu
 next-owns c r owns there is_open = subst (OwnsOpen c.channels c.links r.next.number) there owns is_open
 
 pub FramesArePutAsRead-new : (settings : Parameters) (events : List Event) → FramesArePutAsRead settings events
-FramesArePutAsRead-new settings events s item items input offer r allowed octets own_octets stood comes described =
+FramesArePutAsRead-new settings events s item items input offer r allowed octets own_octets stood comes =
     let w : Actors = actors_after_all (new_actors settings) events in
     let steps = all_steps (new_actors settings) events in
     let c : Controller = (life settings steps).next in
@@ -369,7 +369,6 @@ FramesArePutAsRead-new settings events s item items input offer r allowed octets
       forwards = forwards-of input offer r one comes.fits sound
           (all-relayed IsBesideFlow Three s input offer r one.stands apart comes.fits comes.stays_open (says-input said says) (beside-held c s one.there held));
       read = all-read s.number r.outs one.few sound;
-      described = described;
       apart = used_apart r.next owns.apart;
       placed = owns-placed (step c (Take item)).next r.next (ready_uses (step c (Take item)).next (ready_by (step c (Take item)).next after.fits after.holds after.uses)) owns;
     }

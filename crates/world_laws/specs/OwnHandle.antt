@@ -18,7 +18,6 @@ use Rattle.controller_table.specs.Controller.{place_of}
 use Rattle.controller_table.specs.Life.{take, tick}
 use Rattle.controller_table.specs.Views.{forwarded}
 use Rattle.dtap_codec.specs.declared.sapi.Sapi.TheVariants.{Zero}
-use Rattle.dtap_codec.specs.Rr.{CellFits}
 use Rattle.lineup.specs.LineUp.{flow, messages_in}
 use Rattle.relay_items.specs.declared.Item.{Item as RelayItem}
 use Rattle.settings.specs.Parameters.{Parameters}
@@ -64,13 +63,12 @@ pub record AreInOrder (w : Actors) (s : Connection) (input : Input) : Type 0 whe
   -- and all are whole messages
   pub whole : AllByRecursion (λ c. AreLayer3 (texts_of (coming_up w (place_of c)))) (used_channels s)
 
--- What the row puts is read as it was put: what it relays of SAPI 0 is the flow that goes to the switch, and a COMMAND leads to the
--- target. After it the connection's channels are different ones, of stations.
+-- What the row puts is read as it was put: what it relays of SAPI 0 is the flow that goes to the switch. After
+-- it the connection's channels are different ones, of stations.
 pub record IsPutAsRead (s : Connection) (r : Row) : Type 0 where
   pub whole : AreLayer3 (relayed Zero r.outs)
   pub forwards : flow (map (λ f. f.message) (forwarded (outs_of s.number r.outs) s.number)) ≡ flow (relayed Zero r.outs)
   pub read : AllByRecursion (λ m. IsReadOf s.number m (out_of s.number m).frame.body) r.outs
-  pub described : AllByRecursion (λ c. CellFits c.description) (target_in s.state)
   pub apart : AreApart (used_channels r.next)
   pub placed : AllByRecursion (λ c. c.station ≢ SWITCH_LINK) (used_channels r.next)
 

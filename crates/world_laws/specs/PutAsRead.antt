@@ -1,13 +1,10 @@
 -- What a row by a frame puts is read as it was put.
 use Rattle.std.specs.Prelude.{◌≡◌, List, ◌∷◌, Option}
-use Rattle.std.specs.List.{AllByRecursion}
 use Rattle.conn_messages.specs.declared.channel.Channel.{Channel}
 use Rattle.conn_table.specs.declared.input.Input.{Input}
 use Rattle.conn_table.specs.Connection.{Connection}
 use Rattle.conn_table.specs.Steps.{Row}
-use Rattle.conn_table.specs.Streams.{target_in}
 use Rattle.controller_laws.specs.Sending.{IsOfOctets}
-use Rattle.dtap_codec.specs.Rr.{CellFits}
 use Rattle.relay_items.specs.declared.Item.{Item as RelayItem}
 use Rattle.settings.specs.Parameters.{AreAllowed, Parameters}
 use Rattle.world_table.specs.declared.event.Event.{Event}
@@ -17,10 +14,8 @@ use Rattle.world_laws.specs.OthersFrame.{CameInOctets}
 use Rattle.world_laws.specs.OwnFrame.{IsFrameFor}
 use Rattle.world_laws.specs.OwnHandle.{IsPutAsRead}
 
--- whatever happened before, with settings that are allowed, where what came was octets, and the numbers of the target's cell fit their
--- bits
+-- whatever happened before, with settings that are allowed, where what came was octets
 abbrev pub FramesArePutAsRead : Parameters → List Event → Type 0
 FramesArePutAsRead settings events =
     (s : Connection) (item : RelayItem) (items : List RelayItem) (input : Input) (offer : Option Channel) (r : Row) → AreAllowed settings → CameInOctets settings events → IsOfOctets item.what
-    → (actors_after_all (new_actors settings) events).inbox ≡ item ∷ items → IsFrameFor (actors_after_all (new_actors settings) events) item s input offer r
-    → AllByRecursion (λ c. CellFits c.description) (target_in s.state) → IsPutAsRead s r
+    → (actors_after_all (new_actors settings) events).inbox ≡ item ∷ items → IsFrameFor (actors_after_all (new_actors settings) events) item s input offer r → IsPutAsRead s r

@@ -130,10 +130,9 @@ pub fn flow_comes_on_sapi_zero()
     ensures { (settings : Parameters) (events : List WorldEvent) → FlowComesOnSapiZero settings events }
 {}
 
-/// Law: what the row that fits puts by a frame is read as it was put, whatever events happened, where the connection asked the
-/// switch for its connection and stays open. What it relays is the flow that goes to the switch, of whole messages; a COMMAND leads
-/// to the target; and after it the connection's channels are different ones, of stations. So it is with settings that are allowed,
-/// where what came was octets and the numbers of the target's cell fit their bits.
+/// Law: what the row that fits puts by a frame is read as it was put, whatever events happened, where the connection asked the switch
+/// for its connection and stays open. What it relays is the flow that goes to the switch, of whole messages; and after it the
+/// connection's channels are different ones, of stations. So it is with settings that are allowed, where what came was octets.
 pub fn frames_are_put_as_read()
     ensures { (settings : Parameters) (events : List WorldEvent) → FramesArePutAsRead settings events }
 {}
