@@ -70,8 +70,9 @@ use Rattle.world_table.specs.World.{Actors, new_actors}
 use Rattle.world_table.proofs.Living.{LivesByTable-new}
 use Rattle.world_laws.specs.OwnFrame.{IsRequested, IsSaidTo, freed_for}
 use Rattle.world_laws.specs.OwnFrame.IsSaidTo.{on_channel as is_on_channel, on_connection as is_on_connection}
-use Rattle.world_laws.specs.PutAsRead.{FramesArePutAsRead}
+use Rattle.world_laws.specs.PutAsRead.{AllowedFramesKeepLineUps, FramesArePutAsRead}
 use Rattle.world_laws.specs.SapiThree.{BringsBesideFlow, IsBesideFlow, SaysBesideFlow}
+use Rattle.world_laws.proofs.Handled.{FramesKeepLineUps-new}
 use Rattle.world_laws.proofs.Framing.{all-left, all-right}
 use Rattle.world_laws.proofs.SapiThree.{says-waits}
 use Rattle.world_laws.proofs.SapiThreeHeld.{FlowComesOnSapiZero-new}
@@ -372,3 +373,7 @@ FramesArePutAsRead-new settings events s item items input offer r allowed octets
       apart = used_apart r.next owns.apart;
       placed = owns-placed (step c (Take item)).next r.next (ready_uses (step c (Take item)).next (ready_by (step c (Take item)).next after.fits after.holds after.uses)) owns;
     }
+
+pub AllowedFramesKeepLineUps-new : (settings : Parameters) (events : List Event) → AllowedFramesKeepLineUps settings events
+AllowedFramesKeepLineUps-new settings events mobile s item items input offer r allowed octets own_octets stood comes ready lined =
+    FramesKeepLineUps-new settings events mobile s item items input offer r stood comes ready (FramesArePutAsRead-new settings events s item items input offer r allowed octets own_octets stood comes) lined

@@ -19,6 +19,7 @@ ghost use Rattle.world_laws.specs.OwnRow.{OpeningLinesUp, RowKeepsLineUp};
 ghost use Rattle.world_laws.specs.Staying.{MobilesKeepLineUps, RelayLeavesOthers, StationBreaksKeepLineUps, StationsKeepLineUps, SwitchKeepsLineUps, TimeLeavesOthers};
 ghost use Rattle.world_laws.specs.SapiThree.{FlowComesOnSapiZero};
 ghost use Rattle.world_laws.specs.PutAsRead.{FramesArePutAsRead};
+ghost use Rattle.world_laws.specs.PutAsRead.{AllowedFramesKeepLineUps};
 
 /// Law: whatever events happened, a connection that is lined up with its mobile, and whose channels no other mobile is on, stays
 /// lined up at what mobiles do, at what stations take from them and give to the inbox, and at what the switch does of its own.
@@ -135,4 +136,11 @@ pub fn flow_comes_on_sapi_zero()
 /// connection's channels are different ones, of stations. So it is with settings that are allowed, where what came was octets.
 pub fn frames_are_put_as_read()
     ensures { (settings : Parameters) (events : List WorldEvent) → FramesArePutAsRead settings events }
+{}
+
+/// Law: so a connection stays lined up when the controller handles a frame that says an input to it, while the connection stays
+/// open, whatever events happened: where the link of the switch is up, the acknowledgements on their way tell of no other end, and
+/// a target is silent before its COMMAND. What the row puts is read as it was put, and no premise.
+pub fn allowed_frames_keep_line_ups()
+    ensures { (settings : Parameters) (events : List WorldEvent) → AllowedFramesKeepLineUps settings events }
 {}
