@@ -114,7 +114,7 @@ pub record SoundParts (s : Connection) : Type 0 where
   pub targets : AllByRecursion IsSoundChannel (target_in s.state)
   pub refers : Refers s.state
 
-SoundOf : Option Connection → Type 0
+unfoldable pub SoundOf : Option Connection → Type 0
 SoundOf None = Unit {0}
 SoundOf (Some s) = SoundParts s
 
@@ -123,9 +123,9 @@ IsSoundCell cell = AllByRecursion (λ (number : ℕ). is_channel number ≡ true
 
 -- all connections are sound, and all channels of the cells, and numbers have three octets
 pub record IsSoundAll (c : Controller) : Type 0 where
-  each : (n : ℕ) → SoundOf (connection_of c n)
-  cells : AllByRecursion IsSoundCell c.settings.cells
-  next : c.next_number ≤ 2 ^ 24
+  pub each : (n : ℕ) → SoundOf (connection_of c n)
+  pub cells : AllByRecursion IsSoundCell c.settings.cells
+  pub next : c.next_number ≤ 2 ^ 24
 
 pub record SoundTurn (t : Turn) : Type 0 where
   pub sound : IsSoundAll t.next
@@ -161,11 +161,11 @@ offered_sound c station reference kind offer cells is = elim (cases_Bool (is_up 
       (λ n free. (found_one (λ number. is_alike kind (kind_of number) && is_free c.channels station number) (λ (number : ℕ). is_channel number ≡ true) cell.channels n (all_some IsSoundCell c.settings.cells (station - 1) cell cells there) free).1))
 ]
 
-offer_list : (o : Option Channel) → ((d : Channel) → o ≡ Some d → IsSoundChannel d) → AllByRecursion IsSoundChannel (option_to_list o)
+pub offer_list : (o : Option Channel) → ((d : Channel) → o ≡ Some d → IsSoundChannel d) → AllByRecursion IsSoundChannel (option_to_list o)
 offer_list None each = tt
 offer_list (Some d) each = (each d refl, tt)
 
-request_sound : (c : Controller) (s : Connection) (input : Input) → AllByRecursion IsSoundCell c.settings.cells → (d : Channel) → request_offer c s input ≡ Some d → IsSoundChannel d
+pub request_sound : (c : Controller) (s : Connection) (input : Input) → AllByRecursion IsSoundCell c.settings.cells → (d : Channel) → request_offer c s input ≡ Some d → IsSoundChannel d
 request_sound c s input cells d is = offered_sound c (serving_after s (row_of s input None)).station 0 Tch d cells is
 
 -- ---- a row
@@ -292,7 +292,7 @@ report_on_sound at of report c (Releasing k) ready sound = report_sound at of re
 
 -- ---- references that came
 
-abbrev RefersIn : Word → Type 0
+abbrev pub RefersIn : Word → Type 0
 RefersIn (OnChannel at input) = RefersBy input
 RefersIn (OnConnection m input) = RefersBy input
 RefersIn _ = Unit {0}
@@ -346,7 +346,7 @@ body_refers connection_control source body station octets from = switch_refers b
 body_refers link_management source body station octets from = link_refers body
 body_refers other source body station octets from = tt
 
-word_refers : (source : ℕ) (frame : Frame) → AreOctets frame.body → RefersIn (word_of source frame)
+pub word_refers : (source : ℕ) (frame : Frame) → AreOctets frame.body → RefersIn (word_of source frame)
 unfolding word_of
 word_refers source frame octets = body_refers (carried source frame.stream) source frame.body
     (λ is same. true≢false (sym (eq-eqb source SWITCH_LINK same)
@@ -476,6 +476,10 @@ sound_run c [] octets fits holds uses sound = sound
 sound_run c (s ∷ ss) octets fits holds uses sound =
     let after = run_step c s fits holds uses in
     sound_run (step c s).next ss octets.1 after.fits after.holds after.uses (step_sound c s octets.0 (ready_by c fits holds uses) sound).sound
+
+pub life_sound : (p : Parameters) (steps : List Step) → AreAllowed p → AllByRecursion ComesInOctets steps → IsSoundAll (life p steps).next
+unfolding life
+life_sound p steps allowed octets = sound_run (new_controller p) steps octets (λ n from_one. new_fits n p) (new_holds p allowed) (new_uses p) (new_sound p allowed)
 
 pub life_sends : (p : Parameters) (steps : List Step) (s : Step) → AreAllowed p → AllByRecursion ComesInOctets steps → ComesInOctets s → SendsMessages (life p steps).next s
 unfolding life

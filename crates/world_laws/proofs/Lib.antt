@@ -51,3 +51,8 @@ pub mod SentGrows
 pub mod SwitchTook
 pub mod Ending
 mod EndedRows
+pub mod SapiThree
+pub mod SapiThreeHeld
+mod SapiThreeRows
+pub mod PutAsRead
+pub mod AcksBegin

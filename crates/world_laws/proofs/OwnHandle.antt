@@ -1,7 +1,6 @@
 -- What the controller does for a connection keeps it lined up.
 use Rattle.std.proofs.Common.{◌≡◌, ℕ, ◌≤◌, ◌&&◌, nat_eq, Bool, true, false, if◌then◌else◌, List, [], ◌∷◌, ◌++◌, fold, length, Option, Some, None, refl, sym, ap, ◌∙◌, subst, append_assoc, inl, inr, arith}
 use Rattle.std.specs.List.{AllByRecursion, flat_map}
-use Rattle.std.specs.Option.{option_to_list}
 use Rattle.std.proofs.lemmas.Bool.{cases_Bool, eq-eqb}
 use Rattle.conn_messages.specs.declared.channel.Channel.{Channel}
 use Rattle.conn_messages.specs.declared.channel.Place.{Place}
@@ -10,17 +9,13 @@ use Rattle.conn_messages.specs.Out.{IsReadOf, out_of, outs_of}
 use Rattle.conn_messages.specs.StationMessage.{change_command, command}
 use Rattle.conn_table.specs.declared.input.Input.{Input}
 use Rattle.conn_table.specs.declared.input.Input.TheVariants as inputs
-use Rattle.conn_table.specs.declared.state.Target.{Target}
 use Rattle.conn_table.specs.Connection.{Connection, is_at, drain_at}
-use Rattle.conn_table.specs.Roles.{TargetRole, Roles, RoleStep, target_role, roles_of, after_step, target_channels, commanded as role_commanded, with_target, MayBegin, awaits_at, changes_by, is_target_at, leaves_at, step_by, GoesOn, IsCommand}
+use Rattle.conn_table.specs.Roles.{TargetRole, Roles, RoleStep, target_role, roles_of, commanded as role_commanded, awaits_at, changes_by, is_target_at, leaves_at, step_by, GoesOn, IsCommand}
 use Rattle.conn_table.specs.Roles.RoleStep.{stays as roles_stay, commands as role_commands, completes as role_completes, goes_back as role_goes_back, leaves as role_leaves}
 use Rattle.conn_table.specs.Steps.{Row}
 use Rattle.conn_table.specs.Streams.{AreApart, IsApart, target_in, undone, used_channels}
-use Rattle.conn_table.proofs.RolesApart.{channels_of, channels_of-roles, IsPart-step}
-use Rattle.conn_table.proofs.Standing.{AllByRecursion-push}
 use Rattle.controller_table.specs.Controller.{Turn, place_of}
 use Rattle.controller_table.specs.Life.{take}
-use Rattle.dtap_codec.specs.Rr.{CellFits}
 use Rattle.dtap_codec.specs.RrText.{rr_text}
 use Rattle.relay_items.specs.declared.Item.{Item as RelayItem}
 use Rattle.world_table.specs.declared.line.AirMessage.{AirMessage}
@@ -56,21 +51,6 @@ first-coming w item items at stood =
     ap (λ (xs : List RelayItem). flat_map (brings_in at) xs ++ made_of at.number (base_of w at.station).messages) stood
     ∙ append_assoc (brings_in at item) (flat_map (brings_in at) items) (made_of at.number (base_of w at.station).messages)
     ∙ turn-leads (λ (v : Actors). brings_in at item ++ coming_up (record w { inbox = items }) at ≡ brings_in at item ++ coming_up v at) (tenure_in w item.source item.what) (take item w.controller) (record w { inbox = items }) (λ links. refl)
-
--- ---- the channels after it
-
-all-begun : (P : Channel → Type 0) (begun : Option Target) (input : Input) (offer : Option Channel) (roles : Roles) → MayBegin begun input offer roles → AllByRecursion P (option_to_list offer) → AllByRecursion P (channels_of roles) → AllByRecursion P (channels_of (with_target begun roles))
-all-begun P None input offer roles may offered all = all
-all-begun P (Some target) input offer roles may offered all =
-    let alone : channels_of roles ≡ undone roles.draining ++ roles.serving ∷ [] = ap (λ (role : Option TargetRole). undone roles.draining ++ roles.serving ∷ target_channels role) may.2 in
-    subst (AllByRecursion P) (append_assoc (undone roles.draining) (roles.serving ∷ []) (target.channel ∷ []))
-    (AllByRecursion-push P (undone roles.draining ++ roles.serving ∷ []) target.channel (subst (AllByRecursion P) alone all) (subst (λ (o : Option Channel). AllByRecursion P (option_to_list o)) may.1 offered).0)
-
-pub all-next : (P : Channel → Type 0) (s : Connection) (input : Input) (offer : Option Channel) (r : Row) → GoesOn (step_by input (roles_of s)) (roles_of s) s.down input offer r → AllByRecursion P (option_to_list offer) → AllByRecursion P (used_channels s) → AllByRecursion P (used_channels r.next)
-all-next P s input offer r goes offered all =
-    subst (AllByRecursion P) (ap channels_of (sym goes.roles) ∙ channels_of-roles r.next)
-    (all-begun P goes.begun input offer (after_step (step_by input (roles_of s)) (roles_of s)) goes.may offered
-    ((IsPart-step (step_by input (roles_of s)) (roles_of s) (target_role s.state)).each P (subst (AllByRecursion P) (sym (channels_of-roles s)) all)))
 
 -- ---- what is on its way down
 
@@ -109,7 +89,6 @@ record Puts (w : Actors) (item : RelayItem) (items : List RelayItem) (s : Connec
   outs : (take item w.controller).outs ≡ outs_of s.number r.outs
   puts : r.outs ≡ change_command s.serving t.target.change t.target.channel ∷ []
   read : IsReadOf s.number (change_command s.serving t.target.change t.target.channel) (out_of s.number (change_command s.serving t.target.change t.target.channel)).frame.body
-  fits : CellFits t.target.channel.description
   apart : is_at (place_of s.serving) t.target.channel ≡ false
 
 command-down : {w : Actors} {item : RelayItem} {items : List RelayItem} {s : Connection} {input : Input} {offer : Option Channel} {r : Row} {t : TargetRole} → Puts w item items s input offer r t → Downs w (handled_by w item items) s r.next
@@ -118,7 +97,7 @@ command-down {w} {item} {items} {s} {input} {offer} {r} {t} put =
     let now = channels-after role_commands (roles_of s) s.down input offer r put.goes in
     commanded (commanded-role s.state ∙ ap commanded_of put.role ∙ ap (λ (b : Bool). if b then Some t.target else None) put.waits) t.target (now.target ∙ ap (λ (o : Option TargetRole). commanded_of (role_commanded o)) put.role) now.serving serving_down.0
     (ap (λ (v : Actors). going_down v (place_of s.serving)) one_out ∙ serving_down.1) (serving_down.2 (λ (xs : List AirMessage). length xs ≤ 1) (omega arith) (omega arith))
-    (serving_down.2 (λ (xs : List AirMessage). AllByRecursion (λ a. Leads w a (Some t.target)) xs) tt (leads (change-read t.target.change t.target.channel put.fits) refl, tt))
+    (serving_down.2 (λ (xs : List AirMessage). AllByRecursion (λ a. Leads w a (Some t.target)) xs) tt (leads (change-read t.target.change t.target.channel) refl, tt))
     (ap (λ (v : Actors). going_down v (place_of t.target.channel)) one_out ∙ on_target (is_up u s.serving.station)) where
       tenure : Tenure
       tenure = tenure_at w (place_of t.target.channel)
@@ -137,10 +116,10 @@ command-down {w} {item} {items} {s} {input} {offer} {r} {t} put =
 
       serving_down : (more : List AirMessage) × (going_down (joined_by (Some tenure) u out) (place_of s.serving) ≡ going_down u (place_of s.serving) ++ more) × ((P : List AirMessage → Type 0) → P [] → P new → P more)
       serving_down = commanded-down (Some tenure) u out s.serving new refl
-          (command-leads s.number s.serving.number s.serving t.target.change t.target.channel tenure put.fits put.read ∙ ap (λ (b : Bool). if b then new else []) (eq-eqb s.serving.number s.serving.number refl))
+          (command-leads s.number s.serving.number s.serving t.target.change t.target.channel tenure put.read ∙ ap (λ (b : Bool). if b then new else []) (eq-eqb s.serving.number s.serving.number refl))
 
       elsewhere : s.serving.station ≡ t.target.channel.station → leading_from_outbox t.target.channel.number (entry_of (Some tenure) out) ≡ []
-      elsewhere there = command-leads s.number t.target.channel.number s.serving t.target.change t.target.channel tenure put.fits put.read
+      elsewhere there = command-leads s.number t.target.channel.number s.serving t.target.change t.target.channel tenure put.read
           ∙ ap (λ (b : Bool). if b then new else []) (sym (ap (λ (b : Bool). b && nat_eq s.serving.number t.target.channel.number) (eq-eqb s.serving.station t.target.channel.station there)) ∙ put.apart)
 
       on_target : (b : Bool) → going_down (if b then with_outbox s.serving.station (outbox_of u s.serving.station ++ entry_of (Some tenure) out ∷ []) u else u) (place_of t.target.channel) ≡ going_down w (place_of t.target.channel)
@@ -151,7 +130,7 @@ command-down {w} {item} {items} {s} {input} {offer} {r} {t} put =
 others-down : (w : Actors) (item : RelayItem) (items : List RelayItem) (s next : Connection) → tenure_in w item.source item.what ≡ None → Downs w (handled_by w item items) s next
 others-down w item items s next none = same (λ c. ap (λ (o : Option Tenure). going_down (with_turn o (take item w.controller) (record w { inbox = items })) (place_of c)) none ∙ turn-down (take item w.controller).outs (handling w items (take item w.controller)) c)
 
-pub downs-of : {w : Actors} {item : RelayItem} (items : List RelayItem) {s : Connection} {input : Input} {offer : Option Channel} {r : Row} {text : List ℕ} → HandlesFor w item s input offer r text → IsPutAsRead s offer r → AreApart (used_channels s) → GoesOn (step_by input (roles_of s)) (roles_of s) s.down input offer r → Downs w (handled_by w item items) s r.next
+pub downs-of : {w : Actors} {item : RelayItem} (items : List RelayItem) {s : Connection} {input : Input} {offer : Option Channel} {r : Row} {text : List ℕ} → HandlesFor w item s input offer r text → IsPutAsRead s r → AreApart (used_channels s) → GoesOn (step_by input (roles_of s)) (roles_of s) s.down input offer r → Downs w (handled_by w item items) s r.next
 downs-of {w} {item} items {s} {input} {offer} {r} handles read apart goes = by (step_by input (roles_of s)) refl handles.begins goes where
   by : (x : RoleStep) → step_by input (roles_of s) ≡ x → BeginsTenure w x (target_role s.state) (tenure_in w item.source item.what) → GoesOn x (roles_of s) s.down input offer r → Downs w (handled_by w item items) s r.next
   by role_commands is begins goes =
@@ -165,7 +144,6 @@ downs-of {w} {item} items {s} {input} {offer} {r} handles read apart goes = by (
         outs = handles.outs;
         puts = puts;
         read = (subst (AllByRecursion (λ m. IsReadOf s.number m (out_of s.number m).frame.body)) puts read.read).0;
-        fits = (subst (AllByRecursion (λ c. CellFits c.description)) (targets-of s awaits.t awaits.is) read.described).0;
         apart = (subst (AllByRecursion (IsApart s.serving)) (targets-of s awaits.t awaits.is) (apart-right (undone s.draining) (s.serving ∷ target_in s.state) apart).0).0;
       })
   by roles_stay is none goes = others-down w item items s r.next none

@@ -1,21 +1,18 @@
 -- The controller handles an item for a connection: the connection stays lined up.
-use Rattle.std.proofs.Common.{◌≡◌, ◌≢◌, ℕ, ◌+◌, Bool, true, false, if◌then◌else◌, unwrap_or, List, [], ◌∷◌, ◌++◌, find, map, length, Option, Some, None, refl, sym, ap, ◌∙◌, subst, arith}
+use Rattle.std.proofs.Common.{◌≡◌, ℕ, ◌+◌, Bool, true, false, if◌then◌else◌, unwrap_or, List, [], ◌∷◌, ◌++◌, find, map, length, Option, Some, None, refl, sym, ap, ◌∙◌, subst, arith}
 use Rattle.std.specs.List.{AllByRecursion}
 use Rattle.conn_messages.specs.declared.channel.Channel.{Channel}
 use Rattle.conn_messages.specs.declared.channel.Place.{Place}
 use Rattle.conn_messages.specs.declared.out.Out.{Out}
-use Rattle.conn_messages.specs.declared.parameters.TheConstants.{SWITCH_LINK}
 use Rattle.conn_table.specs.declared.input.Input.{Input}
 use Rattle.conn_table.specs.declared.state.Target.{Target}
 use Rattle.conn_table.specs.Connection.{Connection}
 use Rattle.conn_table.specs.Roles.{KeepsChannels, RoleStep, TargetRole, after_step, roles_of, step_by, target_channels, GoesOn}
 use Rattle.conn_table.specs.Roles.RoleStep.{stays as roles_stay, commands as role_commands, completes as role_completes, goes_back as role_goes_back, leaves as role_leaves}
 use Rattle.conn_table.specs.Steps.{Row}
-use Rattle.conn_table.specs.Streams.{AreApart, OfRow, relayed, used_channels}
-use Rattle.conn_table.specs.Table.{row_of}
+use Rattle.conn_table.specs.Streams.{AreApart, relayed, used_channels}
 use Rattle.conn_table.proofs.Channels.{keeps_channels}
-use Rattle.conn_table.proofs.RolesApart.{target_in-role, StaysApart-row}
-use Rattle.conn_table.proofs.RolesTable.{ChangesRoles-row}
+use Rattle.conn_table.proofs.RolesApart.{target_in-role}
 use Rattle.controller_table.specs.Controller.{place_of}
 use Rattle.controller_table.specs.Life.{take}
 use Rattle.controller_table.specs.Views.{forwarded}
@@ -43,7 +40,7 @@ use Rattle.world_laws.proofs.Apart.{on-target}
 use Rattle.world_laws.proofs.Framing.{all-map, lined-same}
 use Rattle.world_laws.proofs.Others.{turn-mobiles, TimeLeavesOthers-new}
 use Rattle.world_laws.proofs.OwnDoes.{kept-targets}
-use Rattle.world_laws.proofs.OwnHandle.{handled_by, handling, first-coming, all-next, downs-of}
+use Rattle.world_laws.proofs.OwnHandle.{handled_by, handling, first-coming, downs-of}
 use Rattle.world_laws.proofs.OwnInput.{does-row, goes-of}
 use Rattle.world_laws.proofs.OwnRowLaw.{RowKeepsLineUp-new, of-row}
 use Rattle.world_laws.proofs.OwnSeats.{OwnRest, own-rest}
@@ -56,7 +53,7 @@ use Rattle.world_laws.proofs.Seeing.{SameTenures, Sits-same, Leads-same}
 -- ---- the row, in the world
 
 -- whatever commands are on their way
-takes-of : {w : Actors} {item : RelayItem} (items : List RelayItem) {s : Connection} {input : Input} {offer : Option Channel} {r : Row} {text : List ℕ} → w.inbox ≡ item ∷ items → HandlesFor w item s input offer r text → AreInOrder w s input → IsPutAsRead s offer r → AreApart (used_channels s)
+takes-of : {w : Actors} {item : RelayItem} (items : List RelayItem) {s : Connection} {input : Input} {offer : Option Channel} {r : Row} {text : List ℕ} → w.inbox ≡ item ∷ items → HandlesFor w item s input offer r text → AreInOrder w s input → IsPutAsRead s r → AreApart (used_channels s)
     → TakesInput s input offer r text (coming_up w) (coming_up (handled_by w item items)) 0 0
 takes-of {w} {item} items {s} {input} stood handles order read apart = record {
   fits = handles.fits;
@@ -115,7 +112,7 @@ with-commands does rest = record {
 
 -- ---- the connection
 
-own-lined : {m : ℕ} {w : Actors} {p : Mobile} {item : RelayItem} (items : List RelayItem) {s : Connection} {input : Input} {offer : Option Channel} {r : Row} {text : List ℕ} → w.inbox ≡ item ∷ items → HandlesFor w item s input offer r text → AreInOrder w s input → IsPutAsRead s offer r → LinedUp m w p s
+own-lined : {m : ℕ} {w : Actors} {p : Mobile} {item : RelayItem} (items : List RelayItem) {s : Connection} {input : Input} {offer : Option Channel} {r : Row} {text : List ℕ} → w.inbox ≡ item ∷ items → HandlesFor w item s input offer r text → AreInOrder w s input → IsPutAsRead s r → LinedUp m w p s
     → LinedUp m (handled_by w item items) p r.next
 unfolding SameTenures
 own-lined {m} {w} {p} {item} items {s} {input} {offer} {r} {text} stood handles order read lined = record {
@@ -123,8 +120,8 @@ own-lined {m} {w} {p} {item} items {s} {input} {offer} {r} {text} stood handles 
   sits = Sits-same same_tenures rest.sits;
   led = all-map (λ a. Leads w a (commanded_target r.next.state)) (λ a. Leads v a (commanded_target r.next.state)) (going_down v (place_of r.next.serving)) (λ a. Leads-same same_tenures) rest.led;
   none_on_target = rest.none;
-  apart = subst (OfRow _) handles.fits (StaysApart-row s input offer (row_of s input offer) lined.apart read.new (ChangesRoles-row s input offer order.stands)) handles.stays_open;
-  placed = all-next (λ c. c.station ≢ SWITCH_LINK) s input offer r goes read.placed lined.placed;
+  apart = read.apart;
+  placed = read.placed;
 } where
   v : Actors
   v = handled_by w item items

@@ -46,6 +46,6 @@ pub record IsReadyFor (w : Actors) (s : Connection) (input : Input) : Type 0 whe
 abbrev pub FramesKeepLineUps : Parameters → List Event → Type 0
 FramesKeepLineUps settings events =
     (mobile : ℕ) (s : Connection) (item : RelayItem) (items : List RelayItem) (input : Input) (offer : Option Channel) (r : Row) → (actors_after_all (new_actors settings) events).inbox ≡ item ∷ items
-    → IsFrameFor (actors_after_all (new_actors settings) events) item s input offer r → IsReadyFor (actors_after_all (new_actors settings) events) s input → IsPutAsRead s offer r
+    → IsFrameFor (actors_after_all (new_actors settings) events) item s input offer r → IsReadyFor (actors_after_all (new_actors settings) events) s input → IsPutAsRead s r
     → AreLinedUp (modulus_in settings) (actors_after_all (new_actors settings) events) mobile s
     → AreLinedUp (modulus_in settings) (actors_after (actors_after_all (new_actors settings) events) Handle) mobile r.next

@@ -15,3 +15,6 @@ pub mod Handled
 pub mod InOrder
 pub mod OthersFrame
 pub mod Ended
+pub mod SapiThree
+pub mod PutAsRead
+pub mod AcksBegin

@@ -1,25 +1,23 @@
 -- The controller handles an item for the connection itself.
 use Rattle.std.specs.Prelude.{◌≡◌, ◌≢◌, ℕ, true, false, List, [], ◌∷◌, map, Option, Some, None}
 use Rattle.std.specs.List.{AllByRecursion}
-use Rattle.std.specs.Option.{option_to_list}
 use Rattle.conn_messages.specs.declared.channel.Channel.{Channel}
 use Rattle.conn_messages.specs.declared.channel.Place.{Place}
 use Rattle.conn_messages.specs.declared.parameters.TheConstants.{SWITCH_LINK}
 use Rattle.conn_messages.specs.Out.{IsReadOf, out_of, outs_of}
 use Rattle.conn_table.specs.declared.input.Input.{Input}
 use Rattle.conn_table.specs.Connection.{Connection}
-use Rattle.conn_table.specs.Roles.{IsNew, RoleStep, TargetRole, roles_of, step_by, target_role}
+use Rattle.conn_table.specs.Roles.{RoleStep, TargetRole, roles_of, step_by, target_role}
 use Rattle.conn_table.specs.Roles.RoleStep.{commands as role_commands}
 use Rattle.conn_table.specs.Standing.{IsCarried, Stands}
 use Rattle.conn_table.specs.Steps.{Row}
-use Rattle.conn_table.specs.Streams.{IsOpen, relayed, target_in, used_channels}
+use Rattle.conn_table.specs.Streams.{AreApart, IsOpen, relayed, target_in, used_channels}
 use Rattle.conn_table.specs.Table.{row_of}
 use Rattle.conn_table.specs.Timers.{after_pass}
 use Rattle.controller_table.specs.Controller.{place_of}
 use Rattle.controller_table.specs.Life.{take, tick}
 use Rattle.controller_table.specs.Views.{forwarded}
 use Rattle.dtap_codec.specs.declared.sapi.Sapi.TheVariants.{Zero}
-use Rattle.dtap_codec.specs.Rr.{CellFits}
 use Rattle.lineup.specs.LineUp.{flow, messages_in}
 use Rattle.relay_items.specs.declared.Item.{Item as RelayItem}
 use Rattle.settings.specs.Parameters.{Parameters}
@@ -65,21 +63,20 @@ pub record AreInOrder (w : Actors) (s : Connection) (input : Input) : Type 0 whe
   -- and all are whole messages
   pub whole : AllByRecursion (λ c. AreLayer3 (texts_of (coming_up w (place_of c)))) (used_channels s)
 
--- What the row puts is read as it was put: what it relays of SAPI 0 is the flow that goes to the switch, and a COMMAND leads to the
--- target. The offer is a new channel.
-pub record IsPutAsRead (s : Connection) (offer : Option Channel) (r : Row) : Type 0 where
+-- What the row puts is read as it was put: what it relays of SAPI 0 is the flow that goes to the switch. After
+-- it the connection's channels are different ones, of stations.
+pub record IsPutAsRead (s : Connection) (r : Row) : Type 0 where
   pub whole : AreLayer3 (relayed Zero r.outs)
   pub forwards : flow (map (λ f. f.message) (forwarded (outs_of s.number r.outs) s.number)) ≡ flow (relayed Zero r.outs)
   pub read : AllByRecursion (λ m. IsReadOf s.number m (out_of s.number m).frame.body) r.outs
-  pub described : AllByRecursion (λ c. CellFits c.description) (target_in s.state)
-  pub new : IsNew offer (used_channels s)
-  pub placed : AllByRecursion (λ c. c.station ≢ SWITCH_LINK) (option_to_list offer)
+  pub apart : AreApart (used_channels r.next)
+  pub placed : AllByRecursion (λ c. c.station ≢ SWITCH_LINK) (used_channels r.next)
 
 -- the controller handles the first item of the inbox, whatever happened before
 abbrev pub HandleKeepsLineUps : Parameters → List Event → Type 0
 HandleKeepsLineUps settings events =
     (mobile : ℕ) (s : Connection) (item : RelayItem) (items : List RelayItem) (input : Input) (offer : Option Channel) (r : Row) (text : List ℕ) → (actors_after_all (new_actors settings) events).inbox ≡ item ∷ items
-    → HandlesFor (actors_after_all (new_actors settings) events) item s input offer r text → AreInOrder (actors_after_all (new_actors settings) events) s input → IsPutAsRead s offer r
+    → HandlesFor (actors_after_all (new_actors settings) events) item s input offer r text → AreInOrder (actors_after_all (new_actors settings) events) s input → IsPutAsRead s r
     → AreLinedUp (modulus_in settings) (actors_after_all (new_actors settings) events) mobile s
     → AreLinedUp (modulus_in settings) (actors_after (actors_after_all (new_actors settings) events) Handle) mobile r.next
 

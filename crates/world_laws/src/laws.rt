@@ -18,6 +18,10 @@ ghost use Rattle.world_laws.specs.OwnItem.{InputKeepsLineUp};
 ghost use Rattle.world_laws.specs.OthersFrame.{FramesAreForOthers};
 ghost use Rattle.world_laws.specs.OwnRow.{OpeningLinesUp, RowKeepsLineUp};
 ghost use Rattle.world_laws.specs.Staying.{MobilesKeepLineUps, RelayLeavesOthers, StationBreaksKeepLineUps, StationsKeepLineUps, SwitchKeepsLineUps, TimeLeavesOthers};
+ghost use Rattle.world_laws.specs.SapiThree.{FlowComesOnSapiZero};
+ghost use Rattle.world_laws.specs.PutAsRead.{FramesArePutAsRead};
+ghost use Rattle.world_laws.specs.PutAsRead.{AllowedFramesKeepLineUps};
+ghost use Rattle.world_laws.specs.AcksBegin.{AcksBegin};
 
 /// Law: whatever events happened, a connection that is lined up with its mobile, and whose channels no other mobile is on, stays
 /// lined up at what mobiles do, at what stations take from them and give to the inbox, and at what the switch does of its own.
@@ -130,4 +134,30 @@ pub fn ended_connections_stay_in_order()
     ensures ends { (m : ℕ) (w : Actors) (mobile : ℕ) (s : Connection) → LineUpsMayEnd m w mobile s }
     ensures stays { (settings : Parameters) (events : List WorldEvent) (event : WorldEvent) → EndedStayInOrder settings events event }
     ensures accepted { (m : ℕ) (w : Actors) (mobile : ℕ) (number : ℕ) → EndedAreInOrder m w mobile number }
+{}
+
+/// Law: whatever events happened, no message of the flow came to the controller on SAPI 3, none waits in the inbox there, and none
+/// is held there of a connection that is open. So SAPI 0 alone carries the flow.
+pub fn flow_comes_on_sapi_zero()
+    ensures { (settings : Parameters) (events : List WorldEvent) → FlowComesOnSapiZero settings events }
+{}
+
+/// Law: what the row that fits puts by a frame is read as it was put, whatever events happened, where the connection asked the switch
+/// for its connection and stays open. What it relays is the flow that goes to the switch, of whole messages; and after it the
+/// connection's channels are different ones, of stations. So it is with settings that are allowed, where what came was octets.
+pub fn frames_are_put_as_read()
+    ensures { (settings : Parameters) (events : List WorldEvent) → FramesArePutAsRead settings events }
+{}
+
+/// Law: so a connection stays lined up when the controller handles a frame that says an input to it, while the connection stays
+/// open, whatever events happened: where the link of the switch is up, the acknowledgements on their way tell of no other end, and
+/// a target is silent before its COMMAND. What the row puts is read as it was put, and no premise.
+pub fn allowed_frames_keep_line_ups()
+    ensures { (settings : Parameters) (events : List WorldEvent) → AllowedFramesKeepLineUps settings events }
+{}
+
+/// Law: whatever events happened, whether the link of a station is up or broke, the acknowledgements of a channel that the
+/// controller took, and then those on their way up, are the first of those due for all that it put.
+pub fn acknowledgements_begin()
+    ensures { (settings : Parameters) (events : List WorldEvent) → AcksBegin settings events }
 {}

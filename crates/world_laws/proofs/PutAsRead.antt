@@ -1,0 +1,379 @@
+-- What a row by a frame puts is read as it was put, whatever happened.
+use Rattle.std.proofs.Common.{◌≡◌, ◌≢◌, ℕ, ◌≤◌, ◌<◌, ◌^◌, ◌==◌, ◌&&◌, Bool, true, false, if◌then◌else◌, List, [], ◌∷◌, ◌++◌, map, Option, Some, None, option_map, unwrap_or, refl, sym, ap, ◌∙◌, subst, arith}
+use Rattle.std.specs.List.{AllByRecursion, flat_map}
+use Rattle.std.specs.Option.{option_to_list}
+use Rattle.bssmap_codec.specs.Layer3.{IsLayer3}
+use Rattle.conn_messages.specs.declared.channel.Channel.{Channel}
+use Rattle.conn_messages.specs.declared.channel.Place.{Place}
+use Rattle.conn_messages.specs.declared.message.Message.{Message}
+use Rattle.conn_messages.specs.declared.parameters.TheConstants.{SWITCH_LINK}
+use Rattle.conn_messages.specs.Out.{IsReadOf, IsSound, out_of, outs_of}
+use Rattle.conn_messages.proofs.Readings.{message_again}
+use Rattle.conn_table.specs.declared.input.Input.{Input}
+use Rattle.conn_table.specs.declared.input.Input.TheVariants as inputs
+use Rattle.conn_table.specs.declared.state.Drain.{Drain}
+use Rattle.conn_table.specs.declared.state.Stage.TheVariants.{Active, Preparing, Changing, Draining}
+use Rattle.conn_table.specs.declared.state.State.{State}
+use Rattle.conn_table.specs.declared.state.State.TheVariants.{WaitActivation, WaitEstablish, WaitConfirm, Live, Closed, Removed}
+use Rattle.conn_table.specs.Connection.{Connection}
+use Rattle.conn_table.specs.Roles.{roles_of, target_channels, target_role}
+use Rattle.conn_table.specs.Standing.{IsCarried, IsHeldTenure, Stands}
+use Rattle.conn_table.specs.Steps.{Row}
+use Rattle.conn_table.specs.Streams.{AreApart, Ends, Future, IsOpen, KeepsUplink, OfRow, first_at, from_input, of_prepared, of_target, relayed, still_of, still_to_relay, undone, used_channels}
+use Rattle.conn_table.specs.Table.{row_of}
+use Rattle.conn_table.proofs.DownlinkMessages.{AllByRecursion-append}
+use Rattle.conn_table.proofs.RolesApart.{target_in-role}
+use Rattle.conn_table.proofs.UplinkTable.{row-keeps}
+use Rattle.controller_laws.specs.Acts.{kept_in}
+use Rattle.controller_laws.specs.End.{IsThere}
+use Rattle.controller_laws.specs.History.{connection_of, word_by}
+use Rattle.controller_laws.specs.Owning.{Owns, OwnsOpen}
+use Rattle.controller_laws.specs.Seen.{messages_on, passed_by}
+use Rattle.controller_laws.specs.Sending.{IsOfOctets, IsSent}
+use Rattle.controller_laws.specs.Using.{AreUsed}
+use Rattle.controller_laws.proofs.Acting.{outs_own, row_found}
+use Rattle.controller_laws.proofs.SeenFrames.{forwarded_seen}
+use Rattle.controller_laws.proofs.SoundLife.{IsSoundAll, IsSoundCell, RefersIn, SoundOf, SoundParts, life_sound, offer_list, request_sound, sent_message, word_refers}
+use Rattle.controller_laws.proofs.SoundMessages.{IsSoundChannel}
+use Rattle.controller_laws.proofs.SoundRows.{IsSoundRow, RefersBy, row_sound}
+use Rattle.controller_laws.proofs.UplinkLife.{used_apart}
+use Rattle.controller_laws.proofs.UsingLife.{IsAfter, life_after, ready_by, ready_uses, run_step}
+use Rattle.controller_laws.proofs.UsingWords.{IsHere, Ready, here_of}
+use Rattle.controller_laws.proofs.UsualRows.{AreUsual, PutsUsual, usual_row}
+use Rattle.controller_table.specs.declared.channel_state.ChannelState.{ChannelState}
+use Rattle.controller_table.specs.declared.channel_state.ChannelState.TheVariants.{Free, InUse, Releasing}
+use Rattle.controller_table.specs.declared.forwarded.Forwarded.{Forwarded}
+use Rattle.controller_table.specs.declared.step.Step.TheVariants.{Take}
+use Rattle.controller_table.specs.declared.word.Word.{Word}
+use Rattle.controller_table.specs.Channels.{request_offer}
+use Rattle.controller_laws.specs.Numbers.{AreRising}
+use Rattle.controller_table.specs.Controller.{Controller, Entry, Turn, channel_state, entry_of, freed, ignoring, is_up, place_at, place_of, state_in, turn}
+use Rattle.controller_table.specs.Life.{by_fitting, concerning, entry_at, frees, life, on_freed, on_what, on_word, row_in, step, take}
+use Rattle.controller_table.specs.Reading.{word_of}
+use Rattle.controller_table.specs.Views.{forwarded, held_up, held_up_for}
+use Rattle.controller_table.proofs.Numbers.{keeps_number}
+use Rattle.dtap_codec.specs.declared.sapi.Sapi.{Sapi}
+use Rattle.dtap_codec.specs.declared.sapi.Sapi.TheVariants.{Zero, Three}
+use Rattle.hold_queue.specs.ChainState.{Tenure as Held, tenure_messages}
+use Rattle.ipa_framing.specs.declared.frame.Frame.{Frame}
+use Rattle.lineup.specs.LineUp.{flow}
+use Rattle.lineup.proofs.Lines.{flow-apart, flow-cons}
+use Rattle.octets.specs.Element.{AreOctets}
+use Rattle.relay_items.specs.declared.Item.{Item as RelayItem}
+use Rattle.relay_items.specs.declared.What.{What}
+use Rattle.relay_items.specs.declared.What.TheVariants as whats
+use Rattle.settings.specs.Parameters.{Parameters}
+use Rattle.world_table.specs.declared.event.Event.{Event}
+use Rattle.world_table.specs.Life.{actors_after_all}
+use Rattle.world_table.specs.Steps.{all_steps}
+use Rattle.world_table.specs.World.{Actors, new_actors}
+use Rattle.world_table.proofs.Living.{LivesByTable-new}
+use Rattle.world_laws.specs.OwnFrame.{IsRequested, IsSaidTo, freed_for}
+use Rattle.world_laws.specs.OwnFrame.IsSaidTo.{on_channel as is_on_channel, on_connection as is_on_connection}
+use Rattle.world_laws.specs.PutAsRead.{AllowedFramesKeepLineUps, FramesArePutAsRead}
+use Rattle.world_laws.specs.SapiThree.{BringsBesideFlow, IsBesideFlow, SaysBesideFlow}
+use Rattle.world_laws.proofs.Handled.{FramesKeepLineUps-new}
+use Rattle.world_laws.proofs.Framing.{all-left, all-right}
+use Rattle.world_laws.proofs.SapiThree.{says-waits}
+use Rattle.world_laws.proofs.SapiThreeHeld.{FlowComesOnSapiZero-new}
+
+-- ---- what may still come of a connection, where nothing is on its way
+
+abbrev none : Future
+none place = []
+
+ends-none : (input : Input) (state : State) → Ends none state input
+ends-none (inputs.ReleaseAck at) state = refl
+ends-none (inputs.Failure at change cause) state = by state where
+  by : (state : State) → of_target none state ≡ []
+  by (Live reference (Changing target)) = refl
+  by (Live reference Active) = refl
+  by (Live reference (Preparing target)) = refl
+  by (Live reference Draining) = refl
+  by WaitActivation = refl
+  by WaitEstablish = refl
+  by WaitConfirm = refl
+  by (Closed clearing) = refl
+  by Removed = refl
+ends-none (inputs.ActivationAck at) state = by state where
+  by : (state : State) → of_prepared none state ≡ []
+  by (Live reference (Preparing target)) = refl
+  by (Live reference Active) = refl
+  by (Live reference (Changing target)) = refl
+  by (Live reference Draining) = refl
+  by WaitActivation = refl
+  by WaitEstablish = refl
+  by WaitConfirm = refl
+  by (Closed clearing) = refl
+  by Removed = refl
+ends-none _ state = tt
+
+-- the message that an input brings
+module _ (P : List ℕ → Type 0) where
+  first-all : (at : Place) (message : List ℕ) → P message → (place : Place) → AllByRecursion P (first_at at message none place)
+  first-all at message is place = by (place.station == at.station && place.number == at.number) where
+    by : (b : Bool) → AllByRecursion P (if b then message ∷ none place else none place)
+    by true = (is, tt)
+    by false = tt
+
+module _ (P : List ℕ → Type 0) where
+  all-of-tenures : (sapi : Sapi) (f : Future) (serving : Channel) (ds : List Drain) (ts : List Held) → ((at : Place) → AllByRecursion P (f at)) → AllByRecursion (λ t. AllByRecursion P (tenure_messages t sapi)) ts → AllByRecursion P (still_of sapi f serving ds ts)
+  all-of-tenures sapi f serving ds [] each all = tt
+  all-of-tenures sapi f serving [] (t ∷ ts) each all = AllByRecursion-append P (tenure_messages t sapi) (f (place_of serving)) all.0 (each (place_of serving))
+  all-of-tenures sapi f serving (d ∷ ds) (t ∷ ts) each all =
+      AllByRecursion-append P (tenure_messages t sapi) ((if d.is_done then [] else f (place_of d.channel)) ++ still_of sapi f serving ds ts) all.0
+      (AllByRecursion-append P (if d.is_done then [] else f (place_of d.channel)) (still_of sapi f serving ds ts) (by d.is_done) (all-of-tenures sapi f serving ds ts each all.1)) where
+        by : (b : Bool) → AllByRecursion P (if b then [] else f (place_of d.channel))
+        by true = tt
+        by false = each (place_of d.channel)
+
+  all-of-target : (f : Future) (state : State) → ((at : Place) → AllByRecursion P (f at)) → AllByRecursion P (of_target f state)
+  all-of-target f (Live reference (Changing target)) each = each (place_of target.channel)
+  all-of-target f (Live reference Active) each = tt
+  all-of-target f (Live reference (Preparing target)) each = tt
+  all-of-target f (Live reference Draining) each = tt
+  all-of-target f WaitActivation each = tt
+  all-of-target f WaitEstablish each = tt
+  all-of-target f WaitConfirm each = tt
+  all-of-target f (Closed clearing) each = tt
+  all-of-target f Removed each = tt
+
+  -- what is relayed was held, or comes with the input
+  all-relayed : (sapi : Sapi) (s : Connection) (input : Input) (offer : Option Channel) (r : Row) → Stands s → AreApart (used_channels s) → row_of s input offer ≡ Some r → IsOpen r.next.state
+      → ((at : Place) → AllByRecursion P (from_input sapi input none at)) → AllByRecursion (λ t. AllByRecursion P (tenure_messages t sapi)) s.up.tenures → AllByRecursion P (relayed sapi r.outs)
+  all-relayed sapi s input offer r stands apart fits is_open each all =
+      let keeps : KeepsUplink sapi none s input r = subst (OfRow (KeepsUplink sapi none s input)) fits (row-keeps s input offer sapi none stands apart (ends-none input s.state)) in
+      all-left P (relayed sapi r.outs) (still_to_relay sapi none r.next)
+      (subst (AllByRecursion P) (sym (keeps is_open))
+      (AllByRecursion-append P (still_of sapi (from_input sapi input none) s.serving s.draining s.up.tenures) (of_target (from_input sapi input none) s.state)
+      (all-of-tenures sapi (from_input sapi input none) s.serving s.draining s.up.tenures each all) (all-of-target (from_input sapi input none) s.state each)))
+
+-- ---- messages of 1 to 251 octets
+
+brought-whole : (input : Input) → IsCarried input → (at : Place) → AllByRecursion IsLayer3 (from_input Zero input none at)
+brought-whole (inputs.Dtap at Zero message) carried place = first-all IsLayer3 at message carried place
+brought-whole (inputs.Dtap at Three message) carried place = tt
+brought-whole (inputs.EstablishIndication at Zero (Some initial)) carried place = first-all IsLayer3 at initial carried place
+brought-whole (inputs.EstablishIndication at Zero None) carried place = tt
+brought-whole (inputs.EstablishIndication at Three message) carried place = tt
+brought-whole _ carried place = tt
+
+held-whole : (ts : List Held) → AllByRecursion IsHeldTenure ts → AllByRecursion (λ t. AllByRecursion IsLayer3 (tenure_messages t Zero)) ts
+held-whole [] all = tt
+held-whole (t ∷ ts) all = (all.0.0, held-whole ts all.1)
+
+-- ---- SAPI 3
+
+brought-beside : (input : Input) → BringsBesideFlow input → (place : Place) → AllByRecursion IsBesideFlow (from_input Three input none place)
+brought-beside (inputs.Dtap at Three message) says place = first-all IsBesideFlow at message says place
+brought-beside (inputs.Dtap at Zero message) says place = tt
+brought-beside _ says place = tt
+
+held-three : (ts : List Held) → AllByRecursion IsBesideFlow (flat_map (λ tenure. tenure_messages tenure Three) ts) → AllByRecursion (λ t. AllByRecursion IsBesideFlow (tenure_messages t Three)) ts
+held-three [] all = tt
+held-three (t ∷ ts) all =
+    (all-left IsBesideFlow t.three (flat_map (λ tenure. tenure_messages tenure Three) ts) all, held-three ts (all-right IsBesideFlow t.three (flat_map (λ tenure. tenure_messages tenure Three) ts) all))
+
+-- what is beside the flow leaves the flow as it is
+flow-of : (fs : List Forwarded) → AllByRecursion IsBesideFlow (messages_on Three fs) → flow (map (λ f. f.message) fs) ≡ flow (messages_on Zero fs)
+flow-of [] beside = refl
+flow-of (f ∷ fs) beside = by f.sapi (flow-of fs) beside where
+  by : (sapi : Sapi) → (AllByRecursion IsBesideFlow (messages_on Three fs) → flow (map (λ x. x.message) fs) ≡ flow (messages_on Zero fs)) → AllByRecursion IsBesideFlow (passed_by Three (record { sapi = sapi; message = f.message }) ++ messages_on Three fs) → flow (f.message ∷ map (λ x. x.message) fs) ≡ flow (passed_by Zero (record { sapi = sapi; message = f.message }) ++ messages_on Zero fs)
+  by Zero rest beside = flow-cons f.message (map (λ x. x.message) fs) ∙ ap (λ (xs : List (List ℕ)). flow (f.message ∷ []) ++ xs) (rest beside) ∙ sym (flow-cons f.message (messages_on Zero fs))
+  by Three rest beside = flow-apart f.message (map (λ x. x.message) fs) beside.0 ∙ rest beside.1
+
+-- ---- one that a word says something to
+
+number-at : (c : Controller) (state : ChannelState) (e : Entry) → entry_at c state ≡ Some e → (n : ℕ) × (entry_of c n ≡ Some e)
+number-at c Free e there = absurd cc
+number-at c (InUse n) e there = (n, there)
+number-at c (Releasing n) e there = (n, there)
+
+-- an entry of the controller
+record IsFound (c : Controller) (s : Connection) : Type 0 where
+  entry : Entry
+  here : IsHere c.links c entry
+  is : entry.connection ≡ s
+
+found-of : {c : Controller} {word : Word} {s : Connection} {input : Input} {offer : Option Channel} → Ready c → IsSaidTo c word s input offer → IsFound c s
+found-of {c} {s = s} ready (is_on_channel at input e word_is there is) = let found = number-at c (channel_state c at) e there in record { entry = e; here = here_of c found.0 e ready found.1; is = is }
+found-of {c} {s = s} ready (is_on_connection number input e word_is there is) = record { entry = e; here = here_of c number e ready there; is = is }
+
+-- ---- the connection after it
+
+still-there : (state : State) (s : Connection) → IsOpen state → kept_in state s ≡ Some s
+still-there WaitActivation s is_open = refl
+still-there WaitEstablish s is_open = refl
+still-there WaitConfirm s is_open = refl
+still-there (Live reference stage) s is_open = refl
+still-there (Closed clearing) s is_open = absurd is_open
+still-there Removed s is_open = absurd is_open
+
+row-next : (c : Controller) (otherwise : Turn) (e : Entry) (input : Input) (r : Row) → AreRising c.entries → entry_of c e.connection.number ≡ Some e → row_in c e.connection input ≡ Some r → IsOpen r.next.state
+    → connection_of (by_fitting otherwise e (row_in c e.connection input) c).next e.connection.number ≡ Some r.next
+row-next c otherwise e input r rising there fits is_open =
+    ap (λ (o : Option Row). connection_of (by_fitting otherwise e o c).next e.connection.number) fits
+    ∙ row_found c e e r rising (subst (OfRow (λ (q : Row). q.next.number ≡ e.connection.number)) fits (keeps_number e.connection input (request_offer c e.connection input))) there
+    ∙ still-there r.next.state r.next is_open
+
+freed-next : (b : Bool) (at : Place) (input : Input) (c : Controller) (e : Entry) (r : Row) → AreRising c.entries → entry_of c e.connection.number ≡ Some e → row_in (if b then freed at c else c) e.connection input ≡ Some r → IsOpen r.next.state
+    → connection_of (on_freed b at input c (Some e)).next e.connection.number ≡ Some r.next
+freed-next true at input c e r rising there fits is_open = row-next (freed at c) (turn [] (freed at c)) e input r rising there fits is_open
+freed-next false at input c e r rising there fits is_open = row-next c (ignoring c) e input r rising there fits is_open
+
+word-next : {c : Controller} {word : Word} {s : Connection} {input : Input} {offer : Option Channel} (source : ℕ) (r : Row) → Ready c → IsSaidTo c word s input offer → row_of s input offer ≡ Some r → IsOpen r.next.state → connection_of (on_word source word c).next s.number ≡ Some r.next
+word-next {c} {s = s} source r ready (is_on_channel at input e word_is found is) fits is_open =
+    let number = number-at c (channel_state c at) e found in
+    let here : IsHere c.links c e = here_of c number.0 e ready number.1 in
+    ap (λ (w : Word). connection_of (on_word source w c).next s.number) word_is
+    ∙ ap (λ (o : Option Entry). connection_of (on_freed (frees (channel_state c at) o input) at input c o).next s.number) found
+    ∙ ap (λ (x : Connection). connection_of (on_freed (frees (channel_state c at) (Some e) input) at input c (Some e)).next x.number) (sym is)
+    ∙ freed-next (frees (channel_state c at) (Some e) input) at input c e r here.rising here.there
+    (ap (λ (o : Option Entry). row_in (if frees (channel_state c at) o input then freed at c else c) e.connection input) (sym found) ∙ ap (λ (x : Connection). row_in (freed_for c at input) x input) is ∙ fits) is_open
+word-next {c} {s = s} source r ready (is_on_connection number input e word_is found is) fits is_open =
+    let here : IsHere c.links c e = here_of c number e ready found in
+    ap (λ (w : Word). connection_of (on_word source w c).next s.number) word_is
+    ∙ ap (λ (o : Option Entry). connection_of (concerning input c o).next s.number) found
+    ∙ ap (λ (x : Connection). connection_of (concerning input c (Some e)).next x.number) (sym is)
+    ∙ row-next c (ignoring c) e input r here.rising here.there (ap (λ (x : Connection). row_in c x input) is ∙ fits) is_open
+
+-- ---- its channels are different ones, of stations
+
+used-placed : (c : Controller) (state : ChannelState) (cs : List Channel) → AreUsed c → (state ≡ Free → ⊥) → AllByRecursion (λ (x : Channel). state_in c.channels (place_of x) ≡ state) cs → AllByRecursion (λ (x : Channel). x.station ≢ SWITCH_LINK) cs
+used-placed c state [] used isnt all = tt
+used-placed c state (x ∷ xs) used isnt all = (
+  λ is. isnt (sym all.0 ∙ ap (λ (n : ℕ). state_in c.channels (place_at n x.number)) is ∙ used.switch x.number),
+  used-placed c state xs used isnt all.1,
+)
+
+owns-placed : (c : Controller) (s : Connection) → AreUsed c → Owns c.channels c.links s.number (roles_of s) → AllByRecursion (λ (x : Channel). x.station ≢ SWITCH_LINK) (used_channels s)
+owns-placed c s used owns = subst (λ (cs : List Channel). AllByRecursion (λ (x : Channel). x.station ≢ SWITCH_LINK) (undone s.draining ++ s.serving ∷ cs)) (target_in-role s.state)
+    (AllByRecursion-append (λ (x : Channel). x.station ≢ SWITCH_LINK) (undone s.draining) (s.serving ∷ target_channels (target_role s.state))
+    (used-placed c (Releasing s.number) (undone s.draining) used (λ is. absurd cc) owns.releasing)
+    (used-placed c (InUse s.number) (s.serving ∷ target_channels (target_role s.state)) used (λ is. absurd cc) owns.using))
+
+-- ---- what is put
+
+says-input : {c : Controller} {word : Word} {s : Connection} {input : Input} {offer : Option Channel} → IsSaidTo c word s input offer → SaysBesideFlow word → (at : Place) → AllByRecursion IsBesideFlow (from_input Three input none at)
+says-input (is_on_channel at input e word_is there is) says = brought-beside input (subst SaysBesideFlow word_is says)
+says-input (is_on_connection number input e word_is there is) says = brought-beside input (subst SaysBesideFlow word_is says)
+
+refers-input : {c : Controller} {word : Word} {s : Connection} {input : Input} {offer : Option Channel} → IsSaidTo c word s input offer → RefersIn word → RefersBy input
+refers-input (is_on_channel at input e word_is there is) refers = subst RefersIn word_is refers
+refers-input (is_on_connection number input e word_is there is) refers = subst RefersIn word_is refers
+
+offered : {c : Controller} {word : Word} {s : Connection} {input : Input} {offer : Option Channel} → IsSaidTo c word s input offer → IsSoundAll c → AllByRecursion IsSoundChannel (option_to_list offer)
+offered {c} {s = s} (is_on_channel at input e word_is there is) sound =
+    offer_list (request_offer (freed_for c at input) s input) (request_sound (freed_for c at input) s input (by (frees (channel_state c at) (entry_at c (channel_state c at)) input))) where
+      by : (b : Bool) → AllByRecursion IsSoundCell (if b then freed at c else c).settings.cells
+      by true = sound.cells
+      by false = sound.cells
+offered {c} {s = s} (is_on_connection number input e word_is there is) sound = offer_list (request_offer c s input) (request_sound c s input sound.cells)
+
+all-read : (n : ℕ) (ms : List Message) → n < 2 ^ 24 → AllByRecursion IsSound ms → AllByRecursion (λ m. IsReadOf n m (out_of n m).frame.body) ms
+all-read n [] few all = tt
+all-read n (m ∷ ms) few all = (message_again n m few all.0.0 all.0.1, all-read n ms few all.1)
+
+all-sent : (n : ℕ) (ms : List Message) → n < 2 ^ 24 → AllByRecursion IsSound ms → AllByRecursion IsSent (outs_of n ms)
+all-sent n [] few all = tt
+all-sent n (m ∷ ms) few all = (sent_message n m few all.0, all-sent n ms few all.1)
+
+parts-of : (o : Option Connection) (s : Connection) → o ≡ Some s → SoundOf o → SoundParts s
+unfolding SoundOf
+parts-of o s is sound = subst SoundOf is sound
+
+-- ---- what is known of the connection
+
+record IsKnown (c : Controller) (s : Connection) : Type 0 where
+  from_one : 1 ≤ s.number
+  few : s.number < 2 ^ 24
+  stands : Stands s
+  there : connection_of c s.number ≡ Some s
+  owns : Owns c.channels c.links s.number (roles_of s)
+  parts : SoundParts s
+
+open-of : (state : State) → IsRequested state → IsOpen state
+open-of WaitConfirm requested = tt
+open-of (Live reference stage) requested = tt
+open-of _ requested = absurd requested
+
+known : (c : Controller) (s : Connection) → Ready c → IsSoundAll c → IsFound c s → IsOpen s.state → IsKnown c s
+known c s ready sound found = subst (λ (x : Connection). IsOpen x.state → IsKnown c x) found.is (λ is_open.
+    let e : Entry = found.entry in
+    let there : connection_of c e.connection.number ≡ Some e.connection = ap (option_map (λ (x : Entry). x.connection)) found.here.there in
+    let below = found.here.below in
+    let next = sound.next in
+    record {
+      from_one = found.here.from_one;
+      few = omega arith;
+      stands = found.here.stands;
+      there = there;
+      owns = subst (OwnsOpen c.channels c.links e.connection.number) there (ready.holds.each e.connection.number) is_open;
+      parts = parts-of (connection_of c e.connection.number) e.connection there (sound.each e.connection.number);
+    })
+
+sound-row : {c : Controller} {s : Connection} (input : Input) (offer : Option Channel) (r : Row) → IsKnown c s → row_of s input offer ≡ Some r → AllByRecursion IsSoundChannel (option_to_list offer) → IsCarried input → RefersBy input → AllByRecursion IsSound r.outs
+sound-row {s = s} input offer r known fits offered carried refers =
+    let sound : IsSoundRow r = subst (OfRow IsSoundRow) fits
+    (row_sound s input offer (record { serving = known.parts.serving; zero = known.stands.down_zero; three = known.stands.down_three; up = known.stands.up_messages; refers = known.parts.refers }) known.parts.targets offered carried refers) in
+    sound.0
+
+-- the flow that goes to the switch
+forwards-of : {c : Controller} {s : Connection} (input : Input) (offer : Option Channel) (r : Row) → IsKnown c s → row_of s input offer ≡ Some r → AllByRecursion IsSound r.outs → AllByRecursion IsBesideFlow (relayed Three r.outs) → flow (map (λ f. f.message) (forwarded (outs_of s.number r.outs) s.number)) ≡ flow (relayed Zero r.outs)
+forwards-of {s = s} input offer r known fits sound beside =
+    let usual : AreUsual r.outs = subst (OfRow PutsUsual) fits (usual_row s input offer) in
+    let seen = forwarded_seen s.number (outs_of s.number r.outs) r.outs known.from_one (outs_own s.number r.outs) usual (all-sent s.number r.outs known.few sound) in
+    flow-of (forwarded (outs_of s.number r.outs) s.number) (subst (AllByRecursion IsBesideFlow) (sym (seen Three)) beside) ∙ ap flow (seen Zero)
+
+beside-held : (c : Controller) (s : Connection) → connection_of c s.number ≡ Some s → AllByRecursion IsBesideFlow (held_up c s.number Three) → AllByRecursion (λ t. AllByRecursion IsBesideFlow (tenure_messages t Three)) s.up.tenures
+beside-held c s there beside = held-three s.up.tenures (by (entry_of c s.number) there beside) where
+  by : (o : Option Entry) → option_map (λ (x : Entry). x.connection) o ≡ Some s → AllByRecursion IsBesideFlow (held_up_for Three o) → AllByRecursion IsBesideFlow (flat_map (λ tenure. tenure_messages tenure Three) s.up.tenures)
+  by None is beside = absurd cc
+  by (Some e) is beside = subst (λ (o : Option Connection). AllByRecursion IsBesideFlow (flat_map (λ tenure. tenure_messages tenure Three) (unwrap_or o s).up.tenures)) is beside
+
+-- ---- the law, over the life of a controller
+
+taken-next : (c : Controller) (item : RelayItem) (frame : Frame) (n : ℕ) (s : Connection) → is_up c item.source ≡ true → item.what ≡ whats.Frame frame → connection_of (on_word item.source (word_of item.source frame) c).next n ≡ Some s → connection_of (take item c).next n ≡ Some s
+unfolding take
+taken-next c item frame n s up is next = ap (λ (b : Bool). connection_of (on_what b item.source item.what c).next n) up ∙ ap (λ (x : What). connection_of (on_what true item.source x c).next n) is ∙ next
+
+next-owns : (c : Controller) (r : Row) → OwnsOpen c.channels c.links r.next.number (connection_of c r.next.number) → connection_of c r.next.number ≡ Some r.next → IsOpen r.next.state → Owns c.channels c.links r.next.number (roles_of r.next)
+next-owns c r owns there is_open = subst (OwnsOpen c.channels c.links r.next.number) there owns is_open
+
+pub FramesArePutAsRead-new : (settings : Parameters) (events : List Event) → FramesArePutAsRead settings events
+FramesArePutAsRead-new settings events s item items input offer r allowed octets own_octets stood comes =
+    let w : Actors = actors_after_all (new_actors settings) events in
+    let steps = all_steps (new_actors settings) events in
+    let c : Controller = (life settings steps).next in
+    let lives : w.controller ≡ c = LivesByTable-new settings events in
+    let word : Word = word_of item.source comes.frame in
+    let said : IsSaidTo c word s input offer = subst (λ (d : Controller). IsSaidTo d word s input offer) lives comes.said in
+    let now : IsAfter c = life_after settings steps allowed in
+    let ready : Ready c = ready_by c now.fits now.holds now.uses in
+    let all : IsSoundAll c = life_sound settings steps allowed octets in
+    let is_open : IsOpen s.state = open-of s.state comes.requested in
+    let one : IsKnown c s = known c s ready all (found-of ready said) is_open in
+    let apart : AreApart (used_channels s) = used_apart s one.owns.apart in
+    let frame_octets : AreOctets comes.frame.body = subst IsOfOctets comes.is own_octets in
+    let sound : AllByRecursion IsSound r.outs = sound-row input offer r one comes.fits (offered said all) comes.carried (refers-input said (word_refers item.source comes.frame frame_octets)) in
+    let says : SaysBesideFlow word = subst (λ (x : What). SaysBesideFlow (word_by item.source x)) comes.is
+    (subst (AllByRecursion (λ item. SaysBesideFlow (word_by item.source item.what))) stood (says-waits settings events)).0 in
+    let held : AllByRecursion IsBesideFlow (held_up c s.number Three) = subst (λ (d : Controller). AllByRecursion IsBesideFlow (held_up d s.number Three)) lives
+    ((FlowComesOnSapiZero-new settings events).held allowed s.number one.from_one (subst (λ (d : Controller). IsThere (connection_of d s.number)) (sym lives) (subst IsThere (sym one.there) is_open))) in
+    let after : IsAfter (step c (Take item)).next = run_step c (Take item) now.fits now.holds now.uses in
+    let number : r.next.number ≡ s.number = subst (OfRow (λ (q : Row). q.next.number ≡ s.number)) comes.fits (keeps_number s input offer) in
+    let next : connection_of (step c (Take item)).next r.next.number ≡ Some r.next =
+    ap (connection_of (step c (Take item)).next) number ∙ taken-next c item comes.frame s.number r.next (ap (λ (d : Controller). is_up d item.source) (sym lives) ∙ comes.up) comes.is (word-next item.source r ready said comes.fits comes.stays_open) in
+    let owns = next-owns (step c (Take item)).next r (after.holds.each r.next.number) next comes.stays_open in
+    record {
+      whole = all-relayed IsLayer3 Zero s input offer r one.stands apart comes.fits comes.stays_open (brought-whole input comes.carried) (held-whole s.up.tenures one.stands.up_messages);
+      forwards = forwards-of input offer r one comes.fits sound
+          (all-relayed IsBesideFlow Three s input offer r one.stands apart comes.fits comes.stays_open (says-input said says) (beside-held c s one.there held));
+      read = all-read s.number r.outs one.few sound;
+      apart = used_apart r.next owns.apart;
+      placed = owns-placed (step c (Take item)).next r.next (ready_uses (step c (Take item)).next (ready_by (step c (Take item)).next after.fits after.holds after.uses)) owns;
+    }
+
+pub AllowedFramesKeepLineUps-new : (settings : Parameters) (events : List Event) → AllowedFramesKeepLineUps settings events
+AllowedFramesKeepLineUps-new settings events mobile s item items input offer r allowed octets own_octets stood comes ready lined =
+    FramesKeepLineUps-new settings events mobile s item items input offer r stood comes ready (FramesArePutAsRead-new settings events s item items input offer r allowed octets own_octets stood comes) lined

@@ -1,0 +1,381 @@
+-- Stations make no message of SAPI 3 that is of the flow, and so none comes to the controller.
+use Rattle.std.proofs.Common.{◌≡◌, ℕ, zero, suc, ◌-◌, ◌+◌, ◌==◌, ◌&&◌, not, nat_eq, Bool, true, false, if◌then◌else◌, List, [], ◌∷◌, ◌++◌, filter, map, get_or, set, unwrap_or, Option, Some, None, Result, Ok, Err, option_to_list, refl, sym, ap, ◌∙◌, subst, append_assoc, inl, inr}
+use Rattle.std.specs.List.{AllByRecursion}
+use Rattle.std.proofs.lemmas.Bool.{cases_Bool, eqb-true, eqb-false}
+use Rattle.std.proofs.lemmas.List.{append-nil}
+use Rattle.std.proofs.lemmas.List.Elements.{filter-append}
+use Rattle.bssmap_codec.specs.declared.bssap.Bssap.{Bssap}
+use Rattle.bssmap_codec.specs.declared.bssap.Bssap.TheVariants.{Management, Transfer}
+use Rattle.bssmap_codec.specs.declared.bssmap.Bssmap.{Bssmap}
+use Rattle.bssmap_codec.specs.declared.bssmap.Bssmap.TheVariants as bssmap
+use Rattle.bssmap_codec.specs.declared.fault.InterfaceFault.{InterfaceFault}
+use Rattle.bssmap_codec.specs.declared.sccp.Sccp.{Sccp}
+use Rattle.bssmap_codec.specs.declared.sccp.Sccp.TheVariants as sccp
+use Rattle.bssmap_codec.specs.BssapReading.{bssap_reading}
+use Rattle.bssmap_codec.specs.SccpReading.{sccp_reading}
+use Rattle.bssmap_codec.specs.SccpText.{sccp_text}
+use Rattle.conn_table.proofs.DownlinkMessages.{AllByRecursion-append}
+use Rattle.conn_messages.specs.declared.channel.Place.{Place}
+use Rattle.conn_messages.specs.declared.parameters.TheConstants.{SWITCH_LINK}
+use Rattle.controller_laws.specs.History.{word_by, word_in}
+use Rattle.conn_table.specs.Streams.{is_dtap}
+use Rattle.controller_table.specs.declared.word.Word.TheVariants.{Nothing, Reports}
+use Rattle.conn_table.specs.declared.input.Input.{Input}
+use Rattle.controller_table.specs.Life.{take, tick}
+use Rattle.controller_table.specs.Reading.{body_word, bssap_word, change_word, data_word, management_word, of_sapi, report_word, result_word, rr_word, rsl_word, sapi_of, station_word, switch_word, valid_word, word_of}
+use Rattle.controller_table.specs.Reading.Carried.{connection_control, other, radio_signalling}
+use Rattle.controller_table.specs.Reports.{report_reading}
+use Rattle.controller_table.specs.Controller.{place_at}
+use Rattle.dtap_codec.specs.declared.report.Report.{Report as ReportValue}
+use Rattle.dtap_codec.specs.declared.rr.RrMessage.{RrMessage}
+use Rattle.dtap_codec.specs.declared.rr.RrMessage.TheVariants.{AssignmentComplete, HandoverComplete, AssignmentFailure, HandoverFailure, MeasurementReport}
+use Rattle.dtap_codec.specs.declared.rr_fault.RrFault.{RrFault}
+use Rattle.dtap_codec.specs.RrReading.{rr_reading}
+use Rattle.dtap_codec.specs.declared.sapi.Sapi.{Sapi}
+use Rattle.dtap_codec.specs.declared.sapi.Sapi.TheVariants.{Zero, Three}
+use Rattle.dtap_codec.specs.Message.{is_flow_message}
+use Rattle.link_model.specs.BaseState.{BaseState}
+use Rattle.link_model.specs.Base.{after_activate, after_next, after_release, after_tell, first_message, first_of_messages, messages_behind_first}
+use Rattle.link_model.specs.Message.{data_indication, establish_indication}
+use Rattle.mobile_end.specs.declared.fault.MobileFault.{MobileFault}
+use Rattle.mobile_end.specs.Calls.{Call, after_call, after_calls, frame_lent, taken_on_three_by_call, taken_on_three_by_calls}
+use Rattle.mobile_end.specs.Calls.Call.{frames}
+use Rattle.mobile_end.specs.Mobile.{frame_answer, new_mobile}
+use Rattle.mobile_end.specs.MobileState.{MobileState}
+use Rattle.mobile_end.proofs.OnSapiThree.{takes_no_flow}
+use Rattle.relay_items.specs.declared.Item.{Item}
+use Rattle.relay_items.specs.declared.What.TheVariants as whats
+use Rattle.rsl_codec.specs.declared.fault.RslFault.{RslFault}
+use Rattle.rsl_codec.specs.declared.rsl.Rsl.{Rsl}
+use Rattle.rsl_codec.specs.declared.rsl.Rsl.TheVariants as rsl
+use Rattle.rsl_codec.specs.RslReading.{rsl_reading}
+use Rattle.rsl_codec.specs.RslText.{rsl_text}
+use Rattle.settings.specs.Parameters.{CellParameters, Parameters}
+use Rattle.world_table.specs.declared.event.Event.{Event}
+use Rattle.world_table.specs.declared.event.Event.TheVariants.{Upper, Connect, AirUp, AirAck, AirDown, AirDownLost, Move, Touch, Arrive, Return, BaseTakes, BasePush, Handle, SwitchTakes, SwitchDoes, Tick, BaseDown, Report}
+use Rattle.world_table.specs.Life.{event_after, actors_after, actors_after_all}
+use Rattle.world_table.specs.Mobiles.{brought, connected, frame_in, short_message_brought, signalling_brought, told, after_upper, after_connecting, after_air_up, after_air_ack, after_air_down, after_air_down_lost, after_move, after_touch, after_arriving, after_return, after_report}
+use Rattle.world_table.specs.Queues.{all_popped, all_pushed, first_of, popped, pushed}
+use Rattle.world_table.specs.Relay.{station_item, switch_item, target_in, after_base_push, after_handle, after_tick, after_break}
+use Rattle.world_table.specs.Stations.{link_answer, rsl_in, took, after_base_takes}
+use Rattle.world_table.specs.Steps.{all_steps, first_taken, step_at}
+use Rattle.world_table.specs.SwitchSide.{sccp_in, after_switch_takes, after_switch_does}
+use Rattle.world_table.specs.World.{Actors, Mobile, Spot, Station, base_of, is_up, mobile_of, modulus_in, new_actors, no_station, spot_at, station_of, stations_from, with_base, with_outbox, with_spot}
+use Rattle.world_table.proofs.Heard.{Good, end-of, good-new, good-step}
+use Rattle.world_table.proofs.Honesty.{set-or-not, set-elsewhere}
+use Rattle.world_table.proofs.Inboxes.{inbox-all}
+use Rattle.world_table.proofs.Leads.{OfTaken, FromAir, upper-leads, connect-leads, air_up-leads, air_ack-leads, air_down-leads, air_down_lost-leads, move-leads, touch-leads, arrive-leads, return-leads, base_takes-leads, took-leads, handle-leads, turn-leads, switch_takes-leads, switch_took-leads, push-leads, does-leads, broken-leads, report-leads, after-taken}
+use Rattle.world_table.proofs.Mobility.{MobilesLive-new}
+use Rattle.world_table.proofs.Soundness.{IsSound, sound-read}
+use Rattle.world_laws.proofs.Framing.{all-left, all-right}
+use Rattle.world_laws.specs.SapiThree.{BringsBesideFlow, IsBesideFlow, SaysBesideFlow}
+
+-- ---- what a mobile's link of SAPI 3 gives
+
+one-more : (mobile : MobileState) (calls : List Call) → taken_on_three_by_calls mobile (calls ++ frames Three ∷ []) ≡ taken_on_three_by_calls mobile calls ++ frame_lent (frame_answer (after_calls mobile calls) Three)
+one-more mobile [] = append-nil (frame_lent (frame_answer mobile Three))
+one-more mobile (call ∷ calls) =
+    ap (λ (xs : List (List ℕ)). taken_on_three_by_call mobile call ++ xs) (one-more (after_call mobile call) calls)
+    ∙ sym (append_assoc (taken_on_three_by_call mobile call) (taken_on_three_by_calls (after_call mobile call) calls) (frame_lent (frame_answer (after_calls (after_call mobile call) calls) Three)))
+
+none-behind : (xs ys : List (List ℕ)) → xs ++ ys ≡ [] → ys ≡ []
+none-behind [] ys is = is
+none-behind (x ∷ xs) ys is = absurd cc
+
+-- one that is filtered out
+beside : (frame : List ℕ) → filter is_flow_message (frame ∷ []) ≡ [] → IsBesideFlow frame
+beside frame none = by (is_flow_message frame) none where
+  by : (b : Bool) → (if b then frame ∷ [] else []) ≡ [] → b ≡ false
+  by true is = absurd cc
+  by false is = refl
+
+lent-in : (r : Result (Option (List ℕ)) MobileFault) (frame : List ℕ) → frame_in r ≡ Some frame → frame_lent r ≡ frame ∷ []
+lent-in (Ok o) frame is = ap option_to_list is
+lent-in (Err fault) frame is = absurd cc
+
+-- the next frame of each mobile
+NoneLent : Actors → Type 0
+NoneLent w = (number : ℕ) (p : Mobile) (frame : List ℕ) → mobile_of w number ≡ Some p → frame_in (frame_answer p.end Three) ≡ Some frame → IsBesideFlow frame
+
+none-lent : (settings : Parameters) (events : List Event) → NoneLent (actors_after_all (new_actors settings) events)
+unfolding NoneLent
+none-lent settings events number p frame found is =
+    let lives = MobilesLive-new settings events number p found in
+    let m : ℕ = modulus_in settings in
+    let mobile : MobileState = new_mobile m in
+    let last : frame_lent (frame_answer (after_calls mobile lives.calls) Three) ≡ frame ∷ [] = ap (λ (e : MobileState). frame_lent (frame_answer e Three)) (sym lives.is) ∙ lent-in (frame_answer p.end Three) frame is in
+    beside frame (none-behind (filter is_flow_message (taken_on_three_by_calls mobile lives.calls)) (filter is_flow_message (frame ∷ []))
+    (sym (filter-append is_flow_message (taken_on_three_by_calls mobile lives.calls) (frame ∷ []))
+    ∙ ap (λ (xs : List (List ℕ)). filter is_flow_message (taken_on_three_by_calls mobile lives.calls ++ xs)) (sym last)
+    ∙ ap (filter is_flow_message) (sym (one-more mobile lives.calls))
+    ∙ takes_no_flow mobile (lives.calls ++ frames Three ∷ []) tt))
+
+-- ---- what stations make
+
+IsShort : Rsl → Type 0
+IsShort (rsl.DataIndication d) = sapi_of d.link ≡ Some Three → IsBesideFlow d.l3
+IsShort _ = Unit {0}
+
+AreShort : Actors → Type 0
+AreShort w = (k : ℕ) → AllByRecursion IsShort (get_or w.stations k no_station).base.messages
+
+set-short : (stations : List Station) (k : ℕ) (station : Station) → AllByRecursion IsShort station.base.messages → ((j : ℕ) → AllByRecursion IsShort (get_or stations j no_station).base.messages) → (j : ℕ) → AllByRecursion IsShort (get_or (set stations k station) j no_station).base.messages
+unfolding IsShort
+set-short stations k station short all j =
+    elim (cases_Bool (nat_eq j k)) [
+      | inl same ↦ subst (λ (i : ℕ). AllByRecursion IsShort (get_or (set stations k station) i no_station).base.messages) (sym (eqb-true j k same)) own
+      | inr miss ↦ subst (λ (s : Station). AllByRecursion IsShort s.base.messages) (sym (set-elsewhere stations k j station (eqb-false j k miss))) (all j)
+    ] where
+      own : AllByRecursion IsShort (get_or (set stations k station) k no_station).base.messages
+      own = elim (set-or-not stations k station) [
+        | inl there ↦ subst (λ (s : Station). AllByRecursion IsShort s.base.messages) (sym there) short
+        | inr nowhere ↦ subst (λ (s : Station). AllByRecursion IsShort s.base.messages) (sym nowhere.0) tt
+      ]
+
+short-base : (station : ℕ) (base : BaseState) (u : Actors) → AllByRecursion IsShort base.messages → AreShort u → AreShort (with_base station base u)
+unfolding AreShort
+short-base station base u short all = set-short u.stations (station - 1) (record (station_of u station) { base = base }) short all
+
+short-of : (u : Actors) (station : ℕ) → AreShort u → AllByRecursion IsShort (base_of u station).messages
+unfolding AreShort
+short-of u station all = all (station - 1)
+
+short-spot : (at : Place) (spot : Spot) (u : Actors) → AreShort u → AreShort (with_spot at spot u)
+unfolding AreShort
+short-spot at spot u all = set-short u.stations (at.station - 1) _ (short-of u at.station all) all
+
+short-told : (station : ℕ) (message : Rsl) (u : Actors) → IsShort message → AreShort u → AreShort (told station message u)
+short-told station message u short all = short-base station (after_tell (base_of u station) message) u (AllByRecursion-append IsShort (base_of u station).messages (message ∷ []) (short-of u station all) (short, tt)) all
+
+brought-short : (w : Actors) (p : Mobile) (at : Place) (sapi : Sapi) (frame : List ℕ) → AreShort w → (sapi ≡ Three → IsBesideFlow frame) → AreShort (brought w p at sapi frame)
+unfolding AreShort IsShort
+brought-short w p at Zero frame all none = short-base at.station (signalling_brought (base_of w at.station) at.number p.opens frame) w (by p.opens) all where
+  by : (b : Bool) → AllByRecursion IsShort (signalling_brought (base_of w at.station) at.number b frame).messages
+  by true = AllByRecursion-append IsShort (base_of w at.station).messages (establish_indication at.number Zero (Some frame) ∷ []) (short-of w at.station all) (tt, tt)
+  by false = AllByRecursion-append IsShort (base_of w at.station).messages (data_indication at.number Zero frame ∷ []) (short-of w at.station all) ((λ is. absurd cc), tt)
+brought-short w p at Three frame all none =
+    short-spot at _ (with_base at.station (short_message_brought (base_of w at.station) at.number (spot_at w at).sapi_three_up frame) w)
+    (short-base at.station (short_message_brought (base_of w at.station) at.number (spot_at w at).sapi_three_up frame) w (by (spot_at w at).sapi_three_up) all) where
+      by : (b : Bool) → AllByRecursion IsShort (short_message_brought (base_of w at.station) at.number b frame).messages
+      by true = AllByRecursion-append IsShort (base_of w at.station).messages (data_indication at.number Three frame ∷ []) (short-of w at.station all) ((λ is. none refl), tt)
+      by false = AllByRecursion-append IsShort ((base_of w at.station).messages ++ establish_indication at.number Three None ∷ []) (data_indication at.number Three frame ∷ [])
+          (AllByRecursion-append IsShort (base_of w at.station).messages (establish_indication at.number Three None ∷ []) (short-of w at.station all) (tt, tt)) ((λ is. none refl), tt)
+
+took-short : (station : ℕ) (target : _) (o : Option Rsl) (u : Actors) → AreShort u → OfTaken AreShort (took station target o u)
+unfolding AreShort IsShort
+took-short station target o u all = took-leads AreShort station target o u (record {
+  nothing = all;
+  activates = λ channel _. short-spot (place_at station channel) _ (with_base station (after_activate (base_of u station) channel) u)
+      (short-base station (after_activate (base_of u station) channel) u (AllByRecursion-append IsShort (base_of u station).messages _ (short-of u station all) (tt, tt)) all);
+  seats = λ p number channel found asking. all;
+  airs = λ channel message _. short-spot (place_at station channel) _ u all;
+  answers = λ answer channel. short-told station (link_answer answer channel) (with_spot (place_at station channel) _ u) (short-answer answer channel) (short-spot (place_at station channel) _ u all);
+  releases = λ channel. short-spot (place_at station channel) _ (with_base station (after_release (base_of u station) channel) u)
+      (short-base station (after_release (base_of u station) channel) u (AllByRecursion-append IsShort (base_of u station).messages _ (short-of u station all) (tt, tt)) all);
+}) where
+  short-answer : (answer : Bool) (channel : ℕ) → IsShort (link_answer answer channel)
+  short-answer true channel = tt
+  short-answer false channel = tt
+
+short-behind : (messages : List Rsl) → AllByRecursion IsShort messages → AllByRecursion IsShort (messages_behind_first messages)
+short-behind [] all = tt
+short-behind (first ∷ others) all = all.1
+
+-- ---- each event
+
+short-after : (w : Actors) (o : Option Actors) → AreShort w → OfTaken AreShort o → AreShort (unwrap_or o w)
+short-after w o all leads = after-taken AreShort o w leads all
+
+short-step : (w : Actors) (event : Event) → NoneLent w → AreShort w → AreShort (actors_after w event)
+unfolding event_after FromAir AreShort IsShort NoneLent OfTaken
+short-step w (Upper number sapi message) none all = short-after w (after_upper w number sapi message) all (upper-leads AreShort w number sapi message (λ p _. all))
+short-step w (Connect number station initial accepts) none all = short-after w (after_connecting w number station initial accepts) all (connect-leads AreShort w number station initial accepts (λ _. short-told station _ (record w { mobiles = w.mobiles ++ connected w.modulus number initial accepts ∷ [] }) tt all))
+short-step w (AirUp number sapi) none all =
+    short-after w (after_air_up w number sapi) all (air_up-leads AreShort w number sapi (λ p tenure command frame found _ lent _. brought-short w p tenure.at sapi frame all (λ is. none number p frame found (sym (ap (λ (x : Sapi). frame_in (frame_answer p.end x)) is) ∙ lent))))
+short-step w (AirAck number sapi) none all = short-after w (after_air_ack w number sapi) all (air_ack-leads AreShort w number sapi (λ p _. all))
+short-step w (AirDown number) none all = short-after w (after_air_down w number) all (air_down-leads AreShort w number (λ p tenure command _ _ _ first others _. short-spot tenure.at _ w all))
+short-step w (AirDownLost number) none all = short-after w (after_air_down_lost w number) all (air_down_lost-leads AreShort w number (λ p tenure command _ _ _ first others _. short-spot tenure.at _ w all))
+short-step w (Move number) none all = short-after w (after_move w number) all (move-leads AreShort w number (λ p tenure command _ _ _. short-spot tenure.at _ w all))
+short-step w (Touch number) none all = short-after w (after_touch w number) all (touch-leads AreShort w number (λ command _. short-told command.target.at.station _ w tt all))
+short-step w (Arrive number) none all = short-after w (after_arriving w number) all (arrive-leads AreShort w number (λ p from command _ _ _. short-told command.target.at.station (establish_indication command.target.at.number Zero None) w tt all))
+short-step w (Return number) none all = short-after w (after_return w number) all (return-leads AreShort w number (λ p from command _ _ _. short-told from.at.station (establish_indication from.at.number Zero None) w tt all))
+short-step w (BaseTakes station) none all =
+    short-after w (after_base_takes w station) all (base_takes-leads AreShort w station (λ first others _ _. took-short station first.target (rsl_in first.out.frame) (with_outbox station others w) all))
+short-step w (BasePush source) none all =
+    short-after w (after_base_push w source) all (push-leads AreShort w source (λ first others. all) (λ message _. short-base source (after_next (base_of w source)) w (short-behind (base_of w source).messages (short-of w source all)) all))
+short-step w Handle none all =
+    short-after w (after_handle w) all (handle-leads AreShort w (λ item items _. turn-leads AreShort (target_in w item.source item.what) (take item w.controller) (record w { inbox = items }) (λ links. all)))
+short-step w SwitchTakes none all =
+    short-after w (after_switch_takes w) all (switch_takes-leads AreShort w (λ first others _ _. switch_took-leads AreShort (with_outbox SWITCH_LINK others w) (sccp_in first.out.frame) all (λ next made. all)))
+short-step w (SwitchDoes action) none all = short-after w (after_switch_does w action) all (does-leads AreShort w action (λ next made. all))
+short-step w (Tick ms) none all = short-after w (after_tick w ms) all (turn-leads AreShort None (tick ms w.controller) w (λ links. all))
+short-step w (BaseDown source) none all =
+    short-after w (after_break w source) all (broken-leads AreShort w source (λ _ _. all) (λ _ _. set-short w.stations (source - 1) _ tt all))
+short-step w (Report number report) none all =
+    short-after w (after_report w number report) all (report-leads AreShort w number report (λ tenure _. short-told tenure.at.station _ (with_spot tenure.at _ w) tt (short-spot tenure.at _ w all)))
+
+-- ---- what is given to the inbox
+
+SaysItem : Item → Type 0
+SaysItem item = SaysBesideFlow (word_by item.source item.what)
+
+of-sapi : (at : Place) (o : Option Sapi) (message : List ℕ) → (o ≡ Some Three → IsBesideFlow message) → SaysBesideFlow (data_word true at o message)
+of-sapi at None message none = tt
+of-sapi at (Some Zero) message none = tt
+of-sapi at (Some Three) message none = none refl
+
+of-change : (at : Place) (r : Result RrMessage RrFault) → SaysBesideFlow (change_word at r)
+of-change at (Ok (AssignmentComplete cause)) = tt
+of-change at (Ok (HandoverComplete cause)) = tt
+of-change at (Ok (AssignmentFailure cause)) = tt
+of-change at (Ok (HandoverFailure cause)) = tt
+of-change at (Ok _) = tt
+of-change at (Err fault) = tt
+
+of-rr : (at : Place) (o : Option Sapi) (message : List ℕ) → SaysBesideFlow (rr_word at o message)
+of-rr at None message = tt
+of-rr at (Some Zero) message = of-change at (rr_reading message)
+of-rr at (Some Three) message = tt
+
+of-data : (b : Bool) (at : Place) (o : Option Sapi) (message : List ℕ) → (o ≡ Some Three → IsBesideFlow message) → SaysBesideFlow (data_word b at o message)
+of-data true at o message none = of-sapi at o message none
+of-data false at o message none = of-rr at o message
+
+of-valid : (at : Place) (number : ℕ) (report : ReportValue) → SaysBesideFlow (valid_word at number report)
+of-valid at number report = by report.valid where
+  by : (b : Bool) → SaysBesideFlow (if b then Reports at number report else Nothing)
+  by true = tt
+  by false = tt
+
+of-report : (at : Place) (number : ℕ) (r : Result RrMessage RrFault) → SaysBesideFlow (report_word at number r)
+of-report at number (Ok (MeasurementReport value)) = of-valid at number (report_reading value)
+of-report at number (Ok _) = tt
+of-report at number (Err fault) = tt
+
+of-result : (at : Place) (number : ℕ) (o : Option (List ℕ)) → SaysBesideFlow (result_word at number o)
+of-result at number None = tt
+of-result at number (Some message) = of-report at number (rr_reading message)
+
+on-link : (at : Place) (o : Option Sapi) (input : Sapi → Input) → ((sapi : Sapi) → BringsBesideFlow (input sapi)) → SaysBesideFlow (of_sapi at o input)
+on-link at None input each = tt
+on-link at (Some sapi) input each = each sapi
+
+of-message : (station : ℕ) (message : Rsl) → IsShort message → SaysBesideFlow (rsl_word station message)
+unfolding IsShort
+of-message station (rsl.ChannelRequired r) short = tt
+of-message station (rsl.ChannelActivationAck a) short = tt
+of-message station (rsl.ChannelActivationNack f) short = tt
+of-message station (rsl.EstablishIndication e) short = on-link (place_at station e.channel) (sapi_of e.link) _ (λ sapi. tt)
+of-message station (rsl.EstablishConfirm l) short = on-link (place_at station l.channel) (sapi_of l.link) _ (λ sapi. tt)
+of-message station (rsl.ReleaseIndication l) short = on-link (place_at station l.channel) (sapi_of l.link) _ (λ sapi. tt)
+of-message station (rsl.ErrorIndication e) short = on-link (place_at station e.channel) (sapi_of e.link) _ (λ sapi. tt)
+of-message station (rsl.ConnectionFailure f) short = tt
+of-message station (rsl.DataIndication d) short = of-data (is_dtap d.l3) (place_at station d.channel) (sapi_of d.link) d.l3 short
+of-message station (rsl.MeasurementResult m) short = of-result (place_at station m.channel) m.number.0 m.l3
+of-message station (rsl.RfChannelReleaseAck channel) short = tt
+of-message station _ short = tt
+
+-- ---- what the switch says is of no channel
+
+of-management : (number : ℕ) (message : Bssmap) → SaysBesideFlow (management_word number message)
+of-management number (bssmap.AssignmentRequest channel_type) = tt
+of-management number (bssmap.ClearCommand cause) = tt
+of-management number bssmap.CipherModeCommand = tt
+of-management number _ = tt
+
+of-bssap : (number : ℕ) (r : Result Bssap InterfaceFault) → SaysBesideFlow (bssap_word number r)
+of-bssap number (Ok (Management message)) = of-management number message
+of-bssap number (Ok (Transfer dlci message)) = tt
+of-bssap number (Err fault) = tt
+
+of-switch : (r : Result Sccp InterfaceFault) → SaysBesideFlow (switch_word r)
+of-switch (Ok (sccp.ConnectionConfirm destination source)) = tt
+of-switch (Ok (sccp.ConnectionRefused destination)) = tt
+of-switch (Ok (sccp.Released destination source)) = tt
+of-switch (Ok (sccp.DataForm1 destination user)) = of-bssap destination (bssap_reading user)
+of-switch (Ok _) = tt
+of-switch (Err fault) = tt
+
+-- ---- frames
+
+of-station-item : (source : ℕ) (message : Rsl) → IsShort message → rsl_reading (rsl_text message) ≡ Ok message → SaysItem (station_item source message)
+unfolding word_of SaysItem
+of-station-item source message short read = by (source == SWITCH_LINK) where
+  by : (b : Bool) → SaysBesideFlow (body_word (if (b && false) then connection_control else if (not b && true) then radio_signalling else other) source (rsl_text message))
+  by true = tt
+  by false = subst (λ (r : Result Rsl RslFault). SaysBesideFlow (station_word source r)) (sym read) (of-message source message short)
+
+of-switch-item : (message : Sccp) → SaysItem (switch_item message)
+unfolding word_of SaysItem
+of-switch-item message = of-switch (sccp_reading (sccp_text message))
+
+says-pushed : (w : Actors) (event : Event) → Good w → AreShort w → AllByRecursion SaysItem (pushed w event)
+unfolding SaysItem AreShort
+says-pushed w (BasePush source) good all = by_source (nat_eq source SWITCH_LINK) where
+  of_switch : (made : List Sccp) → AllByRecursion SaysItem (map switch_item (first_of made))
+  of_switch [] = tt
+  of_switch (first ∷ others) = (of-switch-item first, tt)
+
+  of_station : (messages : List Rsl) → AllByRecursion IsSound messages → AllByRecursion IsShort messages → AllByRecursion SaysItem (map (station_item source) (option_to_list (first_of_messages messages)))
+  of_station [] sound short = tt
+  of_station (first ∷ others) sound short = (of-station-item source first short.0 (sound-read first sound.0), tt)
+
+  by_source : (b : Bool) → AllByRecursion SaysItem (if b then map switch_item (first_of w.switch_made) else map (station_item source) (option_to_list (first_message (base_of w source))))
+  by_source true = of_switch w.switch_made
+  by_source false = of_station (base_of w source).messages (end-of w source good).made (short-of w source all)
+says-pushed w (BaseDown source) good all = by_link (is_up w source) where
+  by_link : (b : Bool) → AllByRecursion SaysItem (if b then record { source = source; what = whats.Down } ∷ [] else [])
+  by_link true = (tt, tt)
+  by_link false = tt
+says-pushed w _ good all = tt
+
+-- ---- all events
+
+record Begins (w : Actors) : Type 0 where
+  good : Good w
+  short : AreShort w
+
+says-all : (w : Actors) (events : List Event) → ((before : List Event) → NoneLent (actors_after_all w before)) → Begins w → AllByRecursion SaysItem (all_pushed w events)
+says-all w [] none begins = tt
+says-all w (event ∷ events) none begins =
+    AllByRecursion-append SaysItem (pushed w event) (all_pushed (actors_after w event) events) (says-pushed w event begins.good begins.short)
+    (says-all (actors_after w event) events (λ before. none (event ∷ before)) (record { good = good-step w event begins.good; short = short-step w event (none []) begins.short }))
+
+new-short : (from k : ℕ) (cells : List CellParameters) → AllByRecursion IsShort (get_or (stations_from from cells) k no_station).base.messages
+new-short from k [] = tt
+new-short from zero (cell ∷ cells) = tt
+new-short from (suc k) (cell ∷ cells) = new-short (from + 1) k cells
+
+says-new : (settings : Parameters) (events : List Event) → AllByRecursion SaysItem (all_popped (new_actors settings) events ++ (actors_after_all (new_actors settings) events).inbox)
+unfolding AreShort
+says-new settings events = subst (AllByRecursion SaysItem) (inbox-all (new_actors settings) events)
+    (says-all (new_actors settings) events (none-lent settings) (record { good = good-new settings; short = λ k. new-short 1 k settings.cells }))
+
+-- the steps of the controller are what it handled, and ticks
+says-first : (items : List Item) → AllByRecursion SaysItem (first_of items) → AllByRecursion (λ step. SaysBesideFlow (word_in step)) (first_taken items)
+unfolding SaysItem
+says-first [] all = tt
+says-first (item ∷ items) all = (all.0, tt)
+
+says-step : (w : Actors) (event : Event) → AllByRecursion SaysItem (popped w event) → AllByRecursion (λ step. SaysBesideFlow (word_in step)) (step_at w event)
+says-step w Handle all = says-first w.inbox all
+says-step w (Tick ms) all = (tt, tt)
+says-step w _ all = tt
+
+says-steps : (w : Actors) (events : List Event) → AllByRecursion SaysItem (all_popped w events) → AllByRecursion (λ step. SaysBesideFlow (word_in step)) (all_steps w events)
+says-steps w [] all = tt
+says-steps w (event ∷ events) all =
+    AllByRecursion-append (λ step. SaysBesideFlow (word_in step)) (step_at w event) (all_steps (actors_after w event) events)
+    (says-step w event (all-left SaysItem (popped w event) (all_popped (actors_after w event) events) all))
+    (says-steps (actors_after w event) events (all-right SaysItem (popped w event) (all_popped (actors_after w event) events) all))
+
+pub says-came : (settings : Parameters) (events : List Event) → AllByRecursion (λ step. SaysBesideFlow (word_in step)) (all_steps (new_actors settings) events)
+says-came settings events =
+    let w : Actors = new_actors settings in
+    says-steps w events (all-left SaysItem (all_popped w events) (actors_after_all w events).inbox (says-new settings events))
+
+pub says-waits : (settings : Parameters) (events : List Event) → AllByRecursion (λ item. SaysBesideFlow (word_by item.source item.what)) (actors_after_all (new_actors settings) events).inbox
+unfolding SaysItem
+says-waits settings events =
+    let w : Actors = new_actors settings in
+    all-right SaysItem (all_popped w events) (actors_after_all w events).inbox (says-new settings events)

@@ -1,0 +1,116 @@
+-- What is held on SAPI 3 is what came there, so none of it is of the flow.
+use Rattle.std.proofs.Common.{◌≡◌, ℕ, ◌≤◌, Bool, true, false, if◌then◌else◌, List, [], ◌∷◌, fold, map, Some, sym, subst}
+use Rattle.std.specs.List.{AllByRecursion}
+use Rattle.conn_messages.specs.declared.channel.Place.{Place}
+use Rattle.conn_messages.specs.declared.message.Message.{Message}
+use Rattle.conn_table.proofs.DownlinkMessages.{AllByRecursion-append}
+use Rattle.conn_table.specs.declared.input.Input.{Input}
+use Rattle.conn_table.specs.declared.input.Input.TheVariants as inputs
+use Rattle.conn_table.specs.Streams.{relayed}
+use Rattle.controller_laws.specs.Downlink.{requests}
+use Rattle.controller_laws.specs.End.{IsThere}
+use Rattle.controller_laws.specs.History.{IsHistory, Moment, all_messages, connection_of, word_in}
+use Rattle.controller_laws.specs.Uplink.{Tenure, after_input, after_moment, after_word, begin_first, begin_next, ended, heard, is_on, joined, performs, service, with_message}
+use Rattle.controller_laws.proofs.UplinkLife.{life_conserves_up}
+use Rattle.controller_table.specs.declared.step.Step.{Step}
+use Rattle.controller_table.specs.declared.word.Word.{Word}
+use Rattle.controller_table.specs.declared.word.Word.TheVariants.{OnChannel}
+use Rattle.controller_table.specs.Controller.{Controller, new_controller}
+use Rattle.controller_table.specs.Life.{life, step}
+use Rattle.controller_table.specs.Views.{held_up}
+use Rattle.dtap_codec.specs.declared.sapi.Sapi.{Sapi}
+use Rattle.dtap_codec.specs.declared.sapi.Sapi.TheVariants.{Zero, Three}
+use Rattle.settings.specs.Parameters.{AreAllowed, Parameters}
+use Rattle.world_table.specs.declared.event.Event.{Event}
+use Rattle.world_table.specs.Life.{actors_after_all}
+use Rattle.world_table.specs.Steps.{all_steps}
+use Rattle.world_table.specs.World.{new_actors}
+use Rattle.world_table.proofs.Living.{LivesByTable-new}
+use Rattle.world_laws.specs.SapiThree.{BringsBesideFlow, FlowComesOnSapiZero, IsBesideFlow, SaysBesideFlow}
+use Rattle.world_laws.proofs.Framing.{all-right}
+use Rattle.world_laws.proofs.SapiThree.{says-came, says-waits}
+
+-- ---- tenures
+
+Beside : Tenure → Type 0
+Beside t = AllByRecursion IsBesideFlow t.three
+
+heard-beside : (at : Place) (sapi : Sapi) (message : List ℕ) (t : Tenure) → BringsBesideFlow (inputs.Dtap at sapi message) → Beside t → Beside (heard at sapi message t)
+unfolding Beside
+heard-beside at sapi message t says beside = by (is_on at t) sapi says where
+  by : (b : Bool) (sapi : Sapi) → BringsBesideFlow (inputs.Dtap at sapi message) → AllByRecursion IsBesideFlow (if b then with_message sapi message t else t).three
+  by true Zero says = beside
+  by true Three says = AllByRecursion-append IsBesideFlow t.three (message ∷ []) beside (says, tt)
+  by false sapi says = beside
+
+all-heard : (at : Place) (sapi : Sapi) (message : List ℕ) (ts : List Tenure) → BringsBesideFlow (inputs.Dtap at sapi message) → AllByRecursion Beside ts → AllByRecursion Beside (map (heard at sapi message) ts)
+all-heard at sapi message [] says all = tt
+all-heard at sapi message (t ∷ ts) says all = (heard-beside at sapi message t says all.0, all-heard at sapi message ts says all.1)
+
+ended-beside : (at : Place) (t : Tenure) → Beside t → Beside (ended at t)
+unfolding Beside
+ended-beside at t beside = by (is_on at t) where
+  by : (b : Bool) → AllByRecursion IsBesideFlow (if b then record t { is_over = true } else t).three
+  by true = beside
+  by false = beside
+
+all-ended : (at : Place) (ts : List Tenure) → AllByRecursion Beside ts → AllByRecursion Beside (map (ended at) ts)
+all-ended at [] all = tt
+all-ended at (t ∷ ts) all = (ended-beside at t all.0, all-ended at ts all.1)
+
+begun-first : (b : Bool) (at : Place) (initial : List ℕ) (ts : List Tenure) → AllByRecursion Beside ts → AllByRecursion Beside (begin_first b at initial ts)
+unfolding Beside
+begun-first true at initial [] all = (tt, tt)
+begun-first true at initial (t ∷ ts) all = all
+begun-first false at initial ts all = all
+
+begun-next : (ts : List Tenure) (b : Bool) (at : Place) → AllByRecursion Beside ts → AllByRecursion Beside (begin_next ts b at)
+unfolding Beside
+begun-next [] b at all = tt
+begun-next (t ∷ ts) true at all = (tt, all)
+begun-next (t ∷ ts) false at all = all
+
+-- ---- what came
+
+input-beside : (input : Input) (put : List Message) (ts : List Tenure) → BringsBesideFlow input → AllByRecursion Beside ts → AllByRecursion Beside (after_input input put ts)
+input-beside (inputs.EstablishIndication at Zero (Some initial)) put ts says all = begun-first (requests put) at initial ts all
+input-beside (inputs.Complete at change cause) put ts says all = begun-next ts (performs put) at all
+input-beside (inputs.Dtap at sapi message) put ts says all = all-heard at sapi message ts says all
+input-beside (inputs.ReleaseAck at) put [] says all = tt
+input-beside (inputs.ReleaseAck at) put (t ∷ ts) says all = (all.0, all-ended at ts all.1)
+input-beside _ put ts says all = all
+
+word-beside : (word : Word) (put : List Message) (ts : List Tenure) → SaysBesideFlow word → AllByRecursion Beside ts → AllByRecursion Beside (after_word word put ts)
+word-beside (OnChannel at input) put ts says all = input-beside input put ts says all
+word-beside _ put ts says all = all
+
+service-beside : (number : ℕ) (c : Controller) (steps : List Step) (moments : List Moment) (ts : List Tenure) → IsHistory number c steps moments → AllByRecursion (λ step. SaysBesideFlow (word_in step)) steps → AllByRecursion Beside ts → AllByRecursion Beside (fold after_moment ts moments)
+service-beside number c [] [] ts history says all = all
+service-beside number c [] (m ∷ ms) ts history says all = absurd history
+service-beside number c (s ∷ ss) [] ts history says all = absurd history
+service-beside number c (s ∷ ss) (m ∷ ms) ts history says all =
+    service-beside number (step c s).next ss ms (after_moment ts m) history.2 says.1
+    (word-beside (word_in m.taken) m.messages ts (subst (λ (x : Step). SaysBesideFlow (word_in x)) (sym history.0) says.0) all)
+
+joined-beside : (ts : List Tenure) → AllByRecursion Beside ts → AllByRecursion IsBesideFlow (joined Three ts)
+unfolding Beside
+joined-beside [] all = tt
+joined-beside (t ∷ ts) all = AllByRecursion-append IsBesideFlow (joined Three ts) t.three (joined-beside ts all.1) all.0
+
+-- ---- what is held
+
+held-beside : (settings : Parameters) (steps : List Step) (number : ℕ) → AreAllowed settings → 1 ≤ number → AllByRecursion (λ step. SaysBesideFlow (word_in step)) steps → IsThere (connection_of (life settings steps).next number) → AllByRecursion IsBesideFlow (held_up (life settings steps).next number Three)
+held-beside settings steps number allowed from_one says there =
+    let law = life_conserves_up settings steps number allowed from_one in
+    all-right IsBesideFlow (relayed Three (all_messages law.moments)) (held_up (life settings steps).next number Three)
+    (subst (AllByRecursion IsBesideFlow) (sym (law.uplink there Three)) (joined-beside (service law.moments) (service-beside number (new_controller settings) steps law.moments [] law.history says tt)))
+
+pub FlowComesOnSapiZero-new : (settings : Parameters) (events : List Event) → FlowComesOnSapiZero settings events
+FlowComesOnSapiZero-new settings events = record {
+  came = says-came settings events;
+  waits = says-waits settings events;
+  held = λ allowed number from_one there.
+      let lives : (actors_after_all (new_actors settings) events).controller ≡ (life settings (all_steps (new_actors settings) events)).next = LivesByTable-new settings events in
+      subst (λ (c : Controller). AllByRecursion IsBesideFlow (held_up c number Three)) (sym lives)
+      (held-beside settings (all_steps (new_actors settings) events) number allowed from_one (says-came settings events) (subst (λ (c : Controller). IsThere (connection_of c number)) lives there));
+}

@@ -1,0 +1,32 @@
+-- What a row by a frame puts is read as it was put.
+use Rattle.std.specs.Prelude.{◌≡◌, ℕ, List, ◌∷◌, Option}
+use Rattle.conn_messages.specs.declared.channel.Channel.{Channel}
+use Rattle.conn_table.specs.declared.input.Input.{Input}
+use Rattle.conn_table.specs.Connection.{Connection}
+use Rattle.conn_table.specs.Steps.{Row}
+use Rattle.controller_laws.specs.Sending.{IsOfOctets}
+use Rattle.relay_items.specs.declared.Item.{Item as RelayItem}
+use Rattle.settings.specs.Parameters.{AreAllowed, Parameters}
+use Rattle.world_table.specs.declared.event.Event.{Event}
+use Rattle.world_table.specs.declared.event.Event.TheVariants.{Handle}
+use Rattle.world_table.specs.Life.{actors_after, actors_after_all}
+use Rattle.world_table.specs.World.{modulus_in, new_actors}
+use Rattle.world_laws.specs.Handled.{IsReadyFor}
+use Rattle.world_laws.specs.OthersFrame.{CameInOctets}
+use Rattle.world_laws.specs.OwnFrame.{IsFrameFor}
+use Rattle.world_laws.specs.OwnHandle.{IsPutAsRead}
+use Rattle.world_laws.specs.Staying.{AreLinedUp}
+
+-- whatever happened before, with settings that are allowed, where what came was octets
+abbrev pub FramesArePutAsRead : Parameters → List Event → Type 0
+FramesArePutAsRead settings events =
+    (s : Connection) (item : RelayItem) (items : List RelayItem) (input : Input) (offer : Option Channel) (r : Row) → AreAllowed settings → CameInOctets settings events → IsOfOctets item.what
+    → (actors_after_all (new_actors settings) events).inbox ≡ item ∷ items → IsFrameFor (actors_after_all (new_actors settings) events) item s input offer r → IsPutAsRead s r
+
+-- so a connection stays lined up when the controller handles a frame that says an input to it, while it stays open
+abbrev pub AllowedFramesKeepLineUps : Parameters → List Event → Type 0
+AllowedFramesKeepLineUps settings events =
+    (mobile : ℕ) (s : Connection) (item : RelayItem) (items : List RelayItem) (input : Input) (offer : Option Channel) (r : Row) → AreAllowed settings → CameInOctets settings events → IsOfOctets item.what
+    → (actors_after_all (new_actors settings) events).inbox ≡ item ∷ items → IsFrameFor (actors_after_all (new_actors settings) events) item s input offer r → IsReadyFor (actors_after_all (new_actors settings) events) s input
+    → AreLinedUp (modulus_in settings) (actors_after_all (new_actors settings) events) mobile s
+    → AreLinedUp (modulus_in settings) (actors_after (actors_after_all (new_actors settings) events) Handle) mobile r.next

@@ -1,0 +1,36 @@
+-- What comes on SAPI 3 is never of the flow.
+use Rattle.std.specs.Prelude.{◌≡◌, ℕ, ◌≤◌, false, List}
+use Rattle.std.specs.List.{AllByRecursion}
+use Rattle.conn_table.specs.declared.input.Input.{Input}
+use Rattle.conn_table.specs.declared.input.Input.TheVariants as inputs
+use Rattle.controller_laws.specs.End.{IsThere}
+use Rattle.controller_laws.specs.History.{connection_of, word_by, word_in}
+use Rattle.controller_table.specs.declared.word.Word.{Word}
+use Rattle.controller_table.specs.declared.word.Word.TheVariants.{OnChannel, OnConnection}
+use Rattle.controller_table.specs.Views.{held_up}
+use Rattle.dtap_codec.specs.declared.sapi.Sapi.TheVariants.{Three}
+use Rattle.dtap_codec.specs.Message.{is_flow_message}
+use Rattle.settings.specs.Parameters.{AreAllowed, Parameters}
+use Rattle.world_table.specs.declared.event.Event.{Event}
+use Rattle.world_table.specs.Life.{actors_after_all}
+use Rattle.world_table.specs.Steps.{all_steps}
+use Rattle.world_table.specs.World.{new_actors}
+
+abbrev pub IsBesideFlow : List ℕ → Type 0
+IsBesideFlow message = is_flow_message message ≡ false
+
+abbrev pub BringsBesideFlow : Input → Type 0
+BringsBesideFlow (inputs.Dtap at Three message) = IsBesideFlow message
+BringsBesideFlow _ = Unit {0}
+
+abbrev pub SaysBesideFlow : Word → Type 0
+SaysBesideFlow (OnChannel at input) = BringsBesideFlow input
+SaysBesideFlow (OnConnection number input) = BringsBesideFlow input
+SaysBesideFlow _ = Unit {0}
+
+-- no message that came on SAPI 3, waits in the inbox or is held is of the flow
+pub record FlowComesOnSapiZero (settings : Parameters) (events : List Event) : Type 0 where
+  pub came : AllByRecursion (λ step. SaysBesideFlow (word_in step)) (all_steps (new_actors settings) events)
+  pub waits : AllByRecursion (λ item. SaysBesideFlow (word_by item.source item.what)) (actors_after_all (new_actors settings) events).inbox
+  pub held : AreAllowed settings → (number : ℕ) → 1 ≤ number → IsThere (connection_of (actors_after_all (new_actors settings) events).controller number)
+      → AllByRecursion IsBesideFlow (held_up (actors_after_all (new_actors settings) events).controller number Three)
