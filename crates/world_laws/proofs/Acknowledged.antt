@@ -215,7 +215,7 @@ all-read station w (event ∷ events) other good =
     ∙ ap (λ (ms : List Rsl). given station w event ++ ms) (all-read station (actors_after w event) events other (good-step w event good))
 
 -- what was given is what the controller took, and what stands in the inbox
-given-read : (settings : Parameters) (events : List Event) (station : ℕ) → station ≢ SWITCH_LINK →
+pub given-read : (settings : Parameters) (events : List Event) (station : ℕ) → station ≢ SWITCH_LINK →
     all_given station (new_actors settings) events ≡ flat_map (read_of station) (all_popped (new_actors settings) events) ++ flat_map (read_of station) (actors_after_all (new_actors settings) events).inbox
 given-read settings events station other =
     sym (all-read station (new_actors settings) events other (good-new settings))

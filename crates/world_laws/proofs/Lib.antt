@@ -51,3 +51,4 @@ pub mod SapiThree
 pub mod SapiThreeHeld
 mod SapiThreeRows
 pub mod PutAsRead
+pub mod AcksBegin

@@ -16,3 +16,4 @@ pub mod InOrder
 pub mod OthersFrame
 pub mod SapiThree
 pub mod PutAsRead
+pub mod AcksBegin

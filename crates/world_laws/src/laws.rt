@@ -20,6 +20,7 @@ ghost use Rattle.world_laws.specs.Staying.{MobilesKeepLineUps, RelayLeavesOthers
 ghost use Rattle.world_laws.specs.SapiThree.{FlowComesOnSapiZero};
 ghost use Rattle.world_laws.specs.PutAsRead.{FramesArePutAsRead};
 ghost use Rattle.world_laws.specs.PutAsRead.{AllowedFramesKeepLineUps};
+ghost use Rattle.world_laws.specs.AcksBegin.{AcksBegin};
 
 /// Law: whatever events happened, a connection that is lined up with its mobile, and whose channels no other mobile is on, stays
 /// lined up at what mobiles do, at what stations take from them and give to the inbox, and at what the switch does of its own.
@@ -143,4 +144,10 @@ pub fn frames_are_put_as_read()
 /// a target is silent before its COMMAND. What the row puts is read as it was put, and no premise.
 pub fn allowed_frames_keep_line_ups()
     ensures { (settings : Parameters) (events : List WorldEvent) → AllowedFramesKeepLineUps settings events }
+{}
+
+/// Law: whatever events happened, whether the link of a station is up or broke, the acknowledgements of a channel that the
+/// controller took, and then those on their way up, are the first of those due for all that it put.
+pub fn acknowledgements_begin()
+    ensures { (settings : Parameters) (events : List WorldEvent) → AcksBegin settings events }
 {}

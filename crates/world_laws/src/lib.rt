@@ -3,7 +3,7 @@
 #![tactic(auto)]
 
 pub use laws::{
-    acknowledgements_tell, allowed_frames_keep_line_ups, connections_stand,
+    acknowledgements_begin, acknowledgements_tell, allowed_frames_keep_line_ups, connections_stand,
     flow_comes_on_sapi_zero, frames_are_for_others, frames_are_handled, frames_are_put_as_read,
     frames_keep_line_ups, handle_keeps_line_ups, inputs_keep_line_ups, line_ups_are_in_order,
     messages_are_whole, mobiles_keep_line_ups, opening_lines_up, relay_leaves_others,

@@ -323,18 +323,36 @@ due-begins k xs ys (rest, is) = (due k (active_all k false xs) rest, sym (due-ap
 prefix-trans : {X : Type 0} (xs ys zs : List X) → IsPrefix xs ys → IsPrefix ys zs → IsPrefix xs zs
 prefix-trans {X} xs ys zs (more, is) (rest, is_too) = (more ++ rest, sym (append_assoc xs more rest) ∙ ap (λ (l : List X). l ++ rest) is ∙ is_too)
 
+-- what was given and what was made, while the link is up and after it broke
+pipe-starts : (n k : ℕ) (gave : List Rsl) (took_so_far : List OutboxEntry) (w : Actors) → Kept n k gave took_so_far w → IsPrefix (acknowledgements k (gave ++ (base_of w n).messages)) (due k false took_so_far)
+pipe-starts n k gave took_so_far w (works made on) = ([], append-nil (acknowledgements k (gave ++ (base_of w n).messages)) ∙ made)
+pipe-starts n k gave took_so_far w (rested down dropped left begins) =
+    subst (λ (ms : List Rsl). IsPrefix ms (due k false took_so_far)) (sym (acks-append k gave (base_of w n).messages ∙ ap (λ (ms : List Rsl). acknowledgements k gave ++ ms) left ∙ append-nil (acknowledgements k gave))) begins
+
+kept-new : (settings : Parameters) (events : List Event) (n k : ℕ) → 1 ≤ n → n ≤ length settings.cells → Kept n k (all_given n (new_actors settings) events) (all_taken n (new_actors settings) events) (actors_after_all (new_actors settings) events)
+kept-new settings events n k least most =
+    let w : Actors = new_actors settings in
+    let start = new_end k 1 (n - 1) settings.cells in
+    let there : n - 1 < length w.stations = subst (λ (l : ℕ). n - 1 < l) (sym (length-stations_from 1 settings.cells)) (omega arith) in
+    kept-all n k [] [] w events (λ is. not_zero is least) there (λ _. new_outbox (length settings.cells + 1) n) (works start.0 start.1) where
+      not_zero : n ≡ 0 → 1 ≤ n → ⊥
+      not_zero is least = absurd (omega arith)
+
+pub acks-start : (settings : Parameters) (events : List Event) (n k : ℕ) → 1 ≤ n → n ≤ length settings.cells
+    → IsPrefix (acknowledgements k (all_given n (new_actors settings) events ++ (base_of (actors_after_all (new_actors settings) events) n).messages)) (due k false (all_put n (new_actors settings) events))
+acks-start settings events n k least most =
+    let w : Actors = new_actors settings in
+    prefix-trans (acknowledgements k (all_given n w events ++ (base_of (actors_after_all w events) n).messages)) (due k false (all_taken n w events)) (due k false (all_put n w events))
+    (pipe-starts n k (all_given n w events) (all_taken n w events) (actors_after_all w events) (kept-new settings events n k least most))
+    (due-begins k (all_taken n w events) (all_put n w events) (outboxes-all n w events (new_outbox (length settings.cells + 1) n)))
+
 pub ArePipes-new : (settings : Parameters) (events : List Event) → ArePipes settings events
 ArePipes-new settings events n k least most =
     let w : Actors = new_actors settings in
     let empty : outbox_of w n ≡ [] = new_outbox (length settings.cells + 1) n in
-    let start = new_end k 1 (n - 1) settings.cells in
-    let there : n - 1 < length w.stations = subst (λ (l : ℕ). n - 1 < l) (sym (length-stations_from 1 settings.cells)) (omega arith) in
-    let n_is : n ≢ 0 = λ is. not_zero is least in
-    let kept : Kept n k (all_given n w events) (all_taken n w events) (actors_after_all w events) = kept-all n k [] [] w events n_is there (λ _. empty) (works start.0 start.1) in
+    let kept : Kept n k (all_given n w events) (all_taken n w events) (actors_after_all w events) = kept-new settings events n k least most in
     record {
       flows = λ up. pipe-flows n k (all_given n w events) (all_taken n w events) (all_put n w events) (actors_after_all w events) kept up (rest-all n w events empty up);
       begins = prefix-trans (acknowledgements k (all_given n w events)) (due k false (all_taken n w events)) (due k false (all_put n w events))
           (pipe-begins n k (all_given n w events) (all_taken n w events) (actors_after_all w events) kept) (due-begins k (all_taken n w events) (all_put n w events) (outboxes-all n w events empty));
-    } where
-      not_zero : n ≡ 0 → 1 ≤ n → ⊥
-      not_zero is least = absurd (omega arith)
+    }
