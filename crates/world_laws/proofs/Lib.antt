@@ -52,3 +52,5 @@ pub mod SapiThreeHeld
 mod SapiThreeRows
 pub mod PutAsRead
 pub mod AcksBegin
+pub mod Refusals
+mod RefusalsRows

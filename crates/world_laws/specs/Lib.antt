@@ -17,3 +17,4 @@ pub mod OthersFrame
 pub mod SapiThree
 pub mod PutAsRead
 pub mod AcksBegin
+pub mod Refusals
