@@ -1,8 +1,8 @@
 -- What the acknowledgements of a channel tell of what is on its way up from it.
-use Rattle.std.proofs.Common.{◌≡◌, ◌≢◌, ℕ, ◌==◌, nat_eq, Bool, true, false, cond, if◌then◌else◌, List, [], ◌∷◌, ◌++◌, map, Option, Some, None, option_to_list, Result, Ok, Err, refl, sym, ap, ◌∙◌, subst, append_assoc, inl, inr, arith, ◌≤◌}
+use Rattle.std.proofs.Common.{◌≡◌, ◌≢◌, ℕ, ◌==◌, nat_eq, Bool, true, false, if◌then◌else◌, List, [], ◌∷◌, ◌++◌, map, Option, Some, None, option_to_list, Result, refl, sym, ap, ◌∙◌, subst, append_assoc, inl, inr, arith, ◌≤◌}
 use Rattle.std.specs.List.{flat_map, AllByRecursion}
 use Rattle.std.specs.Result.{result_ok}
-use Rattle.std.proofs.lemmas.Bool.{cases_Bool, cond-true, cond-false, eqb-true, eqb-false, eq-eqb, ne_eqb}
+use Rattle.std.proofs.lemmas.Bool.{cases_Bool, cond-true, cond-false, eqb-true, eq-eqb, ne_eqb}
 use Rattle.std.proofs.lemmas.Grind.{flat_map-append}
 use Rattle.std.proofs.lemmas.List.{append-nil}
 use Rattle.std.proofs.lemmas.List.Elements.{filter-append}
@@ -13,9 +13,8 @@ use Rattle.controller_table.specs.Reading.{sapi_of}
 use Rattle.dtap_codec.specs.declared.sapi.Sapi.{Sapi}
 use Rattle.dtap_codec.specs.declared.sapi.Sapi.TheVariants.{Zero, Three}
 use Rattle.lineup.specs.LineUp.{Item as Brought}
-use Rattle.lineup.specs.LineUp.Item.{brought, released}
+use Rattle.lineup.specs.LineUp.Item.{released}
 use Rattle.link_model.specs.Base.{first_message, first_of_messages, is_active}
-use Rattle.link_model.specs.Message.{activation_ack}
 use Rattle.link_model.specs.Tenures.{Tenures, is_bound_of, is_brought_on}
 use Rattle.link_model.specs.Tenures.Tenures.{over, begins, brings as tenure_brings, ends, apart}
 use Rattle.relay_items.specs.declared.Item.{Item}
@@ -29,7 +28,7 @@ use Rattle.world_table.specs.declared.event.Event.TheVariants.{BasePush, BaseDow
 use Rattle.world_table.specs.Honest.{given, all_given}
 use Rattle.world_table.specs.Life.{actors_after, actors_after_all}
 use Rattle.world_table.specs.Pipe.{acknowledgements, due}
-use Rattle.world_table.specs.Queues.{first_of, made_item, pushed, all_pushed, all_popped, all_put}
+use Rattle.world_table.specs.Queues.{first_of, pushed, all_pushed, all_popped}
 use Rattle.world_table.specs.Relay.{station_item, switch_item}
 use Rattle.world_table.specs.Stations.{rsl_in}
 use Rattle.world_table.specs.World.{Actors, base_of, is_up, new_actors, outbox_of}
@@ -38,7 +37,7 @@ use Rattle.world_table.proofs.Honesty.{AreHonest-new}
 use Rattle.world_table.proofs.Outboxes.{KeepsQueues-new}
 use Rattle.world_table.proofs.Piping.{ArePipes-new}
 use Rattle.world_table.proofs.Soundness.{IsSound, sound-read}
-use Rattle.world_laws.specs.Acknowledged.{read_by, read_of, messages_up, acknowledgements_up, acknowledgements_taken, is_release_ack, NoneReleases, ReleasesLast, AcksTell, AllAcksTell, AcksFlow}
+use Rattle.world_laws.specs.Acknowledged.{read_by, read_of, messages_up, is_release_ack, NoneReleases, ReleasesLast, AllAcksTell, AcksFlow}
 use Rattle.world_laws.specs.ComingUp.{of_main, of_establishment, brings, brings_if, brings_by, brings_in, coming_up}
 use Rattle.world_laws.specs.LineUps.{is_ended}
 use Rattle.world_laws.specs.Staying.{EndsLast}
@@ -215,7 +214,7 @@ all-read station w (event ∷ events) other good =
     ∙ ap (λ (ms : List Rsl). given station w event ++ ms) (all-read station (actors_after w event) events other (good-step w event good))
 
 -- what was given is what the controller took, and what stands in the inbox
-given-read : (settings : Parameters) (events : List Event) (station : ℕ) → station ≢ SWITCH_LINK →
+pub given-read : (settings : Parameters) (events : List Event) (station : ℕ) → station ≢ SWITCH_LINK →
     all_given station (new_actors settings) events ≡ flat_map (read_of station) (all_popped (new_actors settings) events) ++ flat_map (read_of station) (actors_after_all (new_actors settings) events).inbox
 given-read settings events station other =
     sym (all-read station (new_actors settings) events other (good-new settings))

@@ -56,3 +56,5 @@ pub mod SapiThreeHeld
 mod SapiThreeRows
 pub mod PutAsRead
 pub mod AcksBegin
+pub mod Refusals
+mod RefusalsRows

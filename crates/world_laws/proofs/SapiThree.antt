@@ -19,7 +19,8 @@ use Rattle.conn_messages.specs.declared.channel.Place.{Place}
 use Rattle.conn_messages.specs.declared.parameters.TheConstants.{SWITCH_LINK}
 use Rattle.controller_laws.specs.History.{word_by, word_in}
 use Rattle.conn_table.specs.Streams.{is_dtap}
-use Rattle.controller_table.specs.declared.word.Word.TheVariants.{Nothing, Reports}
+use Rattle.controller_table.specs.declared.word.Word.{Word}
+use Rattle.controller_table.specs.declared.word.Word.TheVariants.{Nothing, OnChannel, Reports}
 use Rattle.conn_table.specs.declared.input.Input.{Input}
 use Rattle.controller_table.specs.Life.{take, tick}
 use Rattle.controller_table.specs.Reading.{body_word, bssap_word, change_word, data_word, management_word, of_sapi, report_word, result_word, rr_word, rsl_word, sapi_of, station_word, switch_word, valid_word, word_of}
@@ -67,8 +68,9 @@ use Rattle.world_table.proofs.Inboxes.{inbox-all}
 use Rattle.world_table.proofs.Leads.{OfTaken, FromAir, upper-leads, connect-leads, air_up-leads, air_ack-leads, air_down-leads, air_down_lost-leads, move-leads, touch-leads, arrive-leads, return-leads, base_takes-leads, took-leads, handle-leads, turn-leads, switch_takes-leads, switch_took-leads, push-leads, does-leads, broken-leads, report-leads, after-taken}
 use Rattle.world_table.proofs.Mobility.{MobilesLive-new}
 use Rattle.world_table.proofs.Soundness.{IsSound, sound-read}
-use Rattle.world_laws.proofs.Framing.{all-left, all-right}
-use Rattle.world_laws.specs.SapiThree.{BringsBesideFlow, IsBesideFlow, SaysBesideFlow}
+use Rattle.world_laws.proofs.Framing.{all-left, all-map, all-right}
+use Rattle.world_laws.specs.SapiThree.{IsBesideFlow, SaysBesideFlow}
+use Rattle.world_laws.specs.Refusals.{RefusesNone}
 
 -- ---- what a mobile's link of SAPI 3 gives
 
@@ -114,6 +116,7 @@ none-lent settings events number p frame found is =
 
 IsShort : Rsl → Type 0
 IsShort (rsl.DataIndication d) = sapi_of d.link ≡ Some Three → IsBesideFlow d.l3
+IsShort (rsl.ChannelActivationNack f) = ⊥
 IsShort _ = Unit {0}
 
 AreShort : Actors → Type 0
@@ -216,101 +219,116 @@ short-step w (Report number report) none all =
 
 -- ---- what is given to the inbox
 
+-- nothing of the flow on SAPI 3, and no refusal
+Says : Word → Type 0
+Says word = SaysBesideFlow word × RefusesNone word
+
 SaysItem : Item → Type 0
-SaysItem item = SaysBesideFlow (word_by item.source item.what)
+SaysItem item = Says (word_by item.source item.what)
 
-of-sapi : (at : Place) (o : Option Sapi) (message : List ℕ) → (o ≡ Some Three → IsBesideFlow message) → SaysBesideFlow (data_word true at o message)
-of-sapi at None message none = tt
-of-sapi at (Some Zero) message none = tt
-of-sapi at (Some Three) message none = none refl
+of-sapi : (at : Place) (o : Option Sapi) (message : List ℕ) → (o ≡ Some Three → IsBesideFlow message) → Says (data_word true at o message)
+unfolding Says
+of-sapi at None message none = (tt, tt)
+of-sapi at (Some Zero) message none = (tt, tt)
+of-sapi at (Some Three) message none = (none refl, tt)
 
-of-change : (at : Place) (r : Result RrMessage RrFault) → SaysBesideFlow (change_word at r)
-of-change at (Ok (AssignmentComplete cause)) = tt
-of-change at (Ok (HandoverComplete cause)) = tt
-of-change at (Ok (AssignmentFailure cause)) = tt
-of-change at (Ok (HandoverFailure cause)) = tt
-of-change at (Ok _) = tt
-of-change at (Err fault) = tt
+of-change : (at : Place) (r : Result RrMessage RrFault) → Says (change_word at r)
+unfolding Says
+of-change at (Ok (AssignmentComplete cause)) = (tt, tt)
+of-change at (Ok (HandoverComplete cause)) = (tt, tt)
+of-change at (Ok (AssignmentFailure cause)) = (tt, tt)
+of-change at (Ok (HandoverFailure cause)) = (tt, tt)
+of-change at (Ok _) = (tt, tt)
+of-change at (Err fault) = (tt, tt)
 
-of-rr : (at : Place) (o : Option Sapi) (message : List ℕ) → SaysBesideFlow (rr_word at o message)
-of-rr at None message = tt
+of-rr : (at : Place) (o : Option Sapi) (message : List ℕ) → Says (rr_word at o message)
+unfolding Says
+of-rr at None message = (tt, tt)
 of-rr at (Some Zero) message = of-change at (rr_reading message)
-of-rr at (Some Three) message = tt
+of-rr at (Some Three) message = (tt, tt)
 
-of-data : (b : Bool) (at : Place) (o : Option Sapi) (message : List ℕ) → (o ≡ Some Three → IsBesideFlow message) → SaysBesideFlow (data_word b at o message)
+of-data : (b : Bool) (at : Place) (o : Option Sapi) (message : List ℕ) → (o ≡ Some Three → IsBesideFlow message) → Says (data_word b at o message)
+unfolding Says
 of-data true at o message none = of-sapi at o message none
 of-data false at o message none = of-rr at o message
 
-of-valid : (at : Place) (number : ℕ) (report : ReportValue) → SaysBesideFlow (valid_word at number report)
+of-valid : (at : Place) (number : ℕ) (report : ReportValue) → Says (valid_word at number report)
+unfolding Says
 of-valid at number report = by report.valid where
-  by : (b : Bool) → SaysBesideFlow (if b then Reports at number report else Nothing)
-  by true = tt
-  by false = tt
+  by : (b : Bool) → Says (if b then Reports at number report else Nothing)
+  by true = (tt, tt)
+  by false = (tt, tt)
 
-of-report : (at : Place) (number : ℕ) (r : Result RrMessage RrFault) → SaysBesideFlow (report_word at number r)
+of-report : (at : Place) (number : ℕ) (r : Result RrMessage RrFault) → Says (report_word at number r)
+unfolding Says
 of-report at number (Ok (MeasurementReport value)) = of-valid at number (report_reading value)
-of-report at number (Ok _) = tt
-of-report at number (Err fault) = tt
+of-report at number (Ok _) = (tt, tt)
+of-report at number (Err fault) = (tt, tt)
 
-of-result : (at : Place) (number : ℕ) (o : Option (List ℕ)) → SaysBesideFlow (result_word at number o)
-of-result at number None = tt
+of-result : (at : Place) (number : ℕ) (o : Option (List ℕ)) → Says (result_word at number o)
+unfolding Says
+of-result at number None = (tt, tt)
 of-result at number (Some message) = of-report at number (rr_reading message)
 
-on-link : (at : Place) (o : Option Sapi) (input : Sapi → Input) → ((sapi : Sapi) → BringsBesideFlow (input sapi)) → SaysBesideFlow (of_sapi at o input)
-on-link at None input each = tt
+on-link : (at : Place) (o : Option Sapi) (input : Sapi → Input) → ((sapi : Sapi) → Says (OnChannel at (input sapi))) → Says (of_sapi at o input)
+unfolding Says
+on-link at None input each = (tt, tt)
 on-link at (Some sapi) input each = each sapi
 
-of-message : (station : ℕ) (message : Rsl) → IsShort message → SaysBesideFlow (rsl_word station message)
-unfolding IsShort
-of-message station (rsl.ChannelRequired r) short = tt
-of-message station (rsl.ChannelActivationAck a) short = tt
-of-message station (rsl.ChannelActivationNack f) short = tt
-of-message station (rsl.EstablishIndication e) short = on-link (place_at station e.channel) (sapi_of e.link) _ (λ sapi. tt)
-of-message station (rsl.EstablishConfirm l) short = on-link (place_at station l.channel) (sapi_of l.link) _ (λ sapi. tt)
-of-message station (rsl.ReleaseIndication l) short = on-link (place_at station l.channel) (sapi_of l.link) _ (λ sapi. tt)
-of-message station (rsl.ErrorIndication e) short = on-link (place_at station e.channel) (sapi_of e.link) _ (λ sapi. tt)
-of-message station (rsl.ConnectionFailure f) short = tt
+of-message : (station : ℕ) (message : Rsl) → IsShort message → Says (rsl_word station message)
+unfolding IsShort Says
+of-message station (rsl.ChannelRequired r) short = (tt, tt)
+of-message station (rsl.ChannelActivationAck a) short = (tt, tt)
+of-message station (rsl.ChannelActivationNack f) short = absurd short
+of-message station (rsl.EstablishIndication e) short = on-link (place_at station e.channel) (sapi_of e.link) _ (λ sapi. (tt, tt))
+of-message station (rsl.EstablishConfirm l) short = on-link (place_at station l.channel) (sapi_of l.link) _ (λ sapi. (tt, tt))
+of-message station (rsl.ReleaseIndication l) short = on-link (place_at station l.channel) (sapi_of l.link) _ (λ sapi. (tt, tt))
+of-message station (rsl.ErrorIndication e) short = on-link (place_at station e.channel) (sapi_of e.link) _ (λ sapi. (tt, tt))
+of-message station (rsl.ConnectionFailure f) short = (tt, tt)
 of-message station (rsl.DataIndication d) short = of-data (is_dtap d.l3) (place_at station d.channel) (sapi_of d.link) d.l3 short
 of-message station (rsl.MeasurementResult m) short = of-result (place_at station m.channel) m.number.0 m.l3
-of-message station (rsl.RfChannelReleaseAck channel) short = tt
-of-message station _ short = tt
+of-message station (rsl.RfChannelReleaseAck channel) short = (tt, tt)
+of-message station _ short = (tt, tt)
 
 -- ---- what the switch says is of no channel
 
-of-management : (number : ℕ) (message : Bssmap) → SaysBesideFlow (management_word number message)
-of-management number (bssmap.AssignmentRequest channel_type) = tt
-of-management number (bssmap.ClearCommand cause) = tt
-of-management number bssmap.CipherModeCommand = tt
-of-management number _ = tt
+of-management : (number : ℕ) (message : Bssmap) → Says (management_word number message)
+unfolding Says
+of-management number (bssmap.AssignmentRequest channel_type) = (tt, tt)
+of-management number (bssmap.ClearCommand cause) = (tt, tt)
+of-management number bssmap.CipherModeCommand = (tt, tt)
+of-management number _ = (tt, tt)
 
-of-bssap : (number : ℕ) (r : Result Bssap InterfaceFault) → SaysBesideFlow (bssap_word number r)
+of-bssap : (number : ℕ) (r : Result Bssap InterfaceFault) → Says (bssap_word number r)
+unfolding Says
 of-bssap number (Ok (Management message)) = of-management number message
-of-bssap number (Ok (Transfer dlci message)) = tt
-of-bssap number (Err fault) = tt
+of-bssap number (Ok (Transfer dlci message)) = (tt, tt)
+of-bssap number (Err fault) = (tt, tt)
 
-of-switch : (r : Result Sccp InterfaceFault) → SaysBesideFlow (switch_word r)
-of-switch (Ok (sccp.ConnectionConfirm destination source)) = tt
-of-switch (Ok (sccp.ConnectionRefused destination)) = tt
-of-switch (Ok (sccp.Released destination source)) = tt
+of-switch : (r : Result Sccp InterfaceFault) → Says (switch_word r)
+unfolding Says
+of-switch (Ok (sccp.ConnectionConfirm destination source)) = (tt, tt)
+of-switch (Ok (sccp.ConnectionRefused destination)) = (tt, tt)
+of-switch (Ok (sccp.Released destination source)) = (tt, tt)
 of-switch (Ok (sccp.DataForm1 destination user)) = of-bssap destination (bssap_reading user)
-of-switch (Ok _) = tt
-of-switch (Err fault) = tt
+of-switch (Ok _) = (tt, tt)
+of-switch (Err fault) = (tt, tt)
 
 -- ---- frames
 
 of-station-item : (source : ℕ) (message : Rsl) → IsShort message → rsl_reading (rsl_text message) ≡ Ok message → SaysItem (station_item source message)
-unfolding word_of SaysItem
+unfolding word_of SaysItem Says
 of-station-item source message short read = by (source == SWITCH_LINK) where
-  by : (b : Bool) → SaysBesideFlow (body_word (if (b && false) then connection_control else if (not b && true) then radio_signalling else other) source (rsl_text message))
-  by true = tt
-  by false = subst (λ (r : Result Rsl RslFault). SaysBesideFlow (station_word source r)) (sym read) (of-message source message short)
+  by : (b : Bool) → Says (body_word (if (b && false) then connection_control else if (not b && true) then radio_signalling else other) source (rsl_text message))
+  by true = (tt, tt)
+  by false = subst (λ (r : Result Rsl RslFault). Says (station_word source r)) (sym read) (of-message source message short)
 
 of-switch-item : (message : Sccp) → SaysItem (switch_item message)
-unfolding word_of SaysItem
+unfolding word_of SaysItem Says
 of-switch-item message = of-switch (sccp_reading (sccp_text message))
 
 says-pushed : (w : Actors) (event : Event) → Good w → AreShort w → AllByRecursion SaysItem (pushed w event)
-unfolding SaysItem AreShort
+unfolding SaysItem AreShort Says
 says-pushed w (BasePush source) good all = by_source (nat_eq source SWITCH_LINK) where
   of_switch : (made : List Sccp) → AllByRecursion SaysItem (map switch_item (first_of made))
   of_switch [] = tt
@@ -325,7 +343,7 @@ says-pushed w (BasePush source) good all = by_source (nat_eq source SWITCH_LINK)
   by_source false = of_station (base_of w source).messages (end-of w source good).made (short-of w source all)
 says-pushed w (BaseDown source) good all = by_link (is_up w source) where
   by_link : (b : Bool) → AllByRecursion SaysItem (if b then record { source = source; what = whats.Down } ∷ [] else [])
-  by_link true = (tt, tt)
+  by_link true = ((tt, tt), tt)
   by_link false = tt
 says-pushed w _ good all = tt
 
@@ -352,30 +370,46 @@ says-new settings events = subst (AllByRecursion SaysItem) (inbox-all (new_actor
     (says-all (new_actors settings) events (none-lent settings) (record { good = good-new settings; short = λ k. new-short 1 k settings.cells }))
 
 -- the steps of the controller are what it handled, and ticks
-says-first : (items : List Item) → AllByRecursion SaysItem (first_of items) → AllByRecursion (λ step. SaysBesideFlow (word_in step)) (first_taken items)
-unfolding SaysItem
+says-first : (items : List Item) → AllByRecursion SaysItem (first_of items) → AllByRecursion (λ step. Says (word_in step)) (first_taken items)
+unfolding SaysItem Says
 says-first [] all = tt
 says-first (item ∷ items) all = (all.0, tt)
 
-says-step : (w : Actors) (event : Event) → AllByRecursion SaysItem (popped w event) → AllByRecursion (λ step. SaysBesideFlow (word_in step)) (step_at w event)
+says-step : (w : Actors) (event : Event) → AllByRecursion SaysItem (popped w event) → AllByRecursion (λ step. Says (word_in step)) (step_at w event)
+unfolding Says
 says-step w Handle all = says-first w.inbox all
-says-step w (Tick ms) all = (tt, tt)
+says-step w (Tick ms) all = ((tt, tt), tt)
 says-step w _ all = tt
 
-says-steps : (w : Actors) (events : List Event) → AllByRecursion SaysItem (all_popped w events) → AllByRecursion (λ step. SaysBesideFlow (word_in step)) (all_steps w events)
+says-steps : (w : Actors) (events : List Event) → AllByRecursion SaysItem (all_popped w events) → AllByRecursion (λ step. Says (word_in step)) (all_steps w events)
 says-steps w [] all = tt
 says-steps w (event ∷ events) all =
-    AllByRecursion-append (λ step. SaysBesideFlow (word_in step)) (step_at w event) (all_steps (actors_after w event) events)
+    AllByRecursion-append (λ step. Says (word_in step)) (step_at w event) (all_steps (actors_after w event) events)
     (says-step w event (all-left SaysItem (popped w event) (all_popped (actors_after w event) events) all))
     (says-steps (actors_after w event) events (all-right SaysItem (popped w event) (all_popped (actors_after w event) events) all))
 
-pub says-came : (settings : Parameters) (events : List Event) → AllByRecursion (λ step. SaysBesideFlow (word_in step)) (all_steps (new_actors settings) events)
-says-came settings events =
+says-taken : (settings : Parameters) (events : List Event) → AllByRecursion (λ step. Says (word_in step)) (all_steps (new_actors settings) events)
+says-taken settings events =
     let w : Actors = new_actors settings in
     says-steps w events (all-left SaysItem (all_popped w events) (actors_after_all w events).inbox (says-new settings events))
 
-pub says-waits : (settings : Parameters) (events : List Event) → AllByRecursion (λ item. SaysBesideFlow (word_by item.source item.what)) (actors_after_all (new_actors settings) events).inbox
-unfolding SaysItem
-says-waits settings events =
+says-left : (settings : Parameters) (events : List Event) → AllByRecursion SaysItem (actors_after_all (new_actors settings) events).inbox
+says-left settings events =
     let w : Actors = new_actors settings in
     all-right SaysItem (all_popped w events) (actors_after_all w events).inbox (says-new settings events)
+
+pub says-came : (settings : Parameters) (events : List Event) → AllByRecursion (λ step. SaysBesideFlow (word_in step)) (all_steps (new_actors settings) events)
+unfolding Says
+says-came settings events = all-map (λ step. Says (word_in step)) (λ step. SaysBesideFlow (word_in step)) (all_steps (new_actors settings) events) (λ step says. says.0) (says-taken settings events)
+
+pub says-waits : (settings : Parameters) (events : List Event) → AllByRecursion (λ item. SaysBesideFlow (word_by item.source item.what)) (actors_after_all (new_actors settings) events).inbox
+unfolding SaysItem Says
+says-waits settings events = all-map SaysItem (λ item. SaysBesideFlow (word_by item.source item.what)) (actors_after_all (new_actors settings) events).inbox (λ item says. says.0) (says-left settings events)
+
+pub refuses-came : (settings : Parameters) (events : List Event) → AllByRecursion (λ step. RefusesNone (word_in step)) (all_steps (new_actors settings) events)
+unfolding Says
+refuses-came settings events = all-map (λ step. Says (word_in step)) (λ step. RefusesNone (word_in step)) (all_steps (new_actors settings) events) (λ step says. says.1) (says-taken settings events)
+
+pub refuses-waits : (settings : Parameters) (events : List Event) → AllByRecursion (λ item. RefusesNone (word_by item.source item.what)) (actors_after_all (new_actors settings) events).inbox
+unfolding SaysItem Says
+refuses-waits settings events = all-map SaysItem (λ item. RefusesNone (word_by item.source item.what)) (actors_after_all (new_actors settings) events).inbox (λ item says. says.1) (says-left settings events)

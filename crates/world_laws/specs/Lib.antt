@@ -18,3 +18,4 @@ pub mod Ended
 pub mod SapiThree
 pub mod PutAsRead
 pub mod AcksBegin
+pub mod Refusals

@@ -22,6 +22,9 @@ ghost use Rattle.world_laws.specs.SapiThree.{FlowComesOnSapiZero};
 ghost use Rattle.world_laws.specs.PutAsRead.{FramesArePutAsRead};
 ghost use Rattle.world_laws.specs.PutAsRead.{AllowedFramesKeepLineUps};
 ghost use Rattle.world_laws.specs.AcksBegin.{AcksBegin};
+{}
+
+ghost use Rattle.world_laws.specs.Refusals.{NoneRefuse};
 
 /// Law: whatever events happened, a connection that is lined up with its mobile, and whose channels no other mobile is on, stays
 /// lined up at what mobiles do, at what stations take from them and give to the inbox, and at what the switch does of its own.
@@ -160,4 +163,11 @@ pub fn allowed_frames_keep_line_ups()
 /// controller took, and then those on their way up, are the first of those due for all that it put.
 pub fn acknowledgements_begin()
     ensures { (settings : Parameters) (events : List WorldEvent) → AcksBegin settings events }
+{}
+{}
+
+
+/// Law: whatever events happened, no CHANNEL ACTIVATION NEGATIVE ACKNOWLEDGE came to the controller, and none waits in the inbox.
+pub fn stations_refuse_nothing()
+    ensures { (settings : Parameters) (events : List WorldEvent) → NoneRefuse settings events }
 {}

@@ -1,0 +1,21 @@
+-- Stations refuse no activation.
+use Rattle.std.specs.Prelude.{List}
+use Rattle.std.specs.List.{AllByRecursion}
+use Rattle.conn_table.specs.declared.input.Input.TheVariants as inputs
+use Rattle.controller_laws.specs.History.{word_by, word_in}
+use Rattle.controller_table.specs.declared.word.Word.{Word}
+use Rattle.controller_table.specs.declared.word.Word.TheVariants.{OnChannel}
+use Rattle.settings.specs.Parameters.{Parameters}
+use Rattle.world_table.specs.declared.event.Event.{Event}
+use Rattle.world_table.specs.Life.{actors_after_all}
+use Rattle.world_table.specs.Steps.{all_steps}
+use Rattle.world_table.specs.World.{new_actors}
+
+abbrev pub RefusesNone : Word → Type 0
+RefusesNone (OnChannel at (inputs.ActivationNack place)) = ⊥
+RefusesNone _ = Unit {0}
+
+-- no refusal came, and none waits in the inbox
+pub record NoneRefuse (settings : Parameters) (events : List Event) : Type 0 where
+  pub came : AllByRecursion (λ step. RefusesNone (word_in step)) (all_steps (new_actors settings) events)
+  pub waits : AllByRecursion (λ item. RefusesNone (word_by item.source item.what)) (actors_after_all (new_actors settings) events).inbox
