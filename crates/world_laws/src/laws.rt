@@ -22,8 +22,6 @@ ghost use Rattle.world_laws.specs.SapiThree.{FlowComesOnSapiZero};
 ghost use Rattle.world_laws.specs.PutAsRead.{FramesArePutAsRead};
 ghost use Rattle.world_laws.specs.PutAsRead.{AllowedFramesKeepLineUps};
 ghost use Rattle.world_laws.specs.AcksBegin.{AcksBegin};
-{}
-
 ghost use Rattle.world_laws.specs.Refusals.{NoneRefuse};
 
 /// Law: whatever events happened, a connection that is lined up with its mobile, and whose channels no other mobile is on, stays
@@ -164,8 +162,6 @@ pub fn allowed_frames_keep_line_ups()
 pub fn acknowledgements_begin()
     ensures { (settings : Parameters) (events : List WorldEvent) → AcksBegin settings events }
 {}
-{}
-
 
 /// Law: whatever events happened, no CHANNEL ACTIVATION NEGATIVE ACKNOWLEDGE came to the controller, and none waits in the inbox.
 pub fn stations_refuse_nothing()
