@@ -13,3 +13,4 @@ mod network;
 mod queues;
 mod uplink;
 mod upper_layers;
+mod views;
