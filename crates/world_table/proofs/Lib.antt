@@ -31,3 +31,4 @@ pub mod OwnerPuts
 pub mod OwnerTakes
 pub mod OwnerTurn
 pub mod OwnerRuns
+pub mod OwnerItems

@@ -13,7 +13,7 @@ use Rattle.octets.specs.declared.limits.TheConstants.{MESSAGE_LIMIT}
 use Rattle.rsl_codec.specs.ChannelNumber.{is_channel}
 use Rattle.rsl_codec.specs.declared.fault.RslFault.TheVariants.{Short, TooLong}
 use Rattle.rsl_codec.specs.declared.rsl.Rsl.{Rsl}
-use Rattle.rsl_codec.specs.declared.rsl.Rsl.TheVariants.{RfChannelReleaseAck}
+use Rattle.rsl_codec.specs.declared.rsl.Rsl.TheVariants.{ChannelActivationNack, RfChannelReleaseAck}
 use Rattle.rsl_codec.specs.Rsl.{IsL3, IsLawful, IsRsl}
 use Rattle.rsl_codec.specs.RslReading.{rsl_reading}
 use Rattle.rsl_codec.specs.RslText.{rsl_text, rsl_write_fault}
@@ -25,7 +25,13 @@ use Rattle.world_table.proofs.Honesty.{set-or-not, set-elsewhere}
 
 -- ---- sound messages
 
+-- no station refuses an activation
+abbrev pub is_nack : Rsl → Bool
+is_nack (ChannelActivationNack refused) = true
+is_nack message = false
+
 pub record IsSound (message : Rsl) : Type 0 where
+  pub kind : is_nack message ≡ false
   pub lawful : IsLawful message
   pub written : rsl_write_fault message ≡ None
 
@@ -45,42 +51,42 @@ fault-free l3 (some, few) =
 
 sound-ack : (channel : ℕ) → is_channel channel ≡ true → IsSound (activation_ack channel)
 unfolding rsl_write_fault
-sound-ack channel is = record { lawful = (is, tt); written = refl }
+sound-ack channel is = record { kind = refl; lawful = (is, tt); written = refl }
 
 sound-release : (channel : ℕ) → is_channel channel ≡ true → IsSound (RfChannelReleaseAck channel)
 unfolding rsl_write_fault
-sound-release channel is = record { lawful = (is, tt); written = refl }
+sound-release channel is = record { kind = refl; lawful = (is, tt); written = refl }
 
 pub sound-answer : (answer : Bool) (channel : ℕ) → is_channel channel ≡ true → IsSound (link_answer answer channel)
 unfolding rsl_write_fault
-sound-answer true channel is = record { lawful = (is, tt); written = refl }
-sound-answer false channel is = record { lawful = (is, tt); written = refl }
+sound-answer true channel is = record { kind = refl; lawful = (is, tt); written = refl }
+sound-answer false channel is = record { kind = refl; lawful = (is, tt); written = refl }
 
 pub sound-request : (number : ℕ) → IsSound (channel_required number)
 unfolding rsl_write_fault
-sound-request number = record { lawful = (refl, tt); written = refl }
+sound-request number = record { kind = refl; lawful = (refl, tt); written = refl }
 
 pub sound-detection : (channel : ℕ) → is_channel channel ≡ true → IsSound (handover_detection channel)
 unfolding rsl_write_fault
-sound-detection channel is = record { lawful = (is, tt); written = refl }
+sound-detection channel is = record { kind = refl; lawful = (is, tt); written = refl }
 
 pub sound-establishment : (channel : ℕ) (sapi : Sapi) → is_channel channel ≡ true → IsSound (establish_indication channel sapi None)
 unfolding rsl_write_fault
-sound-establishment channel sapi is = record { lawful = (is, tt); written = refl }
+sound-establishment channel sapi is = record { kind = refl; lawful = (is, tt); written = refl }
 
 pub sound-initial : (channel : ℕ) (frame : List ℕ) → is_channel channel ≡ true → IsL3 (Some frame) → IsSound (establish_indication channel Zero (Some frame))
 unfolding rsl_write_fault
-sound-initial channel frame is l3 = record { lawful = (is, l3); written = fault-free frame l3 }
+sound-initial channel frame is l3 = record { kind = refl; lawful = (is, l3); written = fault-free frame l3 }
 
 pub sound-data : (channel : ℕ) (sapi : Sapi) (frame : List ℕ) → is_channel channel ≡ true → IsL3 (Some frame) → IsSound (data_indication channel sapi frame)
 unfolding rsl_write_fault
-sound-data channel sapi frame is l3 = record { lawful = (is, l3); written = fault-free frame l3 }
+sound-data channel sapi frame is l3 = record { kind = refl; lawful = (is, l3); written = fault-free frame l3 }
 
 pub sound-report : (channel number : ℕ) (report : List ℕ) → is_channel channel ≡ true → length report ≡ 16 → IsSound (measurement_result channel number report)
 unfolding rsl_write_fault
 sound-report channel number report is sixteen =
     let l3 : IsL3 (Some (0x06 ∷ 0x15 ∷ report)) = (some (length report), few (length report) sixteen) in
-    record { lawful = (is, l3); written = fault-free (0x06 ∷ 0x15 ∷ report) l3 } where
+    record { kind = refl; lawful = (is, l3); written = fault-free (0x06 ∷ 0x15 ∷ report) l3 } where
       some : (n : ℕ) → 0 < suc (suc n)
       some n = omega arith
 

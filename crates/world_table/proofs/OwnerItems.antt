@@ -1,0 +1,64 @@
+-- What stands in the inbox is the end of a link, or the text of a message that a station made, which is no CHANNEL ACTIVATION NACK.
+use Rattle.std.proofs.Common.{◌≡◌, ◌≢◌, nat_eq, Bool, true, false, if◌then◌else◌, List, [], ◌∷◌, ◌++◌, map, option_to_list, Ok, refl, subst}
+use Rattle.std.proofs.lemmas.Bool.{eqb-true}
+use Rattle.std.specs.List.{AllByRecursion}
+use Rattle.bssmap_codec.specs.declared.sccp.Sccp.{Sccp}
+use Rattle.conn_messages.specs.declared.parameters.TheConstants.{SWITCH_LINK}
+use Rattle.conn_table.proofs.DownlinkMessages.{AllByRecursion-append}
+use Rattle.link_model.specs.Base.{first_message, first_of_messages}
+use Rattle.relay_items.specs.declared.Item.{Item}
+use Rattle.relay_items.specs.declared.What.{What}
+use Rattle.relay_items.specs.declared.What.TheVariants as whats
+use Rattle.rsl_codec.specs.declared.rsl.Rsl.{Rsl}
+use Rattle.rsl_codec.specs.RslReading.{rsl_reading}
+use Rattle.rsl_codec.specs.RslText.{rsl_text}
+use Rattle.settings.specs.Parameters.{Parameters}
+use Rattle.world_table.specs.declared.event.Event.{Event}
+use Rattle.world_table.specs.declared.event.Event.TheVariants.{BasePush, BaseDown}
+use Rattle.world_table.specs.Life.{actors_after, actors_after_all}
+use Rattle.world_table.specs.Queues.{first_of, popped, pushed}
+use Rattle.world_table.specs.Reading.{frame_of}
+use Rattle.world_table.specs.Relay.{station_item, switch_item}
+use Rattle.world_table.specs.World.{Actors, base_of, is_up, new_actors}
+use Rattle.world_table.proofs.Heard.{Good, end-of, good-new, good-step}
+use Rattle.world_table.proofs.Inboxes.{inbox-goes}
+use Rattle.world_table.proofs.Soundness.{IsSound, is_nack, sound-read}
+
+abbrev pub IsKnown : What → Type 0
+IsKnown (whats.Frame frame) = (message : Rsl) × (frame ≡ frame_of message) × (rsl_reading (rsl_text message) ≡ Ok message) × (is_nack message ≡ false)
+IsKnown whats.Down = Unit {0}
+
+abbrev pub IsKnownItem : Item → Type 0
+IsKnownItem item = item.source ≢ SWITCH_LINK → IsKnown item.what
+
+known-pushed : (w : Actors) (event : Event) → Good w → AllByRecursion IsKnownItem (pushed w event)
+known-pushed w (BasePush source) good = by_source (nat_eq source SWITCH_LINK) refl where
+  of_switch : source ≡ SWITCH_LINK → (made : List Sccp) → AllByRecursion IsKnownItem (map switch_item (first_of made))
+  of_switch is [] = tt
+  of_switch is (first ∷ others) = ((λ other. absurd (other refl)), tt)
+
+  of_station : (messages : List Rsl) → AllByRecursion IsSound messages → AllByRecursion IsKnownItem (map (station_item source) (option_to_list (first_of_messages messages)))
+  of_station [] all = tt
+  of_station (first ∷ others) all = ((λ other. (first, refl, sound-read first all.0, all.0.kind)), tt)
+
+  by_source : (b : Bool) → nat_eq source SWITCH_LINK ≡ b → AllByRecursion IsKnownItem (if b then map switch_item (first_of w.switch_made) else map (station_item source) (option_to_list (first_message (base_of w source))))
+  by_source true is = of_switch (eqb-true source SWITCH_LINK is) w.switch_made
+  by_source false is = of_station (base_of w source).messages (end-of w source good).made
+known-pushed w (BaseDown source) good = by_link (is_up w source) where
+  by_link : (b : Bool) → AllByRecursion IsKnownItem (if b then record { source = source; what = whats.Down } ∷ [] else [])
+  by_link true = ((λ other. tt), tt)
+  by_link false = tt
+known-pushed w _ good = tt
+
+behind : (P : Item → Type 0) (xs ys : List Item) → AllByRecursion P (xs ++ ys) → AllByRecursion P ys
+behind P [] ys all = all
+behind P (x ∷ xs) ys all = behind P xs ys all.1
+
+known-all : (w : Actors) (events : List Event) → Good w → AllByRecursion IsKnownItem w.inbox → AllByRecursion IsKnownItem (actors_after_all w events).inbox
+known-all w [] good known = known
+known-all w (event ∷ events) good known =
+    known-all (actors_after w event) events (good-step w event good)
+    (behind IsKnownItem (popped w event) (actors_after w event).inbox (subst (AllByRecursion IsKnownItem) (inbox-goes w event) (AllByRecursion-append IsKnownItem w.inbox (pushed w event) known (known-pushed w event good))))
+
+pub known-inbox : (settings : Parameters) (events : List Event) → AllByRecursion IsKnownItem (actors_after_all (new_actors settings) events).inbox
+known-inbox settings events = known-all (new_actors settings) events (good-new settings) tt
