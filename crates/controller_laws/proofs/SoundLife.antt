@@ -153,7 +153,7 @@ in_cell p station reference cell (Some n) c is channel = subst IsSoundChannel (o
     of : (let o : Option Channel = Some (channel_in p station reference cell n) in o) ≡ Some c → channel_in p station reference cell n ≡ c
     of is = cc
 
-offered_sound : (c : Controller) (station reference : ℕ) (kind : ChannelKind) (offer : Channel) → AllByRecursion IsSoundCell c.settings.cells → first_free c station reference kind ≡ Some offer → IsSoundChannel offer
+pub offered_sound : (c : Controller) (station reference : ℕ) (kind : ChannelKind) (offer : Channel) → AllByRecursion IsSoundCell c.settings.cells → first_free c station reference kind ≡ Some offer → IsSoundChannel offer
 offered_sound c station reference kind offer cells is = elim (cases_Bool (is_up c station)) [
   | inr miss ↦ absurd (let none : None ≡ Some offer = sym (cond-false _ (free_channel c.settings c.channels station reference kind) None miss) ∙ is in cc)
   | inl hit ↦ option_and_then_some (channel_of_kind c.settings c.channels station reference kind) (slice_get c.settings.cells (station - 1)) offer (sym (cond-true _ (free_channel c.settings c.channels station reference kind) None hit) ∙ is)

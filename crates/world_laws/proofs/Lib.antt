@@ -58,3 +58,7 @@ pub mod PutAsRead
 pub mod AcksBegin
 pub mod Refusals
 mod RefusalsRows
+pub mod TakingTurns
+pub mod TurnsLife
+pub mod TurnsSteps
+mod TakingTurnsRows

@@ -23,6 +23,8 @@ ghost use Rattle.world_laws.specs.PutAsRead.{FramesArePutAsRead};
 ghost use Rattle.world_laws.specs.PutAsRead.{AllowedFramesKeepLineUps};
 ghost use Rattle.world_laws.specs.AcksBegin.{AcksBegin};
 ghost use Rattle.world_laws.specs.Refusals.{NoneRefuse};
+ghost use Rattle.world_laws.specs.TakingTurns.{OrdersTakeTurns};
+ghost use Rattle.controller_table.specs.declared.step.Step.{Step as ControllerStep};
 
 /// Law: whatever events happened, a connection that is lined up with its mobile, and whose channels no other mobile is on, stays
 /// lined up at what mobiles do, at what stations take from them and give to the inbox, and at what the switch does of its own.
@@ -166,4 +168,11 @@ pub fn acknowledgements_begin()
 /// Law: whatever events happened, no CHANNEL ACTIVATION NEGATIVE ACKNOWLEDGE came to the controller, and none waits in the inbox.
 pub fn stations_refuse_nothing()
     ensures { (settings : Parameters) (events : List WorldEvent) → NoneRefuse settings events }
+{}
+
+/// Law: what a step of the controller orders of a channel takes turns, while the link of its station is up: a free channel is
+/// activated, one in use is released. An RF CHANNEL RELEASE ACK frees the channel first, where it is releasing. So it is with settings
+/// that are allowed, where what came was octets and stations refuse nothing.
+pub fn orders_take_turns()
+    ensures { (settings : Parameters) (steps : List ControllerStep) (step : ControllerStep) → OrdersTakeTurns settings steps step }
 {}

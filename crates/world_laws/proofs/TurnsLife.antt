@@ -1,0 +1,270 @@
+-- The orders of a step take turns.
+use Rattle.std.proofs.Common.{◌≡◌, ◌≢◌, ℕ, ◌≤◌, ◌<◌, ◌^◌, ◌==◌, ◌&&◌, nat_le, Bool, true, false, if◌then◌else◌, List, [], ◌∷◌, Option, Some, None, option_map, refl, sym, ap, ◌∙◌, subst, inl, inr, arith}
+use Rattle.std.specs.List.{AllByRecursion}
+use Rattle.std.specs.Option.{option_to_list}
+use Rattle.std.proofs.lemmas.Bool.{cases_Bool, leb-true}
+use Rattle.conn_messages.specs.declared.channel.Channel.{Channel}
+use Rattle.conn_messages.specs.declared.channel.Place.{Place}
+use Rattle.conn_messages.specs.declared.message.Message.{Message}
+use Rattle.conn_messages.specs.Out.{IsReadOf, IsSound, out_of}
+use Rattle.conn_messages.specs.StationMessage.{access_activation}
+use Rattle.conn_messages.proofs.Readings.{message_again}
+use Rattle.conn_table.specs.declared.input.Input.{Input}
+use Rattle.conn_table.specs.declared.input.Input.TheVariants as inputs
+use Rattle.conn_table.specs.Connection.{Connection}
+use Rattle.conn_table.specs.Roles.{Roles, roles_of, target_channels}
+use Rattle.conn_table.specs.Standing.{IsCarried, Stands}
+use Rattle.conn_table.specs.Steps.{Row}
+use Rattle.conn_table.specs.Streams.{IsApart, IsOpen, OfRow, undone}
+use Rattle.conn_table.specs.Table.{row_of, serving_after}
+use Rattle.controller_laws.specs.History.{connection_of}
+use Rattle.controller_laws.specs.Owning.{Owns}
+use Rattle.controller_laws.proofs.Owning.{IsOffered}
+use Rattle.controller_laws.proofs.OwningSteps.{offered_free}
+use Rattle.controller_laws.proofs.OwningWords.{changes_of, freed_shaped, owns_entry}
+use Rattle.controller_laws.proofs.Places.{free≢release, use≢release, is_there, state_else, state_here, still_in}
+use Rattle.controller_laws.proofs.SoundLife.{IsSoundAll, RefersIn, offered_sound, SoundOf, SoundParts, offer_list, request_sound}
+use Rattle.controller_laws.proofs.SoundMessages.{IsSoundChannel, sound_access}
+use Rattle.controller_laws.proofs.SoundRows.{IsSoundRow, RefersBy, row_sound}
+use Rattle.controller_laws.proofs.UsingWords.{IsHere, Ready, here_of}
+use Rattle.controller_table.specs.declared.channel_state.ChannelState.{ChannelState}
+use Rattle.controller_table.specs.declared.channel_state.ChannelState.TheVariants.{Free, InUse, Releasing}
+use Rattle.controller_table.specs.declared.word.Word.{Word}
+use Rattle.controller_table.specs.declared.word.Word.TheVariants.{Nothing, Ping, Asks, OnChannel, OnConnection, Reports}
+use Rattle.controller_table.specs.declared.channel_kind.ChannelKind.{ChannelKind}
+use Rattle.controller_table.specs.declared.channel_kind.ChannelKind.TheVariants.{Sdcch, Tch}
+use Rattle.controller_table.specs.Channels.{access_channel, first_free, handover_offer, kind_of, request_offer}
+use Rattle.controller_table.specs.Controller.{Controller, Entry, Turn, channel_state, entry_of, freed, ignoring, is_up, place_of, state_in, turn, with_entry, with_state}
+use Rattle.controller_table.specs.declared.limits.TheConstants.{MAX_CONNECTION_NUMBER}
+use Rattle.controller_table.specs.Life.{by_fitting, by_row, concerning, concerning_too, entry_at, frees, given, measured, measures, on_decision, on_freed, on_report, on_state, on_word, row_in, with_report}
+use Rattle.controller_table.specs.Reports.{decision_over}
+use Rattle.conn_messages.specs.declared.parameters.TheConstants.{SWITCH_LINK}
+use Rattle.controller_laws.proofs.Readings.{IsCarriedBy}
+use Rattle.dtap_codec.specs.declared.report.Report.{Report}
+use Rattle.ho_decision.specs.declared.decision.Decision.{Decision}
+use Rattle.ho_decision.specs.declared.decision.Decision.TheVariants.{Stay, Move}
+use Rattle.rsl_codec.specs.declared.values.RequestReference.{RequestReference}
+use Rattle.world_laws.specs.OwnItem.{is_same}
+use Rattle.world_laws.specs.Refusals.{RefusesNone}
+use Rattle.world_laws.specs.TakingTurns.{Order, TakesTurns, Turns, freed_by}
+use Rattle.world_laws.proofs.OwnDoes.{apart-right}
+use Rattle.world_laws.proofs.TakingTurns.{AreInTurn, IsInTurn, IsOpenFor, IsUsing, all-turns, quiet-order, places-differ, places-same, row-turns}
+
+-- a turn's orders on a channel, from this state on
+unfoldable pub TurnsFrom : Place → ChannelState → Turn → Type 0
+TurnsFrom at before t = TakesTurns at before t.outs (channel_state t.next at)
+
+-- ---- a row
+
+differ-of : (c d : Channel) → IsApart c d → place_of c ≢ place_of d
+differ-of c d apart same = places-differ c.station c.number (place_of d) apart (sym same)
+
+all-differ : (c : Channel) (cs : List Channel) → AllByRecursion (IsApart c) cs → AllByRecursion (λ d. place_of c ≢ place_of d) cs
+all-differ c [] all = tt
+all-differ c (d ∷ ds) all = (differ-of c d all.0, all-differ c ds all.1)
+
+pub using-of : (channels : List (List ChannelState)) (links : List Bool) (m : ℕ) (roles : Roles) → Owns channels links m roles → IsUsing m channels roles
+using-of channels links m roles owns = record {
+  using = owns.using;
+  apart = all-differ roles.serving (target_channels roles.target) (apart-right (undone roles.draining) (roles.serving ∷ target_channels roles.target) owns.apart).0;
+}
+
+open-for : (channels : List (List ChannelState)) (links : List Bool) (c : Channel) → IsOffered channels links c → IsOpenFor channels c
+unfolding IsOpenFor
+open-for channels links c offered = (offered.is_free, offered.is_in)
+
+-- what is known of an entry
+pub record IsTold (e : Entry) : Type 0 where
+  pub stands : Stands e.connection
+  pub parts : SoundParts e.connection
+  pub few : e.connection.number < 2 ^ 24
+
+all-read : (n : ℕ) (ms : List Message) → n < 2 ^ 24 → AllByRecursion IsSound ms → AllByRecursion (λ m. IsReadOf n m (out_of n m).frame.body) ms
+all-read n [] few all = tt
+all-read n (m ∷ ms) few all = (message_again n m few all.0.0 all.0.1, all-read n ms few all.1)
+
+pub row-turn : (at : Place) (c : Controller) (e : Entry) (input : Input) (offer : Option Channel) (r : Row) → IsTold e → row_of e.connection input offer ≡ Some r → AllByRecursion IsSoundChannel (option_to_list offer) → IsCarried input → RefersBy input
+    → (IsOpen e.connection.state → IsUsing e.connection.number c.channels (roles_of e.connection)) → (IsOpen r.next.state → (d : Channel) → offer ≡ Some d → IsOpenFor c.channels d) → TurnsFrom at (channel_state c at) (by_row e r c)
+unfolding TurnsFrom
+row-turn at c e input offer r told fits sounds carried refers using offers =
+    let s : Connection = e.connection in
+    let sound : IsSoundRow r = subst (OfRow IsSoundRow) fits
+    (row_sound s input offer (record { serving = told.parts.serving; zero = told.stands.down_zero; three = told.stands.down_three; up = told.stands.up_messages; refers = told.parts.refers }) told.parts.targets sounds carried refers) in
+    all-turns s.number at c.channels r.outs (all-read s.number r.outs told.few sound.0)
+    (row-turns s.number c.channels s input offer r (changes_of s input offer r told.stands fits) using offers)
+
+pub fitting-turn : (at : Place) (c : Controller) (otherwise : Turn) (e : Entry) (input : Input) (offer : Option Channel) (o : Option Row) → row_of e.connection input offer ≡ o → IsTold e → AllByRecursion IsSoundChannel (option_to_list offer) → IsCarried input → RefersBy input
+    → (IsOpen e.connection.state → IsUsing e.connection.number c.channels (roles_of e.connection)) → ((d : Channel) → offer ≡ Some d → IsOpenFor c.channels d) → TurnsFrom at (channel_state c at) otherwise → TurnsFrom at (channel_state c at) (by_fitting otherwise e o c)
+fitting-turn at c otherwise e input offer None is told sounds carried refers using offers same = same
+fitting-turn at c otherwise e input offer (Some r) is told sounds carried refers using offers same = row-turn at c e input offer r told is sounds carried refers using (λ is_open. offers)
+
+-- ---- entries of a controller that is ready
+
+module _ (c : Controller) (ready : Ready c) (sound : IsSoundAll c) where
+  pub told-of : (m : ℕ) (e : Entry) → entry_of c m ≡ Some e → IsTold e
+  unfolding SoundOf
+  told-of m e there =
+      let here : IsHere c.links c e = here_of c m e ready there in
+      let own : connection_of c e.connection.number ≡ Some e.connection = ap (option_map (λ (x : Entry). x.connection)) here.there in
+      let below = here.below in
+      let next = sound.next in
+      record { stands = here.stands; parts = subst SoundOf own (sound.each e.connection.number); few = omega arith }
+
+  uses-of : (m : ℕ) (e : Entry) → entry_of c m ≡ Some e → IsOpen e.connection.state → IsUsing e.connection.number c.channels (roles_of e.connection)
+  uses-of m e there is_open = using-of c.channels c.links e.connection.number (roles_of e.connection) (owns_entry c.links c e (here_of c m e ready there).there ready.holds is_open)
+
+  offers-of : (station reference : ℕ) (kind : ChannelKind) (d : Channel) → first_free c station reference kind ≡ Some d → IsOpenFor c.channels d
+  offers-of station reference kind d is = open-for c.channels c.links d (offered_free c c.links station reference kind d refl ready.holds.shaped is)
+
+  ignored : (at : Place) → TurnsFrom at (channel_state c at) (ignoring c)
+  unfolding TurnsFrom
+  ignored at = refl
+
+  concerns : (at : Place) (input : Input) (m : ℕ) (o : Option Entry) → entry_of c m ≡ o → IsCarried input → RefersBy input → TurnsFrom at (channel_state c at) (concerning input c o)
+  concerns at input m None there carried refers = ignored at
+  concerns at input m (Some e) there carried refers =
+      fitting-turn at c (ignoring c) e input (request_offer c e.connection input) (row_in c e.connection input) refl (told-of m e there) (offer_list (request_offer c e.connection input) (request_sound c e.connection input sound.cells)) carried refers (uses-of m e there)
+      (offers-of (serving_after e.connection (row_of e.connection input None)).station 0 Tch) (ignored at)
+
+  -- the channel was freed first
+  freed-using : (place : Place) (k : ℕ) (m : ℕ) (roles : Roles) → channel_state c place ≡ Releasing k → IsUsing m c.channels roles → IsUsing m (with_state place Free c.channels) roles
+  freed-using place k m roles is u = record {
+    using = still_in c.channels place Free (InUse m) (roles.serving ∷ target_channels roles.target) (λ same. use≢release m k (sym same ∙ is)) u.using;
+    apart = u.apart;
+  }
+
+  freed-offers : (place : Place) (station reference : ℕ) (kind : ChannelKind) (d : Channel) → first_free (freed place c) station reference kind ≡ Some d → IsOpenFor (with_state place Free c.channels) d
+  freed-offers place station reference kind d is = open-for (with_state place Free c.channels) c.links d (offered_free (freed place c) c.links station reference kind d refl (freed_shaped place c ready.holds.shaped) is)
+
+  concerns-freed : (at place : Place) (k : ℕ) (input : Input) (m : ℕ) (o : Option Entry) → channel_state c place ≡ Releasing k → entry_of c m ≡ o → IsCarried input → RefersBy input → TurnsFrom at (channel_state (freed place c) at) (concerning_too input (freed place c) o)
+  unfolding TurnsFrom
+  concerns-freed at place k input m None is there carried refers = refl
+  concerns-freed at place k input m (Some e) is there carried refers =
+      fitting-turn at (freed place c) (turn [] (freed place c)) e input (request_offer (freed place c) e.connection input) (row_in (freed place c) e.connection input) refl (told-of m e there)
+      (offer_list (request_offer (freed place c) e.connection input) (request_sound (freed place c) e.connection input sound.cells)) carried refers (λ is_open. freed-using place k e.connection.number (roles_of e.connection) is (uses-of m e there is_open))
+      (freed-offers place (serving_after e.connection (row_of e.connection input None)).station 0 Tch) refl
+
+-- ---- the state from that a word begins
+
+pub same-places : (place at : Place) → is_same place at ≡ true → place ≡ at
+same-places place at is = places-same place.station place.number at is
+
+pub freed-none : (at place : Place) (input : Input) (state : ChannelState) → ((n : ℕ) → state ≡ Releasing n → is_same place at ≡ false) → freed_by at (OnChannel place input) state ≡ state
+freed-none at place (inputs.ReleaseAck acknowledged) (Releasing n) other = ap (λ (b : Bool). if b then Free else Releasing n) (other n refl)
+freed-none at place (inputs.ReleaseAck acknowledged) Free other = refl
+freed-none at place (inputs.ReleaseAck acknowledged) (InUse n) other = refl
+freed-none at place _ state other = refl
+
+freed-one : (c : Controller) (at place acknowledged : Place) (k : ℕ) → channel_state c place ≡ Releasing k → freed_by at (OnChannel place (inputs.ReleaseAck acknowledged)) (channel_state c at) ≡ channel_state (freed place c) at
+freed-one c at place acknowledged k is = elim (cases_Bool (is_same place at)) [
+  | inl hit ↦
+      let same : place ≡ at = same-places place at hit in
+      ap (freed_by at (OnChannel place (inputs.ReleaseAck acknowledged))) (ap (channel_state c) (sym same) ∙ is) ∙ ap (λ (b : Bool). if b then Free else Releasing k) hit
+      ∙ sym (ap (state_in (with_state place Free c.channels)) (sym same) ∙ state_here c.channels place Free (is_there c.channels place (λ free. free≢release k (sym free ∙ is))))
+  | inr miss ↦
+      freed-none at place (inputs.ReleaseAck acknowledged) (channel_state c at) (λ n releasing. miss)
+      ∙ sym (state_else c.channels place at Free (places-differ place.station place.number at miss))
+]
+
+-- which channels are freed
+frees-not : (state : ChannelState) (e : Option Entry) (place : Place) (input : Input) → RefusesNone (OnChannel place input) → ((n : ℕ) → state ≢ Releasing n) → frees state e input ≡ false
+frees-not state e place (inputs.ActivationNack at) none free = absurd none
+frees-not (Releasing n) e place (inputs.ReleaseAck at) none free = absurd (free n refl)
+frees-not Free e place (inputs.ReleaseAck at) none free = refl
+frees-not (InUse n) e place (inputs.ReleaseAck at) none free = refl
+frees-not Free e place _ none free = refl
+frees-not (InUse n) e place _ none free = refl
+frees-not (Releasing n) e place _ none free = refl
+
+-- another input than RF CHANNEL RELEASE ACK frees nothing
+data IsFreeing (c : Controller) (place : Place) (input : Input) : Type 0 where
+  frees_it : (k : ℕ) (acknowledged : Place) → channel_state c place ≡ Releasing k → input ≡ inputs.ReleaseAck acknowledged → IsFreeing c place input
+  frees_none : frees (channel_state c place) (entry_at c (channel_state c place)) input ≡ false → ((at : Place) → freed_by at (OnChannel place input) (channel_state c at) ≡ channel_state c at) → IsFreeing c place input
+
+none-freed : (c : Controller) (place : Place) (input : Input) (state : ChannelState) → channel_state c place ≡ state → ((n : ℕ) → state ≢ Releasing n) → RefusesNone (OnChannel place input) → IsFreeing c place input
+none-freed c place input state is free none =
+    frees_none (frees-not (channel_state c place) (entry_at c (channel_state c place)) place input none (λ n releasing. free n (sym is ∙ releasing)))
+    (λ at. freed-none at place input (channel_state c at) (λ n releasing. elim (cases_Bool (is_same place at)) [
+      | inl hit ↦ absurd (free n (sym is ∙ ap (channel_state c) (same-places place at hit) ∙ releasing))
+      | inr miss ↦ miss
+    ]))
+
+freeing-of : (c : Controller) (place : Place) (input : Input) (state : ChannelState) → channel_state c place ≡ state → RefusesNone (OnChannel place input) → IsFreeing c place input
+freeing-of c place input Free is none = none-freed c place input Free is (λ n same. absurd (free≢release n same)) none
+freeing-of c place input (InUse m) is none = none-freed c place input (InUse m) is (λ n same. absurd (use≢release m n same)) none
+freeing-of c place (inputs.ReleaseAck acknowledged) (Releasing k) is none = frees_it k acknowledged is refl
+freeing-of c place (inputs.ActivationNack at) (Releasing k) is none = absurd none
+freeing-of c place input (Releasing k) is none = frees_none (ap (λ (s : ChannelState). frees s (entry_at c s) input) is ∙ refl) (λ at. refl)
+
+-- ---- words
+
+unfoldable pub WordTurns : Place → ℕ → Word → Controller → Type 0
+WordTurns at source word c = TurnsFrom at (freed_by at word (channel_state c at)) (on_word source word c)
+
+module _ (c : Controller) (ready : Ready c) (sound : IsSoundAll c) (at : Place) where
+  concerns-at : (input : Input) (state : ChannelState) → IsCarried input → RefersBy input → TurnsFrom at (channel_state c at) (concerning input c (entry_at c state))
+  concerns-at input Free carried refers = ignored c ready sound at
+  concerns-at input (InUse n) carried refers = concerns c ready sound at input n (entry_of c n) refl carried refers
+  concerns-at input (Releasing n) carried refers = concerns c ready sound at input n (entry_of c n) refl carried refers
+
+  channel-turns : (place : Place) (input : Input) → IsFreeing c place input → IsCarried input → RefersBy input → TurnsFrom at (freed_by at (OnChannel place input) (channel_state c at)) (on_state (channel_state c place) place input c (entry_at c (channel_state c place)))
+  channel-turns place input (frees_it k acknowledged is acks) carried refers =
+      subst (λ (i : Input). TurnsFrom at (freed_by at (OnChannel place i) (channel_state c at)) (on_state (channel_state c place) place i c (entry_at c (channel_state c place)))) (sym acks)
+      (subst (λ (state : ChannelState). TurnsFrom at (freed_by at (OnChannel place (inputs.ReleaseAck acknowledged)) (channel_state c at)) (on_state state place (inputs.ReleaseAck acknowledged) c (entry_at c state))) (sym is)
+      (subst (λ (before : ChannelState). TurnsFrom at before (concerning_too (inputs.ReleaseAck acknowledged) (freed place c) (entry_of c k))) (sym (freed-one c at place acknowledged k is))
+      (concerns-freed c ready sound at place k (inputs.ReleaseAck acknowledged) k (entry_of c k) is refl tt tt)))
+  channel-turns place input (frees_none stay start) carried refers =
+      subst (λ (b : Bool). TurnsFrom at (freed_by at (OnChannel place input) (channel_state c at)) (on_freed b place input c (entry_at c (channel_state c place)))) (sym stay)
+      (subst (λ (before : ChannelState). TurnsFrom at before (concerning input c (entry_at c (channel_state c place)))) (sym (start at)) (concerns-at input (channel_state c place) carried refers))
+
+  given-turns : (source : ℕ) (request : RequestReference) (delay : ℕ) (o : Option Channel) → access_channel c source ≡ o → c.next_number ≤ MAX_CONNECTION_NUMBER → TurnsFrom at (channel_state c at) (given c request delay o)
+  unfolding TurnsFrom AreInTurn IsInTurn
+  given-turns source request delay None is few = ignored c ready sound at
+  given-turns source request delay (Some channel) is few =
+      let sounds : IsSoundChannel channel = offered_sound c source 0 Sdcch channel sound.cells is in
+      let access = sound_access channel sounds in
+      let offered : IsOffered c.channels c.links channel = offered_free c c.links source 0 Sdcch channel refl ready.holds.shaped is in
+      all-turns c.next_number at c.channels (access_activation channel ∷ []) (message_again c.next_number (access_activation channel) (omega arith) access.0 access.1, tt) ((offered.is_free, offered.is_in), tt)
+
+  asks-turns : (b d : Bool) (t : Turn) → (d ≡ true → TurnsFrom at (channel_state c at) t) → TurnsFrom at (channel_state c at) (if (b && d) then t else ignoring c)
+  asks-turns true true t after = after refl
+  asks-turns true false t after = ignored c ready sound at
+  asks-turns false d t after = ignored c ready sound at
+
+  -- ---- a report
+
+  decision-turns : (d : Decision) (put e : Entry) (m : ℕ) → entry_of c m ≡ Some e → put.connection ≡ e.connection → TurnsFrom at (channel_state c at) (on_decision d (with_entry put c) put)
+  unfolding TurnsFrom
+  decision-turns Stay put e m there same = refl
+  decision-turns (Move cell) put e m there same =
+      let told : IsTold e = told-of c ready sound m e there in
+      fitting-turn at (with_entry put c) (turn [] (with_entry put c)) put inputs.Move (handover_offer (with_entry put c) put.connection.serving cell) (row_of put.connection inputs.Move (handover_offer (with_entry put c) put.connection.serving cell)) refl
+      (record { stands = subst Stands (sym same) told.stands; parts = subst SoundParts (sym same) told.parts; few = subst (λ (s : Connection). s.number < 2 ^ 24) (sym same) told.few })
+      (offer_list (handover_offer c put.connection.serving cell) (λ d is. offered_sound c cell c.handovers (kind_of put.connection.serving.number) d sound.cells is)) tt tt
+      (subst (λ (s : Connection). IsOpen s.state → IsUsing s.number c.channels (roles_of s)) (sym same) (uses-of c ready sound m e there))
+      (offers-of c ready sound cell c.handovers (kind_of put.connection.serving.number)) refl
+
+  report-turns : (place : Place) (of : ℕ) (report : Report) (m : ℕ) (o : Option Entry) → entry_of c m ≡ o → TurnsFrom at (channel_state c at) (on_report place of report c o)
+  report-turns place of report m None there = ignored c ready sound at
+  report-turns place of report m (Some e) there = by (measures place e) where
+    put : Entry
+    put = with_report of report e
+
+    by : (b : Bool) → TurnsFrom at (channel_state c at) (if b then measured of report c e else ignoring c)
+    by true = decision-turns (decision_over put.averages.settings put.averages.reports of) put e m there refl
+    by false = ignored c ready sound at
+
+  reports-turns : (place : Place) (of : ℕ) (report : Report) (state : ChannelState) → TurnsFrom at (channel_state c at) (on_report place of report c (entry_at c state))
+  reports-turns place of report Free = ignored c ready sound at
+  reports-turns place of report (InUse n) = report-turns place of report n (entry_of c n) refl
+  reports-turns place of report (Releasing n) = report-turns place of report n (entry_of c n) refl
+
+  pub word-turns : (source : ℕ) (word : Word) → IsCarriedBy word → RefersIn word → RefusesNone word → WordTurns at source word c
+  unfolding WordTurns TurnsFrom
+  word-turns source Nothing carried refers none = refl
+  word-turns source Ping carried refers none = (channel_state c at, subst (λ (o : Option Order). Turns o (channel_state c at) (channel_state c at)) (sym (quiet-order (source == at.station) None refl)) refl, refl)
+  word-turns source (Asks request delay) carried refers none =
+      asks-turns (is_up c SWITCH_LINK) (nat_le c.next_number MAX_CONNECTION_NUMBER) (given c request delay (access_channel c source)) (λ few. given-turns source request delay (access_channel c source) refl (leb-true c.next_number MAX_CONNECTION_NUMBER few))
+  word-turns source (OnChannel place input) carried refers none = channel-turns place input (freeing-of c place input (channel_state c place) refl none) carried refers
+  word-turns source (Reports place of report) carried refers none = reports-turns place of report (channel_state c place)
+  word-turns source (OnConnection m input) carried refers none = concerns c ready sound at input m (entry_of c m) refl carried refers

@@ -1,0 +1,188 @@
+-- The orders of a step take turns: of a frame, of a link that breaks, of time.
+use Rattle.std.proofs.Common.{◌≡◌, ◌≢◌, ℕ, ◌==◌, Bool, true, false, if◌then◌else◌, List, [], ◌∷◌, map, slice_index_or, Option, Some, None, refl, sym, ap, ◌∙◌, subst, inl, inr}
+use Rattle.std.specs.List.{AllByRecursion}
+use Rattle.std.proofs.lemmas.Bool.{cases_Bool}
+use Rattle.std.proofs.lemmas.List.{get_or-set_other}
+use Rattle.conn_messages.specs.declared.channel.Channel.{Channel}
+use Rattle.conn_messages.specs.declared.channel.Place.{Place}
+use Rattle.conn_messages.specs.declared.parameters.TheConstants.{SWITCH_LINK}
+use Rattle.conn_table.specs.declared.input.Input.{Input}
+use Rattle.conn_table.specs.declared.input.Input.TheVariants as inputs
+use Rattle.conn_table.specs.Connection.{Connection}
+use Rattle.conn_table.specs.Roles.{roles_of}
+use Rattle.conn_table.specs.Standing.{IsCarried}
+use Rattle.conn_table.specs.Steps.{Row}
+use Rattle.conn_table.specs.Streams.{IsOpen}
+use Rattle.conn_table.specs.Table.{row_of}
+use Rattle.controller_laws.specs.Acts.{IsTimer}
+use Rattle.controller_laws.specs.History.{word_by, word_in}
+use Rattle.controller_laws.specs.Numbers.{AreRising}
+use Rattle.controller_laws.specs.Sending.{ComesInOctets}
+use Rattle.controller_laws.proofs.Fitting.{IsLinkBreak, break_carried, own_carried, pass_stands, timer_carried}
+use Rattle.controller_laws.proofs.OwningLife.{break_shut, timer_shut, told_holds}
+use Rattle.controller_laws.proofs.OwningWords.{Holds, owns_entry}
+use Rattle.controller_laws.proofs.Readings.{word_carried}
+use Rattle.controller_laws.proofs.SoundLife.{IsSoundAll, IsSoundCell, life_sound, offer_list, request_sound, word_refers}
+use Rattle.controller_laws.proofs.SoundRows.{RefersBy}
+use Rattle.controller_laws.proofs.Sources.{IsFrom, word_from}
+use Rattle.controller_laws.proofs.Turns.{IsDue, all_found, expiry_own, told_tame, timed_tame}
+use Rattle.controller_laws.proofs.UsingLife.{life_ready, aged_ready, all_here, expiry_numbers, still_here, told_numbers}
+use Rattle.controller_laws.proofs.UsingWords.{IsHere, Ready}
+use Rattle.controller_table.specs.declared.channel_state.ChannelState.{ChannelState}
+use Rattle.controller_table.specs.declared.channel_state.ChannelState.TheVariants.{Free}
+use Rattle.controller_table.specs.declared.step.Step.{Step}
+use Rattle.controller_table.specs.declared.step.Step.TheVariants.{Take, Tick}
+use Rattle.controller_table.specs.declared.word.Word.{Word}
+use Rattle.controller_table.specs.declared.word.Word.TheVariants.{OnChannel}
+use Rattle.controller_table.specs.Channels.{request_offer}
+use Rattle.controller_table.specs.Controller.{Controller, Entry, Turn, channel_state, each, entry_of, freed_station, free_channels, is_up, turn, with_down}
+use Rattle.controller_table.specs.Life.{aged, all_aged, break_of, by_fitting, expiry, life, on_break, on_expiry, on_what, row_in, step, take, tick, timed, told}
+use Rattle.controller_table.specs.Reading.{word_of}
+use Rattle.relay_items.specs.declared.Item.{Item}
+use Rattle.relay_items.specs.declared.What.{What}
+use Rattle.relay_items.specs.declared.What.TheVariants as whats
+use Rattle.settings.specs.Parameters.{Parameters}
+use Rattle.world_laws.specs.OwnItem.{is_same}
+use Rattle.world_laws.specs.Refusals.{RefusesNone}
+use Rattle.world_laws.specs.TakingTurns.{OrdersTakeTurns, Spares, TakesTurns, freed_by}
+use Rattle.world_laws.proofs.TakingTurns.{turns-append}
+use Rattle.world_laws.proofs.TurnsLife.{IsTold, TurnsFrom, WordTurns, freed-none, row-turn, same-places, told-of, using-of, word-turns}
+
+AreCells : Controller → Type 0
+AreCells c = AllByRecursion IsSoundCell c.settings.cells
+
+-- ---- one connection after the other
+
+record Keeps (links : List Bool) (at : Place) (c : Controller) (t : Turn) : Type 0 where
+  holds : Holds links t.next
+  cells : AreCells t.next
+  turns : TurnsFrom at (channel_state c at) t
+
+each-turns : (links : List Bool) (at : Place) (f : Controller → Entry → Turn) → ((c : Controller) (e : Entry) → AreRising c.entries → AreRising (f c e).next.entries) → ((m : ℕ) (c : Controller) (e : Entry) → m ≢ e.connection.number → entry_of (f c e).next m ≡ entry_of c m) →
+    ((c : Controller) (e : Entry) → (f c e).next.next_number ≡ c.next_number) → ((c : Controller) (e : Entry) → IsHere links c e → IsTold e → Holds links c → AreCells c → Keeps links at c (f c e)) →
+    (c : Controller) (xs : List Entry) → AreRising xs → AllByRecursion (IsHere links c) xs → AllByRecursion IsTold xs → Holds links c → AreCells c → TurnsFrom at (channel_state c at) (each f c xs)
+unfolding TurnsFrom
+each-turns links at f order leaves numbers keeps c [] sorted here told holds cells = refl
+each-turns links at f order leaves numbers keeps c (x ∷ xs) sorted here told holds cells =
+    let one = keeps c x here.0 told.0 holds cells in
+    let later = still_here links f c x xs order leaves numbers sorted.0 here.1 in
+    turns-append at (channel_state c at) (channel_state (f c x).next at) (channel_state (each f (f c x).next xs).next at) (f c x).outs (each f (f c x).next xs).outs one.turns
+    (each-turns links at f order leaves numbers keeps (f c x).next xs sorted.1 later told.1 one.holds one.cells)
+
+-- one that is told of a break, or whose timer expires, doesn't stay open
+Shuts : Input → Type 0
+Shuts input = (s : Connection) (offer : Option Channel) (r : Row) → row_of s input offer ≡ Some r → IsOpen r.next.state → ⊥
+
+told-keeps : (links : List Bool) (at : Place) (input : Input) → IsCarried input → RefersBy input → Shuts input → (c : Controller) (e : Entry) → IsHere links c e → IsTold e → Holds links c → AreCells c → Keeps links at c (told input c e)
+unfolding TurnsFrom Shuts AreCells
+told-keeps links at input carried refers shuts c e here known holds cells = record {
+  holds = told_holds links c e input shuts here.rising here.there here.stands holds;
+  cells = same (row_in c e.connection input);
+  turns = by (row_in c e.connection input) refl;
+} where
+  same : (o : Option Row) → AllByRecursion IsSoundCell (by_fitting (turn [] c) e o c).next.settings.cells
+  same None = cells
+  same (Some r) = cells
+
+  by : (o : Option Row) → row_of e.connection input (request_offer c e.connection input) ≡ o → TakesTurns at (channel_state c at) (by_fitting (turn [] c) e o c).outs (channel_state (by_fitting (turn [] c) e o c).next at)
+  by None is = refl
+  by (Some r) is =
+      row-turn at c e input (request_offer c e.connection input) r known is (offer_list (request_offer c e.connection input) (request_sound c e.connection input cells)) carried refers
+      (λ is_open. using-of c.channels links e.connection.number (roles_of e.connection) (owns_entry links c e here.there holds is_open))
+      (λ is_open. absurd (shuts e.connection (request_offer c e.connection input) r is is_open))
+
+-- ---- a link breaks
+
+break-refers : (input : Input) → IsLinkBreak input → RefersBy input
+break-refers inputs.SwitchDown break = tt
+break-refers (inputs.StationDown station) break = tt
+break-refers _ break = absurd break
+
+all-told : (c : Controller) → Ready c → IsSoundAll c → (xs : List Entry) → AllByRecursion (λ (x : Entry). entry_of c x.connection.number ≡ Some x) xs → AllByRecursion IsTold xs
+all-told c ready sound [] there = tt
+all-told c ready sound (x ∷ xs) there = (told-of c ready sound x.connection.number x there.0, all-told c ready sound xs there.1)
+
+down-here : (links : List Bool) (c : Controller) (source : ℕ) (xs : List Entry) → AllByRecursion (IsHere links c) xs → AllByRecursion (IsHere links (with_down source c)) xs
+down-here links c source [] here = tt
+down-here links c source (x ∷ xs) here = (
+  record { rising = here.0.rising; there = here.0.there; stands = here.0.stands; from_one = here.0.from_one; below = here.0.below; linked = here.0.linked },
+  down-here links c source xs here.1,
+)
+
+elsewhere : (b : Bool) (source : ℕ) (at : Place) (c : Controller) → at.station ≢ source → channel_state (if b then c else freed_station source c) at ≡ channel_state c at
+elsewhere true source at c other = refl
+elsewhere false source at c other = ap (λ (these : List ChannelState). slice_index_or these at.number Free) (get_or-set_other c.channels source at.station free_channels [] other)
+
+break-turns : (source : ℕ) (at : Place) (c : Controller) → Ready c → IsSoundAll c → at.station ≢ source → TurnsFrom at (channel_state c at) (on_break source c)
+unfolding TurnsFrom Shuts AreCells
+break-turns source at c ready sound other =
+    let down : Controller = with_down source c in
+    let f : Controller → Entry → Turn = told (break_of source) in
+    let tame = told_tame 1 1 true (break_of source) in
+    let there = all_found c.entries ready.numbered.rising in
+    let last : Turn = each f down c.entries in
+    subst (λ (after : ChannelState). TakesTurns at (channel_state c at) last.outs after) (sym (elsewhere (source == SWITCH_LINK) source at last.next other))
+    (each-turns c.links at f tame.rising tame.leaves (told_numbers (break_of source))
+    (told-keeps c.links at (break_of source) (break_carried (break_of source) (own_carried source)) (break-refers (break_of source) (own_carried source)) (break_shut (break_of source) (own_carried source)))
+    down c.entries ready.numbered.rising (down-here c.links c source c.entries (all_here c c.entries ready there)) (all-told c ready sound c.entries there) (record { shaped = ready.holds.shaped; each = ready.holds.each }) sound.cells)
+
+-- ---- time passes
+
+timer-refers : (input : Input) → IsTimer input → RefersBy input
+timer-refers inputs.Expiry timer = tt
+timer-refers inputs.DrainExpiry timer = tt
+timer-refers _ timer = absurd timer
+
+expiry-keeps : (links : List Bool) (at : Place) (o : Option Input) → IsDue o → (c : Controller) (e : Entry) → IsHere links c e → IsTold e → Holds links c → AreCells c → Keeps links at c (on_expiry o c e)
+unfolding TurnsFrom Shuts
+expiry-keeps links at None due c e here known holds cells = record { holds = holds; cells = cells; turns = refl }
+expiry-keeps links at (Some input) due c e here known holds cells = told-keeps links at input (timer_carried input due) (timer-refers input due) (timer_shut input due) c e here known holds cells
+
+aged-told : (ms : ℕ) (xs : List Entry) → AllByRecursion IsTold xs → AllByRecursion IsTold (map (aged ms) xs)
+aged-told ms [] all = tt
+aged-told ms (x ∷ xs) all = (
+  record { stands = pass_stands ms x.connection all.0.stands; parts = record { serving = all.0.parts.serving; targets = all.0.parts.targets; refers = all.0.parts.refers }; few = all.0.few },
+  aged-told ms xs all.1,
+)
+
+tick-turns : (ms : ℕ) (at : Place) (c : Controller) → Ready c → IsSoundAll c → TurnsFrom at (channel_state c at) (tick ms c)
+unfolding tick AreCells
+tick-turns ms at c ready sound =
+    let old : Controller = all_aged ms c in
+    let tame = timed_tame 1 1 true in
+    let now : Ready old = aged_ready ms c ready in
+    each-turns c.links at timed tame.rising tame.leaves (λ d e. expiry_numbers (expiry d.settings.timers e.connection) d e)
+    (λ d e here known holds cells. expiry-keeps c.links at (expiry d.settings.timers e.connection) (expiry_own _ _) d e here known holds cells)
+    old old.entries now.numbered.rising (all_here old old.entries now (all_found old.entries now.numbered.rising)) (aged-told ms c.entries (all-told c ready sound c.entries (all_found c.entries ready.numbered.rising))) now.holds sound.cells
+
+-- ---- a step
+
+-- what comes of another station frees nothing here
+other-frees : (at : Place) (source : ℕ) (word : Word) (state : ChannelState) → IsFrom source word → (at.station ≡ source → ⊥) → freed_by at word state ≡ state
+other-frees at source (OnChannel place input) state from other =
+    freed-none at place input state (λ n releasing. elim (cases_Bool (is_same place at)) [
+      | inl hit ↦ absurd (other (sym (ap (λ (p : Place). p.station) (same-places place at hit)) ∙ from.0))
+      | inr miss ↦ miss
+    ])
+other-frees at source _ state from other = refl
+
+take-turns : (up : Bool) (item : Item) (what : What) (at : Place) (c : Controller) → is_up c item.source ≡ up → is_up c at.station ≡ true → Ready c → IsSoundAll c → ComesInOctets (Take (record { source = item.source; what = what })) → RefusesNone (word_by item.source what) → (what ≡ whats.Down → at.station ≢ item.source)
+    → TurnsFrom at (freed_by at (word_by item.source what) (channel_state c at)) (on_what up item.source what c)
+unfolding TurnsFrom WordTurns
+take-turns true item (whats.Frame frame) at c link up ready sound octets none spares =
+    word-turns c ready sound at item.source (word_of item.source frame) (word_carried item.source frame) (word_refers item.source frame octets) none
+take-turns true item whats.Down at c link up ready sound octets none spares = break-turns item.source at c ready sound (spares refl)
+take-turns false item (whats.Frame frame) at c link up ready sound octets none spares =
+    sym (other-frees at item.source (word_of item.source frame) (channel_state c at) (word_from item.source frame) (λ same. impossible (sym link ∙ ap (is_up c) (sym same) ∙ up))) where
+      impossible : false ≡ true → ⊥
+      impossible h = absurd cc
+take-turns false item whats.Down at c link up ready sound octets none spares = refl
+
+pub step-turns : (s : Step) (at : Place) (c : Controller) → is_up c at.station ≡ true → Ready c → IsSoundAll c → ComesInOctets s → RefusesNone (word_in s) → Spares at s → TurnsFrom at (freed_by at (word_in s) (channel_state c at)) (step c s)
+unfolding take
+step-turns (Take item) at c up ready sound octets none spares = take-turns (is_up c item.source) item item.what at c refl up ready sound octets none spares
+step-turns (Tick ms) at c up ready sound octets none spares = tick-turns ms at c ready sound
+
+pub OrdersTakeTurns-new : (p : Parameters) (steps : List Step) (s : Step) → OrdersTakeTurns p steps s
+unfolding TurnsFrom
+OrdersTakeTurns-new p steps s at allowed octets own none up spares = step-turns s at (life p steps).next up (life_ready p steps allowed) (life_sound p steps allowed octets) own none spares

@@ -1,0 +1,64 @@
+-- What the controller orders of a channel, activations and releases, takes turns.
+use Rattle.std.specs.Prelude.{◌≡◌, ◌≢◌, ℕ, ◌==◌, true, if◌then◌else◌, List, [], ◌∷◌, Option, Some, None}
+use Rattle.std.specs.List.{AllByRecursion}
+use Rattle.conn_messages.specs.declared.channel.Place.{Place}
+use Rattle.conn_messages.specs.declared.out.Out.{Out}
+use Rattle.conn_table.specs.declared.input.Input.TheVariants as inputs
+use Rattle.controller_laws.specs.History.{word_in}
+use Rattle.controller_laws.specs.Sending.{ComesInOctets}
+use Rattle.controller_table.specs.declared.channel_state.ChannelState.{ChannelState}
+use Rattle.controller_table.specs.declared.channel_state.ChannelState.TheVariants.{Free, InUse, Releasing}
+use Rattle.controller_table.specs.declared.step.Step.{Step}
+use Rattle.controller_table.specs.declared.step.Step.TheVariants.{Take, Tick}
+use Rattle.controller_table.specs.declared.word.Word.{Word}
+use Rattle.controller_table.specs.declared.word.Word.TheVariants.{OnChannel}
+use Rattle.controller_table.specs.Controller.{channel_state, is_up}
+use Rattle.controller_table.specs.Life.{life, step}
+use Rattle.relay_items.specs.declared.What.TheVariants as whats
+use Rattle.rsl_codec.specs.declared.rsl.Rsl.{Rsl}
+use Rattle.rsl_codec.specs.declared.rsl.Rsl.TheVariants.{ChannelActivation, RfChannelRelease}
+use Rattle.settings.specs.Parameters.{AreAllowed, Parameters}
+use Rattle.world_table.specs.Stations.{rsl_in}
+use Rattle.world_laws.specs.OwnItem.{is_same}
+use Rattle.world_laws.specs.Refusals.{RefusesNone}
+
+pub data Order : Type 0 where
+  activates : Order
+  releases : Order
+
+abbrev pub order_by : ℕ → Option Rsl → Option Order
+order_by channel (Some (ChannelActivation a)) = if a.channel == channel then Some activates else None
+order_by channel (Some (RfChannelRelease number)) = if number == channel then Some releases else None
+order_by channel _ = None
+
+-- what an output orders of a channel
+abbrev pub order_in : Place → Out → Option Order
+order_in at out = if out.to == at.station then order_by at.number (rsl_in out.frame) else None
+
+-- a free channel is activated, one in use is released
+abbrev pub Turns : Option Order → ChannelState → ChannelState → Type 0
+Turns None before after = after ≡ before
+Turns (Some activates) before after = (before ≡ Free) × (n : ℕ) × (after ≡ InUse n)
+Turns (Some releases) before after = (n : ℕ) × (before ≡ InUse n) × (after ≡ Releasing n)
+
+-- from this state on to that one
+abbrev pub TakesTurns : Place → ChannelState → List Out → ChannelState → Type 0
+TakesTurns at before [] after = after ≡ before
+TakesTurns at before (out ∷ outs) after = (between : ChannelState) × Turns (order_in at out) before between × TakesTurns at between outs after
+
+-- an RF CHANNEL RELEASE ACK frees its channel first, where it is releasing
+abbrev pub freed_by : Place → Word → ChannelState → ChannelState
+freed_by at (OnChannel place (inputs.ReleaseAck acknowledged)) (Releasing n) = if is_same place at then Free else Releasing n
+freed_by at word state = state
+
+-- it isn't that the link of the station breaks
+abbrev pub Spares : Place → Step → Type 0
+Spares at (Take item) = item.what ≡ whats.Down → at.station ≢ item.source
+Spares at (Tick ms) = Unit {0}
+
+-- What a step orders of a channel takes turns, while the link of its station is up. So it is with settings that are allowed, where what
+-- came was octets and stations refuse nothing.
+abbrev pub OrdersTakeTurns : Parameters → List Step → Step → Type 0
+OrdersTakeTurns p steps s =
+    (at : Place) → AreAllowed p → AllByRecursion ComesInOctets steps → ComesInOctets s → RefusesNone (word_in s) → is_up (life p steps).next at.station ≡ true → Spares at s
+    → TakesTurns at (freed_by at (word_in s) (channel_state (life p steps).next at)) (step (life p steps).next s).outs (channel_state (step (life p steps).next s).next at)
