@@ -47,3 +47,11 @@ pub mod Handled
 pub mod Opening
 pub mod InOrder
 pub mod OthersFrame
+pub mod OrderTexts
+pub mod OrderRows
+pub mod OrderNames
+pub mod OrderTurns
+pub mod OrderSteps
+pub mod OrderHeard
+pub mod OrderLeads
+pub mod OrderServes
