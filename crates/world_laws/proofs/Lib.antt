@@ -55,3 +55,4 @@ pub mod OrderSteps
 pub mod OrderHeard
 pub mod OrderLeads
 pub mod OrderServes
+pub mod OwnerRun

@@ -166,11 +166,11 @@ module _ (owner : Tenure → ℕ) (w : Actors) (at : Place) (heard : List Rsl) (
 
 pub serves-by : (owner : Tenure → ℕ) (w : Actors) (at : Place) (least : 1 ≤ at.station) (target : Option Tenure) (s : Step) (heard : List Rsl) → Agrees owner w at → Lawful w.controller s
     → (hears (step w.controller s).next at.station ≡ true → Serving at least w.controller (hear heard (channel_state w.controller at)) (step w.controller s))
-    → (hears (step w.controller s).next at.station ≡ true → AllByRecursion (LeadsOwn owner w at target) (step w.controller s).outs) → Serves owner w at target (step w.controller s) heard
+    → (hears (step w.controller s).next at.station ≡ true → is_up w at.station ≡ true → AllByRecursion (LeadsOwn owner w at target) (step w.controller s).outs) → Serves owner w at target (step w.controller s) heard
 serves-by owner w at least target s heard agrees laws serving leads = record {
   hearing = heard-before w.controller s at.station;
   silent = none-to (step w.controller s).next at target (step w.controller s).outs laws.up;
   goes = λ hearing. (serving hearing laws.sent).0;
-  fits = λ hearing up. fit-all owner w at heard agrees up (heard-before w.controller s at.station hearing) target (step w.controller s).outs (serving hearing laws.sent).1 (leads hearing);
+  fits = λ hearing up. fit-all owner w at heard agrees up (heard-before w.controller s at.station hearing) target (step w.controller s).outs (serving hearing laws.sent).1 (leads hearing up);
   users = λ number mobile asks used. users-of w.controller s at number mobile laws asks used;
 }

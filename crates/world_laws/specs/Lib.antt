@@ -14,3 +14,4 @@ pub mod Acknowledged
 pub mod Handled
 pub mod InOrder
 pub mod OthersFrame
+pub mod Owned

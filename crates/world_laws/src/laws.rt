@@ -15,6 +15,7 @@ ghost use Rattle.world_laws.specs.OwnFrame.{FrameIsHandled};
 ghost use Rattle.world_laws.specs.OwnHandle.{HandleKeepsLineUps, TimeAgesLineUps};
 ghost use Rattle.world_laws.specs.OwnItem.{InputKeepsLineUp};
 ghost use Rattle.world_laws.specs.OthersFrame.{FramesAreForOthers};
+ghost use Rattle.world_laws.specs.Owned.{MobilesSitOnTheirs, OneSendsEach, TenuresAreOwned};
 ghost use Rattle.world_laws.specs.OwnRow.{OpeningLinesUp, RowKeepsLineUp};
 ghost use Rattle.world_laws.specs.Staying.{MobilesKeepLineUps, RelayLeavesOthers, StationBreaksKeepLineUps, StationsKeepLineUps, SwitchKeepsLineUps, TimeLeavesOthers};
 
@@ -120,4 +121,13 @@ pub fn opening_lines_up()
 /// order, and judged no gap.
 pub fn line_ups_are_in_order()
     ensures { (m : ℕ) (w : Actors) (mobile : ℕ) (s : Connection) → LineUpsAreInOrder m w mobile s }
+{}
+
+/// Law: whatever events happen, each tenure of a channel is one mobile's: that of the connection for which its channel was
+/// activated. What stations take agrees with it; a mobile is on a tenure, or told to change to one, only where that was for it;
+/// and in each tenure one mobile sends at most. So it is with settings that are allowed, where what came was octets.
+pub fn tenures_are_mobiles()
+    ensures takes { (settings : Parameters) (events : List WorldEvent) → TenuresAreOwned settings events }
+    ensures seats { (settings : Parameters) (events : List WorldEvent) → MobilesSitOnTheirs settings events }
+    ensures senders { (settings : Parameters) (events : List WorldEvent) → OneSendsEach settings events }
 {}

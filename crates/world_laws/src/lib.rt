@@ -7,7 +7,7 @@ pub use laws::{
     frames_keep_line_ups, handle_keeps_line_ups, inputs_keep_line_ups, line_ups_are_in_order,
     messages_are_whole, mobiles_keep_line_ups, opening_lines_up, relay_leaves_others,
     rows_keep_line_ups, station_breaks_keep_line_ups, stations_keep_line_ups,
-    switch_keeps_line_ups,
+    switch_keeps_line_ups, tenures_are_mobiles,
 };
 
 mod laws;
