@@ -62,3 +62,12 @@ pub mod TakingTurns
 pub mod TurnsLife
 pub mod TurnsSteps
 mod TakingTurnsRows
+pub mod OrderTexts
+pub mod OrderRows
+pub mod OrderNames
+pub mod OrderTurns
+pub mod OrderSteps
+pub mod OrderHeard
+pub mod OrderLeads
+pub mod OrderServes
+pub mod OwnerRun

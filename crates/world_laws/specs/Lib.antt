@@ -20,3 +20,4 @@ pub mod PutAsRead
 pub mod AcksBegin
 pub mod Refusals
 pub mod TakingTurns
+pub mod Owned

@@ -16,6 +16,7 @@ ghost use Rattle.world_laws.specs.OwnFrame.{FrameIsHandled};
 ghost use Rattle.world_laws.specs.OwnHandle.{HandleKeepsLineUps, TimeAgesLineUps};
 ghost use Rattle.world_laws.specs.OwnItem.{InputKeepsLineUp};
 ghost use Rattle.world_laws.specs.OthersFrame.{FramesAreForOthers};
+ghost use Rattle.world_laws.specs.Owned.{MobilesSitOnTheirs, OneSendsEach, TenuresAreOwned};
 ghost use Rattle.world_laws.specs.OwnRow.{OpeningLinesUp, RowKeepsLineUp};
 ghost use Rattle.world_laws.specs.Staying.{MobilesKeepLineUps, RelayLeavesOthers, StationBreaksKeepLineUps, StationsKeepLineUps, SwitchKeepsLineUps, TimeLeavesOthers};
 ghost use Rattle.world_laws.specs.SapiThree.{FlowComesOnSapiZero};
@@ -175,4 +176,13 @@ pub fn stations_refuse_nothing()
 /// that are allowed, where what came was octets and stations refuse nothing.
 pub fn orders_take_turns()
     ensures { (settings : Parameters) (steps : List ControllerStep) (step : ControllerStep) → OrdersTakeTurns settings steps step }
+{}
+
+/// Law: whatever events happen, each tenure of a channel is one mobile's: that of the connection for which its channel was
+/// activated. What stations take agrees with it; a mobile is on a tenure, or told to change to one, only where that was for it;
+/// and in each tenure one mobile sends at most. So it is with settings that are allowed, where what came was octets.
+pub fn tenures_are_mobiles()
+    ensures takes { (settings : Parameters) (events : List WorldEvent) → TenuresAreOwned settings events }
+    ensures seats { (settings : Parameters) (events : List WorldEvent) → MobilesSitOnTheirs settings events }
+    ensures senders { (settings : Parameters) (events : List WorldEvent) → OneSendsEach settings events }
 {}

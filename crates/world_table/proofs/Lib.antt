@@ -23,6 +23,7 @@ pub mod Worlds
 pub mod Ticketing
 mod TicketRows
 mod OwnerRows
+mod OwnersRows
 pub mod OwnerLines
 pub mod OwnerKeeping
 pub mod OwnerTenures

@@ -1,0 +1,260 @@
+-- What the controller hears of a channel by an item of the inbox.
+use Rattle.std.proofs.Common.{◌≡◌, ◌≢◌, inl, inr, ℕ, ◌==◌, ◌&&◌, ◌≤◌, not, Bool, true, false, cond, if◌then◌else◌, List, [], ◌∷◌, option_to_list, Option, Some, None, Result, Ok, Err, refl, sym, ap, ◌∙◌, subst, true≢false}
+use Rattle.std.proofs.lemmas.Bool.{cases_Bool, eqb-true, eq-eqb, ne_eqb}
+use Rattle.std.specs.Result.{result_ok}
+use Rattle.bssmap_codec.specs.declared.bssap.Bssap.{Bssap}
+use Rattle.bssmap_codec.specs.declared.bssap.Bssap.TheVariants.{Management, Transfer}
+use Rattle.bssmap_codec.specs.declared.bssmap.Bssmap.{Bssmap}
+use Rattle.bssmap_codec.specs.declared.bssmap.Bssmap.TheVariants as bssmap
+use Rattle.bssmap_codec.specs.declared.fault.InterfaceFault.{InterfaceFault}
+use Rattle.bssmap_codec.specs.declared.sccp.Sccp.{Sccp}
+use Rattle.bssmap_codec.specs.declared.sccp.Sccp.TheVariants as sccp
+use Rattle.bssmap_codec.specs.BssapReading.{bssap_reading}
+use Rattle.bssmap_codec.specs.SccpReading.{sccp_reading}
+use Rattle.conn_messages.specs.declared.channel.Place.{Place}
+use Rattle.conn_messages.specs.declared.parameters.TheConstants.{SWITCH_LINK}
+use Rattle.conn_table.specs.declared.input.Input.{Input}
+use Rattle.conn_table.specs.declared.input.Input.TheVariants as inputs
+use Rattle.conn_table.specs.Streams.{is_dtap}
+use Rattle.controller_laws.proofs.Places.{free≢release, is_there, state_else, state_here}
+use Rattle.controller_laws.proofs.UsingWords.{IsNoNack}
+use Rattle.controller_table.specs.declared.channel_state.ChannelState.{ChannelState}
+use Rattle.controller_table.specs.declared.channel_state.ChannelState.TheVariants.{Free, InUse, Releasing}
+use Rattle.controller_table.specs.declared.word.Word.{Word}
+use Rattle.controller_table.specs.declared.word.Word.TheVariants.{Nothing, Ping, Asks, OnChannel, Reports, OnConnection}
+use Rattle.controller_table.specs.Controller.{Controller, channel_state, place_at}
+use Rattle.controller_table.specs.Reading.{body_word, bssap_word, change_word, data_word, management_of_link, management_word, of_sapi, report_word, result_word, rr_word, rsl_word, sapi_of, station_word, switch_word, word_of}
+use Rattle.controller_table.specs.Reading.Carried.{radio_signalling, connection_control, link_management, other}
+use Rattle.controller_table.specs.Reports.{report_reading}
+use Rattle.dtap_codec.specs.declared.report.Report.{Report}
+use Rattle.dtap_codec.specs.declared.rr.RrMessage.{RrMessage}
+use Rattle.dtap_codec.specs.declared.rr.RrMessage.TheVariants as rr
+use Rattle.dtap_codec.specs.declared.rr_fault.RrFault.{RrFault}
+use Rattle.dtap_codec.specs.declared.sapi.Sapi.{Sapi}
+use Rattle.dtap_codec.specs.declared.sapi.Sapi.TheVariants.{Zero, Three}
+use Rattle.dtap_codec.specs.RrReading.{rr_reading}
+use Rattle.ipa_framing.specs.declared.frame.Frame.{Frame}
+use Rattle.ipa_framing.specs.declared.streams.TheConstants.{CCM_STREAM, PING, RSL_STREAM, SCCP_STREAM}
+use Rattle.link_model.specs.Tenures.{is_bound_of}
+use Rattle.relay_items.specs.declared.Item.{Item}
+use Rattle.relay_items.specs.declared.What.TheVariants as whats
+use Rattle.rsl_codec.specs.declared.rsl.Rsl.{Rsl}
+use Rattle.rsl_codec.specs.declared.rsl.Rsl.TheVariants as rsl
+use Rattle.rsl_codec.specs.RslReading.{rsl_reading}
+use Rattle.rsl_codec.specs.RslText.{rsl_text}
+use Rattle.world_table.specs.OwnerLines.{said_by}
+use Rattle.world_table.specs.Pipe.{acknowledgements}
+use Rattle.world_table.specs.Reading.{frame_of}
+use Rattle.world_table.specs.Stations.{rsl_in}
+use Rattle.world_table.proofs.OwnerItems.{IsKnown}
+use Rattle.world_table.proofs.OwnerRuns.{heard_of}
+use Rattle.world_table.proofs.OwnerTurn.{hear}
+use Rattle.world_table.proofs.Soundness.{is_nack}
+use Rattle.world_laws.proofs.OrderTurns.{NoNackWord, freed_by, heard_by}
+
+-- ---- words that free no channel
+
+-- neither RF CHANNEL RELEASE ACK nor CHANNEL ACTIVATION NACK
+pub FreesNone : Word → Type 0
+FreesNone (OnChannel p (inputs.ReleaseAck q)) = ⊥
+FreesNone (OnChannel p (inputs.ActivationNack q)) = ⊥
+FreesNone _ = Unit {0}
+
+pub none-nacks : (word : Word) → FreesNone word → NoNackWord word
+unfolding FreesNone IsNoNack
+none-nacks (OnChannel p (inputs.ReleaseAck q)) none = absurd none
+none-nacks (OnChannel p (inputs.ActivationNack q)) none = absurd none
+none-nacks (OnChannel p _) none = tt
+none-nacks Nothing none = tt
+none-nacks Ping none = tt
+none-nacks (Asks request delay) none = tt
+none-nacks (Reports p of report) none = tt
+none-nacks (OnConnection m input) none = tt
+
+pub none-frees : (at : Place) (least : 1 ≤ at.station) (word : Word) (c : Controller) → FreesNone word → heard_by at least word c ≡ channel_state c at
+unfolding FreesNone
+none-frees at least (OnChannel p (inputs.ReleaseAck q)) c none = absurd none
+none-frees at least (OnChannel p (inputs.ActivationNack q)) c none = absurd none
+none-frees at least (OnChannel p _) c none = refl
+none-frees at least Nothing c none = refl
+none-frees at least Ping c none = refl
+none-frees at least (Asks request delay) c none = refl
+none-frees at least (Reports p of report) c none = refl
+none-frees at least (OnConnection m input) c none = refl
+
+-- ---- of the switch
+
+management-none : (m : ℕ) (message : Bssmap) → FreesNone (management_word m message)
+unfolding FreesNone
+management-none m (bssmap.AssignmentRequest channel_type) = tt
+management-none m (bssmap.ClearCommand cause) = tt
+management-none m bssmap.CipherModeCommand = tt
+management-none m _ = tt
+
+bssap-none : (m : ℕ) (r : Result Bssap InterfaceFault) → FreesNone (bssap_word m r)
+unfolding FreesNone
+bssap-none m (Ok (Management message)) = management-none m message
+bssap-none m (Ok (Transfer dlci message)) = tt
+bssap-none m (Err fault) = tt
+
+switch-none : (r : Result Sccp InterfaceFault) → FreesNone (switch_word r)
+unfolding FreesNone
+switch-none (Ok (sccp.ConnectionConfirm destination source)) = tt
+switch-none (Ok (sccp.ConnectionRefused destination)) = tt
+switch-none (Ok (sccp.Released destination source)) = tt
+switch-none (Ok (sccp.DataForm1 destination user)) = bssap-none destination (bssap_reading user)
+switch-none _ = tt
+
+link-none : (body : List ℕ) → FreesNone (management_of_link body)
+unfolding FreesNone
+link-none [] = tt
+link-none (first ∷ rest) = by (first == PING) where
+  by : (b : Bool) → FreesNone (if b then Ping else Nothing)
+  by true = tt
+  by false = tt
+
+pub switch-frees : (frame : Frame) → FreesNone (word_of SWITCH_LINK frame)
+unfolding word_of FreesNone
+switch-frees frame = by (frame.stream == CCM_STREAM) (frame.stream == SCCP_STREAM) (frame.stream == RSL_STREAM) where
+  by : (a b d : Bool) → FreesNone (body_word (if a then link_management else if (SWITCH_LINK == SWITCH_LINK) && b then connection_control else if not (SWITCH_LINK == SWITCH_LINK) && d then radio_signalling else other) SWITCH_LINK frame.body)
+  by true b d = link-none frame.body
+  by false true d = switch-none (sccp_reading frame.body)
+  by false false d = tt
+
+-- ---- of a station
+
+sapi-none : (p : Place) (o : Option Sapi) (input : Sapi → Input) → ((s : Sapi) → FreesNone (OnChannel p (input s))) → FreesNone (of_sapi p o input)
+unfolding FreesNone
+sapi-none p None input none = tt
+sapi-none p (Some s) input none = none s
+
+change-none : (p : Place) (r : Result RrMessage RrFault) → FreesNone (change_word p r)
+unfolding FreesNone
+change-none p (Ok (rr.AssignmentComplete cause)) = tt
+change-none p (Ok (rr.HandoverComplete cause)) = tt
+change-none p (Ok (rr.AssignmentFailure cause)) = tt
+change-none p (Ok (rr.HandoverFailure cause)) = tt
+change-none p _ = tt
+
+rr-none : (p : Place) (o : Option Sapi) (l3 : List ℕ) → FreesNone (rr_word p o l3)
+unfolding FreesNone
+rr-none p (Some Zero) l3 = change-none p (rr_reading l3)
+rr-none p (Some Three) l3 = tt
+rr-none p None l3 = tt
+
+data-none : (b : Bool) (p : Place) (o : Option Sapi) (l3 : List ℕ) → FreesNone (data_word b p o l3)
+unfolding FreesNone
+data-none true p o l3 = sapi-none p o (λ s. inputs.Dtap p s l3) (λ s. tt)
+data-none false p o l3 = rr-none p o l3
+
+valid-none : (b : Bool) (p : Place) (number : ℕ) (report : Report) → FreesNone (if b then Reports p number report else Nothing)
+unfolding FreesNone
+valid-none true p number report = tt
+valid-none false p number report = tt
+
+report-none : (p : Place) (number : ℕ) (r : Result RrMessage RrFault) → FreesNone (report_word p number r)
+unfolding FreesNone
+report-none p number (Ok (rr.MeasurementReport value)) = valid-none (report_reading value).valid p number (report_reading value)
+report-none p number _ = tt
+
+result-none : (p : Place) (number : ℕ) (o : Option (List ℕ)) → FreesNone (result_word p number o)
+unfolding FreesNone
+result-none p number None = tt
+result-none p number (Some l3) = report-none p number (rr_reading l3)
+
+is_end : Rsl → Bool
+is_end (rsl.RfChannelReleaseAck channel) = true
+is_end message = false
+
+message-none : (source : ℕ) (message : Rsl) → is_nack message ≡ false → is_end message ≡ false → FreesNone (rsl_word source message)
+unfolding FreesNone is_end
+message-none source (rsl.ChannelRequired r) no_nack no_end = tt
+message-none source (rsl.ChannelActivationAck a) no_nack no_end = tt
+message-none source (rsl.ChannelActivationNack f) no_nack no_end = absurd (true≢false no_nack)
+message-none source (rsl.EstablishIndication e) no_nack no_end = sapi-none (place_at source e.channel) (sapi_of e.link) (λ s. inputs.EstablishIndication (place_at source e.channel) s e.l3) (λ s. tt)
+message-none source (rsl.EstablishConfirm l) no_nack no_end = sapi-none (place_at source l.channel) (sapi_of l.link) (λ s. inputs.EstablishConfirm (place_at source l.channel) s) (λ s. tt)
+message-none source (rsl.ReleaseIndication l) no_nack no_end = sapi-none (place_at source l.channel) (sapi_of l.link) (λ s. inputs.ReleaseIndication (place_at source l.channel) s) (λ s. tt)
+message-none source (rsl.ErrorIndication e) no_nack no_end = sapi-none (place_at source e.channel) (sapi_of e.link) (λ s. inputs.ErrorIndication (place_at source e.channel) s) (λ s. tt)
+message-none source (rsl.ConnectionFailure f) no_nack no_end = tt
+message-none source (rsl.DataIndication d) no_nack no_end = data-none (is_dtap d.l3) (place_at source d.channel) (sapi_of d.link) d.l3
+message-none source (rsl.MeasurementResult m) no_nack no_end = result-none (place_at source m.channel) m.number.0 m.l3
+message-none source (rsl.RfChannelReleaseAck channel) no_nack no_end = absurd (true≢false no_end)
+message-none source _ no_nack no_end = tt
+
+-- the word of a message that a station made
+pub word-known : (source : ℕ) (message : Rsl) → source ≢ SWITCH_LINK → rsl_reading (rsl_text message) ≡ Ok message → word_of source (frame_of message) ≡ rsl_word source message
+unfolding word_of
+word-known source message other_than read =
+    ap (λ (b : Bool). body_word (if b && false then connection_control else if not b && true then radio_signalling else other) source (rsl_text message)) (ne_eqb source SWITCH_LINK other_than)
+    ∙ ap (station_word source) read
+
+pub read-known : (message : Rsl) → rsl_reading (rsl_text message) ≡ Ok message → rsl_in (frame_of message) ≡ Some message
+read-known message read = ap result_ok read
+
+-- ---- what is heard of the channel
+
+-- an RF CHANNEL RELEASE ACK
+freed-heard : (at : Place) (least : 1 ≤ at.station) (c : Controller) (state : ChannelState) → channel_state c at ≡ state → hear (rsl.RfChannelReleaseAck at.number ∷ []) state ≡ freed_by at least state at c
+freed-heard at least c Free is = sym is
+freed-heard at least c (InUse k) is = sym is
+freed-heard at least c (Releasing k) is = sym (state_here c.channels at Free (is_there c.channels at (λ free. free≢release k (sym free ∙ is))))
+
+freed-beside : (at : Place) (least : 1 ≤ at.station) (p : Place) (c : Controller) (state : ChannelState) → at ≢ p → channel_state c at ≡ freed_by at least state p c
+freed-beside at least p c Free differ = refl
+freed-beside at least p c (InUse k) differ = refl
+freed-beside at least p c (Releasing k) differ = sym (state_else c.channels p at Free differ)
+
+hear-plain : (m : Rsl) (state : ChannelState) → is_end m ≡ false → hear (m ∷ []) state ≡ state
+unfolding is_end
+hear-plain (rsl.RfChannelReleaseAck channel) state none = absurd (true≢false none)
+hear-plain _ state none = refl
+
+heard-plain : (k : ℕ) (own : Bool) (m : Rsl) (state : ChannelState) → is_end m ≡ false → hear (acknowledgements k (if own then m ∷ [] else [])) state ≡ state
+heard-plain k false m state none = refl
+heard-plain k true m state none = by (is_bound_of k m) where
+  by : (b : Bool) → hear (cond b (m ∷ []) []) state ≡ state
+  by true = hear-plain m state none
+  by false = refl
+
+-- of a message that is known
+heard-end : (at : Place) (least : 1 ≤ at.station) (source channel : ℕ) (c : Controller) → hear (acknowledgements at.number (if source == at.station then rsl.RfChannelReleaseAck channel ∷ [] else [])) (channel_state c at) ≡ freed_by at least (channel_state c (place_at source channel)) (place_at source channel) c
+heard-end at least source channel c = elim (cases_Bool (source == at.station)) [
+  | inr miss ↦
+      ap (λ (b : Bool). hear (acknowledgements at.number (if b then rsl.RfChannelReleaseAck channel ∷ [] else [])) (channel_state c at)) miss
+      ∙ freed-beside at least (place_at source channel) c (channel_state c (place_at source channel)) (λ same. true≢false (sym (eq-eqb source at.station (sym (ap (λ (p : Place). p.station) same))) ∙ miss))
+  | inl hit ↦ elim (cases_Bool (channel == at.number)) [
+    | inr other_channel ↦
+        ap (λ (b : Bool). hear (acknowledgements at.number (if b then rsl.RfChannelReleaseAck channel ∷ [] else [])) (channel_state c at)) hit
+        ∙ ap (λ (b : Bool). hear (cond b (rsl.RfChannelReleaseAck channel ∷ []) []) (channel_state c at)) other_channel
+        ∙ freed-beside at least (place_at source channel) c (channel_state c (place_at source channel)) (λ same. true≢false (sym (eq-eqb channel at.number (sym (ap (λ (p : Place). p.number) same))) ∙ other_channel))
+    | inl same ↦
+        let here : place_at source channel ≡ at = ap (λ (s : ℕ). place_at s channel) (eqb-true source at.station hit) ∙ ap (place_at at.station) (eqb-true channel at.number same) in
+        ap (λ (b : Bool). hear (acknowledgements at.number (if b then rsl.RfChannelReleaseAck channel ∷ [] else [])) (channel_state c at)) hit
+        ∙ ap (λ (b : Bool). hear (cond b (rsl.RfChannelReleaseAck channel ∷ []) []) (channel_state c at)) same
+        ∙ ap (λ (k : ℕ). hear (rsl.RfChannelReleaseAck k ∷ []) (channel_state c at)) (eqb-true channel at.number same)
+        ∙ freed-heard at least c (channel_state c at) refl
+        ∙ sym (ap (λ (p : Place). freed_by at least (channel_state c p) p c) here)
+  ]
+]
+
+message-heard : (at : Place) (least : 1 ≤ at.station) (source : ℕ) (m : Rsl) (c : Controller) → is_nack m ≡ false → (hear (acknowledgements at.number (if source == at.station then m ∷ [] else [])) (channel_state c at) ≡ heard_by at least (rsl_word source m) c) × NoNackWord (rsl_word source m)
+unfolding IsNoNack is_end
+message-heard at least source (rsl.RfChannelReleaseAck channel) c no_nack = (heard-end at least source channel c, tt)
+message-heard at least source m c no_nack = (
+  heard-plain at.number (source == at.station) m (channel_state c at) refl ∙ sym (none-frees at least (rsl_word source m) c (message-none source m no_nack refl)),
+  none-nacks (rsl_word source m) (message-none source m no_nack refl),
+)
+
+-- of the item of a station
+pub station-heard : (at : Place) (least : 1 ≤ at.station) (source : ℕ) (frame : Frame) (c : Controller) → source ≢ SWITCH_LINK → IsKnown (whats.Frame frame) → (hear (heard_of at (record { source = source; what = whats.Frame frame })) (channel_state c at) ≡ heard_by at least (word_of source frame) c) × NoNackWord (word_of source frame)
+station-heard at least source frame c station (m, is, read, no_nack) =
+    let word : word_of source frame ≡ rsl_word source m = ap (word_of source) is ∙ word-known source m station read in
+    let both = message-heard at least source m c no_nack in (
+      ap (λ (o : Option Rsl). hear (acknowledgements at.number (if source == at.station then option_to_list o else [])) (channel_state c at)) (ap rsl_in is ∙ read-known m read)
+          ∙ both.0 ∙ sym (ap (λ (x : Word). heard_by at least x c) word),
+      subst NoNackWord (sym word) both.1,
+    )
+
+-- of another link nothing is heard
+pub other-heard : (at : Place) (item : Item) (c : Controller) → (item.source == at.station) ≡ false → hear (heard_of at item) (channel_state c at) ≡ channel_state c at
+other-heard at item c miss = ap (λ (b : Bool). hear (acknowledgements at.number (if b then said_by item.what else [])) (channel_state c at)) miss

@@ -1,0 +1,176 @@
+-- The controller serves each channel, by the laws of its life.
+use Rattle.std.proofs.Common.{◌≡◌, ◌⊎◌, inl, inr, ℕ, zero, suc, ◌==◌, ◌≤◌, nat_eq, Bool, true, false, cond, if◌then◌else◌, List, [], ◌∷◌, option_map, set, slice_index_or, Contains, Option, Some, None, Result, Ok, Err, refl, sym, ap, ◌∙◌, subst, arith, true≢false}
+use Rattle.std.proofs.lemmas.Bool.{cases_Bool, eqb-true}
+use Rattle.std.proofs.lemmas.Option.{unwrap_or-slice_get}
+use Rattle.std.specs.List.{AllByRecursion}
+use Rattle.conn_messages.specs.declared.channel.Place.{Place}
+use Rattle.conn_messages.specs.declared.out.Out.{Out}
+use Rattle.controller_laws.specs.History.{connection_of}
+use Rattle.controller_laws.specs.Naming.{NamesItsMobile, SameRequest}
+use Rattle.controller_laws.specs.Owning.{is_link_up}
+use Rattle.controller_laws.specs.Reach.{GoesToUp}
+use Rattle.controller_laws.specs.Sending.{SendsMessages}
+use Rattle.controller_laws.specs.Using.{AreUsed, used_places}
+use Rattle.controller_laws.proofs.Beside.{links_with, step_goes}
+use Rattle.controller_laws.proofs.Entries.{find_above}
+use Rattle.controller_laws.proofs.UsingRows.{contains_none}
+use Rattle.controller_laws.proofs.UsingWords.{Ready}
+use Rattle.controller_table.specs.declared.channel_state.ChannelState.{ChannelState}
+use Rattle.controller_table.specs.declared.channel_state.ChannelState.TheVariants.{Free, InUse, Releasing}
+use Rattle.controller_table.specs.declared.step.Step.{Step}
+use Rattle.controller_table.specs.declared.step.Step.TheVariants.{Take, Tick}
+use Rattle.controller_table.specs.Controller.{Controller, Entry, channel_state, entry_of, is_up as hears}
+use Rattle.controller_table.specs.Life.{step}
+use Rattle.dtap_codec.specs.declared.rr.RrMessage.{RrMessage}
+use Rattle.dtap_codec.specs.declared.rr.RrMessage.TheVariants.{ImmediateAssignment}
+use Rattle.dtap_codec.specs.declared.rr_fault.RrFault.{RrFault}
+use Rattle.dtap_codec.specs.RrReading.{rr_reading}
+use Rattle.relay_items.specs.declared.What.{What}
+use Rattle.relay_items.specs.declared.What.TheVariants as whats
+use Rattle.rsl_codec.specs.declared.radio_link.Data.{Data as DataMessage}
+use Rattle.rsl_codec.specs.declared.rsl.Rsl.{Rsl}
+use Rattle.rsl_codec.specs.declared.rsl.Rsl.TheVariants as rsl
+use Rattle.world_table.specs.declared.seat.Tenure.{Tenure}
+use Rattle.world_table.specs.OwnerLines.{Agrees, AssignsIn, asker, tenure_behind}
+use Rattle.world_table.specs.Relay.{commands, entry_of as outbox_entry}
+use Rattle.world_table.specs.Stations.{rsl_in}
+use Rattle.world_table.specs.Tickets.{LeadsBy}
+use Rattle.world_table.specs.World.{Actors, is_up}
+use Rattle.world_table.proofs.OwnerPuts.{FitAll, FitsBeside, entries_to, said_to}
+use Rattle.world_table.proofs.OwnerTurn.{Serves, hear}
+use Rattle.world_laws.proofs.OrderNames.{NamesIn, NamesOut, NamesUser}
+use Rattle.world_laws.proofs.OrderTurns.{Serving}
+
+-- ---- links
+
+is-up-at : (links : List Bool) (link : ℕ) → is_link_up links link ≡ slice_index_or links link false
+is-up-at links link = unwrap_or-slice_get links link false
+
+was-at : (links : List Bool) (source link : ℕ) → slice_index_or (set links source false) link false ≡ true → slice_index_or links link false ≡ true
+was-at [] source link up = up
+was-at (b ∷ links) zero zero up = absurd cc
+was-at (b ∷ links) zero (suc link) up = up
+was-at (b ∷ links) (suc source) zero up = up
+was-at (b ∷ links) (suc source) (suc link) up = was-at links source link up
+
+down-at : (links : List Bool) (source : ℕ) → slice_index_or (set links source false) source false ≡ false
+down-at [] source = refl
+down-at (b ∷ links) zero = refl
+down-at (b ∷ links) (suc source) = down-at links source
+
+pub broken-down : (links : List Bool) (source : ℕ) → is_link_up (set links source false) source ≡ false
+broken-down links source = is-up-at (set links source false) source ∙ down-at links source
+
+heard-with : (up : Bool) (source : ℕ) (what : What) (c : Controller) (link : ℕ) → is_link_up (links_with up source what c) link ≡ true → is_link_up c.links link ≡ true
+heard-with true source whats.Down c link up = is-up-at c.links link ∙ was-at c.links source link (sym (is-up-at (set c.links source false) link) ∙ up)
+heard-with true source (whats.Frame frame) c link up = up
+heard-with false source whats.Down c link up = up
+heard-with false source (whats.Frame frame) c link up = up
+
+pub heard-before : (c : Controller) (s : Step) (link : ℕ) → hears (step c s).next link ≡ true → hears c link ≡ true
+heard-before c (Take item) link up = heard-with (hears c item.source) item.source item.what c link (ap (λ (links : List Bool). is_link_up links link) (sym (step_goes c (Take item)).links_are) ∙ up)
+heard-before c (Tick ms) link up = ap (λ (links : List Bool). is_link_up links link) (sym (step_goes c (Tick ms)).links_are) ∙ up
+
+-- ---- what is put goes to links that are up
+
+outbox-out : (target : Option Tenure) (out : Out) → (outbox_entry target out).out ≡ out
+outbox-out None out = refl
+outbox-out (Some tenure) out = refl
+
+pub none-to : (next : Controller) (at : Place) (target : Option Tenure) (outs : List Out) → AllByRecursion (λ out. hears next out.to ≡ true) outs → hears next at.station ≡ false → entries_to at target outs ≡ []
+none-to next at target [] all down = refl
+none-to next at target (out ∷ outs) all down =
+    ap (λ (o : Out). cond (nat_eq o.to at.station) (outbox_entry target out ∷ entries_to at target outs) (entries_to at target outs)) (outbox-out target out)
+    ∙ ap (λ (b : Bool). cond b (outbox_entry target out ∷ entries_to at target outs) (entries_to at target outs)) (other (cases_Bool (out.to == at.station)))
+    ∙ none-to next at target outs all.1 down
+  where
+    other : ((out.to == at.station) ≡ true) ⊎ ((out.to == at.station) ≡ false) → (out.to == at.station) ≡ false
+    other (inr miss) = miss
+    other (inl hit) = absurd (true≢false (sym all.0 ∙ ap (hears next) (eqb-true out.to at.station hit) ∙ down))
+
+-- ---- what is known of the controller before a step, by the laws of its life
+
+pub record Lawful (c : Controller) (s : Step) : Type 0 where
+  pub ready : Ready c
+  pub used : AreUsed c
+  pub sent : SendsMessages c s
+  pub up : GoesToUp c s
+  pub names : (number : ℕ) → 1 ≤ number → NamesItsMobile number c s
+
+same-access : (o now : Option Entry) (mobile : ℕ) → SameRequest (option_map (λ (e : Entry). e.connection) o) (option_map (λ (e : Entry). e.connection) now) → option_map (λ (e : Entry). e.connection.request.access) now ≡ Some mobile → (o ≡ None → ⊥) → option_map (λ (e : Entry). e.connection.request.access) o ≡ Some mobile
+same-access None now mobile same is there = absurd (there refl)
+same-access (Some e) None mobile same is there = absurd cc
+same-access (Some e) (Some x) mobile same is there = ap (λ (r : _). Some r.access) (sym same) ∙ is
+
+users-of : (c : Controller) (s : Step) (at : Place) (number mobile : ℕ) → Lawful c s → asker (step c s).next number ≡ Some mobile → channel_state c at ≡ InUse number → asker c number ≡ Some mobile
+users-of c s at number mobile laws asks used = by number asks (laws.used.using at number).0 used where
+  by : (number : ℕ) → asker (step c s).next number ≡ Some mobile → (channel_state c at ≡ InUse number → Contains (used_places (connection_of c number)) at) → channel_state c at ≡ InUse number → asker c number ≡ Some mobile
+  by zero asks uses used =
+      let none : entry_of c 0 ≡ None = find_above 0 c.entries laws.ready.numbered.above in
+      absurd (contains_none at (subst (λ (o : Option Entry). Contains (used_places (option_map (λ (e : Entry). e.connection) o)) at) none (uses used)))
+  by (suc n) asks uses used =
+      same-access (entry_of c (suc n)) (entry_of (step c s).next (suc n)) mobile (laws.names (suc n) (omega arith)).stays asks
+      (λ none. contains_none at (subst (λ (o : Option Entry). Contains (used_places (option_map (λ (e : Entry). e.connection) o)) at) none (uses used)))
+
+-- ---- what is put fits the tenures
+
+use-free : (heard : List Rsl) (state : ChannelState) (number : ℕ) → state ≡ InUse number → hear heard state ≡ Free → ⊥
+use-free [] state number used free = absurd (let both : InUse number ≡ Free = sym used ∙ free in cc)
+use-free (rsl.RfChannelReleaseAck channel ∷ rest) (Releasing m) number used free = absurd cc
+use-free (rsl.RfChannelReleaseAck channel ∷ rest) Free number used free = absurd cc
+use-free (rsl.RfChannelReleaseAck channel ∷ rest) (InUse m) number used free = absurd cc
+use-free (_ ∷ rest) state number used free = absurd (let both : InUse number ≡ Free = sym used ∙ free in cc)
+
+-- a command leads to a tenure of the mobile whose connection uses the channel
+abbrev pub LeadsOwn : (Tenure → ℕ) → Actors → Place → Option Tenure → Out → Type 0
+LeadsOwn owner w at target out =
+    (tenure : Tenure) → target ≡ Some tenure → (d : DataMessage) → said_to at out ≡ Some (rsl.DataRequest d) → d.channel ≡ at.number → (number : ℕ) × (channel_state w.controller at ≡ InUse number) × (owner tenure ≡ owner (tenure_behind w at))
+
+module _ (owner : Tenure → ℕ) (w : Actors) (at : Place) (heard : List Rsl) (agrees : Agrees owner w at) (up : is_up w at.station ≡ true) (hearing : hears w.controller at.station ≡ true) where
+  abbrev state : ChannelState
+  state = channel_state w.controller at
+
+  abbrev Which : ℕ → Type 0
+  Which number = (number ≡ (tenure_behind w at).number) ⊎ (hear heard state ≡ Free)
+
+  assigns-fit : (number : ℕ) → Which number → (r : Result RrMessage RrFault) → NamesUser at w.controller r → AssignsIn owner at number r
+  assigns-fit number which (Ok (ImmediateAssignment channel request advance)) names = λ is. by (names is) which where
+    by : (n : ℕ) × (state ≡ InUse n) × (asker w.controller n ≡ Some (slice_index_or request 0 0)) → Which number → owner (record { at = at; number = number }) ≡ slice_index_or request 0 0
+    by (n, used, asks) (inl same) = ap (λ (k : ℕ). owner (record { at = at; number = k })) same ∙ agrees.own n (slice_index_or request 0 0) hearing used asks (λ down silent. true≢false (sym up ∙ down))
+    by (n, used, asks) (inr free) = absurd (use-free heard state n used free)
+  assigns-fit number which (Ok _) names = tt
+  assigns-fit number which (Err fault) names = tt
+
+  beside-fits : (number : ℕ) → Which number → (target : Option Tenure) (o : Option Rsl) → NamesIn at w.controller o → ((d : DataMessage) → o ≡ Some (rsl.DataRequest d) → d.channel ≡ at.number → LeadsBy owner (record { at = at; number = number }) target) → FitsBeside owner at number target o
+  beside-fits number which target (Some (rsl.ImmediateAssignCommand i)) names leads = assigns-fit number which (rr_reading i.information) names
+  beside-fits number which target (Some (rsl.DataRequest d)) names leads = leads d refl
+  beside-fits number which target None names leads = tt
+  beside-fits number which target (Some _) names leads = tt
+
+  out-leads : (number : ℕ) → Which number → (target : Option Tenure) (out : Out) → LeadsOwn owner w at target out → (d : DataMessage) → said_to at out ≡ Some (rsl.DataRequest d) → d.channel ≡ at.number → LeadsBy owner (record { at = at; number = number }) (outbox_entry target out).target
+  out-leads number which None out leads d is same = tt
+  out-leads number which (Some tenure) out leads d is same = by (commands (rsl_in out.frame)) (leads tenure refl d is same) which where
+    by : (b : Bool) → (n : ℕ) × (state ≡ InUse n) × (owner tenure ≡ owner (tenure_behind w at)) → Which number → LeadsBy owner (record { at = at; number = number }) (if b then Some tenure else None)
+    by false own which = tt
+    by true (n, used, own) (inl now) = own ∙ ap (λ (k : ℕ). owner (record { at = at; number = k })) (sym now)
+    by true (n, used, own) (inr free) = absurd (use-free heard state n used free)
+
+  fit-all : (target : Option Tenure) (outs : List Out) → AllByRecursion (NamesOut at w.controller) outs → AllByRecursion (LeadsOwn owner w at target) outs → FitAll owner at target (tenure_behind w at).number (hear heard state) outs
+  fit-all target [] names leads = λ number which. tt
+  fit-all target (out ∷ outs) names leads = λ number which. (
+    beside-fits number which (outbox_entry target out).target (said_to at out) names.0 (out-leads number which target out leads.0),
+    fit-all target outs names.1 leads.1 number which,
+  )
+
+-- ---- so it serves the channel
+
+pub serves-by : (owner : Tenure → ℕ) (w : Actors) (at : Place) (least : 1 ≤ at.station) (target : Option Tenure) (s : Step) (heard : List Rsl) → Agrees owner w at → Lawful w.controller s
+    → (hears (step w.controller s).next at.station ≡ true → Serving at least w.controller (hear heard (channel_state w.controller at)) (step w.controller s))
+    → (hears (step w.controller s).next at.station ≡ true → is_up w at.station ≡ true → AllByRecursion (LeadsOwn owner w at target) (step w.controller s).outs) → Serves owner w at target (step w.controller s) heard
+serves-by owner w at least target s heard agrees laws serving leads = record {
+  hearing = heard-before w.controller s at.station;
+  silent = none-to (step w.controller s).next at target (step w.controller s).outs laws.up;
+  goes = λ hearing. (serving hearing laws.sent).0;
+  fits = λ hearing up. fit-all owner w at heard agrees up (heard-before w.controller s at.station hearing) target (step w.controller s).outs (serving hearing laws.sent).1 (leads hearing up);
+  users = λ number mobile asks used. users-of w.controller s at number mobile laws asks used;
+}

@@ -1,0 +1,273 @@
+-- In every run what stations take agrees with the ownership that the run gives.
+use Rattle.std.proofs.Common.{◌≡◌, ◌≢◌, ◌⊎◌, inl, inr, ℕ, ◌+◌, ◌==◌, ◌≤◌, ◌<◌, nat_eq, Bool, true, false, cond, if◌then◌else◌, List, [], ◌∷◌, ◌++◌, length, option_to_list, Option, Some, None, refl, sym, ap, ◌∙◌, subst, arith, true≢false}
+use Rattle.std.proofs.lemmas.Bool.{cases_Bool, eqb-true, eq-eqb, ne_eqb}
+use Rattle.std.specs.List.{AllByRecursion, flat_map}
+use Rattle.conn_messages.specs.declared.channel.Place.{Place}
+use Rattle.conn_messages.specs.declared.out.Out.{Out}
+use Rattle.conn_messages.specs.declared.parameters.TheConstants.{SWITCH_LINK}
+use Rattle.conn_table.proofs.DownlinkMessages.{AllByRecursion-append}
+use Rattle.conn_table.specs.declared.input.Input.TheVariants as inputs
+use Rattle.controller_laws.specs.Owning.{is_link_up}
+use Rattle.controller_laws.specs.Sending.{ComesInOctets, IsSent}
+use Rattle.controller_laws.proofs.Beside.{links_with, step_goes}
+use Rattle.controller_laws.proofs.NamingLife.{life_names}
+use Rattle.controller_laws.proofs.Places.{IsIn, is_there}
+use Rattle.controller_laws.proofs.SoundLife.{life_sends}
+use Rattle.controller_laws.proofs.UsingLife.{life_reaches, life_ready, life_uses}
+use Rattle.controller_laws.proofs.UsingWords.{Ready}
+use Rattle.controller_table.specs.declared.channel_state.ChannelState.{ChannelState}
+use Rattle.controller_table.specs.declared.channel_state.ChannelState.TheVariants.{Free, InUse}
+use Rattle.controller_table.specs.declared.step.Step.{Step}
+use Rattle.controller_table.specs.declared.step.Step.TheVariants.{Take, Tick}
+use Rattle.controller_table.specs.declared.word.Word.{Word}
+use Rattle.controller_table.specs.declared.word.Word.TheVariants.{OnChannel}
+use Rattle.controller_table.specs.Controller.{Controller, channel_state, each, ignoring, is_up as hears, new_controller, place_at}
+use Rattle.controller_table.specs.Life.{life, on_break, on_what, on_word, step, take, tick}
+use Rattle.controller_table.specs.Reading.{rsl_word, word_of}
+use Rattle.ipa_framing.specs.declared.frame.Frame.{Frame}
+use Rattle.relay_items.specs.declared.Item.{Item}
+use Rattle.relay_items.specs.declared.What.{What}
+use Rattle.relay_items.specs.declared.What.TheVariants as whats
+use Rattle.rsl_codec.specs.declared.dedicated_channel.ActivationAck.{ActivationAck}
+use Rattle.rsl_codec.specs.declared.rsl.Rsl.{Rsl}
+use Rattle.rsl_codec.specs.declared.rsl.Rsl.TheVariants as rsl
+use Rattle.settings.specs.Parameters.{AreAllowed, Parameters}
+use Rattle.world_table.specs.declared.event.Event.{Event}
+use Rattle.world_table.specs.declared.event.Event.TheVariants.{Upper, Connect, AirUp, AirAck, AirDown, AirDownLost, Move, Touch, Arrive, Return, BaseTakes, BasePush, Handle, SwitchTakes, SwitchDoes, BaseDown, Report}
+use Rattle.world_table.specs.declared.event.Event.TheVariants as events
+use Rattle.world_table.specs.declared.seat.Tenure.{Tenure}
+use Rattle.world_table.specs.Life.{actors_after, actors_after_all}
+use Rattle.world_table.specs.OwnerLines.{Agrees, AllAgree, acknowledged_in, asker, said, tenure_behind, to_come}
+use Rattle.world_table.specs.Owners.{owner_in}
+use Rattle.world_table.specs.Pipe.{acknowledgements, due}
+use Rattle.world_table.specs.Relay.{acknowledged_tenure, target_in}
+use Rattle.world_table.specs.Stations.{rsl_in}
+use Rattle.world_table.specs.Steps.{all_steps, first_taken, step_at}
+use Rattle.world_table.specs.World.{Actors, base_of, is_active_at, is_up, new_actors, outbox_of, spot_at, tenure_at}
+use Rattle.world_table.proofs.Living.{LivesByTable-new}
+use Rattle.world_table.proofs.OwnerItems.{IsKnown, IsKnownItem, known-inbox}
+use Rattle.world_table.proofs.OwnerKeeping.{one-at-most}
+use Rattle.world_table.proofs.OwnerLines.{none-due}
+use Rattle.world_table.proofs.OwnerPuts.Goes.{runs}
+use Rattle.world_table.proofs.OwnerPuts.Runs.{over}
+use Rattle.world_table.proofs.OwnerRuns.{ServesAt, ServesThrough, heard_of, owned-run}
+use Rattle.world_table.proofs.OwnerTurn.{Serves, hear}
+use Rattle.world_table.proofs.Outboxes.{Both-empty}
+use Rattle.world_table.proofs.Piping.{acks-append}
+use Rattle.world_table.proofs.Ticketing.{AllSitBy-new, OneMobileEach-new}
+use Rattle.world_laws.specs.Owned.{MobilesSitOnTheirs, OneSendsEach, TenuresAreOwned}
+use Rattle.world_laws.proofs.OrderHeard.{FreesNone, none-frees, none-nacks, other-heard, read-known, station-heard, switch-frees, word-known}
+use Rattle.world_laws.proofs.OrderLeads.{LeadsOut, ack-leads}
+use Rattle.world_laws.proofs.OrderServes.{Lawful, LeadsOwn, broken-down, heard-before, serves-by}
+use Rattle.world_laws.proofs.OrderSteps.{break-serves, tick-serves}
+use Rattle.world_laws.proofs.OrderTurns.{Serving, word-serves}
+
+-- ---- the controller of a life
+
+each-settings : (c : Controller) (steps : List Step) → (each step c steps).next.settings ≡ c.settings
+each-settings c [] = refl
+each-settings c (s ∷ ss) = each-settings (step c s).next ss ∙ (step_goes c s).settings
+
+life-settings : (p : Parameters) (steps : List Step) → (life p steps).next.settings ≡ p
+unfolding life
+life-settings p steps = each-settings (new_controller p) steps
+
+lawful-life : (p : Parameters) (steps : List Step) (s : Step) → AreAllowed p → AllByRecursion ComesInOctets steps → ComesInOctets s → Lawful (life p steps).next s
+lawful-life p steps s allowed octets own = record {
+  ready = life_ready p steps allowed;
+  used = life_uses p steps allowed;
+  sent = life_sends p steps s allowed octets own;
+  up = life_reaches p steps s allowed;
+  names = λ number from_one. life_names p steps s number from_one;
+}
+
+-- ---- what is heard of an item
+
+nothing-heard : (at : Place) (source : ℕ) (state : ChannelState) → hear (heard_of at (record { source = source; what = whats.Down })) state ≡ state
+nothing-heard at source state = by (source == at.station) where
+  by : (b : Bool) → hear (acknowledgements at.number (if b then [] else [])) state ≡ state
+  by true = refl
+  by false = refl
+
+quiet-serving : (at : Place) (least : 1 ≤ at.station) (c : Controller) → Serving at least c (channel_state c at) (ignoring c)
+quiet-serving at least c sent = (runs over, tt)
+
+not-switch : (at : Place) (source : ℕ) → 1 ≤ at.station → source ≡ SWITCH_LINK → (source == at.station) ≡ false
+not-switch at source least is = ne_eqb source at.station (λ same. absurd (let zero : at.station ≡ 0 = sym same ∙ is in omega (arith, zero, least)))
+
+source-or : (source : ℕ) → (source ≡ SWITCH_LINK) ⊎ (source ≢ SWITCH_LINK)
+source-or source = elim (cases_Bool (nat_eq source SWITCH_LINK)) [
+  | inl hit ↦ inl (eqb-true source SWITCH_LINK hit)
+  | inr miss ↦ inr (λ same. true≢false (sym (eq-eqb source SWITCH_LINK same) ∙ miss))
+]
+
+frame-serving : (at : Place) (least : 1 ≤ at.station) (source : ℕ) (frame : Frame) (c : Controller) → IsKnownItem (record { source = source; what = whats.Frame frame }) → Ready c → Serving at least c (hear (heard_of at (record { source = source; what = whats.Frame frame })) (channel_state c at)) (on_word source (word_of source frame) c)
+frame-serving at least source frame c known ready = elim (source-or source) [
+  | inl switch ↦
+      let frees = subst (λ (k : ℕ). FreesNone (word_of k frame)) (sym switch) (switch-frees frame) in
+      subst (λ (s : ChannelState). Serving at least c s (on_word source (word_of source frame) c))
+      (none-frees at least (word_of source frame) c frees ∙ sym (other-heard at (record { source = source; what = whats.Frame frame }) c (not-switch at source least switch)))
+      (word-serves at least source (word_of source frame) c (none-nacks (word_of source frame) frees) ready)
+  | inr station ↦
+      let heard = station-heard at least source frame c station (known.station station) in
+      subst (λ (s : ChannelState). Serving at least c s (on_word source (word_of source frame) c)) (sym heard.0) (word-serves at least source (word_of source frame) c heard.1 ready)
+]
+
+item-serving : (at : Place) (least : 1 ≤ at.station) (source : ℕ) (what : What) (c : Controller) (up : Bool) → hears c source ≡ up → IsKnownItem (record { source = source; what = what }) → Ready c → is_link_up (links_with up source what c) at.station ≡ true → is_link_up c.links at.station ≡ true → Serving at least c (hear (heard_of at (record { source = source; what = what })) (channel_state c at)) (on_what up source what c)
+item-serving at least source (whats.Frame frame) c true up known ready hearing before = frame-serving at least source frame c known ready
+item-serving at least source whats.Down c true up known ready hearing before =
+    subst (λ (s : ChannelState). Serving at least c s (on_break source c)) (sym (nothing-heard at source (channel_state c at)))
+    (break-serves at least source c (λ same. true≢false (sym hearing ∙ ap (is_link_up (links_with true source whats.Down c)) same ∙ broken-down c.links source)) ready)
+item-serving at least source what c false down known ready hearing before =
+    subst (λ (s : ChannelState). Serving at least c s (ignoring c)) (sym (other-heard at (record { source = source; what = what }) c (ne_eqb source at.station (λ same. true≢false (sym before ∙ ap (is_link_up c.links) (sym same) ∙ down))))) (quiet-serving at least c)
+
+-- ---- where a command leads
+
+none-lead : (owner : Tenure → ℕ) (w : Actors) (at : Place) (target : Option Tenure) (outs : List Out) → target ≡ None → AllByRecursion (LeadsOwn owner w at target) outs
+none-lead owner w at target [] none = tt
+none-lead owner w at target (out ∷ outs) none = ((λ tenure is d says same. absurd (let both : None ≡ Some tenure = sym none ∙ is in cc)), none-lead owner w at target outs none)
+
+-- the tenure whose ACTIVATION ACK is the first item is the last one, and of the mobile of the connection that uses the channel
+acknowledged-own : (owner : Tenure → ℕ) (w : Actors) (p : Place) (number mobile : ℕ) (m : Rsl) (rest : List Rsl) → Agrees owner w p → hears w.controller p.station ≡ true → channel_state w.controller p ≡ InUse number → asker w.controller number ≡ Some mobile → acknowledged_in p w.inbox ≡ m ∷ rest → owner (tenure_at w p) ≡ mobile
+acknowledged-own owner w p number mobile m rest agrees hearing used asks first =
+    let way = agrees.way hearing in
+    let behind : List Rsl = rest ++ (acknowledgements p.number (base_of w p.station).messages ++ due p.number (is_active_at w p) (outbox_of w p.station)) in
+    let comes : to_come w p ≡ m ∷ behind = ap (λ (xs : List Rsl). xs ++ (acknowledgements p.number (base_of w p.station).messages ++ due p.number (is_active_at w p) (outbox_of w p.station))) first in
+    let none : behind ++ way.lost ≡ [] = one-at-most p.number number (channel_state w.controller p) (to_come w p ++ way.lost) (m ∷ []) (behind ++ way.lost) way.comes used (ap (λ (xs : List Rsl). xs ++ way.lost) comes) (λ is. absurd cc) in
+    let nothing : behind ≡ [] = (Both-empty behind way.lost (sym none)).0 in
+    let parts = Both-empty rest (acknowledgements p.number (base_of w p.station).messages ++ due p.number (is_active_at w p) (outbox_of w p.station)) (sym nothing) in
+    let nothing_due : due p.number (is_active_at w p) (outbox_of w p.station) ≡ [] = (Both-empty (acknowledgements p.number (base_of w p.station).messages) (due p.number (is_active_at w p) (outbox_of w p.station)) (sym parts.1)).1 in
+    ap (λ (k : ℕ). owner (record { at = p; number = k })) (sym (none-due p.number (is_active_at w p) (spot_at w p).tenure (outbox_of w p.station) nothing_due))
+    ∙ agrees.own number mobile hearing used asks (λ down silent. absurd (let both : m ∷ behind ≡ [] = sym comes ∙ silent in cc))
+
+first-heard : (w : Actors) (p : Place) (item : Item) (items : List Item) (frame : Frame) (a : ActivationAck) → w.inbox ≡ item ∷ items → item ≡ record { source = p.station; what = whats.Frame frame } → rsl_in frame ≡ Some (rsl.ChannelActivationAck a) → a.channel ≡ p.number → acknowledged_in p w.inbox ≡ rsl.ChannelActivationAck a ∷ acknowledged_in p items
+first-heard w p item items frame a stands is says same =
+    ap (acknowledged_in p) stands ∙ acks-append p.number (said p.station item) (flat_map (said p.station) items)
+    ∙ ap (λ (xs : List Rsl). xs ++ acknowledged_in p items)
+    (ap (λ (i : Item). acknowledgements p.number (said p.station i)) is
+    ∙ ap (λ (b : Bool). acknowledgements p.number (if b then option_to_list (rsl_in frame) else [])) (eq-eqb p.station p.station refl)
+    ∙ ap (λ (o : Option Rsl). acknowledgements p.number (option_to_list o)) says
+    ∙ ap (λ (b : Bool). cond b (rsl.ChannelActivationAck a ∷ []) []) (eq-eqb a.channel p.number same))
+
+module _ (settings : Parameters) (owner : Tenure → ℕ) (w : Actors) (agree : AllAgree settings owner w) (same_settings : w.controller.settings ≡ settings) (ready : Ready w.controller) where
+  -- a channel that is in use is one of a station of the settings
+  within : (p : Place) (number : ℕ) → channel_state w.controller p ≡ InUse number → p.station ≤ length settings.cells
+  within p number used =
+      let there : IsIn w.controller.channels p = is_there w.controller.channels p (λ free. (let both : Free ≡ InUse number = sym free ∙ used in absurd cc)) in
+      subst (λ (x : Parameters). p.station ≤ length x.cells) same_settings (less p.station (length w.controller.channels) (length w.controller.settings.cells) there.station ready.holds.shaped.links)
+    where
+      less : (a b d : ℕ) → a < b → b ≡ d + 1 → a ≤ d
+      less a b d small is = omega (arith, small, is)
+
+  acks-lead : (at : Place) (source : ℕ) (frame : Frame) (items : List Item) (a : ActivationAck) (outs : List Out) → 1 ≤ at.station → at.station ≤ length settings.cells → source ≢ SWITCH_LINK → hears w.controller source ≡ true → w.inbox ≡ record { source = source; what = whats.Frame frame } ∷ items → rsl_in frame ≡ Some (rsl.ChannelActivationAck a) → hears w.controller at.station ≡ true → is_up w at.station ≡ true
+      → AllByRecursion (LeadsOut at (place_at source a.channel) w.controller) outs → AllByRecursion (LeadsOwn owner w at (Some (tenure_at w (place_at source a.channel)))) outs
+  acks-lead at source frame items a [] least most station up stands says hearing at_up leads = tt
+  acks-lead at source frame items a (out ∷ outs) least most station up stands says hearing at_up leads = (
+    λ tenure is d said same.
+        let user = leads.0 d said same in
+        let p : Place = place_at source a.channel in
+        let own : owner (tenure_at w p) ≡ user.mobile = acknowledged-own owner w p user.number user.mobile (rsl.ChannelActivationAck a) (acknowledged_in p items) (agree p (one source station) (within p user.number user.there)) up user.there user.asks
+        (first-heard w p (record { source = source; what = whats.Frame frame }) items frame a stands refl says refl) in
+        let there : owner (tenure_behind w at) ≡ user.mobile = (agree at least most).own user.number user.mobile hearing user.here user.asks (λ down silent. true≢false (sym at_up ∙ down)) in
+        let tenure_is : tenure_at w p ≡ tenure = (let both : Some (tenure_at w p) ≡ Some tenure = is in cc) in
+        (user.number, user.here, ap owner (sym tenure_is) ∙ own ∙ sym there),
+    acks-lead at source frame items a outs least most station up stands says hearing at_up leads.1,
+  ) where
+    one : (k : ℕ) → k ≢ 0 → 1 ≤ k
+    one k is = omega (arith, is)
+
+  -- by what a station made
+  message-leads : (at : Place) (source : ℕ) (frame : Frame) (items : List Item) (m : Rsl) (outs : List Out) → 1 ≤ at.station → at.station ≤ length settings.cells → source ≢ SWITCH_LINK → hears w.controller source ≡ true → w.inbox ≡ record { source = source; what = whats.Frame frame } ∷ items → rsl_in frame ≡ Some m → hears w.controller at.station ≡ true → is_up w at.station ≡ true
+      → ((a : ActivationAck) → m ≡ rsl.ChannelActivationAck a → AllByRecursion (LeadsOut at (place_at source a.channel) w.controller) outs) → AllByRecursion (LeadsOwn owner w at (acknowledged_tenure w source (Some m))) outs
+  message-leads at source frame items (rsl.ChannelActivationAck a) outs least most station up stands says hearing at_up leads = acks-lead at source frame items a outs least most station up stands says hearing at_up (leads a refl)
+  message-leads at source frame items m outs least most station up stands says hearing at_up leads = none-lead owner w at None outs refl
+
+  frame-leads : (at : Place) (source : ℕ) (frame : Frame) (items : List Item) (up : Bool) → hears w.controller source ≡ up → 1 ≤ at.station → at.station ≤ length settings.cells → source ≢ SWITCH_LINK → w.inbox ≡ record { source = source; what = whats.Frame frame } ∷ items → IsKnown (whats.Frame frame) → hears w.controller at.station ≡ true → is_up w at.station ≡ true
+      → AllByRecursion IsSent (on_what up source (whats.Frame frame) w.controller).outs → AllByRecursion (LeadsOwn owner w at (acknowledged_tenure w source (rsl_in frame))) (on_what up source (whats.Frame frame) w.controller).outs
+  frame-leads at source frame items false down least most station stands known hearing at_up sent = tt
+  frame-leads at source frame items true up least most station stands (m, is, read, no_nack) hearing at_up sent =
+      let says : rsl_in frame ≡ Some m = ap rsl_in is ∙ read-known m read in
+      let word : word_of source frame ≡ rsl_word source m = ap (word_of source) is ∙ word-known source m station read in
+      let c : Controller = w.controller in
+      subst (λ (o : Option Rsl). AllByRecursion (LeadsOwn owner w at (acknowledged_tenure w source o)) (on_word source (word_of source frame) c).outs) (sym says)
+      (message-leads at source frame items m (on_word source (word_of source frame) c).outs least most station up stands says hearing at_up
+      (λ a acks.
+      let p : Place = place_at source a.channel in
+      let own : word_of source frame ≡ OnChannel p (inputs.ActivationAck p) = word ∙ ap (rsl_word source) acks in
+      subst (λ (x : Word). AllByRecursion (LeadsOut at p c) (on_word source x c).outs) (sym own)
+      (ack-leads at p c (channel_state c p) ready (subst (λ (x : Word). AllByRecursion IsSent (on_word source x c).outs) own sent))))
+
+  item-leads : (at : Place) (source : ℕ) (what : What) (items : List Item) → 1 ≤ at.station → at.station ≤ length settings.cells → w.inbox ≡ record { source = source; what = what } ∷ items → IsKnownItem (record { source = source; what = what }) → hears w.controller at.station ≡ true → is_up w at.station ≡ true
+      → AllByRecursion IsSent (on_what (hears w.controller source) source what w.controller).outs → AllByRecursion (LeadsOwn owner w at (target_in w source what)) (on_what (hears w.controller source) source what w.controller).outs
+  item-leads at source whats.Down items least most stands known hearing at_up sent = none-lead owner w at None (on_what (hears w.controller source) source whats.Down w.controller).outs refl
+  item-leads at source (whats.Frame frame) items least most stands known hearing at_up sent = elim (source-or source) [
+    | inl switch ↦ none-lead owner w at (acknowledged_tenure w source (rsl_in frame)) (on_what (hears w.controller source) source (whats.Frame frame) w.controller).outs (ap (acknowledged_tenure w source) (known.switch switch))
+    | inr station ↦ frame-leads at source frame items (hears w.controller source) refl least most station stands (known.station station) hearing at_up sent
+  ]
+
+  pub serves-handle : (item : Item) (items : List Item) → w.inbox ≡ item ∷ items → Lawful w.controller (Take item) → IsKnownItem item → (at : Place) → 1 ≤ at.station → at.station ≤ length settings.cells → Serves owner w at (target_in w item.source item.what) (take item w.controller) (heard_of at item)
+  unfolding take
+  serves-handle item items stands laws known at least most =
+      serves-by owner w at least (target_in w item.source item.what) (Take item) (heard_of at item) (agree at least most) laws
+      (λ hearing. item-serving at least item.source item.what w.controller (hears w.controller item.source) refl known ready
+      (ap (λ (links : List Bool). is_link_up links at.station) (sym (step_goes w.controller (Take item)).links_are) ∙ hearing) (heard-before w.controller (Take item) at.station hearing))
+      (λ hearing up. item-leads at item.source item.what items least most stands known (heard-before w.controller (Take item) at.station hearing) up laws.sent)
+
+  pub serves-tick : (ms : ℕ) → Lawful w.controller (Tick ms) → (at : Place) → 1 ≤ at.station → at.station ≤ length settings.cells → Serves owner w at None (tick ms w.controller) []
+  serves-tick ms laws at least most =
+      serves-by owner w at least None (Tick ms) [] (agree at least most) laws (λ hearing. tick-serves at least ms w.controller ready) (λ hearing up. none-lead owner w at None (step w.controller (Tick ms)).outs refl)
+
+-- ---- over all events
+
+snoc-actors : (w : Actors) (xs : List Event) (e : Event) → actors_after_all w (xs ++ e ∷ []) ≡ actors_after (actors_after_all w xs) e
+snoc-actors w [] e = refl
+snoc-actors w (x ∷ xs) e = snoc-actors (actors_after w x) xs e
+
+front-all : (P : Step → Type 0) (xs ys : List Step) → AllByRecursion P (xs ++ ys) → AllByRecursion P xs
+front-all P [] ys all = tt
+front-all P (x ∷ xs) ys all = (all.0, front-all P xs ys all.1)
+
+behind-all : (P : Step → Type 0) (xs ys : List Step) → AllByRecursion P (xs ++ ys) → AllByRecursion P ys
+behind-all P [] ys all = all
+behind-all P (x ∷ xs) ys all = behind-all P xs ys all.1
+
+snoc-steps : (P : Step → Type 0) (w : Actors) (xs : List Event) (e : Event) → AllByRecursion P (all_steps w xs) → AllByRecursion P (step_at (actors_after_all w xs) e) → AllByRecursion P (all_steps w (xs ++ e ∷ []))
+snoc-steps P w [] e all own = AllByRecursion-append P (step_at w e) [] own tt
+snoc-steps P w (x ∷ xs) e all own =
+    AllByRecursion-append P (step_at w x) (all_steps (actors_after w x) (xs ++ e ∷ [])) (front-all P (step_at w x) (all_steps (actors_after w x) xs) all)
+    (snoc-steps P (actors_after w x) xs e (behind-all P (step_at w x) (all_steps (actors_after w x) xs) all) own)
+
+-- the actors after the events that are done
+serves-event : (settings : Parameters) (owner : Tenure → ℕ) (done : List Event) (w : Actors) (event : Event) → w ≡ actors_after_all (new_actors settings) done → AreAllowed settings → AllByRecursion ComesInOctets (all_steps (new_actors settings) done) → AllByRecursion ComesInOctets (step_at w event) → AllAgree settings owner w → ServesAt settings owner w event
+unfolding ServesAt
+serves-event settings owner done w Handle is allowed octets own agree = λ item items stands.
+    let lives : w.controller ≡ (life settings (all_steps (new_actors settings) done)).next = ap (λ (x : Actors). x.controller) is ∙ LivesByTable-new settings done in
+    let came : AllByRecursion ComesInOctets (first_taken (item ∷ items)) = subst (λ (xs : List Item). AllByRecursion ComesInOctets (first_taken xs)) stands own in
+    let laws : Lawful w.controller (Take item) = subst (λ (c : Controller). Lawful c (Take item)) (sym lives) (lawful-life settings (all_steps (new_actors settings) done) (Take item) allowed octets came.0) in
+    let known : AllByRecursion IsKnownItem (item ∷ items) = subst (AllByRecursion IsKnownItem) stands (subst (λ (x : Actors). AllByRecursion IsKnownItem x.inbox) (sym is) (known-inbox settings done)) in
+    serves-handle settings owner w agree (ap (λ (c : Controller). c.settings) lives ∙ life-settings settings (all_steps (new_actors settings) done)) laws.ready item items stands laws known.0
+serves-event settings owner done w (events.Tick ms) is allowed octets own agree =
+    let lives : w.controller ≡ (life settings (all_steps (new_actors settings) done)).next = ap (λ (x : Actors). x.controller) is ∙ LivesByTable-new settings done in
+    let laws : Lawful w.controller (Tick ms) = subst (λ (c : Controller). Lawful c (Tick ms)) (sym lives) (lawful-life settings (all_steps (new_actors settings) done) (Tick ms) allowed octets own.0) in
+    serves-tick settings owner w agree (ap (λ (c : Controller). c.settings) lives ∙ life-settings settings (all_steps (new_actors settings) done)) laws.ready ms laws
+serves-event settings owner done w _ is allowed octets own agree = tt
+
+serves-through : (settings : Parameters) (owner : Tenure → ℕ) (done rest : List Event) (w : Actors) → w ≡ actors_after_all (new_actors settings) done → AreAllowed settings → AllByRecursion ComesInOctets (all_steps (new_actors settings) done) → AllByRecursion ComesInOctets (all_steps w rest) → ServesThrough settings owner w rest
+unfolding ServesThrough
+serves-through settings owner done [] w is allowed octets later = tt
+serves-through settings owner done (event ∷ rest) w is allowed octets later =
+    let own = front-all ComesInOctets (step_at w event) (all_steps (actors_after w event) rest) later in (
+      λ agree. serves-event settings owner done w event is allowed octets own agree,
+      serves-through settings owner (done ++ event ∷ []) rest (actors_after w event) (ap (λ (x : Actors). actors_after x event) is ∙ sym (snoc-actors (new_actors settings) done event)) allowed
+          (snoc-steps ComesInOctets (new_actors settings) done event octets (subst (λ (x : Actors). AllByRecursion ComesInOctets (step_at x event)) is own))
+          (behind-all ComesInOctets (step_at w event) (all_steps (actors_after w event) rest) later),
+    )
+
+pub TenuresAreOwned-new : (settings : Parameters) (events : List Event) → TenuresAreOwned settings events
+TenuresAreOwned-new settings events allowed octets = owned-run settings events (serves-through settings (owner_in (new_actors settings) events) [] events (new_actors settings) refl allowed tt octets)
+
+pub MobilesSitOnTheirs-new : (settings : Parameters) (events : List Event) → MobilesSitOnTheirs settings events
+MobilesSitOnTheirs-new settings events allowed octets = AllSitBy-new settings events (owner_in (new_actors settings) events) (TenuresAreOwned-new settings events allowed octets)
+
+pub OneSendsEach-new : (settings : Parameters) (events : List Event) → OneSendsEach settings events
+OneSendsEach-new settings events allowed octets = OneMobileEach-new settings events (owner_in (new_actors settings) events) (TenuresAreOwned-new settings events allowed octets)

@@ -1,0 +1,21 @@
+-- Each tenure is one mobile's: that for which its channel was activated.
+use Rattle.std.specs.Prelude.{List}
+use Rattle.settings.specs.Parameters.{AreAllowed, Parameters}
+use Rattle.world_table.specs.declared.event.Event.{Event}
+use Rattle.world_table.specs.Life.{actors_after_all}
+use Rattle.world_table.specs.Owners.{owner_in}
+use Rattle.world_table.specs.Tickets.{AllAreBy, AllSitBy, OneMobileEach, senders}
+use Rattle.world_table.specs.World.{new_actors}
+use Rattle.world_laws.specs.OthersFrame.{CameInOctets}
+
+-- what stations take agrees with it, whatever happens
+abbrev pub TenuresAreOwned : Parameters → List Event → Type 0
+TenuresAreOwned settings events = AreAllowed settings → CameInOctets settings events → AllAreBy (owner_in (new_actors settings) events) (new_actors settings) events
+
+-- a mobile is on a tenure, or told to change to one, only where its channel was activated for it
+abbrev pub MobilesSitOnTheirs : Parameters → List Event → Type 0
+MobilesSitOnTheirs settings events = AreAllowed settings → CameInOctets settings events → AllSitBy (owner_in (new_actors settings) events) (actors_after_all (new_actors settings) events)
+
+-- in each tenure one mobile sends at most
+abbrev pub OneSendsEach : Parameters → List Event → Type 0
+OneSendsEach settings events = AreAllowed settings → CameInOctets settings events → OneMobileEach (senders (new_actors settings) events)
