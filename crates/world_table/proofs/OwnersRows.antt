@@ -5,7 +5,6 @@ use Rattle.controller_table.specs.Controller.{place_at}
 use Rattle.controller_table.proofs.Lives.{usual_settings}
 use Rattle.world_table.specs.declared.event.Event.{Event}
 use Rattle.world_table.specs.declared.event.Event.TheVariants.{Connect, BaseDown, BaseTakes, BasePush, Handle}
-use Rattle.world_table.specs.declared.seat.Tenure.{Tenure}
 use Rattle.world_table.specs.Life.{actors_after_all}
 use Rattle.world_table.specs.Owners.{is_begun, owner_in, user_of}
 use Rattle.world_table.specs.World.{Actors, new_actors}
