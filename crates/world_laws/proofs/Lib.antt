@@ -58,3 +58,5 @@ pub mod TakingTurns
 pub mod TurnsLife
 pub mod TurnsSteps
 mod TakingTurnsRows
+pub mod Remaining
+mod RemainingRows

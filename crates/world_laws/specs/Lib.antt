@@ -19,3 +19,4 @@ pub mod PutAsRead
 pub mod AcksBegin
 pub mod Refusals
 pub mod TakingTurns
+pub mod Remaining
