@@ -71,3 +71,5 @@ pub mod OrderHeard
 pub mod OrderLeads
 pub mod OrderServes
 pub mod OwnerRun
+pub mod Remaining
+mod RemainingRows

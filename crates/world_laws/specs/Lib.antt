@@ -21,3 +21,4 @@ pub mod AcksBegin
 pub mod Refusals
 pub mod TakingTurns
 pub mod Owned
+pub mod Remaining

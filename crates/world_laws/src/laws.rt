@@ -26,6 +26,8 @@ ghost use Rattle.world_laws.specs.AcksBegin.{AcksBegin};
 ghost use Rattle.world_laws.specs.Refusals.{NoneRefuse};
 ghost use Rattle.world_laws.specs.TakingTurns.{OrdersTakeTurns};
 ghost use Rattle.controller_table.specs.declared.step.Step.{Step as ControllerStep};
+ghost use Rattle.world_laws.specs.Remaining.{KeepsDue};
+ghost use Rattle.conn_messages.specs.declared.channel.Place.{Place as ChannelPlace};
 
 /// Law: whatever events happened, a connection that is lined up with its mobile, and whose channels no other mobile is on, stays
 /// lined up at what mobiles do, at what stations take from them and give to the inbox, and at what the switch does of its own.
@@ -185,4 +187,11 @@ pub fn tenures_are_mobiles()
     ensures takes { (settings : Parameters) (events : List WorldEvent) → TenuresAreOwned settings events }
     ensures seats { (settings : Parameters) (events : List WorldEvent) → MobilesSitOnTheirs settings events }
     ensures senders { (settings : Parameters) (events : List WorldEvent) → OneSendsEach settings events }
+{}
+
+/// Law: what is due of a channel's acknowledgements follows the state in which the controller has it: an RF CHANNEL RELEASE ACK is due
+/// at the end of a channel that is releasing, and of no other. It stays so when orders take turns, and when the first acknowledgement
+/// is taken. So of a channel in use no RF CHANNEL RELEASE ACK is on its way, and of one that is releasing it is the last.
+pub fn due_follows_orders()
+    ensures { (at : ChannelPlace) → KeepsDue at }
 {}
