@@ -175,7 +175,7 @@ fn an_outbox_that_nobody_empties_is_given_up(rt: HostRuntime) -> Result<(), Fail
         await_asked(&rt, &asked, 5);
         let put = put_all(&rt, alloc, &mut pass, &[PING]);
         await_asked(&rt, &asked, 10);
-        put && gives(&rt, &mut taker, &[ACTIVATION])
+        put && taker.was_given_up() && gives(&rt, &mut taker, &[ACTIVATION])
     })?;
     let (controller, _, putters, _, fault) = call_worker(
         &rt,

@@ -54,9 +54,18 @@ pub(crate) fn is_given_up(putter: &Putter) -> bool
     putter.refusals() >= MAX_REFUSALS
 }
 
-/// Wakes all that take from these outboxes.
-pub(crate) fn ring_all(putters: &[Putter]) {
-    for putter in putters {
-        putter.ring();
+/// Wakes those that take from these outboxes, where something was put since they were woken last.
+pub(crate) fn ring_all(putters: &mut Vec<Putter>)
+    ensures { putters.new.items ≡ putters.old.items }
+{
+    for link in 0..putters.len() {
+        putters[link].ring();
+    }
+}
+
+/// Tells the writer of this outbox, if there is one, that it was given up.
+pub(crate) fn tell_given_up(putters: &[Putter], link: usize) {
+    if let Some(putter) = putters.get(link) {
+        putter.give_up();
     }
 }

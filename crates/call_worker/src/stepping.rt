@@ -7,7 +7,7 @@ ghost use Rattle.relay_items.specs.declared.What.TheVariants as whats;
 use crate::clock::Clock;
 use crate::limits::{OUTPUTS_A_RING, TICK_MS};
 use crate::mark::Mark;
-use crate::sending::{is_given_up, ring_all, send_all};
+use crate::sending::{is_given_up, ring_all, send_all, tell_given_up};
 use crate::worker::Worker;
 use conn_messages::Outputs;
 use controller_table::Step;
@@ -95,7 +95,8 @@ impl<K: Clock> Worker<K> {
         Ok(true)
     }
 
-    // Of each link whose outbox was given up and whose `Down` wasn't added yet, the `Down` is the next step.
+    // Of each link whose outbox was given up and whose `Down` wasn't added yet, the `Down` is the next step. Its writer is
+    // told, so that it shuts the link once it has written what waits.
     fn add_downs<R: Wait>(&mut self, rt: &R) -> Result<(), Memory>
         requires stands { Stands (seen K.told self.old) }
         ensures stands { Stands (seen K.told self.new) }
@@ -110,6 +111,7 @@ impl<K: Clock> Worker<K> {
             let what = What::Down;
             self.do_step(rt, Step::Take(Item { source, what }))?;
             note_added(&mut self.marks, usize::from(source));
+            tell_given_up(self.putters.as_slice(), usize::from(source));
         }
         unreachable!()
     }
@@ -160,7 +162,7 @@ impl<K: Clock> Worker<K> {
         ensures { seen K.told self.new ≡ seen K.told self.old }
     {
         if self.unrung > 0 {
-            ring_all(self.putters.as_slice());
+            ring_all(&mut self.putters);
             self.unrung = 0;
         }
     }

@@ -68,6 +68,9 @@ WritesSome old new taker taken = (frames : List Frame) × (taken ≡ having_take
 pub writes_none : (known : Option (List ℕ)) (t : TakerView) → WritesSome known known t t
 writes_none known t = ([], taken_none t, Appends-nil known, tt)
 
+pub writes_kept : (old mid new : Option (List ℕ)) (taker taken : TakerView) → WritesSome old mid taker taken → Keeps mid new → WritesSome old new taker taken
+writes_kept old mid new taker taken some keeps = (some.0, some.1, Appends-kept old mid new (frames_text some.0) some.2 keeps, some.3)
+
 -- ---- frames that can be written
 
 fits : (f : Frame) → write_fault f ≡ None → IsFrame f

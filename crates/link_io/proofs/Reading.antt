@@ -1,5 +1,5 @@
 -- How a frame, a read and the end carry on what a reader has put.
-use Rattle.std.proofs.Common.{◌≡◌, ℕ, ◌+◌, true, false, List, [], ◌∷◌, ◌++◌, Option, Some, None, Result, Ok, Err, refl, sym, ap, subst, ◌∙◌, append_assoc, append-nil, arith, inl, inr, ◌⊎◌}
+use Rattle.std.proofs.Common.{◌≡◌, ℕ, ◌+◌, true, false, List, [], ◌∷◌, ◌++◌, Option, Some, None, Result, Ok, Err, IfSome, refl, sym, ap, subst, ◌∙◌, append_assoc, append-nil, arith, inl, inr, ◌⊎◌}
 use Rattle.std.specs.List.{AllByRecursion}
 use Rattle.std.specs.Result.{result_err, IsErrAnd}
 use Rattle.std.specs.Io.KnownBytes.{Consumes, IsAtEnd}
@@ -17,7 +17,7 @@ use Rattle.ruled_relay.specs.Inbox.{PassView}
 use Rattle.link_io.specs.declared.fault.IoFault.{IoFault}
 use Rattle.link_io.specs.declared.fault.IoFault.TheVariants as faults
 use Rattle.link_io.specs.Faults.{fault_of_frame}
-use Rattle.link_io.specs.Reading.{AsksGate, BreaksOff, Ends, Parts, Puts, PutsAll, PutsDown, ReadsOn, Serves, after_letting, frames_text, given, having_put}
+use Rattle.link_io.specs.Reading.{AsksGate, BreaksOff, Ends, IsTold, Parts, Puts, PutsAll, PutsDown, ReadsOn, Serves, after_letting, frames_text, given, having_put}
 
 -- ---- parts of a stream
 
@@ -280,6 +280,22 @@ serves start end limit refused last now old mid new (Ok done) before fault all i
     (subst (λ (b : Option IoFault). PutsDown limit last now mid new b fault) is down)
 serves start end limit refused last now old mid new (Err stop) before fault all is down =
     serves_broken start end limit refused last now old mid new fault all.0 stop all.1 all.2 (subst (λ (b : Option IoFault). PutsDown limit last now mid new b fault) is down)
+
+-- ---- what the device is told
+
+-- the fault is the earlier one, or that the gate is shut
+told_same : (before fault told : Option IoFault) {A B : Type 0} → IsTold before told → (A × (fault ≡ before)) ⊎ (B × (fault ≡ Some faults.GateShut)) → IsTold fault told
+told_same before fault told is (inl same) = subst (λ (f : Option IoFault). IsTold f told) (sym same.1) is
+told_same before fault told is (inr shut) = subst (λ (f : Option IoFault). IsTold f told) (sym shut.1) tt
+
+pub is_told : (limit refused now : ℕ) (old new : PassView) (before fault told : Option IoFault) → IfSome before (λ f. told ≡ Some f) → PutsDown limit refused now old new before fault → IsTold fault told
+is_told limit refused now old new None fault told is down = told_same None fault told tt down.1
+is_told limit refused now old new (Some faults.GateShut) fault told is down = subst (λ (f : Option IoFault). IsTold f told) (sym down.2) tt
+is_told limit refused now old new (Some faults.ReadFailed) fault told is down = told_same (Some faults.ReadFailed) fault told is down.1
+is_told limit refused now old new (Some faults.WriteFailed) fault told is down = told_same (Some faults.WriteFailed) fault told is down.1
+is_told limit refused now old new (Some faults.FrameFault) fault told is down = told_same (Some faults.FrameFault) fault told is down.1
+is_told limit refused now old new (Some faults.Memory) fault told is down = told_same (Some faults.Memory) fault told is down.1
+is_told limit refused now old new (Some faults.GivenUp) fault told is down = told_same (Some faults.GivenUp) fault told is down.1
 
 -- ---- answers that are errors
 

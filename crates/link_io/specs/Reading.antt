@@ -69,6 +69,12 @@ pub record Serves (start end : Option (List ℕ)) (limit refused now : ℕ) (old
   pub put : new ≡ having_put old (given frames ++ Down ∷ [])
   pub asks : AsksGate fault limit frames refused now
 
+-- The device was told of the fault; not where the gate stayed shut, since it may have refused `Down` alone.
+abbrev pub IsTold : Option IoFault → Option IoFault → Type 0
+IsTold None told = Unit {0}
+IsTold (Some GateShut) told = Unit {0}
+IsTold (Some fault) told = told ≡ Some fault
+
 -- ---- what the parts of a reader do
 
 -- The item was put last, and the gate let it through; or the gate refused it so often, and nothing was put.

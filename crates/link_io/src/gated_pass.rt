@@ -7,6 +7,12 @@ use crate::{Gate, IoFault};
 use ruled_relay::{Item, PutFault, SourcePass, What};
 use std::sync::Wait;
 
+/// A frame with a body of more octets than this is long: no message that is relayed has one.
+const LONG_BODY: usize = 320;
+
+/// A long frame is put once fewer items than these wait. So what waits is less than a megabyte, whatever a link gives.
+const FEW_WAIT: usize = 128;
+
 /// A pass behind a gate, which is asked before each item.
 #[derive(Drop)]
 pub(crate) struct GatedPass<G> {
@@ -45,23 +51,33 @@ impl<G: Gate> GatedPass<G> {
     }
 }
 
-/// Puts what a link gave, once there is room for it.
+/// Puts what a link gave, once there is room for it; a long frame once few items wait.
 pub(crate) fn put_once_there_is_room<R: Wait>(rt: &R, pass: &mut SourcePass, what: What)
     ensures { pass.new ≡ having_put pass.old (what ∷ []) }
 {
+    let long = is_long(&what);
     let mut item = Item {
         source: pass.source(),
         what,
     };
     let mut pauses = Pauses::new();
     for _ in rt.forever() {
-        match pass.put(rt, item) {
-            Ok(()) => return,
-            Err(PutFault::Full(back)) => item = back,
-            Err(PutFault::Foreign(_)) => unreachable!(),
+        if !long || pass.waiting(rt) < FEW_WAIT {
+            match pass.put(rt, item) {
+                Ok(()) => return,
+                Err(PutFault::Full(back)) => item = back,
+                Err(PutFault::Foreign(_)) => unreachable!(),
+            }
         }
         pass.ring();
         pauses.pause(rt);
     }
     unreachable!()
+}
+
+fn is_long(what: &What) -> bool {
+    match what {
+        What::Frame(frame) => frame.body.len() > LONG_BODY,
+        What::Down => false,
+    }
 }

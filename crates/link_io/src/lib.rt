@@ -4,6 +4,7 @@
 
 pub use fault::IoFault;
 pub use gate::Gate;
+pub use link_reader::LinkReader;
 pub use pauses::Pauses;
 pub use reader::{frames_put_are_the_first, serve_reader};
 pub use switch::switch_worker;
@@ -13,6 +14,7 @@ mod fault;
 mod framing;
 mod gate;
 mod gated_pass;
+mod link_reader;
 mod pauses;
 mod reader;
 mod switch;

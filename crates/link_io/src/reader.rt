@@ -1,11 +1,11 @@
-ghost use Rattle.std.specs.Prelude.{◌≡◌, ◌⊎◌, ◌++◌, ℕ, List};
+ghost use Rattle.std.specs.Prelude.{◌≡◌, ◌⊎◌, ◌++◌, ℕ, IfSome, List, Some};
 ghost use Rattle.ipa_framing.specs.declared.frame.Frame.{Frame as FrameValue};
 ghost use Rattle.ipa_framing.specs.Frame.{IsPartial, IsTooLong, Splits};
-ghost use Rattle.link_io.specs.Reading.{Parts, PutsAll, PutsDown, PutsWhole, Serves};
+ghost use Rattle.link_io.specs.Reading.{IsTold, Parts, PutsAll, PutsDown, PutsWhole, Serves};
 
 use crate::framing::{BLOCK, MOST_READS, read_on};
 use crate::gated_pass::{GatedPass, put_once_there_is_room};
-use crate::{Gate, IoFault};
+use crate::{Gate, IoFault, LinkReader};
 use ipa_framing::Framer;
 use ruled_relay::{SourcePass, What};
 use std::alloc::Global;
@@ -19,8 +19,8 @@ use std::sync::Wait;
 /// `ReadFailed`: a read failed, other than by an interruption, or there were 2^40 reads. `FrameFault`: a frame has a body of
 /// more than 2,048 octets. `Memory`: there was none for a frame. `GateShut`: the gate refused an item `limit` times in a
 /// row; where that item was `Down`, it stands in place of an earlier fault. `Down` is put all the same, and the gate isn't
-/// asked again.
-pub fn serve_reader<I: Read, G: Gate, R: Wait>(
+/// asked again. The reader is told of the fault at once, before `Down` is put.
+pub fn serve_reader<I: LinkReader, G: Gate, R: Wait>(
     rt: &R,
     alloc: Global,
     mut reader: I,
@@ -28,13 +28,25 @@ pub fn serve_reader<I: Read, G: Gate, R: Wait>(
     pass: SourcePass,
     limit: u32,
 ) -> (I, G, SourcePass, Option<IoFault>)
-    ensures { Serves (I.remaining reader) (I.remaining result.0) limit (G.refused gate) (G.refused result.1) pass result.2 result.3 }
+    ensures serves { Serves (I.remaining reader) (I.remaining result.0) limit (G.refused gate) (G.refused result.1) pass result.2 result.3 }
+    ensures told { IsTold result.3 (I.told result.0) }
 {
     let mut gated = GatedPass { gate, pass, limit };
-    let read = put_all(rt, alloc, &mut reader, &mut gated);
-    let fault = put_down(rt, &mut gated, read.err());
+    let fault = put_all(rt, alloc, &mut reader, &mut gated).err();
+    tell(&mut reader, fault);
+    let fault = put_down(rt, &mut gated, fault);
     let GatedPass { gate, pass, .. } = gated;
     (reader, gate, pass, fault)
+}
+
+/// Tells the reader why nothing more is read, where that isn't its end.
+fn tell<I: LinkReader>(reader: &mut I, fault: Option<IoFault>)
+    ensures told { IfSome fault (λ fault. I.told reader.new ≡ Some fault) }
+    ensures same { I.remaining reader.new ≡ I.remaining reader.old }
+{
+    if let Some(fault) = fault {
+        reader.break_off(fault);
+    }
 }
 
 /// Puts `Down`, and gives the fault that the reader ends with.

@@ -1,4 +1,5 @@
 ghost use Rattle.std.specs.Prelude.{◌≡◌};
+ghost use Rattle.std.specs.Io.KnownBytes.{Keeps};
 ghost use Rattle.link_io.specs.Writing.{Delivers, Gathers, TakesToEnd, WritesLines};
 
 use crate::IoFault;
@@ -25,11 +26,12 @@ struct Broken {
 }
 
 /// Takes the lines of an outbox up to the mark `End`, and writes the octets of their frames. What waits there goes into one
-/// write, up to some 8 KiB. Then it flushes the writer, once. Gives all back, and why not all was written.
+/// write, up to some 8 KiB. Then it flushes the writer. Gives all back, and why not all was written.
 ///
 /// `WriteFailed`: a write failed, other than by an interruption, or took no octet, or the flush failed. `FrameFault`: a
 /// frame has a body of more than 2,048 octets. `Memory`: there was none. The writer is flushed as soon as there is a fault,
-/// and the lines up to `End` are taken all the same, and dropped.
+/// and the lines up to `End` are taken all the same, and dropped. It is flushed too where the other end of the outbox gives
+/// it up, once nothing waits there any more.
 pub fn serve_writer<O: Write, R: Wait>(
     rt: &R,
     alloc: Global,
@@ -67,7 +69,7 @@ fn write_lines<O: Write, R: Wait>(
     let mut text = Vec::new(alloc);
     for _ in rt.forever() {
         text.clear();
-        let at_end = match gather(rt, taker, &mut text) {
+        let at_end = match gather(rt, writer, taker, &mut text) {
             Ok(at_end) => at_end,
             Err(fault) => {
                 return Err(Broken {
@@ -86,10 +88,16 @@ fn write_lines<O: Write, R: Wait>(
     unreachable!()
 }
 
-/// Takes what waits in the outbox and appends the octets of its frames; where nothing does, sleeps until something is put.
+/// Takes what waits in the outbox and appends the octets of its frames; where nothing does, rests until something is put.
 /// True where the mark was taken.
-fn gather<R: Wait>(rt: &R, taker: &mut Taker, text: &mut Vec<u8>) -> Result<bool, IoFault>
-    ensures { Gathers taker.old taker.new text.old.items text.new.items result }
+fn gather<O: Write, R: Wait>(
+    rt: &R,
+    writer: &mut O,
+    taker: &mut Taker,
+    text: &mut Vec<u8>,
+) -> Result<bool, IoFault>
+    ensures gathers { Gathers taker.old taker.new text.old.items text.new.items result }
+    ensures same { Keeps (O.contents writer.old) (O.contents writer.new) }
 {
     for _ in rt.forever() {
         if text.len() >= GATHERED {
@@ -98,11 +106,21 @@ fn gather<R: Wait>(rt: &R, taker: &mut Taker, text: &mut Vec<u8>) -> Result<bool
         match taker.take(rt) {
             Some(Line::Frame(frame)) => write_frame(&frame, text)?,
             Some(Line::End) => return Ok(true),
-            None if text.is_empty() => taker.wait(rt, Duration::from_secs(LONGEST_SLEEP)),
+            None if text.is_empty() => rest(rt, writer, taker),
             None => return Ok(false),
         }
     }
     unreachable!()
+}
+
+/// Sleeps until something is put. Where nothing more is to be put but the mark, flushes the writer first.
+fn rest<O: Write, R: Wait>(rt: &R, writer: &mut O, taker: &Taker)
+    ensures { Keeps (O.contents writer.old) (O.contents writer.new) }
+{
+    if taker.was_given_up() {
+        let _ = writer.flush();
+    }
+    taker.wait(rt, Duration::from_secs(LONGEST_SLEEP));
 }
 
 /// Takes the lines up to the mark.

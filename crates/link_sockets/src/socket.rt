@@ -1,4 +1,5 @@
 use crate::name::LinkName;
+use link_io::{IoFault, LinkReader};
 use log::{Log, info, warn};
 use std::io::{self, ErrorKind, Read, Write};
 use std::net::{Shutdown, TcpStream};
@@ -7,12 +8,14 @@ use std::time::Duration;
 /// For how many seconds a write may wait for a peer that takes nothing.
 const WRITE_TIMEOUT: u64 = 10;
 
-/// The end of a link's socket that is read. It logs when nothing more comes.
+/// The end of a link's socket that is read. It logs when nothing more comes. Where it is told that nothing more is read, it
+/// logs why and shuts the socket both ways, so that the peer sees it, and the writer of the same link ends too.
 #[derive(Drop)]
 pub struct ReadingEnd<R> {
     rt: R,
     name: LinkName,
     stream: TcpStream,
+    broken: Option<IoFault>,
 }
 
 /// The end of a link's socket that is written. A write that fails is logged and shuts the socket both ways, so that the
@@ -33,7 +36,12 @@ pub fn ends_of<R: Log + Copy>(
     stream.set_nodelay(true)?;
     stream.set_write_timeout(Some(Duration::from_secs(WRITE_TIMEOUT)))?;
     let other = stream.try_clone()?;
-    let reading = ReadingEnd { rt, name, stream };
+    let reading = ReadingEnd {
+        rt,
+        name,
+        stream,
+        broken: None,
+    };
     let writing = WritingEnd {
         rt,
         name,
@@ -53,6 +61,16 @@ impl<R: Log> Read for ReadingEnd<R> {
             _ => {}
         }
         read
+    }
+}
+
+impl<R: Log> LinkReader for ReadingEnd<R> {
+    ghost told = { λ end. end.broken };
+
+    fn break_off(&mut self, fault: IoFault) {
+        self.broken = Some(fault);
+        warn!(self.rt; target: "", "{}: shut: {fault}", self.name);
+        let _ = self.stream.shutdown(Shutdown::Both);
     }
 }
 

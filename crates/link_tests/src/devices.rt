@@ -1,7 +1,9 @@
-use link_io::{Gate, IoFault};
+use link_io::{Gate, IoFault, LinkReader};
 use octets::Memory;
 use std::alloc::Global;
 use std::io::{self, ErrorKind, Read, Write};
+use std::sync::Arc;
+use std::sync::atomic::{AtomicU64, Ordering};
 use std::test::Fail;
 
 /// What one call of a device does.
@@ -17,6 +19,14 @@ pub(crate) enum Call<'a> {
 #[derive(Drop)]
 pub(crate) struct Source<'a> {
     pub calls: &'a [Call<'a>],
+    /// What it was told.
+    pub told: Option<IoFault>,
+}
+
+impl<'a> Source<'a> {
+    pub fn new(calls: &'a [Call<'a>]) -> Source<'a> {
+        Source { calls, told: None }
+    }
 }
 
 impl Read for Source<'_> {
@@ -33,6 +43,14 @@ impl Read for Source<'_> {
             Call::Interrupted => Err(io::Error::from(ErrorKind::Interrupted)),
             Call::Failed => Err(io::Error::from(ErrorKind::ConnectionReset)),
         }
+    }
+}
+
+impl LinkReader for Source<'_> {
+    ghost told = { λ source. source.told };
+
+    fn break_off(&mut self, fault: IoFault) {
+        self.told = Some(fault);
     }
 }
 
@@ -108,6 +126,42 @@ impl Gate for Shut {
         self.left -= 1;
         self.refused += 1;
         false
+    }
+}
+
+/// A gate that is never shut, and counts how often it was asked.
+#[derive(Drop)]
+pub(crate) struct Counts {
+    pub asked: Arc<AtomicU64, Global>,
+}
+
+impl Gate for Counts {
+    ghost refused = { λ _. 0 };
+
+    fn pass(&mut self, _source: u16) -> bool {
+        self.asked.fetch_add(1, Ordering::SeqCst);
+        true
+    }
+}
+
+/// A device that takes all, and counts the flushes for another thread.
+#[derive(Drop)]
+pub(crate) struct Flushed {
+    pub got: Vec<u8>,
+    pub flushes: Arc<AtomicU64, Global>,
+}
+
+impl Write for Flushed {
+    fn write(&mut self, buf: &[u8]) -> io::Result<usize> {
+        match self.got.extend_from_slice(buf) {
+            Ok(()) => Ok(buf.len()),
+            Err(_) => Err(io::Error::from(ErrorKind::OutOfMemory)),
+        }
+    }
+
+    fn flush(&mut self) -> io::Result<()> {
+        self.flushes.fetch_add(1, Ordering::SeqCst);
+        Ok(())
     }
 }
 

@@ -27,7 +27,7 @@ fn a_connection_request_is_confirmed(rt: HostRuntime) -> Result<(), Fail> {
     let switch = MscEnd::new(alloc, Modulus::Four);
     let (_, sink, switch, fault) = switch_worker(
         alloc,
-        Source { calls: &calls },
+        Source::new(&calls),
         Sink::new(alloc),
         switch,
     );
@@ -46,9 +46,7 @@ fn a_switch_that_wants_memory_writes_a_first_part(rt: HostRuntime) -> Result<(),
         ..Sink::new(alloc)
     };
     let switch = MscEnd::new(alloc, Modulus::Four);
-    let source = Source {
-        calls: &[Call::Octets(REQUEST)],
-    };
+    let source = Source::new(&[Call::Octets(REQUEST)]);
     let (_, sink, _, fault) = switch_worker(alloc, source, sink, switch);
     assert!(rt; CONFIRM.starts_with(sink.got.as_slice()));
     assert!(rt; sink.got.as_slice() == CONFIRM || fault.is_some());

@@ -1,11 +1,14 @@
-use crate::devices::{PING, Sink, ended};
+use crate::devices::{Flushed, PING, Sink, ended};
 use ipa_framing::{CCM_STREAM, Frame};
 use link_io::{IoFault, serve_writer};
 use octets::Octets;
 use ruled_relay::{Line, Outbox};
 use std::alloc::Global;
-use std::sync::Wait;
+use std::sync::atomic::{AtomicU64, Ordering};
+use std::sync::{Arc, Wait};
 use std::test::Fail;
+use std::thread;
+use std::time::{Clock, Duration};
 
 /// Writes so many PING frames to a device.
 fn write<R: Wait>(
@@ -74,6 +77,44 @@ fn a_device_that_takes_nothing_fails(rt: HostRuntime) -> Result<(), Fail> {
     };
     let (sink, fault) = write(&rt, alloc, 3, sink)?;
     assert!(rt; matches!(fault, Some(IoFault::WriteFailed)));
+    assert!(rt; sink.got.as_slice() == PING);
+    Ok(())
+}
+
+/// Waits until the device was flushed, for some seconds.
+fn await_flush<R: Clock>(rt: &R, flushes: &AtomicU64) -> bool {
+    for _ in 0..5_000 {
+        if flushes.load(Ordering::SeqCst) > 0 {
+            return true;
+        }
+        thread::sleep(rt, Duration::from_millis(1));
+    }
+    false
+}
+
+#[test]
+fn a_device_is_flushed_once_an_outbox_that_was_given_up_is_empty(
+    rt: HostRuntime,
+) -> Result<(), Fail> {
+    let alloc = rt.alloc();
+    let (mut putter, taker) = Outbox::new(alloc, 8)?;
+    let body = Octets::copy(alloc, &[0x00])?;
+    let stream = CCM_STREAM;
+    assert!(rt; putter.put(&rt, Line::Frame(Frame { stream, body })).is_ok());
+    putter.give_up();
+    let flushes = Arc::new(alloc, AtomicU64::new(0))?;
+    let sink = Flushed {
+        got: Vec::new(alloc),
+        flushes: Arc::try_clone(&flushes)?,
+    };
+    let writer = thread::spawn(&rt, move || serve_writer(&rt, alloc, sink, taker))?;
+    let flushed = await_flush(&rt, &flushes);
+    let put = putter.put(&rt, Line::End).is_ok();
+    putter.ring();
+    let (sink, _, fault) = writer.join(&rt);
+    assert!(rt; put);
+    ended(fault)?;
+    assert!(rt; flushed);
     assert!(rt; sink.got.as_slice() == PING);
     Ok(())
 }

@@ -1,4 +1,5 @@
-use ruled_relay::{Inbox, Outbox};
+use ruled_relay::{Inbox, Line, Outbox, Putter};
+use std::sync::Wait;
 use std::test::Fail;
 use std::thread;
 use std::time::{Duration, Instant};
@@ -18,9 +19,18 @@ fn every_pass_rings_the_desk(rt: HostRuntime) -> Result<(), Fail> {
     Ok(())
 }
 
+/// Puts the mark that stands behind the last frame.
+fn put_end<R: Wait>(rt: &R, putter: &mut Putter) -> Result<(), Fail> {
+    match putter.put(rt, Line::End) {
+        Ok(()) => Ok(()),
+        Err(_) => Err(Fail::new("the outbox is full")),
+    }
+}
+
 #[test]
 fn a_putter_wakes_a_taker_that_sleeps(rt: HostRuntime) -> Result<(), Fail> {
-    let (putter, taker) = Outbox::new(rt.alloc(), 1)?;
+    let (mut putter, taker) = Outbox::new(rt.alloc(), 1)?;
+    put_end(&rt, &mut putter)?;
     let begin = Instant::now(&rt)?;
     taker.wait(&rt, Duration::from_millis(1));
     let ringer = thread::spawn(&rt, move || {
@@ -30,5 +40,35 @@ fn a_putter_wakes_a_taker_that_sleeps(rt: HostRuntime) -> Result<(), Fail> {
     taker.wait(&rt, Duration::from_secs(LONG));
     assert!(rt; begin.elapsed(&rt)?.as_secs() < LONG);
     ringer.join(&rt);
+    Ok(())
+}
+
+#[test]
+fn each_line_that_is_put_is_rung_for_once(rt: HostRuntime) -> Result<(), Fail> {
+    let (mut putter, taker) = Outbox::new(rt.alloc(), 4)?;
+    let begin = Instant::now(&rt)?;
+    for _ in 0..3 {
+        put_end(&rt, &mut putter)?;
+        putter.ring();
+        taker.wait(&rt, Duration::from_secs(LONG));
+        assert!(rt; begin.elapsed(&rt)?.as_secs() < LONG);
+        let rested = Instant::now(&rt)?;
+        putter.ring();
+        taker.wait(&rt, Duration::from_millis(20));
+        assert!(rt; rested.elapsed(&rt)?.as_millis() >= 20);
+    }
+    Ok(())
+}
+
+#[test]
+fn a_taker_is_told_once_that_its_outbox_was_given_up(rt: HostRuntime) -> Result<(), Fail> {
+    let (putter, taker) = Outbox::new(rt.alloc(), 1)?;
+    let begin = Instant::now(&rt)?;
+    assert!(rt; !taker.was_given_up());
+    putter.give_up();
+    taker.wait(&rt, Duration::from_secs(LONG));
+    assert!(rt; begin.elapsed(&rt)?.as_secs() < LONG);
+    assert!(rt; taker.was_given_up());
+    assert!(rt; !taker.was_given_up());
     Ok(())
 }

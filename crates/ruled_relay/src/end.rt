@@ -64,6 +64,14 @@ impl<T: Drop> End<T> {
         self.queue.pop_as::<Taking, R>(rt, &mut self.pass)
     }
 
+    /// How many items wait. No clause says so.
+    pub(crate) fn waiting<R: Wait>(&mut self, rt: &R) -> usize
+        requires { self.old.seen.puts ≡ true }
+        ensures { self.new ≡ self.old }
+    {
+        self.queue.len_as::<Putting, R>(rt, &mut self.pass)
+    }
+
     /// Takes in the end that puts.
     pub(crate) fn join(&mut self, other: End<T>)
         requires queue { other.queue ≡ self.old.queue }

@@ -154,6 +154,13 @@ impl SourcePass {
         }
     }
 
+    /// How many of its items wait to be taken. No clause says so.
+    pub fn waiting<R: Wait>(&mut self, rt: &R) -> usize
+        ensures { self.new ≡ self.old }
+    {
+        self.end.waiting(rt)
+    }
+
     /// The source whose items it puts.
     pub fn source(&self) -> u16
         ensures { result ≡ self.now.source }

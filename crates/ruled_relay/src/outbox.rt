@@ -35,6 +35,8 @@ pub struct Putter {
     bell: Bell,
     refused: u32,
     refusals: u32,
+    /// Whether a line was put since the bell was rung.
+    unrung: bool,
 }
 
 impl Model for Putter {
@@ -100,6 +102,7 @@ impl Outbox {
             bell,
             refused: 0,
             refusals: 0,
+            unrung: false,
         };
         let taker = Taker {
             end: taking,
@@ -129,6 +132,7 @@ impl Putter {
         match self.end.put(rt, line) {
             Ok(()) => {
                 self.refused = 0;
+                self.unrung = true;
                 Ok(())
             }
             Err(line) => {
@@ -148,9 +152,19 @@ impl Putter {
         self.refusals
     }
 
-    /// Wakes the thread that waits at the other end.
-    pub fn ring(&self) {
-        self.bell.ring();
+    /// Wakes the thread that waits at the other end, if a line was put since that was done last.
+    pub fn ring(&mut self)
+        ensures { self.new ≡ self.old }
+    {
+        if self.unrung {
+            self.bell.ring();
+            self.unrung = false;
+        }
+    }
+
+    /// Tells the other end that no frame is to be put any more, and wakes it. This binds nobody.
+    pub fn give_up(&self) {
+        self.bell.ring_last();
     }
 }
 
@@ -161,6 +175,11 @@ impl Taker {
         ensures same { self.new.queue ≡ self.old.queue }
     {
         self.end.take(rt)
+    }
+
+    /// Whether the other end has told that it puts no frame any more. It says so once.
+    pub fn was_given_up(&self) -> bool {
+        self.bell.was_last()
     }
 
     /// Waits until the other end rings, at most so long. It may end sooner.

@@ -1,5 +1,5 @@
 use call_worker::Clock;
-use link_io::Gate;
+use link_io::{Gate, IoFault, LinkReader};
 use std::alloc::Global;
 use std::io::{self, ErrorKind, Read, Write};
 use std::sync::Arc;
@@ -18,6 +18,8 @@ const ALL: u64 = u64::MAX;
 pub(crate) struct Source {
     pub octets: &'static [u8],
     pub fails: bool,
+    /// What it was told.
+    pub told: Option<IoFault>,
 }
 
 impl Read for Source {
@@ -26,6 +28,14 @@ impl Read for Source {
             return Err(io::Error::from(ErrorKind::ConnectionReset));
         }
         self.octets.read(buf)
+    }
+}
+
+impl LinkReader for Source {
+    ghost told = { λ source. source.told };
+
+    fn break_off(&mut self, fault: IoFault) {
+        self.told = Some(fault);
     }
 }
 

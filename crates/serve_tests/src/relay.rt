@@ -58,6 +58,7 @@ fn link_of<R: Drop>(
     let reader = Source {
         octets: play.octets,
         fails: play.read_fails,
+        told: None,
     };
     let writer = Sink {
         kept,

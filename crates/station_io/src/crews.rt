@@ -5,11 +5,11 @@ ghost use Rattle.station_io.specs.Done.{AreRead, AreWritten, IsCalled};
 
 use crate::work::{Calling, HasCalled, HasRead, HasWritten, Reading, Writing};
 use call_worker::Clock;
-use link_io::Gate;
+use link_io::{Gate, LinkReader};
 use octets::Memory;
 use ruled_relay::Desk;
 use std::alloc::Global;
-use std::io::{Read, Write};
+use std::io::Write;
 use std::sync::Wait;
 use std::thread::Threads;
 use std::time::Duration;
@@ -36,13 +36,13 @@ pub(crate) struct Done<I, O, G> {
 
 /// The threads of the relay.
 #[derive(Drop)]
-struct Crews<I: Read + Drop, O: Write + Drop, G: Gate + Drop> {
+struct Crews<I: LinkReader + Drop, O: Write + Drop, G: Gate + Drop> {
     readers: Crew<Reading<I, G>>,
     writers: Crew<Writing<O>>,
 }
 
 impl<
-    I: Read + Drop + Send + 'static,
+    I: LinkReader + Drop + Send + 'static,
     O: Write + Drop + Send + 'static,
     G: Gate + Drop + Send + 'static,
 > Crews<I, O, G> {
@@ -101,7 +101,7 @@ impl<
 
 /// What the call worker gave back, if it has no fault. After its fault nobody takes what the readers still put, so it is let
 /// go until they have ended.
-fn without_fault<I: Read + Drop, G: Gate + Drop, R: Wait>(
+fn without_fault<I: LinkReader + Drop, G: Gate + Drop, R: Wait>(
     rt: &R,
     called: HasCalled,
     readers: &Crew<Reading<I, G>>,
@@ -118,7 +118,7 @@ fn without_fault<I: Read + Drop, G: Gate + Drop, R: Wait>(
 }
 
 /// Takes until the readers have ended.
-fn drain<I: Read + Drop, G: Gate + Drop, R: Wait>(
+fn drain<I: LinkReader + Drop, G: Gate + Drop, R: Wait>(
     rt: &R,
     mut desk: Desk,
     readers: &Crew<Reading<I, G>>,
@@ -136,7 +136,7 @@ fn drain<I: Read + Drop, G: Gate + Drop, R: Wait>(
 /// Does all works at once: those of the links each in a thread of its own, that of the call worker in the thread that called.
 /// `Memory`: a thread couldn't be had, and then none began; or the call worker ended with want of memory.
 pub(crate) fn run<
-    I: Read + Drop + Send + 'static,
+    I: LinkReader + Drop + Send + 'static,
     O: Write + Drop + Send + 'static,
     G: Gate + Drop + Send + 'static,
     K: Clock + Drop,

@@ -11,10 +11,10 @@ use crate::work::Calling;
 use crate::works::workers;
 use call_worker::Clock;
 use controller::Controller;
-use link_io::{Gate, IoFault};
+use link_io::{Gate, IoFault, LinkReader};
 use octets::Memory;
 use std::alloc::Global;
-use std::io::{Read, Write};
+use std::io::Write;
 use std::sync::Wait;
 use std::thread::Threads;
 
@@ -29,7 +29,7 @@ use std::thread::Threads;
 /// `Memory`: there was none for a queue or in a step of the controller, or a thread couldn't be had; in that last case none
 /// begins. The links are let go.
 pub fn serve_links<
-    I: Read + Drop + Send + 'static,
+    I: LinkReader + Drop + Send + 'static,
     O: Write + Drop + Send + 'static,
     G: Gate + Drop + Send + 'static,
     K: Clock + Drop,
@@ -56,7 +56,7 @@ pub fn serve_links<
 
 /// Makes the queues of all links, and lets each thread do its work with its ends of them.
 fn relay<
-    I: Read + Drop + Send + 'static,
+    I: LinkReader + Drop + Send + 'static,
     O: Write + Drop + Send + 'static,
     G: Gate + Drop + Send + 'static,
     K: Clock + Drop,

@@ -2,10 +2,10 @@
 
 use call_worker::{Clock, call_worker};
 use controller::Controller;
-use link_io::{Gate, IoFault, serve_reader, serve_writer};
+use link_io::{Gate, IoFault, LinkReader, serve_reader, serve_writer};
 use ruled_relay::{Desk, Putter, SourcePass, Taker};
 use std::alloc::Global;
-use std::io::{Read, Write};
+use std::io::Write;
 use std::sync::Wait;
 use worker_threads::Worker;
 
@@ -29,7 +29,7 @@ pub(crate) struct HasRead<I, G> {
     pub fault: Option<IoFault>,
 }
 
-impl<I: Read + Drop, G: Gate + Drop> Worker for Reading<I, G> {
+impl<I: LinkReader + Drop, G: Gate + Drop> Worker for Reading<I, G> {
     type Done = HasRead<I, G>;
 
     ghost use Rattle.link_io.specs.Reading.{Serves};

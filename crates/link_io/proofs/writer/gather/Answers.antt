@@ -6,8 +6,8 @@ use Rattle.link_io.proofs.Reading.{as_error}
 use Rattle.link_io.proofs.Gathering.{gathers_frame, gathers_refused}
 use Rattle.link_io.proofs.writer.gather.Goals as goal
 
-pub returns-in_err-write_frame-in-Some-Frame : goal.returns-in_err-write_frame-in-Some-Frame
-returns-in_err-write_frame-in-Some-Frame g c =
+pub returns-in_err-write_frame-in-Some-Frame-clause-gathers : goal.returns-in_err-write_frame-in-Some-Frame-clause-gathers
+returns-in_err-write_frame-in-Some-Frame-clause-gathers g c =
     let fault = c.in_err-write_frame-in-Some-Frame.field-0.0 in
     let taken = subst (λ line. TakesLine c.loop.taker line c.take.new.self) c.in-Some-Frame.field-0-is c.in-Some-Frame.ensures.takes in
     as_error c.from_residual.result (fault_of_frame fault) (Gathers c.args.taker.now c.take.new.self c.args.text.now.items c.write_frame.new.out.items) c.from_residual.ensures.1
@@ -21,4 +21,5 @@ loop-preserved-in-Some-Frame g c =
       tt,
       gathers_frame c.args.taker.now c.loop.taker c.take.new.self c.args.text.now.items c.loop.text.items c.write_frame.new.out.items c.in-Some-Frame.frame c.loop.invariant.2 taken
           c.in_ok-write_frame-in-Some-Frame.ensures.ok c.in_ok-write_frame-in-Some-Frame.ensures.refused,
+      c.loop.invariant.3,
     )
