@@ -1,5 +1,5 @@
 -- Definitions against literal lines and events, of the script language and of the fixed world.
-use Rattle.std.proofs.Common.{◌≡◌, ℕ, List, [], ◌∷◌, ◌++◌, map, replicate, true, false, Option, Some, None, refl}
+use Rattle.std.proofs.Common.{◌≡◌, ℕ, List, [], ◌∷◌, ◌++◌, map, replicate, true, false, Option, Some, None, option_map, refl}
 use Rattle.std.specs.Prelude.{codes}
 use Rattle.std.specs.List.{slice_split}
 use Rattle.hex.proofs.OnLiterals.{hex_on_literals}
@@ -12,7 +12,7 @@ use Rattle.world_table.specs.declared.event.SwitchAction.TheVariants.{Assign, Cl
 use Rattle.world.specs.declared.fixed.TheConstants.{FIXED_CONNECTION, FIXED_MOBILE}
 use Rattle.mobile_end.specs.MobileState.{MobileState}
 use Rattle.world.specs.declared.world.Scene.{Scene}
-use Rattle.world.specs.declared.world.Scene.TheVariants.{Fixed}
+use Rattle.world.specs.declared.world.Scene.TheVariants.{Fixed, Controlled}
 use Rattle.world.specs.WordsLeft.{is_space}
 use Rattle.world.specs.Words.{mobile_in, station_in, source_in, any_number_in, sapi_in, answer_in, octets_in}
 use Rattle.world.specs.ScriptReading.{action_in, connect_at, dtap_at, event_at, kind_in, line_at, report_at, switch_does_at, upper_at}
@@ -206,13 +206,14 @@ on_both_links =
     after_all (fixed_world 4)
     (Upper 1 Three (0x09 ∷ 0x01 ∷ []) ∷ Upper 1 Zero (0x03 ∷ 0x05 ∷ []) ∷ Upper 1 Zero (0x09 ∷ 0x01 ∷ []) ∷ Upper 1 Three (0x03 ∷ 0x05 ∷ []) ∷ [])
 
-abbrev mobile_of : Scene → MobileState
-mobile_of (Fixed world) = world.mobile
+abbrev mobile_of : Scene → Option MobileState
+mobile_of (Fixed world) = Some world.mobile
+mobile_of (Controlled w) = None
 
-waits_on_three : (mobile_of on_both_links.scene).three.waiting ≡ (0x09 ∷ 0x01 ∷ []) ∷ []
+waits_on_three : option_map (λ mobile. mobile.three.waiting) (mobile_of on_both_links.scene) ≡ Some ((0x09 ∷ 0x01 ∷ []) ∷ [])
 waits_on_three = refl
 
-waits_on_zero : (mobile_of on_both_links.scene).zero.waiting ≡ (0x03 ∷ 0x05 ∷ []) ∷ []
+waits_on_zero : option_map (λ mobile. mobile.zero.waiting) (mobile_of on_both_links.scene) ≡ Some ((0x03 ∷ 0x05 ∷ []) ∷ [])
 waits_on_zero = refl
 
 short_message_is_not_sent : sent_list on_both_links.scene 1 ≡ Some ((0x03 ∷ 0x05 ∷ []) ∷ [])

@@ -1,11 +1,12 @@
 -- The order of messages, end to end: for every list of events, what the switch accepts of the flow of a connection is the
 -- beginning of what its mobile sent, once and in order; and each relay queue gives what was put there, in order.
-use Rattle.std.specs.Prelude.{◌≡◌, ℕ, ◌≤◌, Option, Some, IsSome, List, ◌++◌}
+use Rattle.std.specs.Prelude.{◌≡◌, ℕ, ◌≤◌, true, Option, Some, IsSome, List, ◌++◌}
 use Rattle.octets.specs.Lists.{IsPrefix}
 use Rattle.world_table.specs.declared.event.Event.{Event}
 use Rattle.world.specs.declared.world.Scene.{Scene}
-use Rattle.world.specs.Queues.{Queue, outbox, all_messages_put, all_messages_taken, messages_left, IsTakenBySwitch}
-use Rattle.world.specs.Views.{sent_list, accepted_list, progress_in, opener_in}
+use Rattle.world.specs.Openers.{opener_in}
+use Rattle.world.specs.Queues.{Queue, outbox, all_messages_put, all_messages_taken, messages_left, is_kept, IsTakenBySwitch}
+use Rattle.world.specs.Views.{sent_list, accepted_list, progress_in}
 use Rattle.world.specs.World.{fixed_world}
 use Rattle.world.specs.WorldState.{WorldState}
 
@@ -14,9 +15,9 @@ pub data Begins : WorldState → Type 0 where
   fixed : (m : ℕ) → 2 ≤ m → Begins (fixed_world m)
 
 -- the list is the beginning of what the mobile sent whose connection this is
-pub record IsBeginningOfSent (scene : Scene) (connection : ℕ) (list : List (List ℕ)) : Type 0 where
+pub record IsBeginningOfSent (begin : Scene) (events : List Event) (scene : Scene) (connection : ℕ) (list : List (List ℕ)) : Type 0 where
   pub mobile : ℕ
-  pub opened : opener_in scene connection ≡ Some mobile
+  pub opened : opener_in begin events connection ≡ Some mobile
   pub sent : List (List ℕ)
   pub is_sent : sent_list scene mobile ≡ Some sent
   pub is_prefix : IsPrefix list sent
@@ -24,10 +25,19 @@ pub record IsBeginningOfSent (scene : Scene) (connection : ℕ) (list : List (Li
 -- what holds of the actors whom these events have made from a beginning
 pub record IsInOrder (begin : Scene) (events : List Event) (scene : Scene) : Type 0 where
   -- what the switch accepts is a prefix of what the mobile sent
-  pub accepted : (connection : ℕ) (list : List (List ℕ)) → accepted_list scene connection ≡ Some list → IsBeginningOfSent scene connection list
+  pub accepted : (connection : ℕ) (list : List (List ℕ)) → accepted_list scene connection ≡ Some list → IsBeginningOfSent begin events scene connection list
   -- no gap is ever judged
   pub no_gap : (connection : ℕ) (progress : Option ℕ) → progress_in scene connection ≡ Some progress → IsSome progress
   -- of each queue, what was put is what was taken, followed by what stands there
   pub queues : (queue : Queue) → all_messages_put begin events queue ≡ all_messages_taken begin events queue ++ messages_left scene queue
+  -- and the switch has what was taken out of its outbox
+  pub switch : IsTakenBySwitch scene (all_messages_taken begin events (outbox 0))
+
+-- What holds of the relay queues of a world with a controller, where an outbox is lost with its link.
+pub record QueuesKeepOrder (begin : Scene) (events : List Event) (scene : Scene) : Type 0 where
+  -- what was taken is the beginning of what was put
+  pub first_out : (queue : Queue) → IsPrefix (all_messages_taken begin events queue) (all_messages_put begin events queue)
+  -- and what stands there is the rest, unless its link broke
+  pub left : (queue : Queue) → is_kept scene queue ≡ true → all_messages_put begin events queue ≡ all_messages_taken begin events queue ++ messages_left scene queue
   -- and the switch has what was taken out of its outbox
   pub switch : IsTakenBySwitch scene (all_messages_taken begin events (outbox 0))

@@ -3,6 +3,7 @@ pub mod Fixed
 pub mod WorldState
 pub mod World
 pub mod Views
+pub mod Openers
 pub mod Queues
 pub mod Headline
 pub mod WordsLeft

@@ -1,11 +1,19 @@
 -- The relay queues of a world, and their histories over any list of events.
-use Rattle.std.specs.Prelude.{◌≡◌, ℕ, ◌==◌, List, [], ◌∷◌, ◌++◌, map, option_to_list, if◌then◌else◌}
+use Rattle.std.specs.Prelude.{◌≡◌, ℕ, ◌==◌, Bool, true, List, [], ◌∷◌, ◌++◌, fold, map, option_to_list, Option, Some, None, if◌then◌else◌}
+use Rattle.bssmap_codec.specs.declared.sccp.Sccp.{Sccp}
 use Rattle.dtap_codec.specs.declared.sapi.Sapi.TheVariants.{Zero}
+use Rattle.msc_end.specs.Switch.{after as switch_after}
+use Rattle.msc_end.specs.SwitchState.{SwitchState}
+use Rattle.relay_items.specs.declared.Item.{Item}
 use Rattle.world_table.specs.declared.event.Event.{Event}
 use Rattle.world_table.specs.declared.event.Event.TheVariants.{AirUp, SwitchTakes}
+use Rattle.world_table.specs.declared.line.OutboxEntry.{OutboxEntry}
+use Rattle.world_table.specs.Queues.{put, taken, pushed, popped, of_source}
+use Rattle.world_table.specs.SwitchSide.{sccp_in}
+use Rattle.world_table.specs.World.{Actors, is_up, outbox_of}
 use Rattle.world.specs.declared.fixed.TheConstants.{FIXED_MOBILE}
 use Rattle.world.specs.declared.world.Scene.{Scene}
-use Rattle.world.specs.declared.world.Scene.TheVariants.{Fixed}
+use Rattle.world.specs.declared.world.Scene.TheVariants.{Fixed, Controlled}
 use Rattle.world.specs.FixedState.{FixedState}
 use Rattle.world.specs.Fixed.{frame_up}
 use Rattle.world.specs.World.{actors_after}
@@ -15,9 +23,11 @@ pub data Queue : Type 0 where
   outbox : ℕ → Queue
   inbox : ℕ → Queue
 
--- what stands in a queue
+-- what stands in a queue: in the fixed world messages, else what the controller put for a link, and what comes to it
 pub data Queued : Type 0 where
   message : List ℕ → Queued
+  entry : OutboxEntry → Queued
+  item : Item → Queued
 
 -- what the switch's outbox has, and nothing in any other queue
 abbrev pub in_switch_outbox : Queue → List (List ℕ) → List Queued
@@ -39,17 +49,38 @@ abbrev pub fixed_messages_taken : FixedState → Event → List (List ℕ)
 fixed_messages_taken world SwitchTakes = first_of world.outbox
 fixed_messages_taken world _ = []
 
+-- what an event puts into a queue of the controller
+abbrev pub controlled_put : Actors → Event → Queue → List Queued
+controlled_put w event (outbox link) = map entry (put link w event)
+controlled_put w event (inbox source) = map item (of_source source (pushed w event))
+
+abbrev pub controlled_taken : Actors → Event → Queue → List Queued
+controlled_taken w event (outbox link) = map entry (taken link w event)
+controlled_taken w event (inbox source) = map item (of_source source (popped w event))
+
+abbrev pub controlled_left : Actors → Queue → List Queued
+controlled_left w (outbox link) = map entry (outbox_of w link)
+controlled_left w (inbox source) = map item (of_source source w.inbox)
+
 -- what an event puts into a queue
 abbrev pub messages_put : Scene → Event → Queue → List Queued
 messages_put (Fixed world) event queue = in_switch_outbox queue (fixed_messages_put world event)
+messages_put (Controlled w) event queue = controlled_put w event queue
 
 -- what an event takes out of a queue
 abbrev pub messages_taken : Scene → Event → Queue → List Queued
 messages_taken (Fixed world) event queue = in_switch_outbox queue (fixed_messages_taken world event)
+messages_taken (Controlled w) event queue = controlled_taken w event queue
 
 -- what stands in a queue
 abbrev pub messages_left : Scene → Queue → List Queued
 messages_left (Fixed world) queue = in_switch_outbox queue world.outbox
+messages_left (Controlled w) queue = controlled_left w queue
+
+-- whether a queue still gives what was put there: an outbox is lost with its link
+abbrev pub is_kept : Scene → Queue → Bool
+is_kept (Controlled w) (outbox link) = is_up w link
+is_kept scene queue = true
 
 -- the history of a queue: all that was put there by these events, and all that was taken, in order
 abbrev pub all_messages_put : Scene → List Event → Queue → List Queued
@@ -60,6 +91,23 @@ abbrev pub all_messages_taken : Scene → List Event → Queue → List Queued
 all_messages_taken scene [] queue = []
 all_messages_taken scene (event ∷ events) queue = messages_taken scene event queue ++ all_messages_taken (actors_after scene event) events queue
 
+-- the switch end after a message, where there is one
+abbrev pub switch_by : SwitchState → Option Sccp → SwitchState
+switch_by switch None = switch
+switch_by switch (Some sccp) = switch_after switch sccp
+
+-- after what was taken
+abbrev pub switch_at : SwitchState → Queued → SwitchState
+switch_at switch (entry line) = switch_by switch (sccp_in line.out.frame)
+switch_at switch _ = switch
+
+abbrev pub switch_of : ℕ → List Queued → SwitchState
+switch_of m taken = fold switch_at (record { modulus = m; connections = [] }) taken
+
+abbrev pub messages_of : SwitchState → List (List (List ℕ))
+messages_of switch = map (λ c. c.reception.taken) switch.connections
+
 -- The connections of the switch have what was taken out of its outbox.
 abbrev pub IsTakenBySwitch : Scene → List Queued → Type 0
 IsTakenBySwitch (Fixed world) taken = taken ≡ map message world.switch.taken
+IsTakenBySwitch (Controlled w) taken = messages_of w.switch ≡ messages_of (switch_of w.switch.modulus taken)

@@ -1,8 +1,12 @@
 -- What events make of a world.
-use Rattle.std.specs.Prelude.{ℕ, ◌+◌, ◌-◌, ◌^◌, min, false, Option, option_map, unwrap_or, is_some, List, [], ◌∷◌, if◌then◌else◌}
+use Rattle.std.specs.Prelude.{ℕ, ◌+◌, ◌-◌, ◌^◌, min, false, Option, option_map, unwrap_or, is_some, List, [], ◌∷◌, ◌++◌, take, drop, if◌then◌else◌}
+use Rattle.settings.specs.Parameters.{Parameters}
 use Rattle.world_table.specs.declared.event.Event.{Event}
+use Rattle.world_table.specs.declared.event.Event.TheVariants.{BaseDown}
+use Rattle.world_table.specs.Life.{event_after}
+use Rattle.world_table.specs.World.{new_actors}
 use Rattle.world.specs.declared.world.Scene.{Scene}
-use Rattle.world.specs.declared.world.Scene.TheVariants.{Fixed}
+use Rattle.world.specs.declared.world.Scene.TheVariants.{Fixed, Controlled}
 use Rattle.world.specs.Fixed.{fixed_beginning, fixed_after}
 use Rattle.world.specs.WorldState.{WorldState}
 
@@ -10,9 +14,14 @@ use Rattle.world.specs.WorldState.{WorldState}
 abbrev pub fixed_world : ℕ → WorldState
 fixed_world m = record { scene = Fixed (fixed_beginning m); not_taken = 0; failed = false }
 
+-- the world of these settings, in which nothing has happened
+abbrev pub controlled_world : Parameters → WorldState
+controlled_world settings = record { scene = Controlled (new_actors settings); not_taken = 0; failed = false }
+
 -- the actors after an event; None where its actor can't take it
 abbrev pub scene_after : Scene → Event → Option Scene
 scene_after (Fixed world) event = option_map Fixed (fixed_after world event)
+scene_after (Controlled w) event = option_map Controlled (event_after w event)
 
 abbrev pub actors_after : Scene → Event → Scene
 actors_after scene event = unwrap_or (scene_after scene event) scene
@@ -30,3 +39,7 @@ after world event =
 abbrev pub after_all : WorldState → List Event → WorldState
 after_all world [] = world
 after_all world (event ∷ events) = after_all (after world event) events
+
+-- these events, with the break of a link put before the one at a place, or last where no event has that place
+abbrev pub broken : List Event → ℕ → ℕ → List Event
+broken events place source = take place events ++ BaseDown source ∷ drop place events

@@ -1,24 +1,29 @@
 ghost use Rattle.std.specs.Prelude.{IsSome, ◌≡◌, ℕ, ◌++◌, List, false, true, IfOk, OnOk, OnErr, is_some, option_map};
 ghost use Rattle.dtap_codec.specs.Number.{count_of};
+ghost use Rattle.settings.specs.Parameters.{Parameters};
 ghost use Rattle.world_table.specs.declared.event.Event.{Event as WorldEvent};
 ghost use Rattle.world_table.specs.Takes.{Takes};
 ghost use Rattle.world.specs.WorldState.{WorldState};
-ghost use Rattle.world.specs.World.{fixed_world, scene_after, after, after_all};
+ghost use Rattle.world.specs.World.{fixed_world, controlled_world, scene_after, after, after_all, broken};
 ghost use Rattle.world.specs.Views.{sent_list, received_list, taken_list, accepted_list, unnumbered_list};
-ghost use Rattle.world.specs.Headline.{Begins, IsInOrder};
+ghost use Rattle.world.specs.Headline.{Begins, IsInOrder, QueuesKeepOrder};
 
 use crate::Event;
 use crate::fixed::{FIXED_CONNECTION, FIXED_MOBILE, FixedWorld};
 use dtap_codec::Modulus;
 use octets::{Memory, Octets};
+use settings::Settings;
 use std::alloc::Global;
 use std::marker::Model;
+use world_actors::Network;
 
 /// The actors of a world.
 #[derive(Drop)]
 pub(crate) enum Scene {
     /// One mobile on one fixed channel, without a controller.
     Fixed(FixedWorld),
+    /// Mobiles, base stations, the controller with its queues, and the switch.
+    Controlled(Network),
 }
 
 /// A world: its actors, and how many events no actor could take.
@@ -52,6 +57,38 @@ impl World {
         }
     }
 
+    /// The world with a controller of these settings: no mobile is there, each link is up, and nothing has happened. Its
+    /// mobiles and its switch count as the settings' network does. It is refused only for want of memory.
+    pub fn new(alloc: Global, settings: Settings) -> Result<World, Memory>
+        ensures world { IfOk result (λ world. world ≡ controlled_world settings) }
+    {
+        Ok(World {
+            scene: Scene::Controlled(Network::new(alloc, settings)?),
+            not_taken: 0,
+            failed: false,
+        })
+    }
+
+    /// The world with a controller after these events, where the link of a source breaks before the event at `place`, from 0,
+    /// or last where no event has that place. The source is 0 for the switch, else a station's number; the break of one that
+    /// isn't there is an event that isn't taken. It is refused only for want of memory.
+    pub fn with_break(
+        alloc: Global,
+        settings: Settings,
+        events: &[Event],
+        place: usize,
+        source: u16,
+    ) -> Result<World, Memory>
+        ensures world { IfOk result (λ world. world ≡ after_all (controlled_world settings) (broken events.now place source)) }
+    {
+        let mut world = World::new(alloc, settings)?;
+        let (before, others) = events.split_at(place.min(events.len()));
+        world.run(before)?;
+        world.step(Event::BaseDown(source))?;
+        world.run(others)?;
+        Ok(world)
+    }
+
     /// Lets the event's actor act, and says whether it could. An event that its actor can't take is counted, and changes
     /// nothing else, and memory is wanted only for one that it can take. Once a call has wanted memory, the world has failed,
     /// and every later event is refused so.
@@ -73,6 +110,11 @@ impl World {
         // its mobile sent, no filter ever finds a gap, and each queue gives what was put there, in order.
         ensures in_order { OnOk result ((begin : WorldState) (before : List WorldEvent) → Begins begin → self.old ≡ after_all begin before
             → IsInOrder begin.scene (before ++ events.now) self.new.scene) }
+
+        // And whatever events made the world from one with a controller, each queue gives what was put there, in order, and the
+        // switch has what was taken out of its outbox.
+        ensures queues { OnOk result ((settings : Parameters) (before : List WorldEvent) → self.old ≡ after_all (controlled_world settings) before
+            → QueuesKeepOrder (controlled_world settings).scene (before ++ events.now) self.new.scene) }
         ensures stands { OnOk result (self.old.failed ≡ false) }
         ensures failed { OnErr result (self.new.failed ≡ true) }
     {
@@ -116,6 +158,7 @@ impl World {
         match &self.scene {
             Scene::Fixed(fixed) if mobile == FIXED_MOBILE => Some(fixed.sent()),
             Scene::Fixed(_) => None,
+            Scene::Controlled(network) => network.sent(mobile),
         }
     }
 
@@ -126,6 +169,7 @@ impl World {
         match &self.scene {
             Scene::Fixed(_) if mobile == FIXED_MOBILE => Some(&[]),
             Scene::Fixed(_) => None,
+            Scene::Controlled(network) => network.received(mobile),
         }
     }
 
@@ -136,6 +180,7 @@ impl World {
         match &self.scene {
             Scene::Fixed(fixed) if connection == FIXED_CONNECTION => Some(fixed.taken()),
             Scene::Fixed(_) => None,
+            Scene::Controlled(network) => network.taken(connection),
         }
     }
 
@@ -147,6 +192,7 @@ impl World {
         match &self.scene {
             Scene::Fixed(fixed) if connection == FIXED_CONNECTION => Some(fixed.accepted()),
             Scene::Fixed(_) => None,
+            Scene::Controlled(network) => network.accepted(connection),
         }
     }
 
@@ -157,6 +203,7 @@ impl World {
         match &self.scene {
             Scene::Fixed(fixed) if connection == FIXED_CONNECTION => Some(fixed.unnumbered()),
             Scene::Fixed(_) => None,
+            Scene::Controlled(network) => network.unnumbered(connection),
         }
     }
 
@@ -175,6 +222,7 @@ impl Scene {
     {
         match self {
             Scene::Fixed(fixed) => fixed.take(event),
+            Scene::Controlled(network) => network.step(event),
         }
     }
 }

@@ -1,3 +1,5 @@
+mod Activating
+mod ActivationRows
 mod Numbering
 mod Rows
 pub mod Written

@@ -4,7 +4,7 @@ use Rattle.conn_messages.specs.declared.channel.Place.{Place}
 use Rattle.dtap_codec.specs.declared.sapi.Sapi.{Sapi}
 use Rattle.dtap_codec.specs.declared.sapi.Sapi.TheVariants.{Zero, Three}
 use Rattle.link_model.specs.declared.fault.LinkFault.{LinkFault}
-use Rattle.link_model.specs.Base.{is_active, refusal_of_activate, first_message, after_activate, after_establish, after_next, after_release, after_take_down, after_tell}
+use Rattle.link_model.specs.Base.{is_active, refusal_of_activate, after_activate, after_establish, after_next, after_release, after_take_down, after_tell}
 use Rattle.rsl_codec.specs.declared.rsl.Rsl.{Rsl}
 use Rattle.world_table.specs.declared.line.AirMessage.{AirMessage}
 use Rattle.world_table.specs.declared.seat.Tenure.{Tenure}

@@ -1,0 +1,32 @@
+-- CHANNEL ACTIVATION among messages, and by its parts.
+use Rattle.std.specs.Prelude.{ℕ, ◌&&◌, Bool, true, false, if◌then◌else◌, List, Option, Some, None}
+use Rattle.std.specs.Option.{is_some}
+use Rattle.std.specs.Result.{result_ok}
+use Rattle.octets.specs.Element.{Element}
+use Rattle.octets.specs.Walk.{first_of}
+use Rattle.rsl_codec.specs.declared.identifiers.TheConstants.{ACTIVATION_TYPE, CHANNEL_MODE, CHANNEL_NUMBER}
+use Rattle.rsl_codec.specs.declared.rsl.Rsl.{Rsl}
+use Rattle.rsl_codec.specs.declared.rsl.Rsl.TheVariants.{ChannelActivation}
+use Rattle.rsl_codec.specs.declared.rsl_type.RslType.{RslType}
+use Rattle.rsl_codec.specs.declared.rsl_type.RslType.TheVariants as types
+use Rattle.rsl_codec.specs.RslReading.{channel_at}
+
+-- the channel that a message activates
+abbrev pub activated_by : Option Rsl → Option ℕ
+activated_by (Some (ChannelActivation a)) = Some a.channel
+activated_by message = None
+
+-- ---- without reading the whole
+
+abbrev pub is_activation : Option RslType → Bool
+is_activation (Some types.ChannelActivation) = true
+is_activation kind = false
+
+abbrev pub channel_in : Option (List ℕ) → Option ℕ
+channel_in None = None
+channel_in (Some value) = result_ok (channel_at value)
+
+-- by the elements behind its type
+abbrev pub channel_by_elements : List Element → Option ℕ
+channel_by_elements es =
+    if is_some (first_of ACTIVATION_TYPE es) && is_some (first_of CHANNEL_MODE es) then channel_in (first_of CHANNEL_NUMBER es) else None
