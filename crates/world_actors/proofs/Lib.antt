@@ -2,6 +2,7 @@ mod Airing
 mod Bringing
 mod Coming
 mod Departing
+mod Lines
 mod Pushing
 mod Sitting
 mod Turning

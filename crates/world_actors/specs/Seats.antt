@@ -1,11 +1,11 @@
 -- The channel that a mobile is on, where it can act there.
-use Rattle.std.specs.Prelude.{ℕ, ◌&&◌, nat_lt, Bool, false, if◌then◌else◌, Option, Some, None}
+use Rattle.std.specs.Prelude.{ℕ, ◌&&◌, nat_lt, Bool, true, false, if◌then◌else◌, Option, Some, None}
 use Rattle.std.specs.Option.{is_none, option_and_then}
 use Rattle.world_mobiles.specs.Mobiles.{mobile_in}
 use Rattle.world_table.specs.World.{Actors, Mobile, is_reached}
 use Rattle.world_actors.specs.declared.departure.Departure.{Departure}
 use Rattle.world_table.specs.declared.seat.Seat.{Seat}
-use Rattle.world_table.specs.declared.seat.Seat.TheVariants.{On, Moving}
+use Rattle.world_table.specs.declared.seat.Seat.TheVariants.{Asking, On, Moving}
 use Rattle.world_table.specs.declared.seat.Tenure.{Tenure}
 
 abbrev pub reached_from : Actors → Seat → Option Tenure
@@ -43,3 +43,16 @@ opens_in (Some p) = p.opens
 
 abbrev pub opens_by : Actors → ℕ → Bool
 opens_by w number = opens_in (mobile_in number w.mobiles)
+
+-- ---- whether the mobile of a number asked for a channel
+
+abbrev pub is_asking : Seat → Bool
+is_asking Asking = true
+is_asking seat = false
+
+abbrev pub is_asking_in : Option Mobile → Bool
+is_asking_in None = false
+is_asking_in (Some p) = is_asking p.seat
+
+abbrev pub is_asking_by : Actors → ℕ → Bool
+is_asking_by w number = is_asking_in (mobile_in number w.mobiles)

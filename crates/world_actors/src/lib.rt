@@ -6,10 +6,13 @@ pub use network::Network;
 
 mod access;
 mod air;
+mod base_takes;
 mod changes;
 mod departure;
 mod handling;
 mod network;
 mod queues;
+mod step;
 mod uplink;
 mod upper_layers;
+mod views;

@@ -1,0 +1,57 @@
+ghost use Rattle.std.specs.Prelude.{◌≡◌, option_map};
+ghost use Rattle.world_table.specs.Views.{accepted, received, sent, taken, unnumbered};
+ghost use Rattle.world_table.specs.World.{mobile_of};
+
+use crate::Network;
+use octets::Octets;
+use world_mobiles::MobileStation;
+
+/// What is seen of the world, by the number of a mobile or of a connection of the switch; none where there is none.
+impl Network {
+    fn mobile(&self, number: u8) -> Option<&MobileStation>
+        ensures { option_map (λ m. m.now) result ≡ mobile_of self.now number }
+    {
+        self.mobiles.get(number)
+    }
+
+    /// The messages of the flow that the upper layers of a mobile sent, in order, without numbers.
+    pub fn sent(&self, mobile: u8) -> Option<&[Octets]>
+        ensures { option_map (λ list. list.now) result ≡ sent self.now mobile }
+    {
+        match self.mobile(mobile) {
+            Some(mobile) => Some(mobile.sent()),
+            None => None,
+        }
+    }
+
+    /// The messages that a mobile received, in order.
+    pub fn received(&self, mobile: u8) -> Option<&[Octets]>
+        ensures { option_map (λ list. list.now) result ≡ received self.now mobile }
+    {
+        match self.mobile(mobile) {
+            Some(mobile) => Some(mobile.received()),
+            None => None,
+        }
+    }
+
+    /// All messages that the switch took on a connection, in order.
+    pub fn taken(&self, connection: u32) -> Option<&[Octets]>
+        ensures { option_map (λ list. list.now) result ≡ taken self.now connection }
+    {
+        self.switch.taken(connection)
+    }
+
+    /// The messages of the flow that the switch accepted on a connection, in order, with numbers cleared.
+    pub fn accepted(&self, connection: u32) -> Option<&[Octets]>
+        ensures { option_map (λ list. list.now) result ≡ accepted self.now connection }
+    {
+        self.switch.accepted(connection)
+    }
+
+    /// The messages without numbers that the switch took on a connection, in order.
+    pub fn unnumbered(&self, connection: u32) -> Option<&[Octets]>
+        ensures { option_map (λ list. list.now) result ≡ unnumbered self.now connection }
+    {
+        self.switch.unnumbered(connection)
+    }
+}
