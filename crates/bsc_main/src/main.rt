@@ -3,14 +3,16 @@
 
 use crate::command_line::{complaint, task};
 use crate::relaying::relay;
+use crate::settings_file::settings_text;
 use crate::words::{Task, TaskFault};
-use bsc_program::{Failure, decode, replay};
+use bsc_program::{Failure, ProgramFault, decode, replay};
 use std::env;
 use std::io::{BufWriter, ErrorKind};
 use std::process::ExitCode;
 
 mod command_line;
 mod relaying;
+mod settings_file;
 mod words;
 
 const USAGE: &str = "\
@@ -19,23 +21,33 @@ usage: bsc COMMAND
   run --config FILE
       relays between the switch and the base stations that the settings in FILE
       name, until every link has ended; standard error tells of each link
-  replay
+  replay [--config FILE] [--break N]
       reads a script on standard input, an event a line, and prints what each
-      end sent, took and accepted
+      end sent, took and accepted: in a world with one mobile on one channel, or
+      in the world of the settings in FILE; with --break, for each place of the
+      script how many messages were accepted and sent if the link of source N
+      broke there
   decode
       reads the octets of an IPA link on standard input, and prints the name of
       each frame";
 
 fn main(rt: HostRuntime) -> ExitCode {
-    let status = match asked(&rt) {
+    let ended = match asked(&rt) {
         Ok(Task::Run(file)) => relay(&rt, file.as_str()),
-        Ok(Task::Replay(settings, breaks)) => replayed(&rt, settings, breaks),
+        Ok(Task::Replay(file, breaks)) => replayed(&rt, file, breaks),
         Ok(Task::Decode) => decoded(&rt),
         Err(fault) => {
             let _ = match fault {
                 TaskFault::Words => eprintln!(rt; "{USAGE}"),
                 TaskFault::Memory => eprintln!(rt; "bsc: {fault}"),
             };
+            Ok(fault.status())
+        }
+    };
+    let status = match ended {
+        Ok(status) => status,
+        Err(fault) => {
+            let _ = eprintln!(rt; "bsc: {fault}");
             fault.status()
         }
     };
@@ -66,31 +78,34 @@ fn complain(rt: &HostRuntime, words: &[&str]) {
     }
 }
 
-/// Replays the script on standard input, and gives the status that the program ends with. What it prints is buffered.
-fn replayed(rt: &HostRuntime, settings: Option<String>, breaks: Option<String>) -> u8 {
-    let Ok(mut output) = BufWriter::new(rt.alloc(), rt.stdout()) else {
-        return failed(rt, Failure::Memory);
+/// Replays the script on standard input, with the settings in this file, if there is one, and gives the status that the
+/// program ends with. What it prints is buffered.
+fn replayed(
+    rt: &HostRuntime,
+    file: Option<String>,
+    breaks: Option<String>,
+) -> Result<u8, ProgramFault> {
+    let settings = match file {
+        Some(file) => Some(settings_text(rt, file.as_str())?),
+        None => None,
     };
-    replay(
+    let Ok(mut output) = BufWriter::new(rt.alloc(), rt.stdout()) else {
+        return Err(ProgramFault::Failed(Failure::Memory));
+    };
+    Ok(replay(
         rt.alloc(),
         settings.as_deref(),
         breaks.as_deref(),
         &mut rt.stdin(),
         &mut output,
         &mut rt.stderr(),
-    )
+    ))
 }
 
 /// Names the frames on standard input, and gives the status that the program ends with. What it prints is buffered.
-fn decoded(rt: &HostRuntime) -> u8 {
+fn decoded(rt: &HostRuntime) -> Result<u8, ProgramFault> {
     let Ok(mut output) = BufWriter::new(rt.alloc(), rt.stdout()) else {
-        return failed(rt, Failure::Memory);
+        return Err(ProgramFault::Failed(Failure::Memory));
     };
-    decode(rt.alloc(), &mut rt.stdin(), &mut output, &mut rt.stderr())
-}
-
-/// Tells why the program ends, and gives the status that it ends with.
-fn failed(rt: &HostRuntime, failure: Failure) -> u8 {
-    let _ = eprintln!(rt; "bsc: {failure}");
-    failure.status()
+    Ok(decode(rt.alloc(), &mut rt.stdin(), &mut output, &mut rt.stderr()))
 }

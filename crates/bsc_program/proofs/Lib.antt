@@ -5,4 +5,7 @@ pub mod Decoding
 pub mod Reporting
 pub mod Scripts
 pub mod Replaying
+pub mod Counting
+pub mod Breaking
 mod Rows
+mod ReplayRows

@@ -9,6 +9,7 @@ use Rattle.hex.proofs.OnLiterals.{hex_on_literals}
 use Rattle.ipa_framing.specs.declared.fault.FrameFault.TheVariants as frame_faults
 use Rattle.rsl_codec.specs.declared.fault.RslFault.TheVariants as faults
 use Rattle.bssmap_codec.specs.declared.fault.InterfaceFault.TheVariants as interface
+use Rattle.settings.specs.declared.fault.SettingsFault.TheVariants.{NotToml}
 use Rattle.dtap_codec.specs.declared.sapi.Sapi.TheVariants.{Zero}
 use Rattle.world_table.specs.declared.event.Event.TheVariants.{Upper, AirUp, AirAck, SwitchTakes, Handle}
 use Rattle.world.specs.World.{after_all, fixed_world}
@@ -20,17 +21,22 @@ use Rattle.bsc_program.specs.declared.input.Unread.TheVariants.{Endless, Refused
 use Rattle.bsc_program.specs.Input.{ReadsInput}
 use Rattle.bsc_program.specs.Output.{AppendsBeginning, Puts}
 use Rattle.bsc_program.specs.declared.decode_command.Stop.TheVariants.{TooLong, Failed}
-use Rattle.bsc_program.specs.declared.failure.Failure.TheVariants.{Unsupported, BadEvent, Memory, Device}
+use Rattle.bsc_program.specs.declared.failure.Failure.TheVariants.{BadEvent, Memory, Device}
+use Rattle.bsc_program.specs.declared.fault.ProgramFault.TheVariants as program
+use Rattle.bsc_program.specs.declared.fault.ProgramFault.TheVariants.{UnreadSettings, Settings, BadBreak}
 use Rattle.bsc_program.specs.Decoded.{IsOutput, IsRefused, frame_lines, rest_line}
 use Rattle.bsc_program.specs.Names.{ccm_name, rsl_fault_name, sccp_fault_name}
 use Rattle.bsc_program.specs.Report.{connection_text, mobile_text, not_taken_line}
 use Rattle.bsc_program.specs.Script.{line_count, lines_text}
-use Rattle.bsc_program.specs.Status.{failure_of, failure_unread, status_of, stop_of, stop_unread}
+use Rattle.bsc_program.specs.Status.{failure_of, failure_unread, status_of, status_of_fault, stop_of, stop_unread}
 
 -- ---- statuses
 
-statuses : map status_of (Unsupported ∷ BadEvent 7 ∷ Memory ∷ Device ∷ []) ≡ 2 ∷ 2 ∷ 3 ∷ 3 ∷ []
+statuses : map status_of (BadEvent 7 ∷ Memory ∷ Device ∷ []) ≡ 2 ∷ 3 ∷ 3 ∷ []
 statuses = refl
+
+fault_statuses : map status_of_fault (UnreadSettings ∷ Settings NotToml ∷ BadBreak ∷ program.Failed (BadEvent 7) ∷ program.Failed Memory ∷ program.Failed Device ∷ []) ≡ 1 ∷ 1 ∷ 2 ∷ 2 ∷ 3 ∷ 3 ∷ []
+fault_statuses = refl
 
 failures : map failure_of (kinds.OutOfMemory ∷ kinds.BrokenPipe ∷ kinds.Other ∷ []) ≡ Memory ∷ Device ∷ Device ∷ []
 failures = refl

@@ -294,11 +294,11 @@ no_bad_event _ number is = absurd cc
 
 -- an input that wasn't read to its end for a bad line was read up to it
 pub refuses_unread : (most : ℕ) (start end : Option (List ℕ)) (old new : Script) (unread : Unread Failure) (number : ℕ)
-    → ReadsInput (λ old octets new. Reads old new octets) (λ old octets new failure. ((n : ℕ) → failure ≡ failures.BadEvent n → RefusesAt old octets n) × (failure ≢ failures.Unsupported)) most start end old new (Err unread)
+    → ReadsInput (λ old octets new. Reads old new octets) (λ old octets new failure. (n : ℕ) → failure ≡ failures.BadEvent n → RefusesAt old octets n) most start end old new (Err unread)
     → failure_unread unread ≡ failures.BadEvent number → (octets : List ℕ) × Consumes start end octets × RefusesAt old octets number
 refuses_unread most start end old new (Endless reads) number reading is = absurd cc
 refuses_unread most start end old new (Device error) number reading is = absurd (no_bad_event (error_kind error) number is)
-refuses_unread most start end old new (Refused failure) number reading is = (reading.0, reading.1, reading.2.0 number is)
+refuses_unread most start end old new (Refused failure) number reading is = (reading.0, reading.1, reading.2 number is)
 
 -- ---- a line
 

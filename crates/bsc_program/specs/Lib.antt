@@ -5,6 +5,8 @@ pub mod Names
 pub mod Decoded
 pub mod Report
 pub mod Script
+pub mod Breaks
+pub mod Asked
 pub mod Replayed
 pub mod Pieces
 pub mod ScriptLaws

@@ -1,13 +1,37 @@
 -- What `replay` prints of a script.
-use Rattle.std.specs.Prelude.{ℕ, List, Option, IfSome}
+use Rattle.std.specs.Prelude.{◌≡◌, ◌⊎◌, ℕ, List, Option, Result, Ok, Err, IfSome}
 use Rattle.std.specs.Io.KnownBytes.{Appends}
 use Rattle.world_table.specs.declared.event.Event.{Event}
-use Rattle.world.specs.World.{after_all, fixed_world}
+use Rattle.world.specs.World.{after_all, controlled_world, fixed_world}
+use Rattle.bsc_program.specs.Asked.{Asked, fixed, controlled, breaking, cells_of}
+use Rattle.bsc_program.specs.Breaks.{break_lines}
 use Rattle.bsc_program.specs.Report.{IsReport}
-use Rattle.bsc_program.specs.Script.{IsScript}
+use Rattle.bsc_program.specs.Script.{IsBadScript, IsScript}
+use Rattle.bsc_program.specs.declared.fault.ProgramFault.{ProgramFault}
+use Rattle.bsc_program.specs.declared.fault.ProgramFault.TheVariants.{Failed}
+use Rattle.bsc_program.specs.declared.failure.Failure.TheVariants.{BadEvent, Memory, Device}
 
--- Known contents grew by the report of the world that a known script's events make of the fixed world, which has one cell
--- and whose mobile numbers modulo 4.
-abbrev pub Replays : Option (List ℕ) → Option (List ℕ) → Option (List ℕ) → Type 0
-Replays start old new =
-    IfSome start (λ octets. (events : List Event) × (text : List ℕ) × IsScript 1 octets events × IsReport (after_all (fixed_world 4) events) text × Appends old new text)
+-- The text is what these events give: the report of what they make of the fixed world, whose mobile numbers modulo 4, or of
+-- the world of the settings; or the lines of all places at which the link of the source breaks in that world.
+abbrev pub IsPrinted : Asked → List Event → List ℕ → Type 0
+IsPrinted fixed events text = IsReport (after_all (fixed_world 4) events) text
+IsPrinted (controlled settings) events text = IsReport (after_all (controlled_world settings) events) text
+IsPrinted (breaking settings source) events text = text ≡ break_lines (controlled_world settings) events source
+
+-- Known contents grew by what a known script's events give.
+abbrev pub Replays : Asked → Option (List ℕ) → Option (List ℕ) → Option (List ℕ) → Type 0
+Replays asked start old new =
+    IfSome start (λ octets. (events : List Event) × (text : List ℕ) × IsScript (cells_of asked) octets events × IsPrinted asked events text × Appends old new text)
+
+-- a known script has a bad line
+abbrev pub HasBadLine : Asked → Option (List ℕ) → Type 0
+HasBadLine asked start = IfSome start (λ octets. (number : ℕ) × IsBadScript (cells_of asked) octets number)
+
+-- Why not all is printed: what is asked for is at fault, where memory isn't wanted before that is known; or a known script has
+-- a bad line, with this number; or memory or a device failed.
+abbrev pub Fails : Result Asked ProgramFault → Option (List ℕ) → ProgramFault → Type 0
+Fails (Err found) start fault = (fault ≡ found) ⊎ (fault ≡ Failed Memory)
+Fails (Ok asked) start (Failed (BadEvent number)) = IfSome start (λ octets. IsBadScript (cells_of asked) octets number)
+Fails (Ok asked) start (Failed Memory) = Unit {0}
+Fails (Ok asked) start (Failed Device) = Unit {0}
+Fails (Ok asked) start _ = ⊥

@@ -6,19 +6,27 @@ use Rattle.ipa_framing.specs.declared.fault.FrameFault.{FrameFault}
 use Rattle.ipa_framing.specs.declared.fault.FrameFault.TheVariants as faults
 use Rattle.std.specs.IoError.{error_kind}
 use Rattle.bsc_program.specs.declared.decode_command.Stop.{Stop}
-use Rattle.bsc_program.specs.declared.decode_command.Stop.TheVariants.{TooLong, Failed}
+use Rattle.bsc_program.specs.declared.decode_command.Stop.TheVariants.{TooLong, Failed as StopFailed}
 use Rattle.bsc_program.specs.declared.failure.Failure.{Failure}
+use Rattle.bsc_program.specs.declared.fault.ProgramFault.{ProgramFault}
+use Rattle.bsc_program.specs.declared.fault.ProgramFault.TheVariants.{UnreadSettings, Settings, BadBreak, Failed}
 use Rattle.bsc_program.specs.declared.input.Unread.{Unread}
 use Rattle.bsc_program.specs.declared.input.Unread.TheVariants as unread
 use Rattle.bsc_program.specs.declared.input.Unread.TheVariants.{Endless, Refused}
-use Rattle.bsc_program.specs.declared.failure.Failure.TheVariants.{Unsupported, BadEvent, Memory, Device}
+use Rattle.bsc_program.specs.declared.failure.Failure.TheVariants.{BadEvent, Memory, Device}
 
--- 2 for what was asked for, 3 for memory or a device
+-- 2 for a script, 3 for memory or a device
 abbrev pub status_of : Failure → ℕ
-status_of Unsupported = 2
 status_of (BadEvent line) = 2
 status_of Memory = 3
 status_of Device = 3
+
+-- 1 for settings, 2 for what else was asked for
+abbrev pub status_of_fault : ProgramFault → ℕ
+status_of_fault UnreadSettings = 1
+status_of_fault (Settings fault) = 1
+status_of_fault BadBreak = 2
+status_of_fault (Failed failure) = status_of failure
 
 -- a read or a write that wanted memory is told apart from a device that failed
 abbrev pub failure_of : ErrorKind → Failure
@@ -32,11 +40,11 @@ failure_unread (unread.Device error) = failure_of (error_kind error)
 failure_unread (Refused failure) = failure
 
 abbrev pub stop_unread : Unread Stop → Stop
-stop_unread (Endless reads) = Failed Device
-stop_unread (unread.Device error) = Failed (failure_of (error_kind error))
+stop_unread (Endless reads) = StopFailed Device
+stop_unread (unread.Device error) = StopFailed (failure_of (error_kind error))
 stop_unread (Refused stop) = stop
 
 -- why a fault of the framer stops `decode`
 abbrev pub stop_of : FrameFault → Stop
 stop_of faults.TooLong = TooLong
-stop_of faults.Memory = Failed Memory
+stop_of faults.Memory = StopFailed Memory

@@ -8,12 +8,9 @@ use octets::Memory;
 use std::io::{self, ErrorKind};
 use thiserror::Error;
 
-/// Why the program ends with a status above 0. Its text goes to standard error behind `bsc: `.
+/// Why a script or a stream isn't read to its end, or what it gives isn't printed.
 #[derive(Clone, Copy, Debug, Error)]
 pub enum Failure {
-    /// What was asked for isn't there yet.
-    #[error("replay --config and --break are not supported yet")]
-    Unsupported,
     /// The line of the script with this number, from 1, is no event's text.
     #[error("line {0}: bad event")]
     BadEvent(u64),
@@ -30,7 +27,7 @@ impl Failure {
         ensures { result ≡ status_of self }
     {
         match self {
-            Failure::Unsupported | Failure::BadEvent(_) => 2,
+            Failure::BadEvent(_) => 2,
             Failure::Memory | Failure::Device => 3,
         }
     }

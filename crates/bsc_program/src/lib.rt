@@ -3,10 +3,14 @@
 
 pub use decode_command::decode;
 pub use failure::Failure;
+pub use fault::ProgramFault;
 pub use replay_command::replay;
+pub use settings_text::read_settings;
 
+mod breaks;
 mod decode_command;
 mod failure;
+mod fault;
 mod input;
 mod names;
 mod output;
@@ -14,3 +18,4 @@ mod read_count;
 mod replay_command;
 mod report;
 mod script;
+mod settings_text;

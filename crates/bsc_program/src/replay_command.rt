@@ -1,24 +1,35 @@
-ghost use Rattle.std.specs.Prelude.{◌≡◌, ◌≢◌, ◌⊎◌, ℕ, Err, IfErr, IfSome, None, OnOk};
-ghost use Rattle.std.specs.Io.KnownBytes.{IsAtEnd};
-ghost use Rattle.bsc_program.specs.Replayed.{Replays};
+ghost use Rattle.std.specs.Prelude.{◌≡◌, ◌≢◌, ◌⊎◌, ℕ, List, Some, None, Err, IfErr, IfOk, IfSome, IsErrAnd, IsOkAnd, MatchResult, OnOk, option_map, length};
+ghost use Rattle.std.specs.Io.KnownBytes.{Appends, IsAtEnd};
+ghost use Rattle.world.specs.World.{after_all};
+ghost use Rattle.world.specs.Words.{source_in};
+ghost use Rattle.bsc_program.specs.Asked.{asked, asked_with, breaking, controlled, fixed, settings_of};
+ghost use Rattle.bsc_program.specs.Replayed.{Fails, HasBadLine, Replays};
+ghost use Rattle.bsc_program.specs.Report.{IsReport};
 ghost use Rattle.bsc_program.specs.Script.{IsBadScript};
-ghost use Rattle.bsc_program.specs.Status.{status_of};
-ghost use Rattle.bsc_program.specs.declared.failure.Failure.TheVariants.{BadEvent, Unsupported};
+ghost use Rattle.bsc_program.specs.Status.{status_of, status_of_fault};
+ghost use Rattle.bsc_program.specs.declared.failure.Failure.TheVariants.{BadEvent};
+ghost use Rattle.bsc_program.specs.declared.fault.ProgramFault.TheVariants.{BadBreak};
 
+use crate::breaks::write_breaks;
 use crate::failure::Failure;
+use crate::fault::ProgramFault;
 use crate::report::write_report;
 use crate::script::read_script;
+use crate::settings_text::read_settings;
 use dtap_codec::Modulus;
+use settings::Settings;
 use std::alloc::Global;
 use std::io::{Read, Write};
-use world::World;
+use world::{Event, World, read_source};
 
 /// The number of cells that a script of the fixed world counts with.
 const FIXED_CELLS: u16 = 1;
 
-/// Replays the script on `input` and writes the report to `output`, and gives the status that the program ends with: 0,
-/// 2 for a bad line or what isn't supported yet, 3 where memory was wanted or a device failed. The text of a status above
-/// 0 goes to `errors`. The whole script is read before any event is run.
+/// Replays the script on `input`, in the world of these settings or else in the fixed one, and writes the report to `output`;
+/// with `breaks`, the number of a source, a line for each place of the script at which its link breaks. It gives the status
+/// that the program ends with: 0, 1 for a fault of the settings, 2 for `breaks` that is no source's number or comes without
+/// settings, or for a bad line, 3 where memory was wanted or a device failed. The causes are looked for in this order, and
+/// the whole script is read before any event is run. The text of a status above 0 goes to `errors`.
 pub fn replay<R: Read, W: Write, E: Write>(
     alloc: Global,
     settings: Option<&str>,
@@ -27,26 +38,30 @@ pub fn replay<R: Read, W: Write, E: Write>(
     output: &mut W,
     errors: &mut E,
 ) -> u8
-    ensures status { (result ≡ 0) ⊎ (result ≡ 2) ⊎ (result ≡ 3) }
-    // The options aren't supported yet.
-    ensures settings { settings.entry ≢ None → result ≡ 2 }
-    ensures breaks { breaks.entry ≢ None → result ≡ 2 }
+    ensures status { (result ≡ 0) ⊎ (result ≡ 1) ⊎ (result ≡ 2) ⊎ (result ≡ 3) }
+    // Options that ask for nothing give the status of their first fault, unless memory is wanted.
+    ensures asked { IfErr (asked (option_map (λ text. text.now) settings.entry) (option_map (λ word. word.now) breaks.entry))
+        (λ fault. (result ≡ status_of_fault fault) ⊎ (result ≡ 3)) }
+    // It ends with 1 only where the settings have a fault.
+    ensures settings { result ≡ 1 → IsErrAnd (asked (option_map (λ text. text.now) settings.entry) (option_map (λ word. word.now) breaks.entry))
+        (λ fault. status_of_fault fault ≡ 1) }
     // It ends with 0 only where the whole script was read, if its octets are known.
     ensures read { result ≡ 0 → IsAtEnd (R.remaining input.new) }
-    // What is printed then is the report of what the script's events make of the fixed world, if it is known what an output
-    // holds.
-    ensures printed { result ≡ 0 → Replays (R.remaining input.old) (W.contents output.old) (W.contents output.new) }
-    // Without options it ends with 2 only where a line of the script is bad.
-    ensures bad { settings.entry ≡ None → breaks.entry ≡ None → result ≡ 2 →
-        IfSome (R.remaining input.old) (λ octets. (n : ℕ) × IsBadScript 1 octets n) }
-    // Where it ends with 2 nothing is printed.
-    ensures kept { result ≡ 2 → output.new ≡ output.old }
+    // What is printed then is the report of what the script's events make of the world, or the lines of all breaks, if it is
+    // known what an output holds.
+    ensures printed { result ≡ 0 → IsOkAnd (asked (option_map (λ text. text.now) settings.entry) (option_map (λ word. word.now) breaks.entry))
+        (λ asked. Replays asked (R.remaining input.old) (W.contents output.old) (W.contents output.new)) }
+    // It ends with 2 only where `breaks` names no source, or where a line of the script is bad.
+    ensures bad { result ≡ 2 → MatchResult (asked (option_map (λ text. text.now) settings.entry) (option_map (λ word. word.now) breaks.entry))
+        (λ asked. HasBadLine asked (R.remaining input.old)) (λ fault. fault ≡ BadBreak) }
+    // Where it ends with 1 or 2 nothing is printed.
+    ensures kept { (result ≡ 1) ⊎ (result ≡ 2) → output.new ≡ output.old }
 {
     match try_replay(alloc, settings, breaks, input, output) {
         Ok(()) => 0,
-        Err(failure) => {
-            let _ = writeln!(errors, "bsc: {failure}");
-            failure.status()
+        Err(fault) => {
+            let _ = writeln!(errors, "bsc: {fault}");
+            fault.status()
         }
     }
 }
@@ -57,20 +72,125 @@ fn try_replay<R: Read, W: Write>(
     breaks: Option<&str>,
     input: &mut R,
     output: &mut W,
-) -> Result<(), Failure>
-    ensures settings { settings.entry ≢ None → result ≡ Err Unsupported }
-    ensures breaks { breaks.entry ≢ None → result ≡ Err Unsupported }
+) -> Result<(), ProgramFault>
     ensures read { OnOk result (IsAtEnd (R.remaining input.new)) }
-    ensures printed { OnOk result (Replays (R.remaining input.old) (W.contents output.old) (W.contents output.new)) }
-    ensures supported { settings.entry ≡ None → breaks.entry ≡ None → result ≢ Err Unsupported }
-    ensures bad { (n : ℕ) → result ≡ Err (BadEvent n) → IfSome (R.remaining input.old) (λ octets. IsBadScript 1 octets n) }
-    ensures kept { IfErr result (λ failure. status_of failure ≡ 2 → output.new ≡ output.old) }
+    ensures printed { OnOk result (IsOkAnd (asked (option_map (λ text. text.now) settings.entry) (option_map (λ word. word.now) breaks.entry))
+        (λ asked. Replays asked (R.remaining input.old) (W.contents output.old) (W.contents output.new))) }
+    ensures fails { IfErr result (λ fault. Fails (asked (option_map (λ text. text.now) settings.entry) (option_map (λ word. word.now) breaks.entry))
+        (R.remaining input.old) fault) }
+    ensures kept { IfErr result (λ fault. status_of_fault fault ≢ 3 → output.new ≡ output.old) }
 {
-    if settings.is_some() || breaks.is_some() {
-        return Err(Failure::Unsupported);
+    match settings {
+        Some(text) => replay_with(alloc, text, breaks, input, output),
+        None => match breaks {
+            Some(_) => Err(ProgramFault::BadBreak),
+            None => Ok(replay_fixed(alloc, input, output)?),
+        },
     }
+}
+
+/// Replays the script with the settings in the text.
+fn replay_with<R: Read, W: Write>(
+    alloc: Global,
+    text: &str,
+    breaks: Option<&str>,
+    input: &mut R,
+    output: &mut W,
+) -> Result<(), ProgramFault>
+    ensures read { OnOk result (IsAtEnd (R.remaining input.new)) }
+    ensures printed { OnOk result (IsOkAnd (asked_with (settings_of text.now) (option_map (λ word. word.now) breaks.entry))
+        (λ asked. Replays asked (R.remaining input.old) (W.contents output.old) (W.contents output.new))) }
+    ensures fails { IfErr result (λ fault. Fails (asked_with (settings_of text.now) (option_map (λ word. word.now) breaks.entry))
+        (R.remaining input.old) fault) }
+    ensures kept { IfErr result (λ fault. status_of_fault fault ≢ 3 → output.new ≡ output.old) }
+{
+    let settings = read_settings(alloc, text)?;
+    match breaks {
+        Some(word) => {
+            let cells = u16::from(settings.cell_count());
+            let source = source_of(cells, word)?;
+            Ok(replay_breaks(alloc, text, cells, source, input, output)?)
+        }
+        None => Ok(replay_controlled(alloc, settings, input, output)?),
+    }
+}
+
+/// The source that the word behind `--break` names, of the switch and so many stations.
+fn source_of(cells: u16, word: &str) -> Result<u16, ProgramFault>
+    ensures { MatchResult result (λ source. source_in cells word.now ≡ Some source)
+        (λ fault. (fault ≡ BadBreak) × (source_in cells word.now ≡ None)) }
+{
+    match read_source(cells, word) {
+        Some(source) => Ok(source),
+        None => Err(ProgramFault::BadBreak),
+    }
+}
+
+/// Writes the report of what the script makes of the fixed world.
+fn replay_fixed<R: Read, W: Write>(
+    alloc: Global,
+    input: &mut R,
+    output: &mut W,
+) -> Result<(), Failure>
+    ensures read { OnOk result (IsAtEnd (R.remaining input.new)) }
+    ensures printed { OnOk result (Replays fixed (R.remaining input.old) (W.contents output.old) (W.contents output.new)) }
+    ensures bad { (n : ℕ) → result ≡ Err (BadEvent n) → IfSome (R.remaining input.old) (λ octets. IsBadScript 1 octets n) }
+    ensures kept { IfErr result (λ failure. status_of failure ≢ 3 → output.new ≡ output.old) }
+{
     let events = read_script(alloc, FIXED_CELLS, input)?;
-    let mut world = World::fixed(alloc, Modulus::Four);
-    world.run(&events)?;
+    let world = World::fixed(alloc, Modulus::Four);
+    report_events(alloc, world, &events, output)
+}
+
+/// Writes the report of what the script makes of the world of these settings.
+fn replay_controlled<R: Read, W: Write>(
+    alloc: Global,
+    settings: Settings,
+    input: &mut R,
+    output: &mut W,
+) -> Result<(), Failure>
+    ensures read { OnOk result (IsAtEnd (R.remaining input.new)) }
+    ensures printed { OnOk result (Replays (controlled settings) (R.remaining input.old) (W.contents output.old) (W.contents output.new)) }
+    ensures bad { (n : ℕ) → result ≡ Err (BadEvent n) → IfSome (R.remaining input.old) (λ octets. IsBadScript (length settings.cells) octets n) }
+    ensures kept { IfErr result (λ failure. status_of failure ≢ 3 → output.new ≡ output.old) }
+{
+    let cells = u16::from(settings.cell_count());
+    let events = read_script(alloc, cells, input)?;
+    let world = World::new(alloc, settings)?;
+    report_events(alloc, world, &events, output)
+}
+
+/// Runs these events in a world, and writes the report of what they make of it.
+fn report_events<W: Write>(
+    alloc: Global,
+    mut world: World,
+    events: &[Event],
+    output: &mut W,
+) -> Result<(), Failure>
+    ensures ok { OnOk result ((text : List ℕ) × IsReport (after_all world events.now) text ×
+        Appends (W.contents output.old) (W.contents output.new) text) }
+    ensures err { IfErr result (λ failure. status_of failure ≡ 3) }
+{
+    world.run(events)?;
     write_report(alloc, &world, output)
+}
+
+/// Writes a line for each place of the script at which the link of the source breaks, in the world of the settings in the
+/// text, which have so many cells.
+fn replay_breaks<R: Read, W: Write>(
+    alloc: Global,
+    text: &str,
+    cells: u16,
+    source: u16,
+    input: &mut R,
+    output: &mut W,
+) -> Result<(), Failure>
+    ensures read { OnOk result (IsAtEnd (R.remaining input.new)) }
+    ensures printed { OnOk result (IfOk (settings_of text.now) (λ settings. cells ≡ length settings.cells →
+        Replays (breaking settings source) (R.remaining input.old) (W.contents output.old) (W.contents output.new))) }
+    ensures bad { (n : ℕ) → result ≡ Err (BadEvent n) → IfSome (R.remaining input.old) (λ octets. IsBadScript cells octets n) }
+    ensures kept { IfErr result (λ failure. status_of failure ≢ 3 → output.new ≡ output.old) }
+{
+    let events = read_script(alloc, cells, input)?;
+    write_breaks(alloc, text, &events, source, output)
 }

@@ -1,7 +1,7 @@
 ghost use Rattle.std.specs.Prelude.{◌≡◌, ◌≢◌, ℕ, ◌++◌, [], Err, IfOk, IfSome, OnOk};
 ghost use Rattle.std.specs.Io.KnownBytes.{IsAtEnd};
 ghost use Rattle.bsc_program.specs.Script.{AddsLine, Finishes, IsBadScript, IsScript, RefusesLine};
-ghost use Rattle.bsc_program.specs.declared.failure.Failure.TheVariants.{BadEvent, Unsupported};
+ghost use Rattle.bsc_program.specs.declared.failure.Failure.TheVariants.{BadEvent};
 
 use crate::failure::Failure;
 use crate::input::{Sink, read_all, room_for};
@@ -48,7 +48,6 @@ impl Script {
         ensures line { OnOk result (AddsLine self.old self.new (self.old.started.items ++ end.now)) }
         ensures started { OnOk result (self.new.started.items ≡ []) }
         ensures bad { (n : ℕ) → result ≡ Err (BadEvent n) → RefusesLine self.old (self.old.started.items ++ end.now) n }
-        ensures supported { result ≢ Err Unsupported }
     {
         if self.started.is_empty() {
             return self.line(end);
@@ -63,7 +62,6 @@ impl Script {
         ensures line { OnOk result (AddsLine self.old self.new line.now) }
         ensures started { self.new.started.items ≡ self.old.started.items }
         ensures bad { (n : ℕ) → result ≡ Err (BadEvent n) → RefusesLine self.old line.now n }
-        ensures supported { result ≢ Err Unsupported }
     {
         self.lines = self.lines.saturating_add(1);
         let bad_event = Failure::BadEvent(self.lines);
@@ -85,7 +83,6 @@ impl Script {
         ensures ok { IfOk result (λ events. Finishes self events.items) }
         ensures bad { (n : ℕ) → result ≡ Err (BadEvent n) →
             (self.started.items ≢ []) × RefusesLine self self.started.items n }
-        ensures supported { result ≢ Err Unsupported }
     {
         if !self.started.is_empty() {
             self.end_line(&[])?;
@@ -95,9 +92,9 @@ impl Script {
 }
 
 impl Sink for Script {
-    ghost use Rattle.std.specs.Prelude.{◌≡◌, ◌≢◌, ℕ};
+    ghost use Rattle.std.specs.Prelude.{◌≡◌, ℕ};
     ghost use Rattle.bsc_program.specs.Script.{Reads, RefusesAt};
-    ghost use Rattle.bsc_program.specs.declared.failure.Failure.TheVariants.{BadEvent, Unsupported};
+    ghost use Rattle.bsc_program.specs.declared.failure.Failure.TheVariants.{BadEvent};
     ghost use Rattle.bsc_program.specs.ScriptLaws.{reads_nothing, reads_both, refuses_behind};
 
     type Fault = Failure;
@@ -105,14 +102,14 @@ impl Sink for Script {
     ghost takes = { λ old octets new. Reads old new octets };
 
     ghost refuses = { λ old octets new failure.
-        ((n : ℕ) → failure ≡ BadEvent n → RefusesAt old octets n) × (failure ≢ Unsupported) };
+        (n : ℕ) → failure ≡ BadEvent n → RefusesAt old octets n };
 
     ghost takes_none = { reads_nothing };
 
     ghost takes_both = { reads_both };
 
     ghost refuses_later = { λ old mid new first second failure some refuses.
-        ((λ n is. refuses_behind old mid first second n some (refuses.0 n is)), refuses.1) };
+        λ n is. refuses_behind old mid first second n some (refuses n is) };
 
     /// Reads the lines that end in this piece, and keeps what is left of it.
     fn take(&mut self, piece: &[u8]) -> Result<(), Failure> {
@@ -135,7 +132,6 @@ pub(crate) fn read_script<R: Read>(
     ensures read { OnOk result (IsAtEnd (R.remaining input.new)) }
     ensures events { IfOk result (λ events. IfSome (R.remaining input.old) (λ octets. IsScript cells octets events.items)) }
     ensures bad { (n : ℕ) → result ≡ Err (BadEvent n) → IfSome (R.remaining input.old) (λ octets. IsBadScript cells octets n) }
-    ensures supported { result ≢ Err Unsupported }
 {
     let mut script = Script::new(alloc, cells);
     let mut room = room_for(alloc, BLOCK)?;

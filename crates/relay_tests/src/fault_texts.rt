@@ -1,9 +1,10 @@
-use bsc_program::Failure;
+use bsc_program::{Failure, ProgramFault};
 use hold_queue::HoldFault;
 use link_model::LinkFault;
 use mobile_end::MobileFault;
 use msc_end::MscFault;
 use octets::Memory;
+use settings::SettingsFault;
 use std::fmt::Display;
 use std::process::Abort;
 use std::test::Fail;
@@ -39,12 +40,17 @@ fn faults_of_the_models_are_told(rt: HostRuntime) -> Result<(), Fail> {
 #[test]
 fn faults_of_the_program_are_told(rt: HostRuntime) -> Result<(), Fail> {
     tells(&rt, LineFault::BadEvent, "bad event")?;
+    tells(&rt, ProgramFault::UnreadSettings, "settings: cannot read")?;
+    let fault = SettingsFault::NotToml;
+    tells(&rt, ProgramFault::Settings(fault), "settings: not TOML")?;
     tells(
         &rt,
-        Failure::Unsupported,
-        "replay --config and --break are not supported yet",
+        ProgramFault::BadBreak,
+        "--break wants --config, and a number from 0 to that of the cells",
     )?;
     tells(&rt, Failure::BadEvent(7), "line 7: bad event")?;
+    let failed = ProgramFault::Failed(Failure::Device);
+    tells(&rt, failed, "device failed")?;
     tells(&rt, Failure::Device, "device failed")
 }
 

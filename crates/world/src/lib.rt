@@ -5,6 +5,7 @@
 pub use laws::{keeps_order, queues_keep_order};
 pub use line_fault::LineFault;
 pub use script::read_line;
+pub use value::read_source;
 pub use world::World;
 pub use world_table::{Event, SwitchAction};
 

@@ -1,7 +1,7 @@
 ghost use Rattle.std.specs.Prelude.{◌≡◌, ◌≤◌, ◌^◌, true, IfOk, MatchResult};
 ghost use Rattle.std.specs.Char.{is_ascii_digit};
 ghost use Rattle.std.specs.List.{list_all};
-ghost use Rattle.world.specs.Words.{Reads, is_decimal, decimal_after, number_in, sapi_in, answer_in};
+ghost use Rattle.world.specs.Words.{Reads, is_decimal, decimal_after, number_in, source_in, sapi_in, answer_in};
 
 use crate::line_fault::BadEvent;
 use dtap_codec::Sapi;
@@ -16,6 +16,16 @@ pub(crate) fn number_in(word: &str, low: u32, high: u32) -> Result<u32, BadEvent
         return Err(BadEvent);
     }
     Ok(number)
+}
+
+/// The number of a source, from 0, which is the switch, to the number of cells.
+pub fn read_source(cells: u16, word: &str) -> Option<u16>
+    ensures { result ≡ source_in cells word.now }
+{
+    match number_in(word, 0, u32::from(cells)) {
+        Ok(number) => Some(number as u16),
+        Err(BadEvent) => None,
+    }
 }
 
 /// The number that a word of decimal digits writes, where that is below 2 to the 32.

@@ -1,6 +1,6 @@
 use Rattle.std.proofs.Common.{append-nil, rules, subst}
 use Rattle.bsc_program.specs.Script.{RefusesLine}
-use Rattle.bsc_program.specs.declared.failure.Failure.TheVariants.{BadEvent, Unsupported}
+use Rattle.bsc_program.specs.declared.failure.Failure.TheVariants.{BadEvent}
 use Rattle.bsc_program.proofs.Ends.{error_as}
 use Rattle.bsc_program.proofs.Scripts.{has_octets}
 use Rattle.bsc_program.proofs.script.Script.finish.Goals as goal
@@ -9,8 +9,3 @@ pub returns-in_err-end_line-clause-bad : goal.returns-in_err-end_line-clause-bad
 returns-in_err-end_line-clause-bad c = λ n is.
     let same = error_as c.from_residual.result _ (BadEvent n) c.from_residual.ensures.1 is in
     (has_octets c.args.self.started.items (search rules), subst (λ line. RefusesLine c.args.self line n) (append-nil c.args.self.started.items) (c.in_err-end_line.ensures.bad n (cc same)))
-
-pub returns-in_err-end_line-clause-supported : goal.returns-in_err-end_line-clause-supported
-returns-in_err-end_line-clause-supported c = λ is.
-    let same = error_as c.from_residual.result _ Unsupported c.from_residual.ensures.1 is in
-    c.in_err-end_line.ensures.supported (cc same)

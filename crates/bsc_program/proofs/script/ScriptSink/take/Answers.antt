@@ -19,7 +19,4 @@ returns-clause-taken c =
 pub returns-in_err-end_line-clause-refused : goal.returns-in_err-end_line-clause-refused
 returns-in_err-end_line-clause-refused c =
     said_of c.from_residual.result _ _ c.from_residual.ensures.1
-    (λ failure was. (
-      λ n is. refuses_at c.args.self.now c.loop-end.self c.args.piece.now c.loop-end.rest.now c.in-Some.end n c.loop-end.invariant c.in-Some.ensures (c.in_err-end_line.ensures.bad n (cc (was, is))),
-      λ is. c.in_err-end_line.ensures.supported (cc (was, is)),
-    ))
+    (λ failure was n is. refuses_at c.args.self.now c.loop-end.self c.args.piece.now c.loop-end.rest.now c.in-Some.end n c.loop-end.invariant c.in-Some.ensures (c.in_err-end_line.ensures.bad n (cc (was, is))))

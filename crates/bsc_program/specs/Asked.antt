@@ -1,0 +1,46 @@
+-- What the options of `replay` ask for.
+use Rattle.std.specs.Prelude.{ℕ, List, length, Option, Some, None, Result, Ok, Err}
+use Rattle.toml.specs.Parse.{parse_document}
+use Rattle.settings.specs.declared.fault.SettingsFault.{SettingsFault}
+use Rattle.settings.specs.Parameters.{Parameters}
+use Rattle.settings.specs.Tables.{settings_in}
+use Rattle.world.specs.Words.{source_in}
+use Rattle.bsc_program.specs.declared.fault.ProgramFault.{ProgramFault}
+use Rattle.bsc_program.specs.declared.fault.ProgramFault.TheVariants.{Settings, BadBreak}
+
+-- the report of the fixed world, that of the world of settings, or a line for each place at which the link of a source breaks
+pub data Asked : Type 0 where
+  fixed : Asked
+  controlled : Parameters → Asked
+  breaking : Parameters → ℕ → Asked
+
+abbrev pub settings_or_fault : Result Parameters SettingsFault → Result Parameters ProgramFault
+settings_or_fault (Ok settings) = Ok settings
+settings_or_fault (Err fault) = Err (Settings fault)
+
+-- the settings in a text, or their first fault
+abbrev pub settings_of : List ℕ → Result Parameters ProgramFault
+settings_of text = settings_or_fault (settings_in (parse_document text))
+
+abbrev pub asked_of_source : Parameters → Option ℕ → Result Asked ProgramFault
+asked_of_source settings None = Err BadBreak
+asked_of_source settings (Some source) = Ok (breaking settings source)
+
+-- the word behind `--break` is the number of a source of the settings
+abbrev pub asked_with : Result Parameters ProgramFault → Option (List ℕ) → Result Asked ProgramFault
+asked_with (Err fault) breaks = Err fault
+asked_with (Ok settings) None = Ok (controlled settings)
+asked_with (Ok settings) (Some word) = asked_of_source settings (source_in (length settings.cells) word)
+
+-- What the settings' text and the word behind `--break` ask for, or why it is nothing. Settings come first, and `--break`
+-- wants some.
+abbrev pub asked : Option (List ℕ) → Option (List ℕ) → Result Asked ProgramFault
+asked (Some text) breaks = asked_with (settings_of text) breaks
+asked None None = Ok fixed
+asked None (Some word) = Err BadBreak
+
+-- how many cells the script counts with
+abbrev pub cells_of : Asked → ℕ
+cells_of fixed = 1
+cells_of (controlled settings) = length settings.cells
+cells_of (breaking settings source) = length settings.cells
