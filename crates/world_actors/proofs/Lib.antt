@@ -7,3 +7,4 @@ mod Pushing
 mod Sitting
 mod Turning
 mod Upper
+mod Rows
