@@ -3,9 +3,8 @@ use Rattle.std.proofs.Common.{◌≡◌, ℕ, Bool, true, false, List, [], ◌�
 use Rattle.conn_messages.specs.declared.channel.Change.TheVariants.{Handover}
 use Rattle.controller_table.specs.Controller.{place_at}
 use Rattle.world_table.specs.declared.event.Event.TheVariants.{BaseDown, Connect}
-use Rattle.world_table.specs.declared.limits.TheConstants.{MAX_TENURE}
 use Rattle.world_table.specs.declared.seat.Command.{Command}
-use Rattle.world_table.specs.declared.seat.Seat.TheVariants.{Asking, On, Moving, Gone}
+use Rattle.world_table.specs.declared.seat.Seat.TheVariants.{On, Moving, Gone}
 use Rattle.world_table.specs.declared.seat.Tenure.{Tenure}
 use Rattle.world_table.specs.World.{Actors, World, new_spot, with_spot}
 use Rattle.world_table.proofs.Rows.{opened}
@@ -92,6 +91,22 @@ opened_before = refl
 not_spent : is_spent (opened).actors 1 (Some 0x41) ≡ false
 unfolding on_literals
 not_spent = refl
+
+-- both sides of the last number of a tenure
+abbrev in_tenure : ℕ → Actors
+in_tenure number = with_spot (place_at 1 0x0a) (record new_spot { tenure = number }) (opened).actors
+
+last_but_one : is_spent (in_tenure 18446744073709551614) 1 (Some 0x0a) ≡ false
+unfolding on_literals
+last_but_one = refl
+
+last : is_spent (in_tenure 18446744073709551615) 1 (Some 0x0a) ≡ true
+unfolding on_literals
+last = refl
+
+another_channel : is_spent (in_tenure 18446744073709551615) 1 (Some 0x41) ≡ false
+unfolding on_literals
+another_channel = refl
 
 activates_nothing : is_spent (opened).actors 1 None ≡ false
 unfolding on_literals
