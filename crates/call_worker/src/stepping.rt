@@ -5,7 +5,7 @@ ghost use Rattle.call_worker.specs.Seen.{seen};
 ghost use Rattle.relay_items.specs.declared.What.TheVariants as whats;
 
 use crate::clock::Clock;
-use crate::limits::{OUTPUTS_A_RING, TICK_MS};
+use crate::limits::{STEPS_A_RING, TICK_MS};
 use crate::mark::Mark;
 use crate::sending::{is_given_up, ring_all, send_all, tell_given_up};
 use crate::worker::Worker;
@@ -140,21 +140,40 @@ impl<K: Clock> Worker<K> {
     {
         let mut outputs = Outputs::new(self.alloc);
         self.controller.run_one(step, &mut outputs)?;
-        if !outputs.is_empty() {
+        if outputs.is_empty() {
+            self.put_none();
+        } else {
             self.send(rt, outputs);
         }
         Ok(())
+    }
+
+    // A step that puts nothing counts too while something that was put waits for a bell: so it never waits for many steps.
+    fn put_none(&mut self)
+        ensures { seen K.told self.new ≡ seen K.told self.old }
+    {
+        if self.unrung > 0 {
+            self.count(1);
+        }
+    }
+
+    // Counts what came since the bells were rung, and rings them where it is much.
+    fn count(&mut self, more: usize)
+        ensures { seen K.told self.new ≡ seen K.told self.old }
+    {
+        self.unrung = self.unrung.saturating_add(more);
+        if self.unrung >= STEPS_A_RING {
+            self.ring();
+        }
     }
 
     fn send<R: Wait>(&mut self, rt: &R, outputs: Outputs)
         ensures sent { SendsAll not_ended self.old.putters.items outputs.outs self.new.putters.items }
         ensures same { seen K.told self.new ≡ record (seen K.told self.old) { putters = self.new.putters.items } }
     {
-        self.unrung = self.unrung.saturating_add(outputs.len());
+        let more = outputs.len();
         send_all(rt, &mut self.putters, outputs.into_vec());
-        if self.unrung >= OUTPUTS_A_RING {
-            self.ring();
-        }
+        self.count(more);
     }
 
     /// Wakes the writers, if there may be something for them.

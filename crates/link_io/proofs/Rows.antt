@@ -12,7 +12,7 @@ use Rattle.ruled_relay.specs.Inbox.{PassView}
 use Rattle.ruled_relay.specs.Outbox.{TakerView}
 use Rattle.link_io.specs.declared.fault.IoFault.TheVariants.{ReadFailed, WriteFailed, FrameFault, Memory, GateShut, GivenUp}
 use Rattle.link_io.specs.Faults.{fault_of_frame, fault_of_reply}
-use Rattle.link_io.specs.Reading.{AsksGate, Ends, Parts, Serves, after_letting, frames_text, given, having_put, shutting}
+use Rattle.link_io.specs.Reading.{AsksGate, Ends, IsTold, Parts, Serves, after_letting, frames_text, given, having_put, shutting}
 use Rattle.link_io.specs.Writing.{Delivers, IsWriterFault, end_if, having_taken, lines}
 use Rattle.link_io.specs.Switching.{Stops, WritesReplies, after_all, all_replies, message_in, messages, replies_text}
 
@@ -35,6 +35,22 @@ given_of_two = refl
 
 a_frame_and_a_rest : Parts (0x00 ∷ 0x01 ∷ 0xfe ∷ 0x00 ∷ 0x00 ∷ []) (ping ∷ []) (0x00 ∷ [])
 a_frame_and_a_rest = record { whole = refl; each = (omega arith, tt) }
+
+-- a device learns of every fault but a gate that stayed shut; of a link that came to its end it learns nothing that is said here
+told_of_a_fault : IsTold (Some FrameFault) (Some FrameFault)
+told_of_a_fault = refl
+
+not_told : IsTold (Some ReadFailed) None → ⊥
+not_told bad = absurd (cc bad)
+
+told_of_another : IsTold (Some Memory) (Some FrameFault) → ⊥
+told_of_another bad = absurd (cc bad)
+
+gate_stayed_shut : IsTold (Some GateShut) None
+gate_stayed_shut = tt
+
+at_its_end : IsTold None None
+at_its_end = tt
 
 put_behind : (p : PassView) → (having_put p (Down ∷ [])).put ≡ p.put ++ Down ∷ []
 put_behind p = refl

@@ -9,8 +9,34 @@ use std::alloc::Global;
 /// How many items, or lines, wait at most in the queue of one link.
 const CAPACITY: usize = 1024;
 
+/// The queues between the threads of so many links, each with its two ends.
+#[derive(Drop)]
+pub(crate) struct Queues {
+    pub(crate) desk: Desk,
+    pub(crate) passes: Vec<SourcePass>,
+    pub(crate) putters: Vec<Putter>,
+    pub(crate) takers: Vec<Taker>,
+}
+
+impl Queues {
+    /// New queues, two for each of so many links.
+    pub(crate) fn new(alloc: Global, count: usize) -> Result<Queues, Memory>
+        ensures inbox { IfOk result (λ q. AreNewQueues count q.desk q.passes.items) }
+        ensures outboxes { IfOk result (λ q. AreNewOutboxes count q.putters.items q.takers.items) }
+    {
+        let (desk, passes) = inbox(alloc, count)?;
+        let (putters, takers) = outboxes(alloc, count)?;
+        Ok(Queues {
+            desk,
+            passes,
+            putters,
+            takers,
+        })
+    }
+}
+
 /// A queue for each of so many links that are read.
-pub(crate) fn inbox(alloc: Global, count: usize) -> Result<(Desk, Vec<SourcePass>), Memory>
+fn inbox(alloc: Global, count: usize) -> Result<(Desk, Vec<SourcePass>), Memory>
     ensures { IfOk result (λ r. AreNewQueues count r.0 r.1.items) }
 {
     // The number of a link has 16 bits.
@@ -22,7 +48,7 @@ pub(crate) fn inbox(alloc: Global, count: usize) -> Result<(Desk, Vec<SourcePass
 }
 
 /// An outbox for each of so many links that are written.
-pub(crate) fn outboxes(alloc: Global, count: usize) -> Result<(Vec<Putter>, Vec<Taker>), Memory>
+fn outboxes(alloc: Global, count: usize) -> Result<(Vec<Putter>, Vec<Taker>), Memory>
     ensures { IfOk result (λ r. AreNewOutboxes count r.0.items r.1.items) }
 {
     let mut putters = Vec::with_capacity(alloc, count)?;

@@ -6,7 +6,7 @@ ghost use Rattle.station_io.specs.Links.{Relays, ended_view, link_view};
 use crate::crews::{Done, Works, run};
 use crate::giving::{Room, give_back};
 use crate::link::Link;
-use crate::queues::{inbox, outboxes};
+use crate::queues::Queues;
 use crate::work::Calling;
 use crate::works::workers;
 use call_worker::Clock;
@@ -72,8 +72,12 @@ fn relay<
     ensures { IfOk result (λ d. HasEnded I.remaining O.contents G.refused controller alloc limit links.items d.read.items d.written.items d.called.desk d.called.putters.items) }
 {
     let count = links.len();
-    let (desk, passes) = inbox(alloc, count)?;
-    let (putters, takers) = outboxes(alloc, count)?;
+    let Queues {
+        desk,
+        passes,
+        putters,
+        takers,
+    } = Queues::new(alloc, count)?;
     let (readings, writings) = workers(alloc, links, passes, takers, limit)?;
     let calling = Calling {
         alloc,
