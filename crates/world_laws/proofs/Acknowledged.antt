@@ -63,20 +63,20 @@ inbox-read at (item ∷ items) =
     ∙ ap (λ (xs : List Brought). flat_map (brings at.number) (read_of at.station item) ++ xs) (inbox-read at items)
     ∙ sym (flat_map-append (brings at.number) (read_of at.station item) (flat_map (read_of at.station) items))
 
-coming-read : (w : Actors) (at : Place) → coming_up w at ≡ flat_map (brings at.number) (messages_up w at.station)
+pub coming-read : (w : Actors) (at : Place) → coming_up w at ≡ flat_map (brings at.number) (messages_up w at.station)
 coming-read w at =
     ap (λ (xs : List Brought). xs ++ flat_map (brings at.number) (base_of w at.station).messages) (inbox-read at w.inbox)
     ∙ sym (flat_map-append (brings at.number) (flat_map (read_of at.station) w.inbox) (base_of w at.station).messages)
 
 -- ---- one message
 
-unbound : (k : ℕ) (m : Rsl) (ms : List Rsl) → is_bound_of k m ≡ false → acknowledgements k (m ∷ ms) ≡ acknowledgements k ms
+pub unbound : (k : ℕ) (m : Rsl) (ms : List Rsl) → is_bound_of k m ≡ false → acknowledgements k (m ∷ ms) ≡ acknowledgements k ms
 unbound k m ms is = cond-false _ (m ∷ acknowledgements k ms) (acknowledgements k ms) is
 
-bound : (k : ℕ) (m : Rsl) (ms : List Rsl) → is_bound_of k m ≡ true → acknowledgements k (m ∷ ms) ≡ m ∷ acknowledgements k ms
+pub bound : (k : ℕ) (m : Rsl) (ms : List Rsl) → is_bound_of k m ≡ true → acknowledgements k (m ∷ ms) ≡ m ∷ acknowledgements k ms
 bound k m ms is = cond-true _ (m ∷ acknowledgements k ms) (acknowledgements k ms) is
 
-brought-unbound : (k : ℕ) (m : Rsl) → is_brought_on k m ≡ true → is_bound_of k m ≡ false
+pub brought-unbound : (k : ℕ) (m : Rsl) → is_brought_on k m ≡ true → is_bound_of k m ≡ false
 brought-unbound k (rsl.EstablishIndication e) is = refl
 brought-unbound k (rsl.DataIndication d) is = refl
 brought-unbound k _ is = absurd (never is)
@@ -115,7 +115,7 @@ brought-leads k (rsl.EstablishIndication e) is = leads-of k (rsl.EstablishIndica
 brought-leads k (rsl.DataIndication d) is = leads-of k (rsl.DataIndication d) refl
 brought-leads k _ is = absurd (never is)
 
-apart-brings : (k : ℕ) (m : Rsl) → is_brought_on k m ≡ false → is_bound_of k m ≡ false → brings k m ≡ []
+pub apart-brings : (k : ℕ) (m : Rsl) → is_brought_on k m ≡ false → is_bound_of k m ≡ false → brings k m ≡ []
 apart-brings k (rsl.EstablishIndication e) is not_bound = cond-false _ (of_establishment (sapi_of e.link) e.l3) [] is
 apart-brings k (rsl.DataIndication d) is not_bound = cond-false _ (of_main (sapi_of d.link) d.l3) [] is
 apart-brings k (rsl.RfChannelReleaseAck channel) is not_bound = cond-false _ (released ∷ []) [] not_bound
@@ -124,7 +124,7 @@ apart-brings k _ is not_bound = refl
 -- ---- what acknowledgements tell
 
 -- outside a tenure nothing comes before the next ACTIVATION ACK
-nothing-outside : {end : Bool} (k : ℕ) (ms : List Rsl) → Tenures k false ms end → acknowledgements k ms ≡ [] → flat_map (brings k) ms ≡ []
+pub nothing-outside : {end : Bool} (k : ℕ) (ms : List Rsl) → Tenures k false ms end → acknowledgements k ms ≡ [] → flat_map (brings k) ms ≡ []
 nothing-outside k [] (over within) none = refl
 nothing-outside k (m ∷ ms) (begins t) none = absurd (let some : m ∷ acknowledgements k ms ≡ [] = sym (bound k m ms (eq-eqb k k refl)) ∙ none in cc)
 nothing-outside k (m ∷ ms) (ends t) none = absurd (let some : m ∷ acknowledgements k ms ≡ [] = sym (bound k m ms (eq-eqb k k refl)) ∙ none in cc)
@@ -189,7 +189,7 @@ own-first w station source = elim (cases_Bool (nat_eq source station)) [
   | inr other ↦ cond-false _ (option_to_list (first_message (base_of w source))) [] other ∙ sym (cond-false _ (option_to_list (first_message (base_of w station))) [] other)
 ]
 
-pushed-read : (station : ℕ) (w : Actors) (event : Event) → station ≢ SWITCH_LINK → Good w → flat_map (read_of station) (pushed w event) ≡ given station w event
+pub pushed-read : (station : ℕ) (w : Actors) (event : Event) → station ≢ SWITCH_LINK → Good w → flat_map (read_of station) (pushed w event) ≡ given station w event
 pushed-read station w (BasePush source) other good = elim (cases_Bool (nat_eq source SWITCH_LINK)) [
   | inl switch ↦
       ap (flat_map (read_of station)) (cond-true _ (map switch_item (first_of w.switch_made)) (map (station_item source) (option_to_list (first_message (base_of w source)))) switch)
@@ -223,7 +223,7 @@ given-read settings events station other =
 
 -- ---- the laws
 
-behind : {within end : Bool} (k : ℕ) (xs ys : List Rsl) → Tenures k within (xs ++ ys) end → (b : Bool) × Tenures k b ys end
+pub behind : {within end : Bool} (k : ℕ) (xs ys : List Rsl) → Tenures k within (xs ++ ys) end → (b : Bool) × Tenures k b ys end
 behind {within} k [] ys t = (within, t)
 behind k (x ∷ xs) ys (begins t) = behind k xs ys t
 behind k (x ∷ xs) ys (tenure_brings is t) = behind k xs ys t

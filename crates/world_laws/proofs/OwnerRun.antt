@@ -68,11 +68,11 @@ each-settings : (c : Controller) (steps : List Step) → (each step c steps).nex
 each-settings c [] = refl
 each-settings c (s ∷ ss) = each-settings (step c s).next ss ∙ (step_goes c s).settings
 
-life-settings : (p : Parameters) (steps : List Step) → (life p steps).next.settings ≡ p
+pub life-settings : (p : Parameters) (steps : List Step) → (life p steps).next.settings ≡ p
 unfolding life
 life-settings p steps = each-settings (new_controller p) steps
 
-lawful-life : (p : Parameters) (steps : List Step) (s : Step) → AreAllowed p → AllByRecursion ComesInOctets steps → ComesInOctets s → Lawful (life p steps).next s
+pub lawful-life : (p : Parameters) (steps : List Step) (s : Step) → AreAllowed p → AllByRecursion ComesInOctets steps → ComesInOctets s → Lawful (life p steps).next s
 lawful-life p steps s allowed octets own = record {
   ready = life_ready p steps allowed;
   used = life_uses p steps allowed;
@@ -95,7 +95,7 @@ quiet-serving at least c sent = (runs over, tt)
 not-switch : (at : Place) (source : ℕ) → 1 ≤ at.station → source ≡ SWITCH_LINK → (source == at.station) ≡ false
 not-switch at source least is = ne_eqb source at.station (λ same. absurd (let zero : at.station ≡ 0 = sym same ∙ is in omega (arith, zero, least)))
 
-source-or : (source : ℕ) → (source ≡ SWITCH_LINK) ⊎ (source ≢ SWITCH_LINK)
+pub source-or : (source : ℕ) → (source ≡ SWITCH_LINK) ⊎ (source ≢ SWITCH_LINK)
 source-or source = elim (cases_Bool (nat_eq source SWITCH_LINK)) [
   | inl hit ↦ inl (eqb-true source SWITCH_LINK hit)
   | inr miss ↦ inr (λ same. true≢false (sym (eq-eqb source SWITCH_LINK same) ∙ miss))
@@ -197,7 +197,7 @@ module _ (settings : Parameters) (owner : Tenure → ℕ) (w : Actors) (agree : 
       subst (λ (x : Word). AllByRecursion (LeadsOut at p c) (on_word source x c).outs) (sym own)
       (ack-leads at p c (channel_state c p) ready (subst (λ (x : Word). AllByRecursion IsSent (on_word source x c).outs) own sent))))
 
-  item-leads : (at : Place) (source : ℕ) (what : What) (items : List Item) → 1 ≤ at.station → at.station ≤ length settings.cells → w.inbox ≡ record { source = source; what = what } ∷ items → IsKnownItem (record { source = source; what = what }) → hears w.controller at.station ≡ true → is_up w at.station ≡ true
+  pub item-leads : (at : Place) (source : ℕ) (what : What) (items : List Item) → 1 ≤ at.station → at.station ≤ length settings.cells → w.inbox ≡ record { source = source; what = what } ∷ items → IsKnownItem (record { source = source; what = what }) → hears w.controller at.station ≡ true → is_up w at.station ≡ true
       → AllByRecursion IsSent (on_what (hears w.controller source) source what w.controller).outs → AllByRecursion (LeadsOwn owner w at (target_in w source what)) (on_what (hears w.controller source) source what w.controller).outs
   item-leads at source whats.Down items least most stands known hearing at_up sent = none-lead owner w at None (on_what (hears w.controller source) source whats.Down w.controller).outs refl
   item-leads at source (whats.Frame frame) items least most stands known hearing at_up sent = elim (source-or source) [
@@ -219,26 +219,26 @@ module _ (settings : Parameters) (owner : Tenure → ℕ) (w : Actors) (agree : 
 
 -- ---- over all events
 
-snoc-actors : (w : Actors) (xs : List Event) (e : Event) → actors_after_all w (xs ++ e ∷ []) ≡ actors_after (actors_after_all w xs) e
+pub snoc-actors : (w : Actors) (xs : List Event) (e : Event) → actors_after_all w (xs ++ e ∷ []) ≡ actors_after (actors_after_all w xs) e
 snoc-actors w [] e = refl
 snoc-actors w (x ∷ xs) e = snoc-actors (actors_after w x) xs e
 
-front-all : (P : Step → Type 0) (xs ys : List Step) → AllByRecursion P (xs ++ ys) → AllByRecursion P xs
+pub front-all : (P : Step → Type 0) (xs ys : List Step) → AllByRecursion P (xs ++ ys) → AllByRecursion P xs
 front-all P [] ys all = tt
 front-all P (x ∷ xs) ys all = (all.0, front-all P xs ys all.1)
 
-behind-all : (P : Step → Type 0) (xs ys : List Step) → AllByRecursion P (xs ++ ys) → AllByRecursion P ys
+pub behind-all : (P : Step → Type 0) (xs ys : List Step) → AllByRecursion P (xs ++ ys) → AllByRecursion P ys
 behind-all P [] ys all = all
 behind-all P (x ∷ xs) ys all = behind-all P xs ys all.1
 
-snoc-steps : (P : Step → Type 0) (w : Actors) (xs : List Event) (e : Event) → AllByRecursion P (all_steps w xs) → AllByRecursion P (step_at (actors_after_all w xs) e) → AllByRecursion P (all_steps w (xs ++ e ∷ []))
+pub snoc-steps : (P : Step → Type 0) (w : Actors) (xs : List Event) (e : Event) → AllByRecursion P (all_steps w xs) → AllByRecursion P (step_at (actors_after_all w xs) e) → AllByRecursion P (all_steps w (xs ++ e ∷ []))
 snoc-steps P w [] e all own = AllByRecursion-append P (step_at w e) [] own tt
 snoc-steps P w (x ∷ xs) e all own =
     AllByRecursion-append P (step_at w x) (all_steps (actors_after w x) (xs ++ e ∷ [])) (front-all P (step_at w x) (all_steps (actors_after w x) xs) all)
     (snoc-steps P (actors_after w x) xs e (behind-all P (step_at w x) (all_steps (actors_after w x) xs) all) own)
 
 -- the actors after the events that are done
-serves-event : (settings : Parameters) (owner : Tenure → ℕ) (done : List Event) (w : Actors) (event : Event) → w ≡ actors_after_all (new_actors settings) done → AreAllowed settings → AllByRecursion ComesInOctets (all_steps (new_actors settings) done) → AllByRecursion ComesInOctets (step_at w event) → AllAgree settings owner w → ServesAt settings owner w event
+pub serves-event : (settings : Parameters) (owner : Tenure → ℕ) (done : List Event) (w : Actors) (event : Event) → w ≡ actors_after_all (new_actors settings) done → AreAllowed settings → AllByRecursion ComesInOctets (all_steps (new_actors settings) done) → AllByRecursion ComesInOctets (step_at w event) → AllAgree settings owner w → ServesAt settings owner w event
 unfolding ServesAt
 serves-event settings owner done w Handle is allowed octets own agree = λ item items stands.
     let lives : w.controller ≡ (life settings (all_steps (new_actors settings) done)).next = ap (λ (x : Actors). x.controller) is ∙ LivesByTable-new settings done in
@@ -252,7 +252,7 @@ serves-event settings owner done w (events.Tick ms) is allowed octets own agree 
     serves-tick settings owner w agree (ap (λ (c : Controller). c.settings) lives ∙ life-settings settings (all_steps (new_actors settings) done)) laws.ready ms laws
 serves-event settings owner done w _ is allowed octets own agree = tt
 
-serves-through : (settings : Parameters) (owner : Tenure → ℕ) (done rest : List Event) (w : Actors) → w ≡ actors_after_all (new_actors settings) done → AreAllowed settings → AllByRecursion ComesInOctets (all_steps (new_actors settings) done) → AllByRecursion ComesInOctets (all_steps w rest) → ServesThrough settings owner w rest
+pub serves-through : (settings : Parameters) (owner : Tenure → ℕ) (done rest : List Event) (w : Actors) → w ≡ actors_after_all (new_actors settings) done → AreAllowed settings → AllByRecursion ComesInOctets (all_steps (new_actors settings) done) → AllByRecursion ComesInOctets (all_steps w rest) → ServesThrough settings owner w rest
 unfolding ServesThrough
 serves-through settings owner done [] w is allowed octets later = tt
 serves-through settings owner done (event ∷ rest) w is allowed octets later =

@@ -38,7 +38,7 @@ use Rattle.world_table.proofs.Outboxes.{changed_link}
 use Rattle.world_laws.specs.ComingUp.{made_of, coming_up}
 use Rattle.world_laws.specs.GoingDown.{leading, leading_from_air, leading_by, leading_from_outbox, going_down}
 use Rattle.world_laws.specs.LineUps.{commanded_target, waiting_of}
-use Rattle.world_laws.specs.Seated.{Sits, commanded_channels, AreActive}
+use Rattle.world_laws.specs.Seated.{Sits, commanded_channels, AreActiveAt}
 use Rattle.world_laws.specs.Staying.{AreLinedUp, StationsKeepLineUps}
 use Rattle.world_laws.proofs.Apart.{all-both, target-in}
 use Rattle.world_laws.proofs.BaseTakes.{Grown, AreGrown, SeesLess, LinedUp-less}
@@ -136,19 +136,19 @@ inactive-of base channel free active = absurd (none (sym (ap (λ (b : Bool). if 
   none : Some Busy ≡ None → ⊥
   none h = absurd cc
 
-apart-active : (w : Actors) (station channel : ℕ) (c : Channel) → refusal_of_activate (base_of w station) channel ≡ None → is_active_at w (place_of c) ≡ true → is_at (place_at station channel) c ≡ false
+apart-active : (w : Actors) (station channel : ℕ) (c : Channel) → refusal_of_activate (base_of w station) channel ≡ None → (c.station ≡ station → is_active_at w (place_of c) ≡ true) → is_at (place_at station channel) c ≡ false
 apart-active w station channel c free active = by_both (nat_eq station c.station) (nat_eq channel c.number) refl refl where
   by_both : (a b : Bool) → nat_eq station c.station ≡ a → nat_eq channel c.number ≡ b → (a && b) ≡ false
   by_both false b one two = refl
   by_both true false one two = refl
   by_both true true one two = absurd (inactive-of (base_of w station) channel free
-      (ap (λ (n : ℕ). is_active (base_of w n).active channel) (eqb-true station c.station one) ∙ ap (is_active (base_of w c.station).active) (eqb-true channel c.number two) ∙ active))
+      (ap (λ (n : ℕ). is_active (base_of w n).active channel) (eqb-true station c.station one) ∙ ap (is_active (base_of w c.station).active) (eqb-true channel c.number two) ∙ active (sym (eqb-true station c.station one))))
 
-less-activated : {w u : Actors} {s : Connection} (station channel : ℕ) → ArePlaced (used_channels s) → is_station_up w station ≡ true → SameEnds w u → u.inbox ≡ w.inbox → refusal_of_activate (base_of u station) channel ≡ None → AreActive w s
+less-activated : {w u : Actors} {s : Connection} (station channel : ℕ) → ArePlaced (used_channels s) → is_station_up w station ≡ true → SameEnds w u → u.inbox ≡ w.inbox → refusal_of_activate (base_of u station) channel ≡ None → AreActiveAt station w s
     → SeesLess w u s → SeesLess w (with_spot (place_at station channel) (new_tenure (spot_at u (place_at station channel))) (with_base station (after_activate (base_of u station) channel) u)) s
 less-activated {w} {u} {s} station channel placed up same inbox free active sees =
     less-spot (place_at station channel) (new_tenure (spot_at u (place_at station channel))) (sub-none _) (elsewhere s.serving placed_rest.0 active.0)
-    (λ t is. elsewhere t.channel (subst ArePlaced (target-in s.state t is) placed_rest.1).0 (subst (λ (o : Option Target). AllByRecursion (λ c. is_active_at w (place_of c) ≡ true) (commanded_channels o)) is active.1).0)
+    (λ t is. elsewhere t.channel (subst ArePlaced (target-in s.state t is) placed_rest.1).0 (subst (λ (o : Option Target). AllByRecursion (λ c. c.station ≡ station → is_active_at w (place_of c) ≡ true) (commanded_channels o)) is active.1).0)
     (less-told station (after_activate (base_of u station) channel) (activation_ack channel ∷ []) placed up same inbox (ap (λ (b : BaseState). b.messages ++ activation_ack channel ∷ []) (same station)) (λ k. refl) sees) where
       v : Actors
       v = with_base station (after_activate (base_of u station) channel) u
@@ -156,7 +156,7 @@ less-activated {w} {u} {s} station channel placed up same inbox free active sees
       placed_rest : ArePlaced (s.serving ∷ target_in s.state)
       placed_rest = all-right (λ c. c.station ≢ SWITCH_LINK) (undone s.draining) (s.serving ∷ target_in s.state) placed
 
-      elsewhere : (c : Channel) → c.station ≢ SWITCH_LINK → is_active_at w (place_of c) ≡ true → tenure_at (with_spot (place_at station channel) (new_tenure (spot_at u (place_at station channel))) v) (place_of c) ≡ tenure_at v (place_of c)
+      elsewhere : (c : Channel) → c.station ≢ SWITCH_LINK → (c.station ≡ station → is_active_at w (place_of c) ≡ true) → tenure_at (with_spot (place_at station channel) (new_tenure (spot_at u (place_at station channel))) v) (place_of c) ≡ tenure_at v (place_of c)
       elsewhere c c_is is = ap (λ (x : Spot). record { at = place_of c; number = x.tenure }) (spot-elsewhere v (place_at station channel) (new_tenure (spot_at u (place_at station channel))) c (up-right station w up).0 c_is
           (apart-active w station channel c (subst (λ (b : BaseState). refusal_of_activate b channel ≡ None) (same station) free) is))
 
@@ -282,7 +282,7 @@ seats-other {m} {u} {mobile} {s} q number tenure lined acts asking = by_number (
     lined = LinedUp-same lined.one lined.one (sees-mobiles _ (sees-itself u s)) refl refl refl lined.lined;
   }
 
-took-keeps : {m : ℕ} {w : Actors} {mobile : ℕ} {s : Connection} (station : ℕ) (first : OutboxEntry) (others : List OutboxEntry) → AreActive w s → AreLinedUp m w mobile s → is_station_up w station ≡ true → outbox_of w station ≡ first ∷ others
+took-keeps : {m : ℕ} {w : Actors} {mobile : ℕ} {s : Connection} (station : ℕ) (first : OutboxEntry) (others : List OutboxEntry) → AreActiveAt station w s → AreLinedUp m w mobile s → is_station_up w station ≡ true → outbox_of w station ≡ first ∷ others
     → OfTaken (λ v. AreLinedUp m v mobile s) (took station first.target (rsl_in first.out.frame) (with_outbox station others w))
 unfolding OfTaken Seats
 took-keeps {m} {w} {mobile} {s} station first others active lined up stood = by_message (rsl_in first.out.frame) refl where

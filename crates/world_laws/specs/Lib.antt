@@ -22,3 +22,4 @@ pub mod Refusals
 pub mod TakingTurns
 pub mod Owned
 pub mod Remaining
+pub mod Lives

@@ -73,13 +73,13 @@ IsAlone w mobile s =
     (other : ℕ) (q : Mobile) (tenure : Tenure) (command : Option Command) → other ≢ mobile → mobile_of w other ≡ Some q → q.seat ≡ On tenure command
     → is_reached w tenure ≡ true → IsElsewhere (used_channels s) tenure.at
 
--- its serving channel, and the target to which its mobile was commanded, are active at their stations
 abbrev pub commanded_channels : Option Target → List Channel
 commanded_channels None = []
 commanded_channels (Some target) = target.channel ∷ []
 
-abbrev pub AreActive : Actors → Connection → Type 0
-AreActive w s = AllByRecursion (λ c. is_active_at w (place_of c) ≡ true) (s.serving ∷ commanded_channels (commanded_target s.state))
+-- of its serving channel, and the target to which its mobile was commanded, that of this station is active
+abbrev pub AreActiveAt : ℕ → Actors → Connection → Type 0
+AreActiveAt station w s = AllByRecursion (λ c. c.station ≡ station → is_active_at w (place_of c) ≡ true) (s.serving ∷ commanded_channels (commanded_target s.state))
 
 -- ---- a connection and its mobile, lined up
 

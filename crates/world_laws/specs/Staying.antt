@@ -23,7 +23,7 @@ use Rattle.world_table.specs.Relay.{entry_of, target_in}
 use Rattle.world_laws.specs.ComingUp.{brings_in, coming_up}
 use Rattle.world_laws.specs.GoingDown.{leading_from_outbox}
 use Rattle.world_laws.specs.LineUps.{commanded_target, taken_of}
-use Rattle.world_laws.specs.Seated.{commanded_channels, AreActive, IsAlone, LinedUp}
+use Rattle.world_laws.specs.Seated.{commanded_channels, AreActiveAt, IsAlone, LinedUp}
 
 -- the mobile of this number and the connection are lined up
 pub record AreLinedUp (m : ℕ) (w : Actors) (mobile : ℕ) (s : Connection) : Type 0 where
@@ -48,10 +48,10 @@ MobilesKeepLineUps settings events event =
     → AreLinedUp (modulus_in settings) (actors_after_all (new_actors settings) events) mobile s
     → AreLinedUp (modulus_in settings) (actors_after (actors_after_all (new_actors settings) events) event) mobile s
 
--- whatever happened before, where its channels are active
+-- whatever happened before, where its channels of the station are active
 abbrev pub StationsKeepLineUps : Parameters → List Event → ℕ → Type 0
 StationsKeepLineUps settings events station =
-    (mobile : ℕ) (s : Connection) → AreActive (actors_after_all (new_actors settings) events) s
+    (mobile : ℕ) (s : Connection) → AreActiveAt station (actors_after_all (new_actors settings) events) s
     → AreLinedUp (modulus_in settings) (actors_after_all (new_actors settings) events) mobile s
     → AreLinedUp (modulus_in settings) (actors_after (actors_after_all (new_actors settings) events) (BaseTakes station)) mobile s
 

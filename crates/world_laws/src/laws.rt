@@ -37,7 +37,7 @@ pub fn mobiles_keep_line_ups()
 {}
 
 /// Law: and it stays lined up when a station takes the first entry of its outbox: when a message goes into the air or is lost, when
-/// a channel is activated or released, and when a mobile is assigned, where its own channels are active.
+/// a channel is activated or released, and when a mobile is assigned, where its own channels of that station are active.
 pub fn stations_keep_line_ups()
     ensures { (settings : Parameters) (events : List WorldEvent) (station : ℕ) → StationsKeepLineUps settings events station }
 {}

@@ -79,7 +79,7 @@ base-there w n base =
 
 -- ---- what an event does to the end of a station
 
-data Acts (n : ℕ) (w v : Actors) : Type 0 where
+pub data Acts (n : ℕ) (w v : Actors) : Type 0 where
   rests : base_of v n ≡ base_of w n → Acts n w v
   acts : (calls : List BaseCall) → is_up w n ≡ true → base_of v n ≡ after_calls (base_of w n) calls → messages_given (base_of w n) calls ≡ [] → Acts n w v
 
@@ -183,7 +183,7 @@ took-acts n station target o w u n_is up same = took-leads (Acts n w) station ta
 
 -- ---- an event: calls of the end, with what it gives; or its link breaks, and what it made goes
 
-data Step (n : ℕ) (w : Actors) (event : Event) (v : Actors) : Type 0 where
+pub data Step (n : ℕ) (w : Actors) (event : Event) (v : Actors) : Type 0 where
   acts_then : Acts n w v → given n w event ≡ [] → Step n w event v
   gives : (message : Rsl) → first_message (base_of w n) ≡ Some message → base_of v n ≡ after_next (base_of w n) → given n w event ≡ message ∷ [] → Step n w event v
   breaks : is_up v n ≡ false → (base_of v n).messages ≡ [] → given n w event ≡ [] → Step n w event v
@@ -270,7 +270,7 @@ breaking n source w n_is = by_link (is_up w source) refl where
   by_link true up = made up (nat_eq source SWITCH_LINK) refl
   by_link false down = as_before refl refl
 
-step : (n : ℕ) (w : Actors) (event : Event) → n ≢ 0 → Step n w event (actors_after w event)
+pub step : (n : ℕ) (w : Actors) (event : Event) → n ≢ 0 → Step n w event (actors_after w event)
 unfolding event_after FromAir OfTaken
 step n w (Upper number sapi message) n_is = acting n w (Upper number sapi message) (after_upper w number sapi message) refl (upper-leads (Acts n w) w number sapi message (λ p _. rests refl))
 step n w (Connect number station initial accepts) n_is =
@@ -321,7 +321,7 @@ Tenures-front (x ∷ xs) ys (ends h) = let front = Tenures-front xs ys h in (fro
 Tenures-front (x ∷ xs) ys (apart free unbound h) = let front = Tenures-front xs ys h in (front.0, apart free unbound front.1)
 
 -- what was given so far, and the end now: calls made it so; or the link is down, and nothing waits
-data Kept (n : ℕ) (so_far : List Rsl) (w : Actors) : Type 0 where
+pub data Kept (n : ℕ) (so_far : List Rsl) (w : Actors) : Type 0 where
   works : (station : ℕ) (calls : List BaseCall) → base_of w n ≡ after_calls (new_base station) calls → so_far ≡ messages_given (new_base station) calls → Kept n so_far w
   rested : is_up w n ≡ false → (base_of w n).messages ≡ [] → ((channel : ℕ) → (end : Bool) × Tenures channel false so_far end) → Kept n so_far w
 
@@ -368,20 +368,20 @@ kept-by n so_far w event v (gives message first is_next gave_now) stays (rested 
 kept-by n so_far w event v (breaks down_now nothing_now nothing) stays (rested down nothing_left tenures) =
     rested down_now nothing_now (λ channel. tenures-of (with_nothing so_far (given n w event) nothing) (tenures channel))
 
-kept-all : (n : ℕ) (so_far : List Rsl) (w : Actors) (events : List Event) → n ≢ 0 → Kept n so_far w → Kept n (so_far ++ all_given n w events) (actors_after_all w events)
+pub kept-all : (n : ℕ) (so_far : List Rsl) (w : Actors) (events : List Event) → n ≢ 0 → Kept n so_far w → Kept n (so_far ++ all_given n w events) (actors_after_all w events)
 kept-all n so_far w [] n_is kept = subst (λ (ms : List Rsl). Kept n ms w) (sym (append-nil so_far)) kept
 kept-all n so_far w (event ∷ events) n_is kept =
     subst (λ (ms : List Rsl). Kept n ms (actors_after_all (actors_after w event) events)) (append_assoc so_far (given n w event) (all_given n (actors_after w event) events))
     (kept-all n (so_far ++ given n w event) (actors_after w event) events n_is (kept-by n so_far w event (actors_after w event) (step n w event n_is) (down-after n w event) kept))
 
-tenures-kept : (n channel : ℕ) (so_far : List Rsl) (w : Actors) → Kept n so_far w → (end : Bool) × Tenures channel false (so_far ++ (base_of w n).messages) end
+pub tenures-kept : (n channel : ℕ) (so_far : List Rsl) (w : Actors) → Kept n so_far w → (end : Bool) × Tenures channel false (so_far ++ (base_of w n).messages) end
 tenures-kept n channel so_far w (works station calls is gave) =
     tenures-of (ap (λ (ms : List Rsl). ms ++ (base_of w n).messages) gave ∙ ap (λ (b : BaseState). messages_given (new_base station) calls ++ b.messages) is)
     (is_active (after_calls (new_base station) calls).active channel, Tenures-given channel station calls)
 tenures-kept n channel so_far w (rested down nothing_left tenures) = tenures-of (with_nothing so_far (base_of w n).messages nothing_left) (tenures channel)
 
 -- a new station has a new end
-new_ends : (cells : List CellParameters) (from k : ℕ) → (station : ℕ) × ((get_or (stations_from from cells) k no_station).base ≡ new_base station)
+pub new_ends : (cells : List CellParameters) (from k : ℕ) → (station : ℕ) × ((get_or (stations_from from cells) k no_station).base ≡ new_base station)
 new_ends [] from k = (0, refl)
 new_ends (cell ∷ cells) from zero = (from, refl)
 new_ends (cell ∷ cells) from (suc k) = new_ends cells (from + 1) k

@@ -41,14 +41,14 @@ pub record IsThere (at : Place) (w : Actors) : Type 0 where
   pub among : at.station - 1 < length w.stations
   pub none : is_up w at.station ≡ false → outbox_of w at.station ≡ []
 
-nothing-put : (link : ℕ) (w : Actors) (event : Event) → outputs w event ≡ [] → put link w event ≡ []
+pub nothing-put : (link : ℕ) (w : Actors) (event : Event) → outputs w event ≡ [] → put link w event ≡ []
 nothing-put link w event none = by (is_up w link) where
   by : (b : Bool) → (if b then to_link link (outputs w event) else []) ≡ []
   by true = ap (to_link link) none
   by false = refl
 
 -- what stands in the inbox then
-came : (at : Place) (w : Actors) (event : Event) → at.station ≢ SWITCH_LINK → popped w event ≡ [] → Good w → acknowledged_in at (actors_after w event).inbox ≡ acknowledged_in at w.inbox ++ acknowledgements at.number (given at.station w event)
+pub came : (at : Place) (w : Actors) (event : Event) → at.station ≢ SWITCH_LINK → popped w event ≡ [] → Good w → acknowledged_in at (actors_after w event).inbox ≡ acknowledged_in at w.inbox ++ acknowledgements at.number (given at.station w event)
 came at w event at_is pops good =
     ap (acknowledged_in at) (sym (inbox-goes w event ∙ ap (λ (items : List Item). items ++ (actors_after w event).inbox) pops))
     ∙ ap (acknowledgements at.number) (flat_map-append (said at.station) w.inbox (pushed w event))

@@ -141,16 +141,16 @@ rests-number at w event there rests up = by (outbox-step at.station w event) (pi
       ∙ sym (tenure-append at.number (is_active_at w at) (spot_at w at).tenure (taken at.station w event) (outbox_of v at.station))
       ∙ ap (tenure_all at.number (is_active_at w at) (spot_at w at).tenure) (sym all ∙ ap (λ (es : List OutboxEntry). outbox_of w at.station ++ es) none-put ∙ append-nil (outbox_of w at.station))
 
-beside-number : (at : Place) (w : Actors) (event : Event) → is_beside event ≡ true → IsThere at w → is_up (actors_after w event) at.station ≡ true → (tenure_behind (actors_after w event) at).number ≡ (tenure_behind w at).number
+pub beside-number : (at : Place) (w : Actors) (event : Event) → is_beside event ≡ true → IsThere at w → is_up (actors_after w event) at.station ≡ true → (tenure_behind (actors_after w event) at).number ≡ (tenure_behind w at).number
 beside-number at w event is there up = rests-number at w event there (beside-rests at w event is there) up
 
-takes-number : (owner : Tenure → ℕ) (at : Place) (w : Actors) (station : ℕ) → IsThere at w → HaveSpots w → Agrees owner w at → is_up (actors_after w (BaseTakes station)) at.station ≡ true → (tenure_behind (actors_after w (BaseTakes station)) at).number ≡ (tenure_behind w at).number
+pub takes-number : (owner : Tenure → ℕ) (at : Place) (w : Actors) (station : ℕ) → IsThere at w → HaveSpots w → Agrees owner w at → is_up (actors_after w (BaseTakes station)) at.station ≡ true → (tenure_behind (actors_after w (BaseTakes station)) at).number ≡ (tenure_behind w at).number
 takes-number owner at w station there spots agrees up = rests-number at w (BaseTakes station) there (takes-rests owner at w station there spots agrees) up
 
 -- ---- the ownership of a run, from an event on
 
 -- of tenures that aren't begun yet it is what the events to come give
-Follows : ℕ → (Tenure → ℕ) → Actors → List Event → Type 0
+unfoldable pub Follows : ℕ → (Tenure → ℕ) → Actors → List Event → Type 0
 Follows last owner w events = (t : Tenure) → 1 ≤ t.at.station → t.at.station ≤ last → is_up w t.at.station ≡ true → (tenure_behind w t.at).number < t.number → owner t ≡ owner_in w events t
 
 begun-less : (a b c : ℕ) → a < b → b ≤ c → nat_lt a b && nat_le b c ≡ true
@@ -193,7 +193,7 @@ follows-on last owner w event events more follows t from to up later =
 -- ---- the events
 
 -- each event is one of a mobile, of the switch, a push or a break; or the controller works; or a station takes an entry
-kinds : (P : Event → Type 0) → ((event : Event) → is_beside event ≡ true → P event) → P Handle → ((ms : ℕ) → P (Tick ms)) → ((station : ℕ) → P (BaseTakes station)) → (event : Event) → P event
+pub kinds : (P : Event → Type 0) → ((event : Event) → is_beside event ≡ true → P event) → P Handle → ((ms : ℕ) → P (Tick ms)) → ((station : ℕ) → P (BaseTakes station)) → (event : Event) → P event
 kinds P beside handle ticks takes (Upper number sapi message) = beside (Upper number sapi message) refl
 kinds P beside handle ticks takes (Connect number station initial accepts) = beside (Connect number station initial accepts) refl
 kinds P beside handle ticks takes (AirUp number sapi) = beside (AirUp number sapi) refl
@@ -226,16 +226,16 @@ ServesThrough settings owner w [] = Unit {0}
 ServesThrough settings owner w (event ∷ events) = (AllAgree settings owner w → ServesAt settings owner w event) × ServesThrough settings owner (actors_after w event) events
 
 -- what is kept
-record Right (settings : Parameters) (owner : Tenure → ℕ) (w : Actors) (events : List Event) : Type 0 where
-  agree : AllAgree settings owner w
-  good : Good w
-  spots : HaveSpots w
-  stations : length w.stations ≡ length settings.cells
-  none : (link : ℕ) → is_up w link ≡ false → outbox_of w link ≡ []
-  beyond : (link : ℕ) → length settings.cells < link → is_up w link ≡ false
-  follows : Follows (length settings.cells) owner w events
+pub record Right (settings : Parameters) (owner : Tenure → ℕ) (w : Actors) (events : List Event) : Type 0 where
+  pub agree : AllAgree settings owner w
+  pub good : Good w
+  pub spots : HaveSpots w
+  pub stations : length w.stations ≡ length settings.cells
+  pub none : (link : ℕ) → is_up w link ≡ false → outbox_of w link ≡ []
+  pub beyond : (link : ℕ) → length settings.cells < link → is_up w link ≡ false
+  pub follows : Follows (length settings.cells) owner w events
 
-there-of : (settings : Parameters) (owner : Tenure → ℕ) (w : Actors) (events : List Event) (at : Place) → Right settings owner w events → 1 ≤ at.station → at.station ≤ length settings.cells → IsThere at w
+pub there-of : (settings : Parameters) (owner : Tenure → ℕ) (w : Actors) (events : List Event) (at : Place) → Right settings owner w events → 1 ≤ at.station → at.station ≤ length settings.cells → IsThere at w
 there-of settings owner w events at right least most = record {
   station = λ is. absurd (zero-less is);
   among = subst (λ (l : ℕ). at.station - 1 < l) (sym right.stations) (omega (arith, least, most));
@@ -308,7 +308,7 @@ unfolding ServesAt event_after
 tick-right settings owner w ms events serves right =
     turn-right settings owner w (with_turn None (tick ms w.controller) w) (Tick ms) events None (tick ms w.controller) (λ at. []) refl (turn-leads HaveSpots None (tick ms w.controller) w (λ links. right.spots)) (λ at. tick-turned w at ms) serves right
 
-right-step : (settings : Parameters) (owner : Tenure → ℕ) (w : Actors) (event : Event) (events : List Event) → ServesAt settings owner w event → Right settings owner w (event ∷ events) → Right settings owner (actors_after w event) events
+pub right-step : (settings : Parameters) (owner : Tenure → ℕ) (w : Actors) (event : Event) (events : List Event) → ServesAt settings owner w event → Right settings owner w (event ∷ events) → Right settings owner (actors_after w event) events
 right-step settings owner w event events = kinds (λ (e : Event). ServesAt settings owner w e → Right settings owner w (e ∷ events) → Right settings owner (actors_after w e) events)
     (λ e is serves right. beside-right settings owner w e events is right)
     (handle-right settings owner w events)
@@ -340,16 +340,16 @@ all-by settings owner w (event ∷ events) serves right = (
 )
 
 -- from the beginning on
-new-down : (count link : ℕ) → count ≤ link → (slice_index_or (replicate count new_link) link broken_link).up ≡ false
+pub new-down : (count link : ℕ) → count ≤ link → (slice_index_or (replicate count new_link) link broken_link).up ≡ false
 new-down zero link less = refl
 new-down (suc count) zero less = absurd (omega (arith, less))
 new-down (suc count) (suc link) less = new-down count link (omega (arith, less))
 
-pub owned-run : (settings : Parameters) (events : List Event) → ServesThrough settings (owner_in (new_actors settings) events) (new_actors settings) events → AllAreBy (owner_in (new_actors settings) events) (new_actors settings) events
+pub right-new : (settings : Parameters) (events : List Event) → Right settings (owner_in (new_actors settings) events) (new_actors settings) events
 unfolding Follows
-owned-run settings events serves =
+right-new settings events =
     let w : Actors = new_actors settings in
-    all-by settings (owner_in w events) w events serves (record {
+    record {
       agree = AllAgree-new settings (owner_in w events);
       good = good-new settings;
       spots = HaveSpots-new settings;
@@ -357,4 +357,7 @@ owned-run settings events serves =
       none = λ link down. new_outbox (length settings.cells + 1) link;
       beyond = λ link less. new-down (length settings.cells + 1) link (omega (arith, less));
       follows = λ t least most up later. refl;
-    })
+    }
+
+pub owned-run : (settings : Parameters) (events : List Event) → ServesThrough settings (owner_in (new_actors settings) events) (new_actors settings) events → AllAreBy (owner_in (new_actors settings) events) (new_actors settings) events
+owned-run settings events serves = all-by settings (owner_in (new_actors settings) events) (new_actors settings) events serves (right-new settings events)

@@ -177,7 +177,7 @@ own-takes owner at w o is there all agrees = subst (λ (p : Option Actors). (spo
           (took-tenure at.station at.number first.target (rsl_in first.out.frame) (with_outbox at.station others w) there.station there.among all
           (λ a activates same. ((subst (FitsTenure owner at (is_active_at w at) (spot_at w at).tenure first.target) activates (subst (AreFitting owner at (is_active_at w at) (spot_at w at).tenure) stood agrees.line).0) same).1))
 
-kept-controller : (w : Actors) (s : ℕ) → (actors_after w (BaseTakes s)).controller ≡ w.controller
+pub kept-controller : (w : Actors) (s : ℕ) → (actors_after w (BaseTakes s)).controller ≡ w.controller
 unfolding event_after
 kept-controller w s = after-taken Kept (after_base_takes w s) w (base_takes-leads Kept w s (λ first others up stood. kept first others)) refl where
   Kept : Actors → Type 0

@@ -1,0 +1,64 @@
+-- A mobile that asked comes onto the serving channel: from then on it is lined up with its connection.
+use Rattle.std.proofs.Common.{◌≡◌, ◌≢◌, ℕ, ◌&&◌, nat_eq, Bool, true, false, List, [], ◌∷◌, ◌++◌, None, refl, sym, ap, ◌∙◌, subst, arith}
+use Rattle.std.proofs.lemmas.Bool.{eq-eqb}
+use Rattle.conn_messages.specs.declared.parameters.TheConstants.{SWITCH_LINK}
+use Rattle.conn_table.specs.declared.state.State.TheVariants.{WaitEstablish}
+use Rattle.conn_table.specs.Connection.{Connection, is_at}
+use Rattle.conn_table.specs.Standing.{Stands, StandsBy}
+use Rattle.controller_table.specs.Controller.{place_of}
+use Rattle.hold_queue.specs.ChainState.{empty_tenure}
+use Rattle.lineup.specs.Alive.{Alive}
+use Rattle.lineup.specs.Alive.Condition.{sound}
+use Rattle.lineup.specs.Alive.Follows.{goes_on}
+use Rattle.lineup.specs.Alive.Stands.{rests}
+use Rattle.lineup.specs.Alive.Stays.{remains}
+use Rattle.lineup.specs.LineUp.{Item, controls_in, controls_of, flow, fresh, messages_in}
+use Rattle.lineup.specs.LineUp.Seat.{on_serving}
+use Rattle.lineup.proofs.Following.{Follows-line}
+use Rattle.mobile_end.specs.DataLink.{to_be_taken}
+use Rattle.mobile_end.specs.DataLinkState.{DataLinkState}
+use Rattle.mobile_end.specs.GoesOn.{GoesOn}
+use Rattle.world_table.specs.declared.seat.Seat.TheVariants.{On}
+use Rattle.world_table.specs.World.{Actors, Mobile, is_station_up, tenure_at}
+use Rattle.world_laws.specs.ComingUp.{coming_up}
+use Rattle.world_laws.specs.GoingDown.{going_down}
+use Rattle.world_laws.specs.LineUps.{assembled, line_up, taken_of, waiting_of}
+use Rattle.world_laws.specs.Seated.{LinedUp}
+use Rattle.world_laws.specs.Seated.Remembers.{nothing}
+use Rattle.world_laws.specs.Seated.Sits.{stays}
+use Rattle.world_access.specs.Coming.{IsNew}
+
+-- nothing came, and the link of its station is up
+begin-alive : {m : ℕ} (sent : List (List ℕ)) (link : DataLinkState) (items : List Item) → messages_in items ≡ [] → GoesOn m sent [] link → controls_of (to_be_taken link) ≡ 0
+    → Alive m (assembled sent link on_serving WaitEstablish 0 [] (record { hold = []; items = items; is_lost = false; is_done = false }) fresh [] [])
+begin-alive {m} sent link items none goes no_control = record {
+  follows = Follows-line (ap (λ (xs : List (List ℕ)). flow xs ++ []) (sym none)) (goes_on goes);
+  first = λ is. refl;
+  stands = rests remains (let controls : controls_in items ≡ 0 = ap controls_of none in omega (arith, controls, no_control));
+  condition = sound;
+  bare = refl;
+}
+
+-- before its connection request nothing is held, and nothing drains
+pub record IsBareOf (s : Connection) : Type 0 where
+  pub draining : s.draining ≡ []
+  pub tenures : s.up.tenures ≡ empty_tenure ∷ []
+
+pub bare-of : (s : Connection) → s.state ≡ WaitEstablish → Stands s → IsBareOf s
+bare-of s is stands = let bare = (subst (λ (x : _). StandsBy x s.draining s.down s.up.tenures s.link s.waits) is stands.state).0 in record { draining = bare.none_drains; tenures = bare.one_tenure }
+
+pub begins-lined : {m : ℕ} (w : Actors) (p : Mobile) (s : Connection) → s.state ≡ WaitEstablish → IsBareOf s → s.serving.station ≢ SWITCH_LINK → p.seat ≡ On (tenure_at w (place_of s.serving)) None → IsNew m p → is_station_up w s.serving.station ≡ true
+    → messages_in (coming_up w (place_of s.serving)) ≡ [] → going_down w (place_of s.serving) ≡ [] → waiting_of w s.number ≡ [] → taken_of w s.number ≡ [] → LinedUp m w p s
+begins-lined {m} w p s state bare placed seat new up none uncommanded unsaid untaken = record {
+  alive = subst (Alive m) (sym reads) (begin-alive p.end.sent p.end.zero (coming_up w (place_of s.serving)) none new.goes_on new.no_control);
+  sits = rw (state, seat) (stays refl nothing);
+  led = rw (uncommanded) tt;
+  none_on_target = rw (state) tt;
+  apart = rw (bare.draining, state) (tt, tt);
+  placed = rw (bare.draining, state) (placed, tt);
+} where
+  here : is_at (place_of s.serving) s.serving ≡ true
+  here = ap (λ (b : Bool). b && nat_eq s.serving.number s.serving.number) (eq-eqb s.serving.station s.serving.station refl) ∙ eq-eqb s.serving.number s.serving.number refl
+
+  reads : line_up w p s ≡ assembled p.end.sent p.end.zero on_serving WaitEstablish 0 [] (record { hold = []; items = coming_up w (place_of s.serving); is_lost = false; is_done = false }) fresh [] []
+  reads = rw (state, bare.draining, bare.tenures, seat, here, uncommanded, unsaid, untaken, up) refl

@@ -1,0 +1,352 @@
+-- A connection that is coming stays so at each event of others.
+use Rattle.std.proofs.Common.{◌≡◌, ◌≢◌, ℕ, ◌==◌, ◌&&◌, nat_eq, not, Bool, true, false, if◌then◌else◌, List, [], ◌∷◌, ◌++◌, find, length, map, Option, Some, None, Result, Ok, Err, unwrap_or, refl, sym, ap, ◌∙◌, subst, arith, inl, inr, ◌⊎◌}
+use Rattle.std.specs.List.{AllByRecursion}
+use Rattle.std.proofs.lemmas.Bool.{eqb-true, eqb-false}
+use Rattle.conn_messages.specs.declared.channel.Change.{Change}
+use Rattle.conn_messages.specs.declared.channel.Change.TheVariants.{Assignment, Handover}
+use Rattle.conn_messages.specs.declared.channel.Channel.{Channel}
+use Rattle.conn_messages.specs.declared.channel.Place.{Place}
+use Rattle.conn_messages.specs.declared.parameters.TheConstants.{SWITCH_LINK}
+use Rattle.conn_table.specs.declared.state.State.TheVariants.{WaitEstablish}
+use Rattle.conn_table.specs.Connection.{Connection, is_at}
+use Rattle.conn_table.specs.Streams.{is_dtap, target_in, undone}
+use Rattle.controller_laws.specs.History.{connection_of}
+use Rattle.controller_table.specs.Controller.{Controller, place_at, place_of}
+use Rattle.controller_table.specs.Views.{forwarded}
+use Rattle.dtap_codec.specs.declared.rr.RrMessage.{RrMessage}
+use Rattle.dtap_codec.specs.declared.rr.RrMessage.TheVariants.{AssignmentCommand, HandoverCommand, ChannelRelease}
+use Rattle.dtap_codec.specs.declared.rr_fault.RrFault.{RrFault}
+use Rattle.dtap_codec.specs.declared.sapi.Sapi.TheVariants.{Zero, Three}
+use Rattle.dtap_codec.specs.RrReading.{rr_reading}
+use Rattle.lineup.specs.LineUp.{messages_in}
+use Rattle.settings.specs.Parameters.{AreAllowed, Parameters}
+use Rattle.world_table.specs.declared.event.Event.{Event}
+use Rattle.world_table.specs.declared.event.Event.TheVariants as events
+use Rattle.world_table.specs.declared.line.AirMessage.{AirMessage}
+use Rattle.world_table.specs.declared.line.OutboxEntry.{OutboxEntry}
+use Rattle.world_table.specs.declared.seat.Command.{Command}
+use Rattle.world_table.specs.declared.seat.Seat.{Seat}
+use Rattle.world_table.specs.declared.seat.Seat.TheVariants.{Asking, On, Moving, Gone}
+use Rattle.world_table.specs.declared.seat.Tenure.{Tenure}
+use Rattle.world_table.specs.Life.{actors_after, actors_after_all, event_after}
+use Rattle.world_table.specs.Mobiles.{brought, controlled, framed, hearing, remembering, signalling_brought}
+use Rattle.world_table.specs.World.{Actors, Link, Mobile, base_of, broken_link, has_number, is_reached, is_station_up, link_of, mobile_of, modulus_in, new_actors, put_back, spot_at, tenure_at, with_outbox}
+use Rattle.world_table.proofs.Heard.{good-all, good-new}
+use Rattle.world_table.proofs.Honesty.{up-right}
+use Rattle.world_table.proofs.Leads.{after-taken, air_up-leads}
+use Rattle.world_laws.specs.ComingUp.{coming_up}
+use Rattle.world_laws.specs.GoingDown.{going_down}
+use Rattle.world_laws.specs.LineUps.{taken_in, taken_of, waiting_of}
+use Rattle.world_laws.specs.OthersFrame.{IsHad}
+use Rattle.world_laws.specs.Seated.{IsElsewhere, LinedUp, Sits}
+use Rattle.world_laws.specs.Seated.Remembers.{nothing}
+use Rattle.world_laws.specs.Seated.Sits.{stays as sits_stays, gone as sits_gone}
+use Rattle.world_laws.specs.Staying.{AreLinedUp}
+use Rattle.world_laws.proofs.AirUp.{all-other}
+use Rattle.world_laws.proofs.Framing.{all-right}
+use Rattle.world_laws.proofs.Quiet.{down-with_base}
+use Rattle.world_laws.proofs.Seeing.{back-found, back-other, found-number}
+use Rattle.world_laws.proofs.Spots.{set-apart, set-same, tenure-with_base}
+use Rattle.world_laws.proofs.Standing.{ConnectionsStand-new}
+use Rattle.world_laws.proofs.Sublists.{Sub, sub-all, sub-length, sub-nothing}
+use Rattle.world_access.specs.Arriving.{IsKnown, LetsNoneGo, OthersKeepComing, is_of_others, is_release}
+use Rattle.world_access.specs.Coming.{AreAssigned, Assigns, AssignsBy, AssignsIn, BeginsOnce, Comes, IsComing, IsNew}
+use Rattle.world_access.specs.Coming.BeginsOnce.{began, to_begin}
+use Rattle.world_access.specs.Coming.Comes.{arrived, asks}
+use Rattle.world_access.proofs.Arriving.{None-target, serving-placed, stays-lined}
+use Rattle.world_access.proofs.Beginning.{bare-of, begins-lined}
+use Rattle.world_access.proofs.Mobiles.{AllGo, Goes, IsAssigned, IsToMove, all-same, event-goes}
+use Rattle.world_access.proofs.Mobiles.Goes.{comes as gets, hears, moves, same, stays}
+use Rattle.world_access.proofs.Passes.{Passes, passes-itself}
+use Rattle.world_access.proofs.Travels.{event-passes, is_passing}
+use Rattle.world_access.proofs.Upcoming.{initials-apart, initials-later, initials-more, initials-none, initials-pass, none-passes}
+
+-- ---- seats
+
+some-same : {X : Type 0} {x y : X} → Some x ≡ Some y → x ≡ y
+some-same {X} {x} e = ap (λ (o : Option X). unwrap_or o x) e
+
+on-gone : {tenure : Tenure} {command : Option Command} → On tenure command ≡ Gone → ⊥
+on-gone is = absurd cc
+
+on-asks : {tenure : Tenure} {command : Option Command} → On tenure command ≡ Asking → ⊥
+on-asks is = absurd cc
+
+abbrev tenure-in : Seat → Tenure → Tenure
+tenure-in (On tenure command) other = tenure
+tenure-in _ other = other
+
+-- where a connection has no target its mobile is on the serving channel, or gone
+sits-there : {w : Actors} {serving : Channel} {seat : Seat} → Sits w serving None seat → (seat ≡ Gone → ⊥) → seat ≡ On (tenure_at w (place_of serving)) None
+sits-there (sits_stays is nothing) there = ap (λ (t : Tenure). On t None) is
+sits-there sits_gone there = absurd (there refl)
+
+-- ---- what it hears
+
+pub hearing-opens : (p : Mobile) (a : AirMessage) → (hearing p a).opens ≡ p.opens
+hearing-opens p a = by_kind (is_dtap a.message) where
+  by_seat : (change : Change) (target : Tenure) (seat : Seat) → (remembering p change target seat).opens ≡ p.opens
+  by_seat change target Asking = refl
+  by_seat change target (On tenure command) = refl
+  by_seat change target (Moving from command) = refl
+  by_seat change target Gone = refl
+
+  by_message : (target : Option Tenure) (r : Result RrMessage RrFault) → (controlled p target r).opens ≡ p.opens
+  by_message target (Ok (ChannelRelease cause)) = refl
+  by_message (Some target) (Ok (AssignmentCommand channel)) = by_seat Assignment target p.seat
+  by_message (Some target) (Ok (HandoverCommand cell channel reference)) = by_seat Handover target p.seat
+  by_message None (Ok (AssignmentCommand channel)) = refl
+  by_message None (Ok (HandoverCommand cell channel reference)) = refl
+  by_message target (Ok _) = refl
+  by_message target (Err fault) = refl
+
+  by_kind : (b : Bool) → (if b then record p { received = p.received ++ a.message ∷ [] } else controlled p a.target (rr_reading a.message)).opens ≡ p.opens
+  by_kind true = refl
+  by_kind false = by_message a.target (rr_reading a.message)
+
+hearing-stays : (p : Mobile) (a : AirMessage) {tenure : Tenure} {command : Option Command} → p.seat ≡ On tenure command → LetsNoneGo a → (hearing p a).seat ≡ Gone → ⊥
+hearing-stays p a {tenure} {command} seat kept = by_kind (is_dtap a.message) refl where
+  own : p.seat ≡ Gone → ⊥
+  own is = on-gone (sym seat ∙ is)
+
+  by_seat : (change : Change) (target : Tenure) (x : Seat) → x ≡ On tenure command → (remembering p change target x).seat ≡ Gone → ⊥
+  by_seat change target (On other remembered) there is = on-gone is
+  by_seat change target Asking there is = absurd cc
+  by_seat change target (Moving from remembered) there is = absurd cc
+  by_seat change target Gone there is = absurd cc
+
+  by_message : (target : Option Tenure) (r : Result RrMessage RrFault) → is_release r ≡ false → (controlled p target r).seat ≡ Gone → ⊥
+  by_message target (Ok (ChannelRelease cause)) none is = absurd cc
+  by_message (Some target) (Ok (AssignmentCommand channel)) none is = by_seat Assignment target p.seat seat is
+  by_message (Some target) (Ok (HandoverCommand cell channel reference)) none is = by_seat Handover target p.seat seat is
+  by_message None (Ok (AssignmentCommand channel)) none is = own is
+  by_message None (Ok (HandoverCommand cell channel reference)) none is = own is
+  by_message target (Ok _) none is = own is
+  by_message target (Err fault) none is = own is
+
+  by_kind : (b : Bool) → is_dtap a.message ≡ b → (if b then record p { received = p.received ++ a.message ∷ [] } else controlled p a.target (rr_reading a.message)).seat ≡ Gone → ⊥
+  by_kind true dtap is = own is
+  by_kind false other is = by_message a.target (rr_reading a.message) (kept other) is
+
+-- ---- the mobile of a connection that is there
+
+goes-opens : {w v : Actors} {event : Event} {number : ℕ} {p q : Mobile} {tenure : Tenure} → p.seat ≡ On tenure None → Goes w event v number p q → q.opens ≡ p.opens
+goes-opens seat (same is) = ap (λ (x : Mobile). x.opens) is
+goes-opens seat (stays there opens other) = opens
+goes-opens {p = p} seat (hears tenure command first others there air is) = ap (λ (x : Mobile). x.opens) is ∙ hearing-opens p first
+goes-opens seat (moves to_move opens) = absurd (subst IsToMove seat to_move)
+goes-opens seat (gets a) = absurd (on-asks (sym seat ∙ a.asked))
+
+goes-kept : {w v : Actors} {event : Event} {number : ℕ} {p q : Mobile} (at : Place) (tenure : Tenure) → tenure.at ≡ at → p.seat ≡ On tenure None → AllByRecursion LetsNoneGo (spot_at w at).air → Goes w event v number p q → q.seat ≡ Gone → ⊥
+goes-kept at tenure at_is seat kept (same is) gone = on-gone (sym seat ∙ ap (λ (x : Mobile). x.seat) (sym is) ∙ gone)
+goes-kept at tenure at_is seat kept (stays there opens other) gone = on-gone (sym seat ∙ sym there ∙ gone)
+goes-kept {w} {p = p} at tenure at_is seat kept (hears other command first others there air is) gone =
+    let one : other ≡ tenure = ap (λ (x : Seat). tenure-in x tenure) (sym there ∙ seat) in
+    let stands : (spot_at w at).air ≡ first ∷ others = ap (λ (x : Place). (spot_at w x).air) (sym at_is ∙ ap (λ (t : Tenure). t.at) (sym one)) ∙ air in
+    hearing-stays p first there (subst (AllByRecursion LetsNoneGo) stands kept).0 (ap (λ (x : Mobile). x.seat) (sym is) ∙ gone)
+goes-kept at tenure at_is seat kept (moves to_move opens) gone = absurd (subst IsToMove seat to_move)
+goes-kept at tenure at_is seat kept (gets a) gone = absurd (on-asks (sym seat ∙ a.asked))
+
+-- it is still to begin, or began
+begins-passes : {w v : Actors} {p q : Mobile} (at : Place) → at.station ≢ SWITCH_LINK → q.opens ≡ p.opens → Passes w v → BeginsOnce w p at → BeginsOnce v q at
+begins-passes at is same_opens passes (to_begin opens none) = to_begin (same_opens ∙ opens) (none-passes at is passes none)
+begins-passes at is same_opens passes (began opens few) = began (same_opens ∙ opens) (let less = sub-length (initials-pass at is passes) in omega (arith, less, few))
+
+-- ---- it is told its channel
+
+assigned-to : {w v : Actors} {event : Event} {p q : Mobile} (mobile : ℕ) (s : Connection) → AreAssigned w mobile s → (a : IsAssigned w event v mobile p q) → (place_at a.station a.channel.channel.0 ≡ place_of s.serving) × (s.state ≡ WaitEstablish)
+assigned-to mobile s assigned a =
+    let entry : AssignsIn mobile s a.station a.first = (subst (AllByRecursion (AssignsIn mobile s a.station)) a.stood (assigned a.station)).0 in
+    let reading : Assigns mobile s a.station (rr_reading a.command.information) = subst (AssignsBy mobile s a.station) a.reads entry in
+    subst (Assigns mobile s a.station) a.says reading a.names
+
+pub entries-pass : {w v : Actors} (mobile : ℕ) (s : Connection) → Passes w v → AreAssigned w mobile s → AreAssigned v mobile s
+entries-pass mobile s passes assigned station = sub-all (AssignsIn mobile s station) (passes.entries station) (assigned station)
+
+up-taken : (w : Actors) (station : ℕ) (others : List OutboxEntry) (n : ℕ) → is_station_up (with_outbox station others w) n ≡ is_station_up w n
+up-taken w station others n = ap (λ (b : Bool). not (n == SWITCH_LINK) && b) (set-same (λ (link : Link). link.up) w.links broken_link station n (record (link_of w station) { outbox = others }) refl)
+
+waiting-taken : (w : Actors) (station : ℕ) (others : List OutboxEntry) (number : ℕ) → station ≢ SWITCH_LINK → waiting_of (with_outbox station others w) number ≡ waiting_of w number
+waiting-taken w station others number differs =
+    ap (λ (link : Link). map (λ f. f.message) (forwarded (map (λ entry. entry.out) link.outbox) number)) (set-apart w.links broken_link station SWITCH_LINK (record (link_of w station) { outbox = others }) (λ is. differs (sym is)))
+
+new-after : {m : ℕ} (p q : Mobile) (seat : Seat) → q ≡ record p { seat = seat } → IsNew m p → IsNew m q
+new-after {m} p q seat is new = subst (IsNew m) (sym is) (record { opens = new.opens; goes_on = new.goes_on; no_control = new.no_control })
+
+-- ---- each event
+
+module _ (settings : Parameters) (done : List Event) (mobile : ℕ) (s : Connection) where
+  abbrev world : Actors
+  world = actors_after_all (new_actors settings) done
+
+  abbrev modulus : ℕ
+  modulus = modulus_in settings
+
+  -- it comes onto the serving channel
+  arrives : (event : Event) (v : Actors) (p q : Mobile) → AreAllowed settings → IsHad world s → IsKnown modulus world mobile s → AreAssigned world mobile s → Passes world v → IsAssigned world event v mobile p q → IsNew modulus p
+      → messages_in (coming_up world (place_of s.serving)) ≡ [] → going_down world (place_of s.serving) ≡ [] → Comes modulus v s q
+  arrives event v p q allowed had known assigned passes a new none uncommanded =
+      let own = assigned-to mobile s assigned a in
+      let placed : s.serving.station ≢ SWITCH_LINK = serving-placed settings done s allowed had in
+      let station : a.station ≡ s.serving.station = ap (λ (x : Place). x.station) own.0 in
+      let station_is : a.station ≢ SWITCH_LINK = (up-right a.station world a.up).0 in
+      let tenure : tenure_at v (place_of s.serving) ≡ tenure_at world (place_of s.serving) = ap (λ (x : Actors). tenure_at x (place_of s.serving)) a.leads in
+      let seat : q.seat ≡ On (tenure_at v (place_of s.serving)) None = ap (λ (x : Mobile). x.seat) a.after ∙ ap (λ (x : Place). On (tenure_at world x) None) own.0 ∙ ap (λ (t : Tenure). On t None) (sym tenure) in
+      let up : is_station_up v s.serving.station ≡ true = ap (λ (x : Actors). is_station_up x s.serving.station) a.leads ∙ up-taken world a.station a.others s.serving.station ∙ ap (is_station_up world) (sym station) ∙ a.up in
+      let silent : messages_in (coming_up v (place_of s.serving)) ≡ [] = none-passes (place_of s.serving) placed passes none in
+      let quiet : going_down v (place_of s.serving) ≡ [] = sub-nothing (subst (Sub (going_down v (place_of s.serving))) uncommanded (passes.downs s.serving placed)) in
+      let unsaid : waiting_of v s.number ≡ [] = ap (λ (x : Actors). waiting_of x s.number) a.leads ∙ waiting-taken world a.station a.others s.number station_is ∙ known.none_waits in
+      let untaken : taken_of v s.number ≡ [] = ap (λ (x : Actors). taken_of x s.number) a.leads ∙ ap taken_in known.none_taken in
+      let fresh : IsNew modulus q = new-after p q (On (tenure_at world (place_at a.station a.channel.channel.0)) None) a.after new in
+      arrived own.1 seat (begins-lined v q s own.1 (bare-of s own.1 (ConnectionsStand-new settings done s.number s had.there)) placed seat fresh up silent quiet unsaid untaken) (to_begin fresh.opens silent)
+
+  asks-goes : (event : Event) (v : Actors) (p q : Mobile) → AreAllowed settings → IsHad world s → IsKnown modulus world mobile s → AreAssigned world mobile s → Passes world v → Goes world event v mobile p q → p.seat ≡ Asking → IsNew modulus p
+      → messages_in (coming_up world (place_of s.serving)) ≡ [] → going_down world (place_of s.serving) ≡ [] → Comes modulus v s q
+  asks-goes event v p q allowed had known assigned passes (same is) seat new none uncommanded =
+      let placed : s.serving.station ≢ SWITCH_LINK = serving-placed settings done s allowed had in
+      asks (ap (λ (x : Mobile). x.seat) is ∙ seat) (subst (IsNew modulus) (sym is) new) (none-passes (place_of s.serving) placed passes none) (sub-nothing (subst (Sub (going_down v (place_of s.serving))) uncommanded (passes.downs s.serving placed)))
+  asks-goes event v p q allowed had known assigned passes (stays there opens other) seat new none uncommanded = absurd (other seat)
+  asks-goes event v p q allowed had known assigned passes (hears tenure command first others there air is) seat new none uncommanded = absurd (on-asks (sym there ∙ seat))
+  asks-goes event v p q allowed had known assigned passes (moves to_move opens) seat new none uncommanded = absurd (subst IsToMove seat to_move)
+  asks-goes event v p q allowed had known assigned passes (gets a) seat new none uncommanded = arrives event v p q allowed had known assigned passes a new none uncommanded
+
+  -- on its channel
+  there-goes : (event : Event) (v : Actors) (p q : Mobile) → AreAllowed settings → IsHad world s → IsKnown modulus world mobile s → Passes world v → Goes world event v mobile p q → mobile_of v mobile ≡ Some q → AreLinedUp modulus v mobile s → s.state ≡ WaitEstablish
+      → p.seat ≡ On (tenure_at world (place_of s.serving)) None → BeginsOnce world p (place_of s.serving) → Comes modulus v s q
+  there-goes event v p q allowed had known passes goes found lined state seat begins =
+      let placed : s.serving.station ≢ SWITCH_LINK = serving-placed settings done s allowed had in
+      let own : LinedUp modulus v q s = subst (λ (x : Mobile). LinedUp modulus v x s) (some-same (sym lined.found ∙ found)) lined.lined in
+      let sits : Sits v s.serving None q.seat = subst (λ (o : Option _). Sits v s.serving o q.seat) (None-target s.state state) own.sits in
+      arrived state (sits-there sits (goes-kept (place_of s.serving) (tenure_at world (place_of s.serving)) refl seat known.kept goes)) own (begins-passes (place_of s.serving) placed (goes-opens seat goes) passes begins)
+
+  passing-comes : (event : Event) (v : Actors) (p q : Mobile) → AreAllowed settings → IsHad world s → IsKnown modulus world mobile s → AreAssigned world mobile s → Passes world v → Goes world event v mobile p q → mobile_of v mobile ≡ Some q
+      → (s.state ≡ WaitEstablish → AreLinedUp modulus world mobile s → AreLinedUp modulus v mobile s) → mobile_of world mobile ≡ Some p → Comes modulus world s p → Comes modulus v s q
+  passing-comes event v p q allowed had known assigned passes goes found stays_lined there (asks seat new none uncommanded) = asks-goes event v p q allowed had known assigned passes goes seat new none uncommanded
+  passing-comes event v p q allowed had known assigned passes goes found stays_lined there (arrived state seat lined begins) =
+      there-goes event v p q allowed had known passes goes found (stays_lined state (record { one = p; found = there; lined = lined })) state seat begins
+
+  pub keeps-passing : (event : Event) → is_passing event ≡ true → is_of_others event ≡ true → AreAllowed settings → IsKnown modulus world mobile s → IsComing modulus world mobile s → IsComing modulus (actors_after world event) mobile s
+  keeps-passing event passing of_others allowed known coming =
+      let v : Actors = actors_after world event in
+      let passes : Passes world v = after-taken (Passes world) (event_after world event) world (event-passes world event passing (good-all (new_actors settings) done (good-new settings))) (passes-itself world) in
+      let all : AllGo world event v = after-taken (AllGo world event) (event_after world event) world (event-goes world event passing) (all-same world event world refl) in
+      let one = all.each mobile coming.one coming.found in
+      record {
+        had = record { there = ap (λ (c : Controller). connection_of c s.number) passes.controller ∙ coming.had.there; is_open = coming.had.is_open; from_one = coming.had.from_one };
+        early = coming.early;
+        asked = coming.asked;
+        one = one.0;
+        found = one.1;
+        comes = passing-comes event v coming.one one.0 allowed coming.had known coming.assigned passes one.2 one.1 (λ state lined. stays-lined settings done mobile s event of_others state allowed coming.had known lined) coming.found coming.comes;
+        assigned = entries-pass mobile s passes coming.assigned;
+      }
+
+  -- ---- a frame of SAPI 0
+
+  sent-elsewhere : (p : Mobile) (tenure : Tenure) (frame : List ℕ) (one : Mobile) → AreAllowed settings → IsHad world s → is_reached world tenure ≡ true → is_at tenure.at s.serving ≡ false → mobile_of (brought world p tenure.at Zero frame) mobile ≡ Some one
+      → (AreLinedUp modulus (brought world p tenure.at Zero frame) mobile s) ⊎ (one.seat ≡ Asking) → Comes modulus world s one → Comes modulus (brought world p tenure.at Zero frame) s one
+  sent-elsewhere p tenure frame one allowed had reached apart found either comes = by either comes where
+    v : Actors
+    v = brought world p tenure.at Zero frame
+
+    placed : s.serving.station ≢ SWITCH_LINK
+    placed = serving-placed settings done s allowed had
+
+    came : coming_up v (place_of s.serving) ≡ coming_up world (place_of s.serving)
+    came = (all-other world p tenure frame (s.serving ∷ []) reached (placed, tt) (apart, tt)).0
+
+    down : going_down v (place_of s.serving) ≡ going_down world (place_of s.serving)
+    down = down-with_base world tenure.at.station (signalling_brought (base_of world tenure.at.station) tenure.at.number p.opens frame) (place_of s.serving)
+
+    here : tenure_at v (place_of s.serving) ≡ tenure_at world (place_of s.serving)
+    here = tenure-with_base world tenure.at.station (signalling_brought (base_of world tenure.at.station) tenure.at.number p.opens frame) (place_of s.serving)
+
+    begins : BeginsOnce world one (place_of s.serving) → BeginsOnce v one (place_of s.serving)
+    begins (to_begin opens none) = to_begin opens (ap messages_in came ∙ none)
+    begins (began opens few) = began opens (let less = sub-length (initials-apart world p tenure frame s.serving reached placed apart) in omega (arith, less, few))
+
+    by : (AreLinedUp modulus v mobile s) ⊎ (one.seat ≡ Asking) → Comes modulus world s one → Comes modulus v s one
+    by either (asks seat new none uncommanded) = asks seat new (ap messages_in came ∙ none) (down ∙ uncommanded)
+    by (inr asking) (arrived state seat lined once) = absurd (on-asks (sym seat ∙ asking))
+    by (inl lined2) (arrived state seat lined once) =
+        arrived state (seat ∙ ap (λ (t : Tenure). On t None) (sym here)) (subst (λ (x : Mobile). LinedUp modulus v x s) (some-same (sym lined2.found ∙ found)) lined2.lined) (begins once)
+
+  sent-there : (tenure : Tenure) (command : Option Command) (frame : List ℕ) (one : Mobile) → one.seat ≡ On tenure command → mobile_of (brought world one tenure.at Zero frame) mobile ≡ Some (record (framed one Zero) { opens = false })
+      → AreLinedUp modulus (brought world one tenure.at Zero frame) mobile s → Comes modulus world s one → Comes modulus (brought world one tenure.at Zero frame) s (record (framed one Zero) { opens = false })
+  sent-there tenure command frame one sits found lined2 (asks seat new none uncommanded) = absurd (on-asks (sym sits ∙ seat))
+  sent-there tenure command frame one sits found lined2 (arrived state seat lined once) =
+      arrived state
+      (seat ∙ ap (λ (t : Tenure). On t None) (sym (tenure-with_base world tenure.at.station (signalling_brought (base_of world tenure.at.station) tenure.at.number one.opens frame) (place_of s.serving))))
+      (subst (λ (x : Mobile). LinedUp modulus v x s) (some-same (sym lined2.found ∙ found)) lined2.lined) (begins once) where
+        v : Actors
+        v = brought world one tenure.at Zero frame
+
+        begins : BeginsOnce world one (place_of s.serving) → BeginsOnce v (record (framed one Zero) { opens = false }) (place_of s.serving)
+        begins (to_begin opens none) = began refl (let more = initials-more world one tenure frame (place_of s.serving) in let nothing_yet = ap length (initials-none world (place_of s.serving) none) in omega (arith, more, nothing_yet))
+        begins (began opens few) = began refl (let less = sub-length (initials-later world one tenure frame (place_of s.serving) opens) in omega (arith, less, few))
+
+  or-asks : (v : Actors) (one : Mobile) → mobile_of world mobile ≡ Some one → (s.state ≡ WaitEstablish → AreLinedUp modulus world mobile s → AreLinedUp modulus v mobile s) → Comes modulus world s one → (AreLinedUp modulus v mobile s) ⊎ (one.seat ≡ Asking)
+  or-asks v one found stays_lined (asks seat new none uncommanded) = inr seat
+  or-asks v one found stays_lined (arrived state seat lined once) = inl (stays_lined state (record { one = one; found = found; lined = lined }))
+
+  -- the station takes the frame of a mobile
+  sent-comes : (number : ℕ) (p : Mobile) (tenure : Tenure) (command : Option Command) (frame : List ℕ) → mobile_of world number ≡ Some p → p.seat ≡ On tenure command → is_reached world tenure ≡ true → AreAllowed settings → IsKnown modulus world mobile s → IsComing modulus world mobile s
+      → (s.state ≡ WaitEstablish → AreLinedUp modulus world mobile s → AreLinedUp modulus (brought world p tenure.at Zero frame) mobile s) → IsComing modulus (brought world p tenure.at Zero frame) mobile s
+  sent-comes number p tenure command frame acts sits reached allowed known coming stays_lined = by_number (nat_eq number mobile) refl where
+    v : Actors
+    v = brought world p tenure.at Zero frame
+
+    q : Mobile
+    q = record (framed p Zero) { opens = false }
+
+    rest : (one : Mobile) → mobile_of v mobile ≡ Some one → Comes modulus v s one → IsComing modulus v mobile s
+    rest one found comes = record { had = record { there = coming.had.there; is_open = coming.had.is_open; from_one = coming.had.from_one }; early = coming.early; asked = coming.asked; one = one; found = found; comes = comes; assigned = λ station. coming.assigned station }
+
+    q_number : q.number ≡ number
+    q_number = found-number number world.mobiles p acts
+
+    own-comes : mobile_of v mobile ≡ Some q → Comes modulus world s p → (AreLinedUp modulus v mobile s) ⊎ (p.seat ≡ Asking) → Comes modulus v s q
+    own-comes found comes (inl lined) = sent-there tenure command frame p sits found lined comes
+    own-comes found comes (inr asking) = absurd (on-asks (sym sits ∙ asking))
+
+    by_number : (b : Bool) → nat_eq number mobile ≡ b → IsComing modulus v mobile s
+    by_number true hit =
+        let is : number ≡ mobile = eqb-true number mobile hit in
+        let p_is : p ≡ coming.one = some-same (sym acts ∙ ap (mobile_of world) is ∙ coming.found) in
+        let found : mobile_of v mobile ≡ Some q = ap (λ (n : ℕ). find (has_number n) (put_back q world.mobiles)) (sym is ∙ sym q_number) ∙ back-found q world.mobiles p (ap (λ (n : ℕ). find (has_number n) world.mobiles) q_number ∙ acts) in
+        let comes : Comes modulus world s p = subst (Comes modulus world s) (sym p_is) coming.comes in
+        rest q found (own-comes found comes (or-asks v p (ap (mobile_of world) (sym is) ∙ acts) stays_lined comes))
+    by_number false miss =
+        let differs : number ≢ mobile = eqb-false number mobile miss in
+        let found : mobile_of v mobile ≡ Some coming.one = back-other q world.mobiles mobile (λ is. differs (sym q_number ∙ is)) ∙ coming.found in
+        let elsewhere : IsElsewhere (s.serving ∷ target_in s.state) tenure.at = all-right (λ c. is_at tenure.at c ≡ false) (undone s.draining) (s.serving ∷ target_in s.state) (known.alone number p tenure command differs acts sits reached) in
+        rest coming.one found (sent-elsewhere p tenure frame coming.one allowed coming.had reached elsewhere.0 found (or-asks v coming.one coming.found stays_lined coming.comes) coming.comes)
+
+  pub keeps-sent : (number : ℕ) → AreAllowed settings → IsKnown modulus world mobile s → IsComing modulus world mobile s → IsComing modulus (actors_after world (events.AirUp number Zero)) mobile s
+  unfolding event_after
+  keeps-sent number allowed known coming =
+      let event : Event = events.AirUp number Zero in
+      let P : Actors → Type 0 = λ v. (s.state ≡ WaitEstablish → AreLinedUp modulus world mobile s → AreLinedUp modulus v mobile s) → IsComing modulus v mobile s in
+      after-taken P (event_after world event) world (air_up-leads P world number Zero (λ p tenure command frame acts sits lent reached. sent-comes number p tenure command frame acts sits reached allowed known coming)) (λ _. coming)
+      (λ state lined. stays-lined settings done mobile s event refl state allowed coming.had known lined)
+
+pub OthersKeepComing-new : (settings : Parameters) (done : List Event) (event : Event) → OthersKeepComing settings done event
+OthersKeepComing-new settings done (events.AirUp number Zero) mobile s of_others allowed known coming = keeps-sent settings done mobile s number allowed known coming
+OthersKeepComing-new settings done (events.AirUp number Three) mobile s of_others allowed known coming = keeps-passing settings done mobile s (events.AirUp number Three) refl refl allowed known coming
+OthersKeepComing-new settings done (events.Upper number sapi message) mobile s of_others allowed known coming = keeps-passing settings done mobile s (events.Upper number sapi message) refl refl allowed known coming
+OthersKeepComing-new settings done (events.Connect number station initial accepts) mobile s of_others allowed known coming = keeps-passing settings done mobile s (events.Connect number station initial accepts) refl refl allowed known coming
+OthersKeepComing-new settings done (events.AirAck number sapi) mobile s of_others allowed known coming = keeps-passing settings done mobile s (events.AirAck number sapi) refl refl allowed known coming
+OthersKeepComing-new settings done (events.AirDown number) mobile s of_others allowed known coming = keeps-passing settings done mobile s (events.AirDown number) refl refl allowed known coming
+OthersKeepComing-new settings done (events.AirDownLost number) mobile s of_others allowed known coming = keeps-passing settings done mobile s (events.AirDownLost number) refl refl allowed known coming
+OthersKeepComing-new settings done (events.Move number) mobile s of_others allowed known coming = keeps-passing settings done mobile s (events.Move number) refl refl allowed known coming
+OthersKeepComing-new settings done (events.Touch number) mobile s of_others allowed known coming = keeps-passing settings done mobile s (events.Touch number) refl refl allowed known coming
+OthersKeepComing-new settings done (events.Arrive number) mobile s of_others allowed known coming = keeps-passing settings done mobile s (events.Arrive number) refl refl allowed known coming
+OthersKeepComing-new settings done (events.Return number) mobile s of_others allowed known coming = keeps-passing settings done mobile s (events.Return number) refl refl allowed known coming
+OthersKeepComing-new settings done (events.BaseTakes station) mobile s of_others allowed known coming = keeps-passing settings done mobile s (events.BaseTakes station) refl refl allowed known coming
+OthersKeepComing-new settings done (events.BasePush source) mobile s of_others allowed known coming = keeps-passing settings done mobile s (events.BasePush source) refl refl allowed known coming
+OthersKeepComing-new settings done events.Handle mobile s of_others allowed known coming = absurd cc
+OthersKeepComing-new settings done events.SwitchTakes mobile s of_others allowed known coming = keeps-passing settings done mobile s events.SwitchTakes refl refl allowed known coming
+OthersKeepComing-new settings done (events.SwitchDoes action) mobile s of_others allowed known coming = keeps-passing settings done mobile s (events.SwitchDoes action) refl refl allowed known coming
+OthersKeepComing-new settings done (events.Tick ms) mobile s of_others allowed known coming = absurd cc
+OthersKeepComing-new settings done (events.BaseDown source) mobile s of_others allowed known coming = keeps-passing settings done mobile s (events.BaseDown source) refl refl allowed known coming
+OthersKeepComing-new settings done (events.Report number report) mobile s of_others allowed known coming = keeps-passing settings done mobile s (events.Report number report) refl refl allowed known coming

@@ -1,0 +1,158 @@
+-- A frame for which no row fits brings nothing of the channel of a connection that waits for its initial message.
+use Rattle.std.proofs.Common.{◌≡◌, ◌≢◌, ℕ, ◌+◌, ◌≤◌, ◌==◌, ◌&&◌, nat_eq, Bool, true, false, if◌then◌else◌, cond, List, [], ◌∷◌, ◌++◌, option_to_list, Option, Some, None, refl, sym, ap, ◌∙◌, subst, arith}
+use Rattle.std.specs.List.{AllByRecursion, flat_map}
+use Rattle.std.proofs.lemmas.Bool.{eqb-true, eqb-false, eq-eqb, ne_eqb}
+use Rattle.conn_messages.specs.declared.channel.Place.{Place}
+use Rattle.conn_messages.specs.declared.parameters.TheConstants.{SWITCH_LINK}
+use Rattle.conn_table.specs.declared.input.Input.{Input}
+use Rattle.conn_table.specs.declared.input.Input.TheVariants as inputs
+use Rattle.conn_table.specs.declared.state.State.{State}
+use Rattle.conn_table.specs.declared.state.State.TheVariants.{WaitEstablish}
+use Rattle.conn_table.specs.Connection.{Connection, is_at}
+use Rattle.conn_table.specs.Steps.{Row}
+use Rattle.conn_table.specs.Streams.{undone}
+use Rattle.conn_table.specs.Table.{row_of}
+use Rattle.controller_laws.specs.Acts.{Brought, brought_by, brought_in, brought_with, if_held}
+use Rattle.controller_laws.specs.Acts.Brought.{nothing as brings_nothing, comes as brings_input}
+use Rattle.controller_laws.specs.History.{connection_of}
+use Rattle.controller_table.specs.declared.step.Step.TheVariants.{Take}
+use Rattle.controller_table.specs.declared.word.Word.TheVariants.{OnChannel}
+use Rattle.controller_table.specs.Controller.{Controller, holder, is_up as hears, place_of}
+use Rattle.controller_table.specs.Life.{life}
+use Rattle.controller_table.specs.Reading.{word_of}
+use Rattle.dtap_codec.specs.declared.sapi.Sapi.TheVariants.{Zero}
+use Rattle.ipa_framing.specs.declared.frame.Frame.{Frame}
+use Rattle.lineup.specs.LineUp.{Item, messages_in}
+use Rattle.lineup.specs.LineUp.Item.{brought}
+use Rattle.relay_items.specs.declared.Item.{Item as RelayItem}
+use Rattle.relay_items.specs.declared.What.{What}
+use Rattle.relay_items.specs.declared.What.TheVariants as whats
+use Rattle.rsl_codec.specs.declared.rsl.Rsl.{Rsl}
+use Rattle.rsl_codec.specs.declared.rsl.Rsl.TheVariants as rsl
+use Rattle.settings.specs.Parameters.{AreAllowed, Parameters}
+use Rattle.world_table.specs.declared.event.Event.{Event}
+use Rattle.world_table.specs.Life.{actors_after_all}
+use Rattle.world_table.specs.Stations.{rsl_in}
+use Rattle.world_table.specs.Steps.{all_steps}
+use Rattle.world_table.specs.World.{Actors, Mobile, base_of, modulus_in, new_actors}
+use Rattle.world_table.proofs.Living.{LivesByTable-new}
+use Rattle.world_laws.specs.Acknowledged.{messages_up, read_by, read_of}
+use Rattle.world_laws.specs.ComingUp.{brings_if, brings_in, coming_up}
+use Rattle.world_laws.specs.LineUps.{commanded_target}
+use Rattle.world_laws.specs.OthersFrame.{IsHad}
+use Rattle.world_laws.specs.Seated.{LinedUp}
+use Rattle.world_laws.proofs.Standing.{ConnectionsStand-new}
+use Rattle.world_access.proofs.Arriving.{serving-placed}
+use Rattle.world_access.proofs.Beginning.{bare-of}
+use Rattle.controller_laws.specs.Acts.{FitsNone, MissesOf}
+use Rattle.controller_laws.specs.Owning.{Owns, OwnsOpen}
+use Rattle.controller_laws.proofs.OwningLife.{life_owns}
+use Rattle.conn_table.specs.Roles.{roles_of, target_channels}
+use Rattle.conn_table.specs.Steps.{dropping}
+use Rattle.conn_table.specs.Table.{access, on_dtap, on_establish_indication, row_if}
+use Rattle.lineup.specs.Alive.{Stands}
+use Rattle.lineup.specs.LineUp.{Seat, controls_in, controls_of}
+use Rattle.lineup.proofs.Lines.{controls-first}
+use Rattle.mobile_end.specs.Control.{is_control}
+use Rattle.world_table.specs.Pipe.{acknowledgements}
+use Rattle.world_table.proofs.OwnerItems.{IsKnown as IsKnownWhat, IsKnownItem, known-inbox}
+use Rattle.world_laws.specs.Acknowledged.{NoneReleases}
+use Rattle.world_laws.specs.ComingUp.{brings_by}
+use Rattle.world_laws.specs.LineUps.{is_changing}
+use Rattle.world_laws.specs.Lives.{AcksAgree}
+use Rattle.world_access.proofs.Came.{before, first-of}
+use Rattle.world_access.proofs.Silent.{FirstBrings, first-brings, releases-not, stands-none}
+use Rattle.world_access.proofs.Silent.FirstBrings.{brings_none, control, ends, opening, text}
+
+row-there : (b : Bool) (x : Row) → b ≡ true → row_if b x ≡ None → ⊥
+row-there true x is none = absurd cc
+row-there false x is none = absurd cc
+
+stands-early : {commands serving texts target link : ℕ} {seat : Seat} (state : State) → state ≡ WaitEstablish → Stands (is_changing (commanded_target state)) commands seat serving texts target link → serving ≡ 0
+stands-early {commands} {serving} {texts} {target} {link} {seat} state is stands = stands-none (subst (λ (x : State). Stands (is_changing (commanded_target x)) commands seat serving texts target link) is stands)
+
+module _ (settings : Parameters) (done : List Event) (mobile : ℕ) (s : Connection) where
+  abbrev world : Actors
+  world = actors_after_all (new_actors settings) done
+
+  abbrev at : Place
+  at = place_of s.serving
+
+  here : is_at at s.serving ≡ true
+  here = ap (λ (b : Bool). b && nat_eq s.serving.number s.serving.number) (eq-eqb s.serving.station s.serving.station refl) ∙ eq-eqb s.serving.number s.serving.number refl
+
+  owns-own : AreAllowed settings → IsHad world s → Owns world.controller.channels world.controller.links s.number (roles_of s)
+  owns-own allowed had =
+      let c : Controller = (life settings (all_steps (new_actors settings) done)).next in
+      let there : connection_of c s.number ≡ Some s = subst (λ (d : Controller). connection_of d s.number ≡ Some s) (LivesByTable-new settings done) had.there in
+      subst (λ (d : Controller). Owns d.channels d.links s.number (roles_of s)) (sym (LivesByTable-new settings done)) ((subst (OwnsOpen c.channels c.links s.number) there (life_owns settings (all_steps (new_actors settings) done) s.number allowed)) had.is_open)
+
+  -- what it says comes to the connection
+  comes-to : (item : RelayItem) (frame : Frame) (input : Input) → AreAllowed settings → IsHad world s → s.draining ≡ [] → item.what ≡ whats.Frame frame → item.source ≡ at.station → word_of item.source frame ≡ OnChannel at input → brought_in world.controller s.number (Take item) ≡ brings_input input
+  comes-to item frame input allowed had draining what_is station word =
+      let owns = owns-own allowed had in
+      let up : hears world.controller item.source ≡ true = ap (hears world.controller) station ∙ linked owns in
+      ap (λ (b : Bool). if b then brought_with world.controller s.number item.source item.what else brings_nothing) up
+      ∙ ap (brought_with world.controller s.number item.source) what_is
+      ∙ ap (brought_by world.controller s.number) word
+      ∙ ap (λ (o : Option ℕ). if_held s.number o input) (ap holder owns.using.0)
+      ∙ ap (λ (b : Bool). if b then brings_input input else brings_nothing) (eq-eqb s.number s.number refl) where
+        linked : Owns world.controller.channels world.controller.links s.number (roles_of s) → hears world.controller s.serving.station ≡ true
+        linked owns = (subst (λ (ds : List _). AllByRecursion (λ c. hears world.controller c.station ≡ true) (undone ds ++ s.serving ∷ target_channels (roles_of s).target)) draining owns.linked).0
+
+  no-opening : (l3 : List ℕ) → s.state ≡ WaitEstablish → MissesOf (inputs.EstablishIndication at Zero (Some l3)) (Some s) → ⊥
+  unfolding row_of
+  no-opening l3 state misses = row-there (is_at at s.serving) (access (Some l3) s) here (subst (λ (x : State). on_establish_indication x s at Zero (Some l3) ≡ None) state misses.1)
+
+  no-text : (l3 : List ℕ) → s.state ≡ WaitEstablish → MissesOf (inputs.Dtap at Zero l3) (Some s) → ⊥
+  unfolding row_of
+  no-text l3 state misses = row-there (is_at at s.serving) (dropping s) here (subst (λ (x : State). on_dtap x s at Zero l3 ≡ None) state misses.1)
+
+  no-control : (item : RelayItem) (items : List RelayItem) (one : Mobile) (l3 : List ℕ) → world.inbox ≡ item ∷ items → s.state ≡ WaitEstablish → LinedUp (modulus_in settings) world one s → is_control l3 ≡ true → brings_in at item ≡ brought l3 ∷ [] → ⊥
+  no-control item items one l3 stood state lined control_is brings_it =
+      let none : controls_in (coming_up world at) ≡ 0 = stands-early s.state state lined.alive.stands in
+      let first : controls_of (messages_in (coming_up (before settings done mobile s items) at)) + 1 ≤ controls_of (l3 ∷ messages_in (coming_up (before settings done mobile s items) at)) = controls-first l3 (messages_in (coming_up (before settings done mobile s items) at)) control_is in
+      let came : controls_in (coming_up world at) ≡ controls_of (l3 ∷ messages_in (coming_up (before settings done mobile s items) at)) = ap controls_in (first-of settings done mobile s item items stood ∙ ap (λ (xs : List Item). xs ++ coming_up (before settings done mobile s items) at) brings_it) in
+      absurd (omega (arith, none, first, came))
+
+  no-end : (item : RelayItem) (items : List RelayItem) (frame : Frame) → world.inbox ≡ item ∷ items → AcksAgree world s → item.what ≡ whats.Frame frame → item.source ≡ at.station → rsl_in frame ≡ Some (rsl.RfChannelReleaseAck at.number) → ⊥
+  no-end item items frame stood acks what_is station read =
+      let reads_it : read_of at.station item ≡ rsl.RfChannelReleaseAck at.number ∷ [] =
+      ap (read_by at.station item.source) what_is ∙ ap (λ (b : Bool). cond b (option_to_list (rsl_in frame)) []) (eq-eqb item.source at.station station) ∙ ap option_to_list read in
+      let rest : List Rsl = flat_map (read_of at.station) items ++ (base_of world at.station).messages in
+      let up : messages_up world at.station ≡ rsl.RfChannelReleaseAck at.number ∷ rest =
+      ap (λ (xs : List RelayItem). flat_map (read_of at.station) xs ++ (base_of world at.station).messages) stood
+      ∙ ap (λ (xs : List Rsl). (xs ++ flat_map (read_of at.station) items) ++ (base_of world at.station).messages) reads_it in
+      releases-not at.number rest (subst (λ (ms : List Rsl). NoneReleases (acknowledgements at.number ms)) up acks.others_go_on.0)
+
+  pub ignored-silent : (item : RelayItem) (items : List RelayItem) → AreAllowed settings → IsHad world s → world.inbox ≡ item ∷ items → AcksAgree world s → s.state ≡ WaitEstablish → {one : Mobile} → LinedUp (modulus_in settings) world one s → FitsNone (brought_in world.controller s.number (Take item)) (Some s) → brings_in at item ≡ []
+  ignored-silent item items allowed had stood acks state {one} lined fits_none = by item.what refl where
+    placed : s.serving.station ≢ SWITCH_LINK
+    placed = serving-placed settings done s allowed had
+
+    draining : s.draining ≡ []
+    draining = (bare-of s state (ConnectionsStand-new settings done s.number s had.there)).draining
+
+    known : IsKnownItem item
+    known = (subst (AllByRecursion IsKnownItem) stood (known-inbox settings done)).0
+
+    misses : (frame : Frame) (input : Input) → item.what ≡ whats.Frame frame → item.source ≡ at.station → word_of item.source frame ≡ OnChannel at input → MissesOf input (Some s)
+    misses frame input what_is station word = subst (λ (b : Brought). FitsNone b (Some s)) (comes-to item frame input allowed had draining what_is station word) fits_none
+
+    by_first : (frame : Frame) → item.what ≡ whats.Frame frame → FirstBrings at item.source frame (brings_by at item.source (whats.Frame frame)) → brings_in at item ≡ []
+    by_first frame what_is (brings_none is) = ap (brings_by at item.source) what_is ∙ is
+    by_first frame what_is (opening l3 word station) = absurd (no-opening l3 state (misses frame (inputs.EstablishIndication at Zero (Some l3)) what_is station word))
+    by_first frame what_is (text l3 word station) = absurd (no-text l3 state (misses frame (inputs.Dtap at Zero l3) what_is station word))
+    by_first frame what_is (control l3 control_is is) = absurd (no-control item items one l3 stood state lined control_is (ap (brings_by at item.source) what_is ∙ is))
+    by_first frame what_is (ends read station) = absurd (no-end item items frame stood acks what_is station read)
+
+    by : (what : What) → item.what ≡ what → brings_in at item ≡ []
+    by whats.Down what_is = ap (brings_by at item.source) what_is
+    by (whats.Frame frame) what_is = by_source (nat_eq item.source SWITCH_LINK) refl where
+      by_source : (b : Bool) → nat_eq item.source SWITCH_LINK ≡ b → brings_in at item ≡ []
+      by_source true hit =
+          let apart : (item.source == at.station) ≡ false = ne_eqb item.source at.station (λ same. placed (sym same ∙ eqb-true item.source SWITCH_LINK hit)) in
+          ap (brings_by at item.source) what_is ∙ ap (λ (b : Bool). if b then brings_if at.number (rsl_in frame) else []) apart
+      by_source false miss =
+          let m = subst IsKnownWhat what_is (known.station (eqb-false item.source SWITCH_LINK miss)) in
+          by_first frame what_is (subst (λ (f : Frame). FirstBrings at item.source f (brings_by at item.source (whats.Frame f))) (sym m.1) (first-brings at item.source m.0 placed m.2))

@@ -1,0 +1,183 @@
+-- What is on its way up from a channel, by what stations' messages bring.
+use Rattle.std.proofs.Common.{◌≡◌, ◌≢◌, ℕ, ◌+◌, ◌≤◌, ◌-◌, ◌==◌, ◌&&◌, nat_eq, Bool, true, false, if◌then◌else◌, cond, List, [], ◌∷◌, ◌++◌, length, option_to_list, Option, Some, None, refl, sym, ap, ◌∙◌, subst, arith, append_assoc, length-append}
+use Rattle.std.specs.List.{AllByRecursion, flat_map}
+use Rattle.std.proofs.lemmas.Bool.{eqb-false}
+use Rattle.std.proofs.lemmas.Grind.{flat_map-append}
+use Rattle.std.proofs.lemmas.List.{append-nil}
+use Rattle.conn_messages.specs.declared.channel.Channel.{Channel}
+use Rattle.conn_messages.specs.declared.channel.Place.{Place}
+use Rattle.conn_messages.specs.declared.parameters.TheConstants.{SWITCH_LINK}
+use Rattle.conn_table.specs.Connection.{is_at}
+use Rattle.controller_table.specs.Controller.{place_of}
+use Rattle.controller_table.specs.Reading.{sapi_of}
+use Rattle.dtap_codec.specs.declared.sapi.Sapi.TheVariants.{Zero}
+use Rattle.lineup.specs.LineUp.{Item as Brought, messages_in}
+use Rattle.lineup.proofs.Lines.{messages_in-append}
+use Rattle.link_model.specs.BaseState.{BaseState}
+use Rattle.link_model.specs.Message.{data_indication, establish_indication}
+use Rattle.relay_items.specs.declared.Item.{Item}
+use Rattle.relay_items.specs.declared.What.{What}
+use Rattle.relay_items.specs.declared.What.TheVariants as whats
+use Rattle.rsl_codec.specs.declared.rsl.Rsl.{Rsl}
+use Rattle.rsl_codec.specs.declared.rsl.Rsl.TheVariants as rsl
+use Rattle.world_table.specs.declared.seat.Tenure.{Tenure}
+use Rattle.world_table.specs.Mobiles.{brought, signalling_brought}
+use Rattle.world_table.specs.Stations.{rsl_in}
+use Rattle.world_table.specs.World.{Actors, Mobile, Station, base_of, is_reached, no_station, station_of}
+use Rattle.world_table.proofs.Honesty.{base-elsewhere, reached-up, up-right}
+use Rattle.world_laws.specs.Acknowledged.{messages_up, read_by, read_of}
+use Rattle.world_laws.specs.ComingUp.{brings, brings_by, brings_if, brings_in, coming_up, of_establishment}
+use Rattle.world_laws.specs.Lives.{initial_by, initials_up}
+use Rattle.world_laws.proofs.Sublists.{Sub, set-related, sub-append, sub-flat_map, sub-front, sub-itself, sub-length, sub-none, sub-nothing}
+use Rattle.world_access.proofs.Passes.{IsPlain, Passes}
+
+-- ---- what comes of a channel is what a station's messages bring
+
+if-read : (channel : ℕ) (b : Bool) (o : Option Rsl) → (if b then brings_if channel o else []) ≡ flat_map (brings channel) (if b then option_to_list o else [])
+if-read channel true None = refl
+if-read channel true (Some m) = sym (append-nil (brings channel m))
+if-read channel false o = refl
+
+by-read : (at : Place) (source : ℕ) (what : What) → brings_by at source what ≡ flat_map (brings at.number) (read_by at.station source what)
+by-read at source (whats.Frame frame) = if-read at.number (source == at.station) (rsl_in frame)
+by-read at source whats.Down = refl
+
+inbox-read : (at : Place) (items : List Item) → flat_map (brings_in at) items ≡ flat_map (brings at.number) (flat_map (read_of at.station) items)
+inbox-read at [] = refl
+inbox-read at (item ∷ items) =
+    ap (λ (xs : List Brought). xs ++ flat_map (brings_in at) items) (by-read at item.source item.what)
+    ∙ ap (λ (xs : List Brought). flat_map (brings at.number) (read_of at.station item) ++ xs) (inbox-read at items)
+    ∙ sym (flat_map-append (brings at.number) (read_of at.station item) (flat_map (read_of at.station) items))
+
+pub coming-read : (w : Actors) (at : Place) → coming_up w at ≡ flat_map (brings at.number) (messages_up w at.station)
+coming-read w at =
+    ap (λ (xs : List Brought). xs ++ flat_map (brings at.number) (base_of w at.station).messages) (inbox-read at w.inbox)
+    ∙ sym (flat_map-append (brings at.number) (flat_map (read_of at.station) w.inbox) (base_of w at.station).messages)
+
+-- ---- its messages
+
+abbrev pub messages_by : ℕ → Rsl → List (List ℕ)
+messages_by channel m = messages_in (brings channel m)
+
+all-messages : (channel : ℕ) (ms : List Rsl) → messages_in (flat_map (brings channel) ms) ≡ flat_map (messages_by channel) ms
+all-messages channel [] = refl
+all-messages channel (m ∷ ms) = messages_in-append (brings channel m) (flat_map (brings channel) ms) ∙ ap (λ (xs : List (List ℕ)). messages_in (brings channel m) ++ xs) (all-messages channel ms)
+
+pub messages-read : (w : Actors) (at : Place) → messages_in (coming_up w at) ≡ flat_map (messages_by at.number) (messages_up w at.station)
+messages-read w at = ap messages_in (coming-read w at) ∙ all-messages at.number (messages_up w at.station)
+
+-- an initial message is one of them
+initial-or : (channel : ℕ) (m : Rsl) → Sub (initial_by channel m) (messages_by channel m)
+initial-or channel (rsl.EstablishIndication e) = by (e.channel == channel) where
+  by : (b : Bool) → Sub (if b then messages_in (of_establishment (sapi_of e.link) e.l3) else []) (messages_in (if b then of_establishment (sapi_of e.link) e.l3 else []))
+  by true = sub-itself (messages_in (of_establishment (sapi_of e.link) e.l3))
+  by false = sub-none []
+initial-or channel m = sub-none (messages_by channel m)
+
+all-initial : (channel : ℕ) (ms : List Rsl) → Sub (flat_map (initial_by channel) ms) (flat_map (messages_by channel) ms)
+all-initial channel [] = sub-none []
+all-initial channel (m ∷ ms) = sub-append (initial-or channel m) (all-initial channel ms)
+
+pub initials-in : (w : Actors) (at : Place) → Sub (initials_up w at) (messages_in (coming_up w at))
+initials-in w at = subst (Sub (initials_up w at)) (sym (messages-read w at)) (all-initial at.number (messages_up w at.station))
+
+pub initials-none : (w : Actors) (at : Place) → messages_in (coming_up w at) ≡ [] → initials_up w at ≡ []
+initials-none w at none = sub-nothing (subst (Sub (initials_up w at)) none (initials-in w at))
+
+-- ---- where something passes
+
+none-plain : (channel : ℕ) (ms : List Rsl) → AllByRecursion IsPlain ms → flat_map (messages_by channel) ms ≡ []
+none-plain channel [] all = refl
+none-plain channel (m ∷ ms) all = ap (λ (xs : List (List ℕ)). xs ++ flat_map (messages_by channel) ms) (all.0 channel) ∙ none-plain channel ms all.1
+
+pub messages-pass : {w v : Actors} (at : Place) → at.station ≢ SWITCH_LINK → Passes w v → Sub (messages_in (coming_up v at)) (messages_in (coming_up w at))
+messages-pass {w} {v} at is passes =
+    let a = passes.ups at.station is in
+    subst (λ (xs : List (List ℕ)). Sub xs (messages_in (coming_up w at))) (sym (messages-read v at))
+    (subst (Sub (flat_map (messages_by at.number) (messages_up v at.station)))
+    (flat_map-append (messages_by at.number) (messages_up w at.station) a.0 ∙ ap (λ (xs : List (List ℕ)). flat_map (messages_by at.number) (messages_up w at.station) ++ xs) (none-plain at.number a.0 a.1) ∙ append-nil (flat_map (messages_by at.number) (messages_up w at.station)) ∙ sym (messages-read w at))
+    (sub-flat_map (messages_by at.number) a.2))
+
+pub none-passes : {w v : Actors} (at : Place) → at.station ≢ SWITCH_LINK → Passes w v → messages_in (coming_up w at) ≡ [] → messages_in (coming_up v at) ≡ []
+none-passes {w} {v} at is passes none = sub-nothing (subst (Sub (messages_in (coming_up v at))) none (messages-pass at is passes))
+
+none-initial : (channel : ℕ) (ms : List Rsl) → AllByRecursion IsPlain ms → flat_map (initial_by channel) ms ≡ []
+none-initial channel ms all = sub-nothing (subst (Sub (flat_map (initial_by channel) ms)) (none-plain channel ms all) (all-initial channel ms))
+
+pub initials-pass : {w v : Actors} (at : Place) → at.station ≢ SWITCH_LINK → Passes w v → Sub (initials_up v at) (initials_up w at)
+initials-pass {w} {v} at is passes =
+    let a = passes.ups at.station is in
+    subst (Sub (initials_up v at))
+    (flat_map-append (initial_by at.number) (messages_up w at.station) a.0 ∙ ap (λ (xs : List (List ℕ)). initials_up w at ++ xs) (none-initial at.number a.0 a.1) ∙ append-nil (initials_up w at))
+    (sub-flat_map (initial_by at.number) a.2)
+
+-- ---- a frame of SAPI 0
+
+-- the message that its station makes of it
+abbrev pub told_of : Mobile → ℕ → List ℕ → Rsl
+told_of p channel frame = if p.opens then establish_indication channel Zero (Some frame) else data_indication channel Zero frame
+
+told-base : (base : BaseState) (channel : ℕ) (frame : List ℕ) (b : Bool) → (signalling_brought base channel b frame).messages ≡ base.messages ++ (if b then establish_indication channel Zero (Some frame) else data_indication channel Zero frame) ∷ []
+told-base base channel frame true = refl
+told-base base channel frame false = refl
+
+sent-ups : (w : Actors) (p : Mobile) (tenure : Tenure) (frame : List ℕ) (n : ℕ) → Sub (messages_up (brought w p tenure.at Zero frame) n) (messages_up w n ++ told_of p tenure.at.number frame ∷ [])
+sent-ups w p tenure frame n =
+    subst (Sub (messages_up (brought w p tenure.at Zero frame) n)) (sym (append_assoc (flat_map (read_of n) w.inbox) (base_of w n).messages (told_of p tenure.at.number frame ∷ [])))
+    (sub-append (sub-itself (flat_map (read_of n) w.inbox))
+    (set-related (λ (a b : Station). Sub a.base.messages (b.base.messages ++ told_of p tenure.at.number frame ∷ [])) (λ x. sub-front x.base.messages (told_of p tenure.at.number frame ∷ [])) w.stations no_station (tenure.at.station - 1) (n - 1) (record (station_of w tenure.at.station) { base = signalling_brought (base_of w tenure.at.station) tenure.at.number p.opens frame })
+    (subst (λ (xs : List Rsl). Sub xs ((base_of w tenure.at.station).messages ++ told_of p tenure.at.number frame ∷ [])) (sym (told-base (base_of w tenure.at.station) tenure.at.number frame p.opens)) (sub-itself ((base_of w tenure.at.station).messages ++ told_of p tenure.at.number frame ∷ [])))))
+
+initial-apart : (p : Mobile) (channel other : ℕ) (frame : List ℕ) → (channel == other) ≡ false → initial_by other (told_of p channel frame) ≡ []
+initial-apart p channel other frame apart = by p.opens where
+  by : (b : Bool) → initial_by other (if b then establish_indication channel Zero (Some frame) else data_indication channel Zero frame) ≡ []
+  by true = ap (λ (b : Bool). cond b (frame ∷ []) []) apart
+  by false = refl
+
+initial-few : (p : Mobile) (channel other : ℕ) (frame : List ℕ) → length (initial_by other (told_of p channel frame)) ≤ 1
+initial-few p channel other frame = by p.opens (channel == other) refl where
+  opening : (c : Bool) → length (if c then frame ∷ [] else []) ≤ 1
+  opening true = omega arith
+  opening false = omega arith
+
+  by : (b c : Bool) → (channel == other) ≡ c → length (initial_by other (if b then establish_indication channel Zero (Some frame) else data_indication channel Zero frame)) ≤ 1
+  by true c is = opening (channel == other)
+  by false c is = omega arith
+
+-- of a mobile that sent its initial message
+initial-later : (p : Mobile) (channel other : ℕ) (frame : List ℕ) → p.opens ≡ false → initial_by other (told_of p channel frame) ≡ []
+initial-later p channel other frame sent = ap (λ (b : Bool). initial_by other (if b then establish_indication channel Zero (Some frame) else data_indication channel Zero frame)) sent
+
+-- on another channel it brings no initial message
+pub initials-apart : (w : Actors) (p : Mobile) (tenure : Tenure) (frame : List ℕ) (c : Channel) → is_reached w tenure ≡ true → c.station ≢ SWITCH_LINK → is_at tenure.at c ≡ false → Sub (initials_up (brought w p tenure.at Zero frame) (place_of c)) (initials_up w (place_of c))
+initials-apart w p tenure frame c reached c_is apart = by_both (nat_eq tenure.at.station c.station) refl where
+  v : Actors
+  v = brought w p tenure.at Zero frame
+
+  by_both : (b : Bool) → nat_eq tenure.at.station c.station ≡ b → Sub (initials_up v (place_of c)) (initials_up w (place_of c))
+  by_both true hit =
+      let number : (tenure.at.number == c.number) ≡ false = ap (λ (b : Bool). b && (tenure.at.number == c.number)) (sym hit) ∙ apart in
+      subst (Sub (initials_up v (place_of c)))
+      (flat_map-append (initial_by c.number) (messages_up w c.station) (told_of p tenure.at.number frame ∷ []) ∙ ap (λ (xs : List (List ℕ)). initials_up w (place_of c) ++ (xs ++ [])) (initial-apart p tenure.at.number c.number frame number) ∙ append-nil (initials_up w (place_of c)))
+      (sub-flat_map (initial_by c.number) (sent-ups w p tenure frame c.station))
+  by_both false miss =
+      subst (λ (b : BaseState). Sub (flat_map (initial_by c.number) (flat_map (read_of c.station) w.inbox ++ b.messages)) (initials_up w (place_of c)))
+      (sym (base-elsewhere w c.station tenure.at.station (signalling_brought (base_of w tenure.at.station) tenure.at.number p.opens frame) c_is (up-right tenure.at.station w (reached-up w tenure reached).0).0 (λ is. eqb-false tenure.at.station c.station miss (sym is))))
+      (sub-itself (initials_up w (place_of c)))
+
+-- one more at most, where the mobile sent none
+pub initials-more : (w : Actors) (p : Mobile) (tenure : Tenure) (frame : List ℕ) (at : Place) → length (initials_up (brought w p tenure.at Zero frame) at) ≤ length (initials_up w at) + 1
+initials-more w p tenure frame at =
+    let sub = subst (λ (xs : List (List ℕ)). Sub (initials_up (brought w p tenure.at Zero frame) at) xs) (flat_map-append (initial_by at.number) (messages_up w at.station) (told_of p tenure.at.number frame ∷ [])) (sub-flat_map (initial_by at.number) (sent-ups w p tenure frame at.station)) in
+    let all = sub-length sub in
+    let one = initial-few p tenure.at.number at.number frame in
+    let sum = length-append (initials_up w at) (initial_by at.number (told_of p tenure.at.number frame) ++ []) in
+    let last = ap length (append-nil (initial_by at.number (told_of p tenure.at.number frame))) in
+    omega (arith, all, one, sum, last)
+
+-- no more, where it sent it
+pub initials-later : (w : Actors) (p : Mobile) (tenure : Tenure) (frame : List ℕ) (at : Place) → p.opens ≡ false → Sub (initials_up (brought w p tenure.at Zero frame) at) (initials_up w at)
+initials-later w p tenure frame at sent =
+    subst (Sub (initials_up (brought w p tenure.at Zero frame) at))
+    (flat_map-append (initial_by at.number) (messages_up w at.station) (told_of p tenure.at.number frame ∷ []) ∙ ap (λ (xs : List (List ℕ)). initials_up w at ++ (xs ++ [])) (initial-later p tenure.at.number at.number frame sent) ∙ append-nil (initials_up w at))
+    (sub-flat_map (initial_by at.number) (sent-ups w p tenure frame at.station))

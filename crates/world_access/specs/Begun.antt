@@ -1,0 +1,47 @@
+-- A connection begins: its mobile is to come to it.
+use Rattle.std.specs.Prelude.{◌≡◌, ◌≢◌, ℕ, ◌≤◌, List, [], ◌∷◌, ◌++◌, Some, None}
+use Rattle.std.specs.List.{AllByRecursion}
+use Rattle.conn_messages.specs.declared.channel.Place.{Place}
+use Rattle.conn_table.specs.Connection.{Connection}
+use Rattle.controller_laws.specs.History.{connection_of}
+use Rattle.controller_table.specs.Controller.{place_of}
+use Rattle.lineup.specs.LineUp.{messages_in}
+use Rattle.relay_items.specs.declared.Item.{Item as RelayItem}
+use Rattle.settings.specs.Parameters.{AreAllowed, Parameters}
+use Rattle.world_table.specs.declared.event.Event.{Event}
+use Rattle.world_table.specs.declared.event.Event.TheVariants.{Handle}
+use Rattle.world_table.specs.declared.seat.Seat.TheVariants.{Asking}
+use Rattle.world_table.specs.Life.{actors_after, actors_after_all}
+use Rattle.world_table.specs.Stations.{rsl_in}
+use Rattle.world_table.specs.World.{Actors, Mobile, mobile_of, modulus_in, new_actors, outbox_of}
+use Rattle.world_laws.specs.ComingUp.{coming_up}
+use Rattle.world_laws.specs.GoingDown.{going_down}
+use Rattle.world_laws.specs.OthersFrame.{CameInOctets}
+use Rattle.world_access.specs.Coming.{IsComing, IsNew}
+use Rattle.world_access.specs.Requested.{AssignsAnother}
+
+-- a mobile of this number asks for a channel, sent nothing yet, and isn't told one in what waits for a station
+pub record AwaitsChannel (m : ℕ) (w : Actors) (mobile : ℕ) : Type 0 where
+  pub one : Mobile
+  pub found : mobile_of w mobile ≡ Some one
+  pub asking : one.seat ≡ Asking
+  pub new : IsNew m one
+  pub untold : (station : ℕ) → AllByRecursion (λ entry. AssignsAnother mobile (rsl_in entry.out.frame)) (outbox_of w station)
+
+-- no connection is the answer to its request
+abbrev pub IsUnanswered : Actors → ℕ → Type 0
+IsUnanswered w mobile = (number : ℕ) (s : Connection) → connection_of w.controller number ≡ Some s → s.request.access ≢ mobile
+
+-- no message comes of a channel, and no command goes down there
+pub record IsQuietAt (w : Actors) (at : Place) : Type 0 where
+  pub none_comes : messages_in (coming_up w at) ≡ []
+  pub none_commanded : going_down w at ≡ []
+
+-- Whatever happened before: a connection that begins is coming, where its mobile asked and has none yet, and its channel was quiet.
+abbrev pub ConnectionsBeginComing : Parameters → List Event → Type 0
+ConnectionsBeginComing settings events =
+    (s : Connection) (item : RelayItem) (items : List RelayItem) → AreAllowed settings → CameInOctets settings (events ++ Handle ∷ []) → (actors_after_all (new_actors settings) events).inbox ≡ item ∷ items → 1 ≤ s.number
+    → connection_of (actors_after_all (new_actors settings) events).controller s.number ≡ None → connection_of (actors_after (actors_after_all (new_actors settings) events) Handle).controller s.number ≡ Some s
+    → AwaitsChannel (modulus_in settings) (actors_after_all (new_actors settings) events) s.request.access → IsQuietAt (actors_after_all (new_actors settings) events) (place_of s.serving)
+    → IsUnanswered (actors_after_all (new_actors settings) events) s.request.access
+    → IsComing (modulus_in settings) (actors_after (actors_after_all (new_actors settings) events) Handle) s.request.access s

@@ -1,0 +1,82 @@
+-- A connection that is coming: it has its channel, and hasn't asked the switch for its connection yet. How its mobile comes to it.
+use Rattle.std.specs.Prelude.{◌≡◌, ℕ, ◌≤◌, true, false, [], length, slice_index_or, Option, Some, None, Result, Ok}
+use Rattle.std.specs.List.{AllByRecursion}
+use Rattle.conn_table.specs.declared.state.State.{State}
+use Rattle.conn_table.specs.declared.state.State.TheVariants.{WaitActivation, WaitEstablish}
+use Rattle.conn_messages.specs.declared.channel.Place.{Place}
+use Rattle.conn_table.specs.Connection.{Connection}
+use Rattle.controller_table.specs.Controller.{place_at, place_of}
+use Rattle.dtap_codec.specs.declared.rr.RrMessage.{RrMessage}
+use Rattle.dtap_codec.specs.declared.rr.RrMessage.TheVariants.{ImmediateAssignment}
+use Rattle.dtap_codec.specs.declared.rr_fault.RrFault.{RrFault}
+use Rattle.dtap_codec.specs.RrReading.{rr_reading}
+use Rattle.lineup.specs.LineUp.{controls_of, messages_in}
+use Rattle.mobile_end.specs.DataLink.{to_be_taken}
+use Rattle.mobile_end.specs.GoesOn.{GoesOn}
+use Rattle.rsl_codec.specs.declared.rsl.Rsl.{Rsl}
+use Rattle.rsl_codec.specs.declared.rsl.Rsl.TheVariants.{ImmediateAssignCommand}
+use Rattle.world_table.specs.declared.line.OutboxEntry.{OutboxEntry}
+use Rattle.world_table.specs.declared.seat.Seat.TheVariants.{Asking, On}
+use Rattle.world_table.specs.Stations.{rsl_in}
+use Rattle.world_table.specs.World.{Actors, Mobile, mobile_of, outbox_of, tenure_at}
+use Rattle.world_laws.specs.ComingUp.{coming_up}
+use Rattle.world_laws.specs.GoingDown.{going_down}
+use Rattle.world_laws.specs.Lives.{initials_up}
+use Rattle.world_laws.specs.OthersFrame.{IsHad}
+use Rattle.world_laws.specs.Seated.{LinedUp}
+
+-- ---- the mobile
+
+-- it sent nothing yet: its link begins with the first message of the flow that its upper layers sent, and gives no COMPLETE or FAILURE
+pub record IsNew (m : ℕ) (p : Mobile) : Type 0 where
+  pub opens : p.opens ≡ true
+  pub goes_on : GoesOn m p.end.sent [] p.end.zero
+  pub no_control : controls_of (to_be_taken p.end.zero) ≡ 0
+
+-- It is to send its initial message, and nothing came of the channel; or it sent it, and at most one initial message is on its way.
+pub data BeginsOnce (w : Actors) (p : Mobile) (at : Place) : Type 0 where
+  to_begin : p.opens ≡ true → messages_in (coming_up w at) ≡ [] → BeginsOnce w p at
+  began : p.opens ≡ false → length (initials_up w at) ≤ 1 → BeginsOnce w p at
+
+-- It asks for a channel, and the serving channel is quiet; or it is on the serving channel in its present tenure, lined up with the
+-- connection.
+pub data Comes (m : ℕ) (w : Actors) (s : Connection) (p : Mobile) : Type 0 where
+  asks : p.seat ≡ Asking → IsNew m p → messages_in (coming_up w (place_of s.serving)) ≡ [] → going_down w (place_of s.serving) ≡ [] → Comes m w s p
+  arrived : s.state ≡ WaitEstablish → p.seat ≡ On (tenure_at w (place_of s.serving)) None → LinedUp m w p s → BeginsOnce w p (place_of s.serving) → Comes m w s p
+
+-- ---- who is told its channel
+
+-- an IMMEDIATE ASSIGNMENT that names the mobile is of the serving channel of the connection, whose activation was acknowledged
+abbrev pub Assigns : ℕ → Connection → ℕ → Result RrMessage RrFault → Type 0
+Assigns mobile s station (Ok (ImmediateAssignment channel request advance)) =
+    slice_index_or request 0 0 ≡ mobile → (place_at station channel.channel.0 ≡ place_of s.serving) × (s.state ≡ WaitEstablish)
+Assigns mobile s station _ = Unit {0}
+
+abbrev pub AssignsBy : ℕ → Connection → ℕ → Option Rsl → Type 0
+AssignsBy mobile s station (Some (ImmediateAssignCommand i)) = Assigns mobile s station (rr_reading i.information)
+AssignsBy mobile s station _ = Unit {0}
+
+abbrev pub AssignsIn : ℕ → Connection → ℕ → OutboxEntry → Type 0
+AssignsIn mobile s station entry = AssignsBy mobile s station (rsl_in entry.out.frame)
+
+-- in what waits for each station
+abbrev pub AreAssigned : Actors → ℕ → Connection → Type 0
+AreAssigned w mobile s = (station : ℕ) → AllByRecursion (AssignsIn mobile s station) (outbox_of w station)
+
+-- ---- the connection
+
+-- before its connection request
+abbrev pub IsEarly : State → Type 0
+IsEarly WaitActivation = Unit {0}
+IsEarly WaitEstablish = Unit {0}
+IsEarly _ = ⊥
+
+-- The controller has the connection, which this mobile asked for and which hasn't asked the switch; and the mobile comes to it.
+pub record IsComing (m : ℕ) (w : Actors) (mobile : ℕ) (s : Connection) : Type 0 where
+  pub had : IsHad w s
+  pub early : IsEarly s.state
+  pub asked : s.request.access ≡ mobile
+  pub one : Mobile
+  pub found : mobile_of w mobile ≡ Some one
+  pub comes : Comes m w s one
+  pub assigned : AreAssigned w mobile s

@@ -1,0 +1,5 @@
+pub mod Coming
+pub mod Arriving
+pub mod Opened
+pub mod Requested
+pub mod Begun

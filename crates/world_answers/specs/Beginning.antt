@@ -1,0 +1,54 @@
+-- A connection begins coming.
+use Rattle.std.specs.Prelude.{◌≡◌, ℕ, ◌≤◌, false, List, [], ◌∷◌, ◌++◌, Some}
+use Rattle.std.specs.List.{AllByRecursion}
+use Rattle.conn_table.specs.declared.state.State.TheVariants.{WaitActivation}
+use Rattle.conn_table.specs.Connection.{Connection}
+use Rattle.controller_table.specs.Controller.{place_of}
+use Rattle.mobile_end.specs.Control.{is_control}
+use Rattle.settings.specs.Parameters.{AreAllowed, Parameters}
+use Rattle.world_table.specs.declared.event.Event.{Event}
+use Rattle.world_table.specs.declared.event.Event.TheVariants.{Connect}
+use Rattle.world_table.specs.Life.{actors_after, actors_after_all}
+use Rattle.world_table.specs.World.{Actors, Mobile, mobile_of, modulus_in, new_actors}
+use Rattle.world_laws.specs.OthersFrame.{CameInOctets, IsHad}
+use Rattle.world_access.specs.Coming.{IsComing}
+use Rattle.world_answers.specs.Unanswered.{IsAsItConnected, NoneNames}
+use Rattle.world_targets.specs.Quiet.{IsQuiet}
+
+-- ---- a connection that begins
+
+-- The controller has it in its first state. The mobile that asked for it is as it connected, nothing is on its way on its channel, and
+-- no one told the mobile a channel.
+pub record Begins (m : ℕ) (events : List Event) (w : Actors) (s : Connection) : Type 0 where
+  pub had : IsHad w s
+  pub state : s.state ≡ WaitActivation
+  pub one : Mobile
+  pub found : mobile_of w s.request.access ≡ Some one
+  pub as_connected : IsAsItConnected m events s.request.access one
+  pub quiet : IsQuiet w (place_of s.serving)
+  pub none_names : NoneNames w s.request.access
+
+-- the connection of this number has begun so, or is still to begin
+pub data HasBegun (IsSo : Actors → Connection → Type 0) (w : Actors) (number : ℕ) : Type 0 where
+  not_yet : w.controller.next_number ≤ number → HasBegun IsSo w number
+  begins : (s : Connection) → s.number ≡ number → IsSo w s → HasBegun IsSo w number
+
+-- whatever happened before, one that was still to begin begins so at an event, or is still to begin
+abbrev pub ConnectionsBegin : Parameters → List Event → Event → Type 0
+ConnectionsBegin settings events event =
+    (number : ℕ) → AreAllowed settings → CameInOctets settings (events ++ event ∷ []) → 1 ≤ number → (actors_after_all (new_actors settings) events).controller.next_number ≤ number
+    → HasBegun (Begins (modulus_in settings) events) (actors_after (actors_after_all (new_actors settings) events) event) number
+
+-- ---- it is coming
+
+-- A mobile that connects doesn't begin with a message of radio resource management, such as PAGING RESPONSE: that one would be counted
+-- with COMPLETE and FAILURE in the line-up.
+abbrev pub OpensInFlow : Event → Type 0
+OpensInFlow (Connect mobile station initial accepts) = is_control initial ≡ false
+OpensInFlow _ = Unit {0}
+
+-- so it is coming to its mobile, where all mobiles of the run begin so
+abbrev pub ConnectionsBeginComing : Parameters → List Event → Event → Type 0
+ConnectionsBeginComing settings events event =
+    (number : ℕ) → AreAllowed settings → CameInOctets settings (events ++ event ∷ []) → AllByRecursion OpensInFlow events → 1 ≤ number → (actors_after_all (new_actors settings) events).controller.next_number ≤ number
+    → HasBegun (λ w s. IsComing (modulus_in settings) w s.request.access s) (actors_after (actors_after_all (new_actors settings) events) event) number

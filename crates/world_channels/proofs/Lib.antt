@@ -1,0 +1,7 @@
+pub mod Agreeing
+pub mod RoleAcks
+pub mod Silence
+pub mod BegunRow
+pub mod BegunTurn
+pub mod BegunRun
+mod Rows

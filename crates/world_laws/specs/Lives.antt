@@ -1,0 +1,94 @@
+-- How a connection of a run fares: it lives, lined up with its mobile, or it ended, or the switch never heard of it.
+use Rattle.std.specs.Prelude.{◌≡◌, ◌⊎◌, ℕ, ◌≤◌, ◌<◌, ◌==◌, true, false, if◌then◌else◌, List, [], ◌∷◌, find, Option, Some, None}
+use Rattle.std.specs.List.{flat_map, AllByRecursion}
+use Rattle.conn_messages.specs.declared.channel.Place.{Place}
+use Rattle.conn_table.specs.declared.state.State.{State}
+use Rattle.conn_table.specs.declared.state.State.TheVariants.{WaitConfirm, Closed, Removed}
+use Rattle.conn_table.specs.Connection.{Connection}
+use Rattle.conn_table.specs.Streams.{target_in, undone, used_channels}
+use Rattle.controller_laws.specs.End.{IsThere}
+use Rattle.controller_laws.specs.History.{connection_of}
+use Rattle.controller_table.specs.Controller.{place_of}
+use Rattle.controller_table.specs.Reading.{sapi_of}
+use Rattle.lineup.specs.LineUp.{Item, messages_in, controls_in}
+use Rattle.rsl_codec.specs.declared.rsl.Rsl.{Rsl}
+use Rattle.rsl_codec.specs.declared.rsl.Rsl.TheVariants.{EstablishIndication}
+use Rattle.world_table.specs.World.{Actors, Mobile}
+use Rattle.world_laws.specs.Acknowledged.{acknowledgements_up, messages_up, NoneReleases, ReleasesLast}
+use Rattle.world_laws.specs.ComingUp.{coming_up, of_establishment}
+use Rattle.world_laws.specs.Ended.{HasEnded}
+use Rattle.world_laws.specs.GoingDown.{going_down}
+use Rattle.world_laws.specs.Handled.{awaited_in}
+use Rattle.world_laws.specs.LineUps.{commanded_target, is_of_peer, waiting_of}
+use Rattle.world_laws.specs.OthersFrame.{IsHad}
+use Rattle.world_laws.specs.OwnFrame.{IsRequested}
+use Rattle.world_laws.specs.Seated.{commanded_channels}
+use Rattle.world_laws.specs.Staying.{AreLinedUp}
+
+-- ---- what is on its way on its channels, beside its line-up
+
+-- The acknowledgements on their way agree with the roles of its channels: an RF CHANNEL RELEASE ACK is the last of an old channel,
+-- and there is none of another.
+pub record AcksAgree (w : Actors) (s : Connection) : Type 0 where
+  pub old_end : AllByRecursion (λ c. ReleasesLast (acknowledgements_up w (place_of c))) (undone s.draining)
+  pub others_go_on : AllByRecursion (λ c. NoneReleases (acknowledgements_up w (place_of c))) (s.serving ∷ target_in s.state)
+
+-- what came of a target has COMPLETE in it
+abbrev pub IsLed : List Item → Type 0
+IsLed items = (messages_in items ≡ []) ⊎ (1 ≤ controls_in items)
+
+-- Nothing came of a target before the COMMAND, and no command is on its way there; from the COMMAND on COMPLETE comes first.
+pub record TargetIsFresh (w : Actors) (s : Connection) : Type 0 where
+  pub silent : AllByRecursion (λ c. messages_in (coming_up w (place_of c)) ≡ []) (awaited_in s.state)
+  pub uncommanded : AllByRecursion (λ c. going_down w (place_of c) ≡ []) (awaited_in s.state)
+  pub led : AllByRecursion (λ c. IsLed (coming_up w (place_of c))) (commanded_channels (commanded_target s.state))
+
+-- ---- the initial message comes once
+
+abbrev pub initial_by : ℕ → Rsl → List (List ℕ)
+initial_by channel (EstablishIndication e) = if e.channel == channel then messages_in (of_establishment (sapi_of e.link) e.l3) else []
+initial_by channel _ = []
+
+-- the initial messages on their way up from a channel
+abbrev pub initials_up : Actors → Place → List (List ℕ)
+initials_up w at = flat_map (initial_by at.number) (messages_up w at.station)
+
+-- its mobile sent it, and it isn't on its way any more
+pub record HasOpened (w : Actors) (p : Mobile) (s : Connection) : Type 0 where
+  pub opened : p.opens ≡ false
+  pub none_comes : AllByRecursion (λ c. initials_up w (place_of c) ≡ []) (used_channels s)
+
+-- ---- how it fares
+
+-- It asked the switch for its connection, is open, and is lined up with the mobile that asked for it.
+pub record Lives (m : ℕ) (w : Actors) (mobile : ℕ) (s : Connection) : Type 0 where
+  pub had : IsHad w s
+  pub requested : IsRequested s.state
+  pub asked : s.request.access ≡ mobile
+  pub lined : AreLinedUp m w mobile s
+  pub fresh : TargetIsFresh w s
+  pub opened : HasOpened w lined.one s
+
+-- it isn't confirmed, and doesn't ask any more
+abbrev pub IsBeyondAsking : State → Type 0
+IsBeyondAsking WaitConfirm = Unit {0}
+IsBeyondAsking (Closed clearing) = Unit {0}
+IsBeyondAsking Removed = Unit {0}
+IsBeyondAsking _ = ⊥
+
+abbrev pub IsUnconfirmed : Option Connection → Type 0
+IsUnconfirmed None = Unit {0}
+IsUnconfirmed (Some s) = IsBeyondAsking s.state
+
+-- The switch has no connection for it, nothing of it waits for the switch, and nothing will.
+pub record IsUnheard (w : Actors) (number : ℕ) : Type 0 where
+  pub past : number < w.controller.next_number
+  pub none_taken : find (is_of_peer number) w.switch.connections ≡ None
+  pub none_waits : waiting_of w number ≡ []
+  pub unconfirmed : IsUnconfirmed (connection_of w.controller number)
+
+-- it lives, or ended in order, or the switch never hears of it
+pub data Fares (m : ℕ) (w : Actors) (mobile number : ℕ) : Type 0 where
+  lives : (s : Connection) → s.number ≡ number → Lives m w mobile s → Fares m w mobile number
+  ended : number < w.controller.next_number → (IsThere (connection_of w.controller number) → ⊥) → HasEnded m w mobile number → Fares m w mobile number
+  unheard : IsUnheard w number → Fares m w mobile number

@@ -1,0 +1,20 @@
+pub mod Openers
+pub mod Controllers
+pub mod SwitchDown
+pub mod EventKinds
+pub mod Steps
+pub mod OctetTexts
+pub mod OctetLinks
+pub mod OctetMakers
+pub mod OctetSwitch
+pub mod OctetRun
+pub mod PutLists
+pub mod CauseRows
+pub mod Numbered
+pub mod CauseLife
+pub mod Fairly
+pub mod Following
+pub mod Modulus
+pub mod InOrder
+pub mod Whole
+mod Rows

@@ -1,0 +1,233 @@
+-- All that the order of a run rests on holds: what is a law elsewhere, in the form in which it is used.
+use Rattle.std.proofs.Common.{◌≡◌, ℕ, ◌≤◌, Bool, true, false, List, [], ◌∷◌, ◌++◌, Option, Some, None, option_map, inl, inr, refl, sym, ap, ◌∙◌, subst}
+use Rattle.std.specs.List.{AllByRecursion}
+use Rattle.conn_messages.specs.declared.parameters.TheConstants.{SWITCH_LINK}
+use Rattle.conn_table.specs.declared.state.State.{State}
+use Rattle.conn_table.specs.declared.state.State.TheVariants.{WaitActivation, WaitEstablish, WaitConfirm, Live, Closed, Removed}
+use Rattle.conn_table.specs.Connection.{Connection}
+use Rattle.controller_laws.specs.End.{IsThere}
+use Rattle.controller_laws.specs.History.{connection_of}
+use Rattle.controller_laws.specs.Sending.{ComesInOctets}
+use Rattle.controller_table.specs.declared.step.Step.{Step}
+use Rattle.settings.specs.Parameters.{AreAllowed, Parameters}
+use Rattle.world_table.specs.declared.event.Event.{Event}
+use Rattle.world_table.specs.declared.event.Event.TheVariants.{Handle, Tick}
+use Rattle.world_table.specs.Life.{actors_after, actors_after_all}
+use Rattle.world_table.specs.Steps.{all_steps, step_at}
+use Rattle.world_table.specs.World.{Actors, Mobile, is_up, modulus_in, new_actors}
+use Rattle.world_laws.specs.OthersFrame.{CameInOctets, IsHad}
+use Rattle.world_laws.specs.Lives.{AcksAgree, Lives}
+use Rattle.world_laws.specs.Seated.{IsAlone}
+use Rattle.world_laws.proofs.StationTakes.{StationsKeepLineUps-new}
+use Rattle.world_access.specs.Arriving.{IsKnown, is_of_others}
+use Rattle.world_access.specs.Coming.{IsComing, IsEarly}
+use Rattle.world_access.specs.Requested.{Came as CameTo}
+use Rattle.world_access.specs.Requested.Came.{comes as comes-to, requests as requests-of, goes as goes-from}
+use Rattle.world_access.proofs.CameLaw.{ControllerBringsComing-new}
+use Rattle.world_access.proofs.Coming.{OthersKeepComing-new}
+use Rattle.world_access.proofs.Opened.{OpenedStayOpened-new}
+use Rattle.world_channels.proofs.BegunRun.{EstablishedAreActive-new, ServedAreActive-new}
+use Rattle.world_beside.proofs.Begun.{ChannelsBeginQuiet-new}
+use Rattle.world_beside.specs.QuietDown.{Quiet}
+use Rattle.world_beside.proofs.Down.{ChannelsStayQuiet-new, QuietLetsNoneGo-new}
+use Rattle.controller_table.specs.Controller.{place_of}
+use Rattle.world_order.proofs.Openers.{snoc-actors}
+use Rattle.world_references.proofs.Always.{PeersDiffer-new}
+use Rattle.world_channels.proofs.RoleAcks.{AcknowledgementsAgree-new, OldChannelsEnd-new}
+use Rattle.world_handling.specs.Faring.{FaresOn, is_of_controller}
+use Rattle.world_handling.specs.Faring.FaresOn.{goes_on as fares-on, is_over as fares-over}
+use Rattle.world_handling.proofs.Faring.{LiveConnectionsFareOn-new}
+use Rattle.world_owners.proofs.Alone.{ConnectionsAreAlone-new}
+use Rattle.world_owners.proofs.OneEach.{ConnectionsAreOneEach-new}
+use Rattle.world_answers.specs.Beginning.{HasBegun, OpensInFlow}
+use Rattle.world_answers.specs.Beginning.HasBegun.{not_yet as no-number, begins as begins-so}
+use Rattle.world_answers.proofs.Coming.{ConnectionsBeginComing-new}
+use Rattle.world_references.specs.Over.{TakesOctets}
+use Rattle.world_references.specs.Taken.{HasNotAsked, IsEarlyIn, IsUnheardOf}
+use Rattle.world_references.proofs.Heard.{DroppedAreUnheard-new, SwitchDeliversOrRefuses-new, UnaskedAreUnheardOf-new, UnheardStayUnheard-new}
+use Rattle.world_references.proofs.Over.{OverPutsNoMore-new}
+use Rattle.world_targets.specs.Fresh.{IsFreshIn}
+use Rattle.world_targets.proofs.StaysFresh.{FreshTells-new, TargetsStayFresh-new}
+use Rattle.world_order.specs.Facts.{Begun, Came, Handled, Holds, HoldsAt, IsAsking, IsOfController, IsOver}
+use Rattle.world_order.specs.Facts.Begun.{not_yet, begins}
+use Rattle.world_order.specs.Facts.Came.{comes, asks, goes}
+use Rattle.world_order.specs.Facts.Handled.{goes_on, ends}
+use Rattle.world_order.specs.Openers.{has_asked}
+use Rattle.world_order.specs.Order.{AllRunsAreInOrder, Comes, Facts}
+use Rattle.world_order.specs.Standing.{IsSilent}
+use Rattle.world_order.proofs.Controllers.{none-given, octets-front, snoc-steps}
+use Rattle.world_order.proofs.Fairly.{ComeInOctets-new}
+use Rattle.world_order.proofs.InOrder.{RunsAreInOrder-new}
+use Rattle.world_order.proofs.OctetRun.{all-before}
+
+-- ---- words
+
+-- a target is fresh, as its mobile finds it
+abbrev pub IsFresh : Actors → Mobile → Connection → Type 0
+IsFresh w p s = IsFreshIn w p s.state
+
+-- a connection that is coming, whose channel is quiet
+abbrev pub IsComingTo : Parameters → Actors → ℕ → Connection → Type 0
+IsComingTo settings w mobile s = IsComing (modulus_in settings) w mobile s × Quiet w (place_of s.serving)
+
+-- what comes at the last event is octets
+takes-octets : (settings : Parameters) (events : List Event) (event : Event) → CameInOctets settings (events ++ event ∷ []) → TakesOctets (actors_after_all (new_actors settings) events) event
+takes-octets settings events event octets =
+    behind (all_steps (new_actors settings) events) (subst (AllByRecursion ComesInOctets) (snoc-steps (new_actors settings) events event) octets) where
+      behind : (steps : List Step) → AllByRecursion ComesInOctets (steps ++ step_at (actors_after_all (new_actors settings) events) event) → TakesOctets (actors_after_all (new_actors settings) events) event
+      behind [] all = all
+      behind (s ∷ ss) all = behind ss all.1
+
+-- a connection that hasn't asked is early
+early-of : (state : State) → has_asked state ≡ false → IsEarlyIn state
+early-of WaitActivation isnt = tt
+early-of WaitEstablish isnt = tt
+early-of WaitConfirm isnt = absurd (cc isnt)
+early-of (Live reference stage) isnt = absurd (cc isnt)
+early-of (Closed clearing) isnt = absurd (cc isnt)
+early-of Removed isnt = absurd (cc isnt)
+
+not-asked : (w : Actors) (number : ℕ) → IsAsking (connection_of w.controller number) → HasNotAsked w number
+not-asked w number asking = by (connection_of w.controller number) refl asking where
+  by : (o : Option Connection) → connection_of w.controller number ≡ o → IsAsking o → HasNotAsked w number
+  by None is isnt = elim isnt [ ]
+  by (Some s) is early = record { own = s; there = is; is_early = early-of s.state early }
+
+silent-of : {w : Actors} {number : ℕ} → IsUnheardOf w number → IsSilent w number
+silent-of unheard = record { none_taken = unheard.none_taken; none_waits = unheard.none_waits }
+
+unasked : (state : State) → IsEarly state → has_asked state ≡ false
+unasked WaitActivation early = refl
+unasked WaitEstablish early = refl
+unasked WaitConfirm early = elim early [ ]
+unasked (Live reference stage) early = elim early [ ]
+unasked (Closed clearing) early = elim early [ ]
+unasked Removed early = elim early [ ]
+
+early-in : (state : State) → IsEarly state → IsEarlyIn state
+early-in state early = early-of state (unasked state early)
+
+coming-unasked : {m : ℕ} {w : Actors} {mobile : ℕ} {s : Connection} → IsComing m w mobile s → HasNotAsked w s.number
+coming-unasked {s = s} coming = record { own = s; there = coming.had.there; is_early = early-in s.state coming.early }
+
+controllers-event : (event : Event) → IsOfController event → is_of_controller event ≡ true
+controllers-event Handle of = refl
+controllers-event (Tick ms) of = refl
+controllers-event _ of = elim of [ ]
+
+-- ---- of each world
+
+holds-of : (settings : Parameters) (events : List Event) → AreAllowed settings → CameInOctets settings events
+    → Holds (IsComingTo settings) IsFresh (modulus_in settings) (actors_after_all (new_actors settings) events)
+holds-of settings events allowed octets =
+    let w : Actors = actors_after_all (new_actors settings) events in
+    record {
+      alone = λ s had. ConnectionsAreAlone-new settings events s allowed octets had;
+      agree = λ s had. AcknowledgementsAgree-new settings events s allowed octets had;
+      end_last = λ s had. (OldChannelsEnd-new settings events s allowed octets had).old;
+      active = λ s station had requested up. ServedAreActive-new settings events station s allowed octets had requested up;
+      stations = λ station mobile s active lined. StationsKeepLineUps-new settings events station mobile s active lined;
+      not_given = λ number from_one next. silent-of (UnaskedAreUnheardOf-new settings events number allowed octets from_one (inl next));
+      not_asked = λ number from_one asking. silent-of (UnaskedAreUnheardOf-new settings events number allowed octets from_one (inr (not-asked w number asking)));
+      delivers = λ number from_one up. SwitchDeliversOrRefuses-new settings events number allowed octets from_one up;
+      peers = PeersDiffer-new settings events allowed octets;
+      is_coming = λ mobile s coming. (coming.0.had, unasked s.state coming.0.early);
+      fresh_first = λ p s waits. subst (IsFreshIn w p) (sym waits) tt;
+      fresh_tells = λ p s fresh. FreshTells-new w p s fresh;
+    }
+
+-- what a connection that is coming takes as known
+known-of : (settings : Parameters) (events : List Event) (mobile : ℕ) (s : Connection) → AreAllowed settings → CameInOctets settings events
+    → IsComingTo settings (actors_after_all (new_actors settings) events) mobile s → IsKnown (modulus_in settings) (actors_after_all (new_actors settings) events) mobile s
+known-of settings events mobile s allowed octets coming =
+    let w : Actors = actors_after_all (new_actors settings) events in
+    let unheard : IsUnheardOf w s.number = UnaskedAreUnheardOf-new settings events s.number allowed octets coming.0.had.from_one (inr (coming-unasked coming.0)) in
+    record {
+      alone = subst (λ (n : ℕ). IsAlone w n s) coming.0.asked (ConnectionsAreAlone-new settings events s allowed octets coming.0.had);
+      kept = QuietLetsNoneGo-new settings events s allowed octets coming.0.had coming.1;
+      active = λ station up waits. EstablishedAreActive-new settings events station s allowed octets coming.0.had waits up;
+      stations = λ station one t active lined. StationsKeepLineUps-new settings events station one t active lined;
+      none_taken = unheard.none_taken;
+      none_waits = unheard.none_waits;
+      delivers = λ up. SwitchDeliversOrRefuses-new settings events s.number allowed octets coming.0.had.from_one up;
+    }
+
+-- ---- of each event
+
+handled-of : {m : ℕ} {w : Actors} {mobile : ℕ} {s : Connection} → FaresOn m w mobile s → Handled m w mobile s
+handled-of (fares-on next same had requested request lined) = goes_on next same had requested request lined
+handled-of (fares-over closed ended) = ends closed ended
+
+comes-then : (settings : Parameters) (events : List Event) (event : Event) (mobile : ℕ) (s : Connection) → AreAllowed settings → CameInOctets settings (events ++ event ∷ [])
+    → is_up (actors_after_all (new_actors settings) events) SWITCH_LINK ≡ true → IsComingTo settings (actors_after_all (new_actors settings) events) mobile s
+    → Came (IsComingTo settings) (modulus_in settings) (actors_after (actors_after_all (new_actors settings) events) event) mobile s.number
+comes-then settings events event mobile s allowed octets up coming = by (is_of_others event) refl where
+  before : CameInOctets settings events
+  before = octets-front settings events (event ∷ []) octets
+
+  known : IsKnown (modulus_in settings) (actors_after_all (new_actors settings) events) mobile s
+  known = known-of settings events mobile s allowed before coming
+
+  snoc : actors_after_all (new_actors settings) (events ++ event ∷ []) ≡ actors_after (actors_after_all (new_actors settings) events) event
+  snoc = snoc-actors (new_actors settings) events event
+
+  stays : (next : Connection) → next.number ≡ s.number → IsComing (modulus_in settings) (actors_after (actors_after_all (new_actors settings) events) event) mobile next → IsComingTo settings (actors_after (actors_after_all (new_actors settings) events) event) mobile next
+  stays next same comes-now = (
+    comes-now,
+    subst (λ (v : Actors). Quiet v (place_of next.serving)) snoc
+        (ChannelsStayQuiet-new settings events event s next allowed octets coming.0.had coming.0.early same (subst (λ (v : Actors). IsHad v next) (sym snoc) comes-now.had) comes-now.early coming.1),
+  )
+
+  came-of : CameTo (modulus_in settings) (actors_after (actors_after_all (new_actors settings) events) event) mobile s → Came (IsComingTo settings) (modulus_in settings) (actors_after (actors_after_all (new_actors settings) events) event) mobile s.number
+  came-of (comes-to next same comes-now) = comes next same (stays next same comes-now)
+  came-of (requests-of next same waits lives served) = asks next same waits lives served
+  came-of (goes-from gone) = goes gone
+
+  by : (b : Bool) → is_of_others event ≡ b → Came (IsComingTo settings) (modulus_in settings) (actors_after (actors_after_all (new_actors settings) events) event) mobile s.number
+  by true others = comes s refl (stays s refl (OthersKeepComing-new settings events event mobile s others allowed known coming.0))
+  by false own = came-of (ControllerBringsComing-new settings events event mobile s own allowed octets up known (AcknowledgementsAgree-new settings events s allowed before coming.0.had) (ConnectionsAreOneEach-new settings events) coming.0)
+
+begins-then : (settings : Parameters) (events : List Event) (event : Event) (number : ℕ) → AreAllowed settings → CameInOctets settings (events ++ event ∷ []) → (actors_after_all (new_actors settings) events).controller.next_number ≤ number
+    → HasBegun (λ v s. IsComing (modulus_in settings) v s.request.access s) (actors_after (actors_after_all (new_actors settings) events) event) number
+    → Begun (IsComingTo settings) (actors_after (actors_after_all (new_actors settings) events) event) number
+begins-then settings events event number allowed octets next (no-number none) = not_yet none
+begins-then settings events event number allowed octets next (begins-so s same coming) =
+    let snoc : actors_after_all (new_actors settings) (events ++ event ∷ []) ≡ actors_after (actors_after_all (new_actors settings) events) event = snoc-actors (new_actors settings) events event in
+    let past : (actors_after_all (new_actors settings) events).controller.next_number ≤ s.number = subst (λ (n : ℕ). (actors_after_all (new_actors settings) events).controller.next_number ≤ n) (sym same) next in
+    begins s.request.access s same (
+      coming,
+      subst (λ (v : Actors). Quiet v (place_of s.serving)) snoc
+          (ChannelsBeginQuiet-new settings events event s allowed octets (none-given settings events s.number past) (subst (λ (v : Actors). IsHad v s) (sym snoc) coming.had) coming.early),
+    )
+
+holds-at-of : (settings : Parameters) (events : List Event) (event : Event) → AreAllowed settings → Comes settings (events ++ event ∷ [])
+    → HoldsAt (IsComingTo settings) IsFresh (modulus_in settings) (actors_after_all (new_actors settings) events) event
+holds-at-of settings events event allowed run =
+    let octets : CameInOctets settings (events ++ event ∷ []) = run.octets in
+    let w : Actors = actors_after_all (new_actors settings) events in
+    let before : CameInOctets settings events = octets-front settings events (event ∷ []) octets in
+    let takes : TakesOctets w event = takes-octets settings events event octets in
+    record {
+      stays_unheard = λ number from_one unheard. UnheardStayUnheard-new settings events event number allowed before takes from_one unheard;
+      stays_over = λ number from_one past closed.
+          let over = OverPutsNoMore-new settings events event number allowed before takes from_one (record { past = past; closed = closed }) in
+          record { puts = over.0; gone = over.1.closed; past = over.1.past };
+      goes_unheard = λ number from_one asking gone. DroppedAreUnheard-new settings events event number allowed before takes from_one (not-asked w number asking) gone;
+      fresh = λ mobile s next q lives alone agree fresh same had found. TargetsStayFresh-new settings events event mobile s next q allowed octets lives alone fresh same had found;
+      opened = λ mobile s next lives alone agree same had fresh lined. OpenedStayOpened-new settings events event mobile s next lives alone same had fresh lined;
+      handled = λ mobile s of lives agree up. handled-of (LiveConnectionsFareOn-new settings events event mobile s (controllers-event event of) allowed octets up lives agree);
+      begun = λ number from_one up next. begins-then settings events event number allowed octets next (ConnectionsBeginComing-new settings events event number allowed octets (all-before OpensInFlow events (event ∷ []) run.opens) from_one next);
+      came = λ mobile s up coming. comes-then settings events event mobile s allowed octets up coming;
+    }
+
+-- ---- so each run is in order
+
+facts : (settings : Parameters) → Facts settings (IsComingTo settings) IsFresh
+facts settings = record {
+  holds = λ events allowed run. holds-of settings events allowed run.octets;
+  holds_at = λ events event allowed run. holds-at-of settings events event allowed run;
+}
+
+pub runs-are-in-order : (settings : Parameters) (events : List Event) → AllRunsAreInOrder settings events
+runs-are-in-order settings events allowed octets opens =
+    RunsAreInOrder-new (IsComingTo settings) IsFresh settings events (facts settings) allowed (record { octets = ComeInOctets-new settings events allowed octets; opens = opens })

@@ -1,0 +1,5 @@
+pub mod Openers
+pub mod Standing
+pub mod Facts
+pub mod Order
+pub mod OctetEvents

@@ -1,0 +1,3 @@
+pub mod OneEach
+pub mod Alone
+pub mod LinkEnds
