@@ -102,7 +102,7 @@ left-by settings events (inbox source) kept =
     let w : Actors = actors_after_all (new_actors settings) events in
     ap (map item) ((KeepsQueues-new settings events).sources source) ∙ map-append item (of_source source (all_popped (new_actors settings) events)) (of_source source w.inbox)
 
-QueuesKeepOrder-controlled : (settings : Parameters) (events : List Event) → QueuesKeepOrder (Controlled (new_actors settings)) events (Controlled (actors_after_all (new_actors settings) events))
+pub QueuesKeepOrder-controlled : (settings : Parameters) (events : List Event) → QueuesKeepOrder (Controlled (new_actors settings)) events (Controlled (actors_after_all (new_actors settings) events))
 QueuesKeepOrder-controlled settings events =
     let begin : Actors = new_actors settings in
     record {

@@ -3,6 +3,7 @@ pub mod FixedSteps
 pub mod Order
 pub mod SwitchHistory
 pub mod ControlledQueues
+pub mod ControlledOrder
 pub mod Breaking
 pub mod Splitting
 pub mod HexadecimalLemmas

@@ -17,9 +17,10 @@ use Rattle.world.specs.FixedState.{FixedState}
 use Rattle.world.specs.Fixed.{fixed_beginning}
 use Rattle.world.specs.WorldState.{WorldState}
 use Rattle.world.specs.World.{fixed_world, after, after_all, actors_after}
-use Rattle.world.specs.Queues.{outbox, in_switch_outbox}
-use Rattle.world.specs.Headline.{Begins, IsInOrder}
-use Rattle.world.specs.Headline.Begins.{fixed}
+use Rattle.world.specs.Queues.{Queue, outbox, in_switch_outbox, all_messages_put, all_messages_taken}
+use Rattle.world.specs.Headline.{AreOf, Begins, IsInOrder}
+use Rattle.world.specs.Headline.Begins.{fixed, controlled}
+use Rattle.world.proofs.ControlledOrder.{IsInOrder-controlled}
 use Rattle.world.proofs.FixedKept.{IsFixedKept, IsFixedKept-beginning}
 use Rattle.world.proofs.FixedSteps.{fixed_next, fixed_all, all_fixed_messages_taken, fixed-steps, actors_after-fixed, in_switch_outbox-append, all_messages_put-fixed, all_messages_taken-fixed}
 
@@ -59,6 +60,16 @@ progress-is_some world kept p is =
     ap (λ (m : ℕ). progress m world.switch.taken) kept.modulus ∙ progress_from-rise kept.two rise.1 in
     subst IsSome (sym whole ∙ is) refl
 
+-- of each queue, what was put is what was taken, followed by what stands there
+left-fixed : (m : ℕ) (events : List Event) (queue : Queue)
+    → all_messages_put (Fixed (fixed_beginning m)) events queue ≡ all_messages_taken (Fixed (fixed_beginning m)) events queue ++ in_switch_outbox queue (fixed_all (fixed_beginning m) events).outbox
+left-fixed m events queue =
+    let begin : FixedState = fixed_beginning m in
+    let world : FixedState = fixed_all begin events in
+    all_messages_put-fixed begin events queue ∙ ap (in_switch_outbox queue) (fixed-steps begin events).first_out
+    ∙ in_switch_outbox-append queue (all_fixed_messages_taken begin events) world.outbox
+    ∙ ap (λ (xs : _). xs ++ in_switch_outbox queue world.outbox) (sym (all_messages_taken-fixed begin events queue))
+
 pub IsInOrder-fixed : (m : ℕ) → 2 ≤ m → (events : List Event) → IsInOrder (Fixed (fixed_beginning m)) events (Fixed (fixed_all (fixed_beginning m) events))
 IsInOrder-fixed m two events =
     let begin : FixedState = fixed_beginning m in
@@ -76,14 +87,15 @@ IsInOrder-fixed m two events =
             is_prefix = subst (λ (list : List (List ℕ)). IsPrefix list world.mobile.sent) found.1 (accepted-is_prefix world kept);
           };
       no_gap = λ connection p is. progress-is_some world kept p (cond_some (nat_eq connection FIXED_CONNECTION) _ _ is).1;
-      queues = λ queue.
-          all_messages_put-fixed begin events queue ∙ ap (in_switch_outbox queue) steps.first_out
-          ∙ in_switch_outbox-append queue (all_fixed_messages_taken begin events) world.outbox
-          ∙ ap (λ (xs : _). xs ++ in_switch_outbox queue world.outbox) (sym (all_messages_taken-fixed begin events queue));
-      switch = all_messages_taken-fixed begin events (outbox 0) ∙ ap (in_switch_outbox (outbox 0)) (sym steps.switch);
+      queues = record {
+        first_out = λ queue. (in_switch_outbox queue world.outbox, sym (left-fixed m events queue));
+        left = λ queue kept. left-fixed m events queue;
+        switch = all_messages_taken-fixed begin events (outbox 0) ∙ ap (in_switch_outbox (outbox 0)) (sym steps.switch);
+      };
     }
 
 -- whatever events made a world from a beginning
-pub IsInOrder-reached : (begin : WorldState) (events : List Event) → Begins begin → IsInOrder begin.scene events (after_all begin events).scene
-IsInOrder-reached begin events (fixed m two) =
+pub IsInOrder-reached : (begin : WorldState) (events : List Event) → Begins begin → AreOf begin.scene events → IsInOrder begin.scene events (after_all begin events).scene
+IsInOrder-reached begin events (fixed m two) of =
     subst (λ (scene : Scene). IsInOrder (Fixed (fixed_beginning m)) events scene) (sym (scene-after_all (fixed_world m) (fixed_beginning m) events refl)) (IsInOrder-fixed m two events)
+IsInOrder-reached begin events (controlled settings allowed) of = IsInOrder-controlled settings events allowed of.0 of.1

@@ -1,18 +1,30 @@
 -- The order of messages, end to end: for every list of events, what the switch accepts of the flow of a connection is the
 -- beginning of what its mobile sent, once and in order; and each relay queue gives what was put there, in order.
 use Rattle.std.specs.Prelude.{◌≡◌, ℕ, ◌≤◌, true, Option, Some, IsSome, List, ◌++◌}
+use Rattle.std.specs.List.{AllByRecursion}
 use Rattle.octets.specs.Lists.{IsPrefix}
+use Rattle.settings.specs.Parameters.{AreAllowed, Parameters}
+use Rattle.world_answers.specs.Beginning.{OpensInFlow}
+use Rattle.world_order.specs.OctetEvents.{AreOctetEvents}
 use Rattle.world_table.specs.declared.event.Event.{Event}
 use Rattle.world.specs.declared.world.Scene.{Scene}
+use Rattle.world.specs.declared.world.Scene.TheVariants.{Fixed, Controlled}
 use Rattle.world.specs.Openers.{opener_in}
 use Rattle.world.specs.Queues.{Queue, outbox, all_messages_put, all_messages_taken, messages_left, is_kept, IsTakenBySwitch}
 use Rattle.world.specs.Views.{sent_list, accepted_list, progress_in}
-use Rattle.world.specs.World.{fixed_world}
+use Rattle.world.specs.World.{fixed_world, controlled_world}
 use Rattle.world.specs.WorldState.{WorldState}
 
--- the worlds in which nothing has happened
+-- the worlds in which nothing has happened: the fixed one, and that of settings which `bsc` accepts
 pub data Begins : WorldState → Type 0 where
   fixed : (m : ℕ) → 2 ≤ m → Begins (fixed_world m)
+  controlled : (settings : Parameters) → AreAllowed settings → Begins (controlled_world settings)
+
+-- With a controller the events are of octets, as all events of the code are, and no mobile begins with a message of radio resource
+-- management, which is PAGING RESPONSE. In the fixed world they may be any.
+abbrev pub AreOf : Scene → List Event → Type 0
+AreOf (Fixed world) events = Unit {0}
+AreOf (Controlled w) events = AreOctetEvents events × AllByRecursion OpensInFlow events
 
 -- the list is the beginning of what the mobile sent whose connection this is
 pub record IsBeginningOfSent (begin : Scene) (events : List Event) (scene : Scene) (connection : ℕ) (list : List (List ℕ)) : Type 0 where
@@ -22,18 +34,7 @@ pub record IsBeginningOfSent (begin : Scene) (events : List Event) (scene : Scen
   pub is_sent : sent_list scene mobile ≡ Some sent
   pub is_prefix : IsPrefix list sent
 
--- what holds of the actors whom these events have made from a beginning
-pub record IsInOrder (begin : Scene) (events : List Event) (scene : Scene) : Type 0 where
-  -- what the switch accepts is a prefix of what the mobile sent
-  pub accepted : (connection : ℕ) (list : List (List ℕ)) → accepted_list scene connection ≡ Some list → IsBeginningOfSent begin events scene connection list
-  -- no gap is ever judged
-  pub no_gap : (connection : ℕ) (progress : Option ℕ) → progress_in scene connection ≡ Some progress → IsSome progress
-  -- of each queue, what was put is what was taken, followed by what stands there
-  pub queues : (queue : Queue) → all_messages_put begin events queue ≡ all_messages_taken begin events queue ++ messages_left scene queue
-  -- and the switch has what was taken out of its outbox
-  pub switch : IsTakenBySwitch scene (all_messages_taken begin events (outbox 0))
-
--- What holds of the relay queues of a world with a controller, where an outbox is lost with its link.
+-- What holds of the relay queues. With a controller, an outbox is lost with its link.
 pub record QueuesKeepOrder (begin : Scene) (events : List Event) (scene : Scene) : Type 0 where
   -- what was taken is the beginning of what was put
   pub first_out : (queue : Queue) → IsPrefix (all_messages_taken begin events queue) (all_messages_put begin events queue)
@@ -41,3 +42,12 @@ pub record QueuesKeepOrder (begin : Scene) (events : List Event) (scene : Scene)
   pub left : (queue : Queue) → is_kept scene queue ≡ true → all_messages_put begin events queue ≡ all_messages_taken begin events queue ++ messages_left scene queue
   -- and the switch has what was taken out of its outbox
   pub switch : IsTakenBySwitch scene (all_messages_taken begin events (outbox 0))
+
+-- what holds of the actors whom these events have made from a beginning
+pub record IsInOrder (begin : Scene) (events : List Event) (scene : Scene) : Type 0 where
+  -- what the switch accepts is a prefix of what the mobile sent
+  pub accepted : (connection : ℕ) (list : List (List ℕ)) → accepted_list scene connection ≡ Some list → IsBeginningOfSent begin events scene connection list
+  -- no gap is ever judged
+  pub no_gap : (connection : ℕ) (progress : Option ℕ) → progress_in scene connection ≡ Some progress → IsSome progress
+  -- each relay queue gives what was put there, in order
+  pub queues : QueuesKeepOrder begin events scene

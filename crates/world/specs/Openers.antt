@@ -1,38 +1,12 @@
 -- Whose connection it is: the mobile with whose initial message it was asked for.
-use Rattle.std.specs.Prelude.{ℕ, ◌==◌, Bool, true, false, Option, Some, None, option_map, List, [], ◌∷◌, if◌then◌else◌}
-use Rattle.std.specs.Option.{option_and_then, option_or}
-use Rattle.conn_table.specs.declared.state.State.{State}
-use Rattle.conn_table.specs.declared.state.State.TheVariants.{WaitActivation, WaitEstablish}
-use Rattle.conn_table.specs.Connection.{Connection}
-use Rattle.controller_table.specs.Controller.{entry_of, place_of}
-use Rattle.msc_end.specs.Switch.{connection_of}
+use Rattle.std.specs.Prelude.{ℕ, ◌==◌, Option, Some, None, List, if◌then◌else◌}
+use Rattle.world_order.specs.Order.{opener_of}
 use Rattle.world_table.specs.declared.event.Event.{Event}
-use Rattle.world_table.specs.Life.{actors_after, actors_after_all}
-use Rattle.world_table.specs.Stations.{mobile_on}
-use Rattle.world_table.specs.World.{Actors, tenure_at}
 use Rattle.world.specs.declared.fixed.TheConstants.{FIXED_MOBILE, FIXED_CONNECTION}
 use Rattle.world.specs.declared.world.Scene.{Scene}
 use Rattle.world.specs.declared.world.Scene.TheVariants.{Fixed, Controlled}
 
--- whether the controller has asked the switch for a connection
-abbrev pub has_asked : State → Bool
-has_asked WaitActivation = false
-has_asked WaitEstablish = false
-has_asked _ = true
-
--- the mobile on the serving channel of such a connection
-abbrev pub served : Actors → Connection → Option ℕ
-served w s = if has_asked s.state then option_map (λ p. p.number) (mobile_on w (tenure_at w (place_of s.serving))) else None
-
-abbrev pub served_by : Actors → ℕ → Option ℕ
-served_by w number = option_and_then (λ entry. served w entry.connection) (entry_of w.controller number)
-
--- where the controller's connection has first one
-abbrev pub first_served : Actors → List Event → ℕ → Option ℕ
-first_served w [] number = served_by w number
-first_served w (event ∷ events) number = option_or (served_by w number) (first_served (actors_after w event) events number)
-
 -- the mobile whose connection of the switch it is, after these events
 abbrev pub opener_in : Scene → List Event → ℕ → Option ℕ
 opener_in (Fixed world) events connection = if connection == FIXED_CONNECTION then Some FIXED_MOBILE else None
-opener_in (Controlled w) events connection = option_and_then (λ c. first_served w events c.peer) (connection_of (actors_after_all w events).switch.connections connection)
+opener_in (Controlled w) events connection = opener_of w events connection

@@ -6,7 +6,7 @@ ghost use Rattle.world_table.specs.Takes.{Takes};
 ghost use Rattle.world.specs.WorldState.{WorldState};
 ghost use Rattle.world.specs.World.{fixed_world, controlled_world, scene_after, after, after_all, broken};
 ghost use Rattle.world.specs.Views.{sent_list, received_list, taken_list, accepted_list, unnumbered_list};
-ghost use Rattle.world.specs.Headline.{Begins, IsInOrder, QueuesKeepOrder};
+ghost use Rattle.world.specs.Headline.{AreOf, Begins, IsInOrder, QueuesKeepOrder};
 
 use crate::Event;
 use crate::fixed::{FIXED_CONNECTION, FIXED_MOBILE, FixedWorld};
@@ -107,12 +107,13 @@ impl World {
         ensures ok { OnOk result (self.new ≡ after_all self.old events.now) }
 
         // Whatever events made the world from a beginning, what the switch accepts in a connection is the beginning of what
-        // its mobile sent, no filter ever finds a gap, and each queue gives what was put there, in order.
-        ensures in_order { OnOk result ((begin : WorldState) (before : List WorldEvent) → Begins begin → self.old ≡ after_all begin before
-            → IsInOrder begin.scene (before ++ events.now) self.new.scene) }
+        // its mobile sent, no filter ever finds a gap, and each queue gives what was put there, in order. The events are of
+        // octets, and with a controller no mobile begins with PAGING RESPONSE.
+        ensures in_order { OnOk result ((begin : WorldState) (before : List WorldEvent) → Begins begin → AreOf begin.scene (before ++ events.now)
+            → self.old ≡ after_all begin before → IsInOrder begin.scene (before ++ events.now) self.new.scene) }
 
-        // And whatever events made the world from one with a controller, each queue gives what was put there, in order, and the
-        // switch has what was taken out of its outbox.
+        // And whatever events made the world from one with a controller, of whatever settings, each queue gives what was put
+        // there, in order, and the switch has what was taken out of its outbox.
         ensures queues { OnOk result ((settings : Parameters) (before : List WorldEvent) → self.old ≡ after_all (controlled_world settings) before
             → QueuesKeepOrder (controlled_world settings).scene (before ++ events.now) self.new.scene) }
         ensures stands { OnOk result (self.old.failed ≡ false) }
