@@ -7,3 +7,4 @@ pub mod Early
 pub mod Down
 pub mod Begin
 pub mod Begun
+mod Rows
