@@ -25,7 +25,7 @@ use Rattle.lineup.proofs.Following.{Follows-rise, Follows-link, Follows-sent, Fo
 -- ---- control messages of the link
 
 -- a message of the flow isn't one
-flow-no_control : (x : List ℕ) → is_flow_message x ≡ true → is_control x ≡ false
+pub flow-no_control : (x : List ℕ) → is_flow_message x ≡ true → is_control x ≡ false
 flow-no_control x flow =
     elim (cases_Bool (is_control x)) [
       | inl control ↦ let apart = is_control-apart x control in absurd cc
@@ -33,7 +33,7 @@ flow-no_control x flow =
     ]
 
 -- a message that isn't one waits
-controls-waits : (link : DataLinkState) (x : List ℕ) → is_control x ≡ false → controls_of (to_be_taken (waits link x)) ≤ controls_of (to_be_taken link)
+pub controls-waits : (link : DataLinkState) (x : List ℕ) → is_control x ≡ false → controls_of (to_be_taken (waits link x)) ≤ controls_of (to_be_taken link)
 controls-waits link x other =
     let sum = ap controls_of (to_be_taken-waits link x) ∙ controls-append (to_be_taken link) (x ∷ []) in
     let none = ap length (cond-false (is_control x) (x ∷ []) [] other) in

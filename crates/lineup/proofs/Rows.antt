@@ -1,5 +1,5 @@
 -- Definitions against literal line-ups.
-use Rattle.std.proofs.Common.{◌≡◌, ℕ, true, false, Some, List, [], ◌∷◌, refl, arith}
+use Rattle.std.proofs.Common.{◌≡◌, ℕ, ◌+◌, ◌≤◌, true, false, Some, List, [], ◌∷◌, refl, arith}
 use Rattle.dtap_codec.specs.Places.{Carries}
 use Rattle.dtap_codec.specs.Places.Rise.{over, next, again}
 use Rattle.link_model.specs.declared.air_link.Air.TheVariants.{Empty, Given, Reached}
@@ -8,10 +8,10 @@ use Rattle.nsd_filter.specs.AcceptedList.{accepted_list, progress}
 use Rattle.lineup.specs.LineUp.{Tenure, LineUp, fresh, messages_in, part_of, parts_of, line, controls_of, controls_in, texts_in}
 use Rattle.lineup.specs.LineUp.Item.{brought, released}
 use Rattle.lineup.specs.LineUp.Seat.{on_serving, on_target, moving}
-use Rattle.lineup.specs.Alive.{Alive}
+use Rattle.lineup.specs.Alive.{Alive, Stands}
 use Rattle.lineup.specs.Alive.Follows.{goes_on, rises}
 use Rattle.lineup.specs.Alive.Stays.{remains}
-use Rattle.lineup.specs.Alive.Stands.{arrives as has_arrived}
+use Rattle.lineup.specs.Alive.Stands.{opens, rests, arrives as has_arrived}
 use Rattle.lineup.specs.Alive.Condition.{sound, lost_serving}
 use Rattle.lineup.specs.Order.{coming}
 use Rattle.lineup.specs.Opening.{opened}
@@ -69,6 +69,13 @@ parts_behind_break = refl
 counts : (controls_of (complete ∷ m0 ∷ complete ∷ []) ≡ 2) × (controls_in (brought m0 ∷ brought complete ∷ released ∷ []) ≡ 1) × (texts_in (brought complete ∷ brought m0 ∷ released ∷ brought m1 ∷ []) ≡ 2)
 counts = (refl, refl, refl)
 
+-- a PAGING RESPONSE is of radio resource management too
+abbrev paging_response : List ℕ
+paging_response = 0x06 ∷ 0x27 ∷ 0x00 ∷ []
+
+count_of_answer : (controls_of (paging_response ∷ m0 ∷ []) ≡ 1) × (controls_in (brought paging_response ∷ released ∷ []) ≡ 1)
+count_of_answer = (refl, refl)
+
 -- ---- a line-up in the middle of a handover: message 2 was taken on the old channel, and comes again on the new one
 
 abbrev in_handover : LineUp
@@ -77,6 +84,7 @@ in_handover = record {
   link = record { waiting = m3 ∷ []; air = Reached m2 };
   seat = on_target;
   is_intact = true;
+  is_opening = false;
   commands = 0;
   is_changing = true;
   is_confirmed = true;
@@ -127,6 +135,60 @@ line_in_break = refl
 
 break_is_alive : Alive 4 in_break
 break_is_alive = record { follows = rises 2 (next at_0 (next at_1 (over 2))); first = refl; stands = has_arrived remains refl (omega arith); condition = lost_serving; bare = refl }
+
+-- ---- before the connection request: the initial message is to come, and is a PAGING RESPONSE
+
+abbrev to_open : LineUp
+to_open = record {
+  sent = sent;
+  link = record { waiting = paging_response ∷ m0 ∷ m1 ∷ m2 ∷ m3 ∷ []; air = Empty };
+  seat = on_serving;
+  is_intact = true;
+  is_opening = true;
+  commands = 0;
+  is_changing = false;
+  is_confirmed = false;
+  old = [];
+  serving = fresh;
+  target = fresh;
+  out = [];
+  taken = [];
+}
+
+to_open_is_alive : Alive 4 to_open
+to_open_is_alive = record {
+  follows = goes_on (record {
+    now = next at_0 (next at_1 (next at_2 (next at_3 (over 4))));
+    anew = next at_0 (next at_1 (next at_2 (next at_3 (over 4))));
+  });
+  first = λ confirmed. refl;
+  stands = opens remains refl;
+  condition = sound;
+  bare = refl;
+}
+
+-- it may be on its way up too
+abbrev brought_answer : LineUp
+brought_answer = record to_open { link = record { waiting = m0 ∷ m1 ∷ m2 ∷ m3 ∷ []; air = Reached paging_response }; serving = record fresh { items = brought paging_response ∷ [] } }
+
+answer_is_taken : Steps 4 (record to_open { link = record { waiting = m0 ∷ m1 ∷ m2 ∷ m3 ∷ []; air = Given paging_response } }) brought_answer
+answer_is_taken = first (by_mobile (taken_on_serving (record to_open { link = record { waiting = m0 ∷ m1 ∷ m2 ∷ m3 ∷ []; air = Given paging_response } }) paging_response refl refl)) (none brought_answer)
+
+-- but behind the connection request no message like it is left, on its way up or in the link
+none_is_left : {serving link : ℕ} → 1 ≤ serving + link → Stands false false 0 on_serving serving 0 0 link → ⊥
+none_is_left some (rests here zero) = absurd (omega arith)
+
+left_on_its_way : Alive 4 (record brought_answer { is_opening = false }) → ⊥
+left_on_its_way alive = none_is_left (omega arith) alive.stands
+
+left_in_the_link : Alive 4 (record to_open { is_opening = false }) → ⊥
+left_in_the_link alive = none_is_left (omega arith) alive.stands
+
+-- and while it is still to come no COMMAND is on its way
+none_is_commanded : Alive 4 (record to_open { commands = 1 }) → ⊥
+none_is_commanded alive = by alive.stands where
+  by : Stands true false 1 on_serving 0 0 0 1 → ⊥
+  by (opens here zero) = absurd (omega arith)
 
 -- ---- line-ups that aren't sound: the switch took what the filter judges a gap
 

@@ -23,23 +23,27 @@ pub data Stays (here : Seat) : Seat → Type 0 where
   left : Stays here gone
 
 -- Where a change of channel stands: of COMMANDs on their way down there is at most one, and of COMPLETE and FAILURE on their
--- way up at most one. The numbers are: commands on their way to the mobile; controls of the serving channel; messages of the
--- flow of the target, and its controls; and controls that the mobile's link still gives.
-pub data Stands : Bool → ℕ → Seat → ℕ → ℕ → ℕ → ℕ → Type 0 where
+-- way up at most one. The initial message may be of radio resource management too, so that nothing is said of the controls of
+-- the serving channel and of the link while it is still to come. The numbers are: commands on their way to the mobile; controls
+-- of the serving channel; messages of the flow of the target, and its controls; and controls that the mobile's link still gives.
+pub data Stands : Bool → Bool → ℕ → Seat → ℕ → ℕ → ℕ → ℕ → Type 0 where
+  -- the initial message is still to come
+  opens : {commands serving texts target link : ℕ} {seat : Seat} → Stays on_serving seat → commands + texts + target ≡ 0 →
+      Stands true false commands seat serving texts target link
   -- no change
   rests : {commands serving texts target link : ℕ} {seat : Seat} → Stays on_serving seat → commands + serving + link + texts + target ≡ 0 →
-      Stands false commands seat serving texts target link
+      Stands false false commands seat serving texts target link
   -- the mobile didn't follow the COMMAND yet
   waits : {commands serving texts target link : ℕ} {seat : Seat} → Stays on_serving seat → commands ≤ 1 → serving + link + texts + target ≡ 0 →
-      Stands true commands seat serving texts target link
+      Stands false true commands seat serving texts target link
   -- it is between the channels
-  leaves : {commands serving texts target link : ℕ} → commands + serving + texts + target ≡ 0 → Stands true commands moving serving texts target link
+  leaves : {commands serving texts target link : ℕ} → commands + serving + texts + target ≡ 0 → Stands false true commands moving serving texts target link
   -- it came to the target: COMPLETE, and the messages behind it, are on their way
   arrives : {commands serving texts target link : ℕ} {seat : Seat} → Stays on_target seat → commands + serving ≡ 0 → target + link ≤ 1 →
-      Stands true commands seat serving texts target link
+      Stands false true commands seat serving texts target link
   -- it came back: FAILURE is on its way
   returns : {commands serving texts target link : ℕ} {seat : Seat} → Stays on_serving seat → commands + texts + target ≡ 0 → serving + link ≤ 1 →
-      Stands true commands seat serving texts target link
+      Stands false true commands seat serving texts target link
 
 -- whether something of one of these channels may be missing
 abbrev pub some_lost : List Tenure → Bool
@@ -58,7 +62,7 @@ pub data Condition : Seat → Bool → Bool → Bool → Bool → Type 0 where
 pub record Alive (m : ℕ) (l : LineUp) : Type 0 where
   pub follows : Follows m l.sent (line l) l.link l.is_intact
   pub first : FirstRelays l.is_confirmed l.old l.serving.hold
-  pub stands : Stands l.is_changing l.commands l.seat (controls_in l.serving.items) (texts_in l.target.items) (controls_in l.target.items) (controls_of (to_be_taken l.link))
+  pub stands : Stands l.is_opening l.is_changing l.commands l.seat (controls_in l.serving.items) (texts_in l.target.items) (controls_in l.target.items) (controls_of (to_be_taken l.link))
   pub condition : Condition l.seat (some_lost l.old) l.serving.is_lost l.target.is_lost l.is_intact
   -- nothing is held of the target
   pub bare : l.target.hold ≡ []

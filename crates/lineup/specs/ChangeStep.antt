@@ -21,8 +21,9 @@ abbrev pub ended : List (List ℕ) → Tenure
 ended hold = record { hold = hold; items = []; is_lost = false; is_done = true }
 
 pub data ChangeStep : LineUp → LineUp → Type 0 where
-  -- the COMMAND is put
-  commands : (l : LineUp) → ChangeStep (record l { is_changing = false }) (record l { is_changing = true; commands = 1 })
+  -- the COMMAND is put, behind the connection request
+  commands : (l : LineUp) →
+      ChangeStep (record l { is_opening = false; is_changing = false }) (record l { is_opening = false; is_changing = true; commands = 1 })
   -- COMPLETE of the target: it serves, and the channel that served is the youngest of the old ones
   completes : (l : LineUp) (t : Tenure) (x : List ℕ) (items : List Item) → is_control x ≡ true →
       ChangeStep (record l { is_changing = true; is_confirmed = true; target = with_items t (brought x ∷ items) })

@@ -42,6 +42,8 @@ pub record LineUp : Type 0 where
   pub seat : Seat
   -- nothing is missing, and the mobile is still there
   pub is_intact : Bool
+  -- the connection request wasn't put yet: the initial message is still to come
+  pub is_opening : Bool
   -- the ASSIGNMENT or HANDOVER COMMANDs on their way to the mobile
   pub commands : ℕ
   -- from the COMMAND up to its COMPLETE or FAILURE

@@ -12,6 +12,7 @@ opened sent link initial items = record {
   link = link;
   seat = on_serving;
   is_intact = true;
+  is_opening = false;
   commands = 0;
   is_changing = false;
   is_confirmed = false;

@@ -1,11 +1,9 @@
 -- The order of messages in every world with a controller.
 use Rattle.std.proofs.Common.{ℕ, Option, List, refl, sym, subst}
-use Rattle.std.specs.List.{AllByRecursion}
 use Rattle.settings.specs.Parameters.{AreAllowed, Parameters}
 use Rattle.world_table.specs.declared.event.Event.{Event}
 use Rattle.world_table.specs.Life.{actors_after_all}
 use Rattle.world_table.specs.World.{Actors, new_actors}
-use Rattle.world_answers.specs.Beginning.{OpensInFlow}
 use Rattle.world_order.specs.OctetEvents.{AreOctetEvents}
 use Rattle.world_order.specs.Order.{IsInOrderFor}
 use Rattle.world_order.proofs.Whole.{runs-are-in-order}
@@ -15,10 +13,9 @@ use Rattle.world.specs.Headline.{IsInOrder}
 use Rattle.world.specs.World.{controlled_world, after_all}
 use Rattle.world.proofs.ControlledQueues.{QueuesKeepOrder-controlled, scene-after_all}
 
-pub IsInOrder-controlled : (settings : Parameters) (events : List Event) → AreAllowed settings → AreOctetEvents events → AllByRecursion OpensInFlow events
-    → IsInOrder (controlled_world settings).scene events (after_all (controlled_world settings) events).scene
-IsInOrder-controlled settings events allowed octets opens =
-    let order : IsInOrderFor (new_actors settings) events = runs-are-in-order settings events allowed octets opens in
+pub IsInOrder-controlled : (settings : Parameters) (events : List Event) → AreAllowed settings → AreOctetEvents events → IsInOrder (controlled_world settings).scene events (after_all (controlled_world settings) events).scene
+IsInOrder-controlled settings events allowed octets =
+    let order : IsInOrderFor (new_actors settings) events = runs-are-in-order settings events allowed octets in
     subst (λ (scene : Scene). IsInOrder (Controlled (new_actors settings)) events scene)
     (sym (scene-after_all (controlled_world settings) (new_actors settings) events refl))
     (record {

@@ -98,4 +98,4 @@ IsInOrder-fixed m two events =
 pub IsInOrder-reached : (begin : WorldState) (events : List Event) → Begins begin → AreOf begin.scene events → IsInOrder begin.scene events (after_all begin events).scene
 IsInOrder-reached begin events (fixed m two) of =
     subst (λ (scene : Scene). IsInOrder (Fixed (fixed_beginning m)) events scene) (sym (scene-after_all (fixed_world m) (fixed_beginning m) events refl)) (IsInOrder-fixed m two events)
-IsInOrder-reached begin events (controlled settings allowed) of = IsInOrder-controlled settings events allowed of.0 of.1
+IsInOrder-reached begin events (controlled settings allowed) of = IsInOrder-controlled settings events allowed of

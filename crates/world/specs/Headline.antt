@@ -1,10 +1,8 @@
 -- The order of messages, end to end: for every list of events, what the switch accepts of the flow of a connection is the
 -- beginning of what its mobile sent, once and in order; and each relay queue gives what was put there, in order.
 use Rattle.std.specs.Prelude.{◌≡◌, ℕ, ◌≤◌, true, Option, Some, IsSome, List, ◌++◌}
-use Rattle.std.specs.List.{AllByRecursion}
 use Rattle.octets.specs.Lists.{IsPrefix}
 use Rattle.settings.specs.Parameters.{AreAllowed, Parameters}
-use Rattle.world_answers.specs.Beginning.{OpensInFlow}
 use Rattle.world_order.specs.OctetEvents.{AreOctetEvents}
 use Rattle.world_table.specs.declared.event.Event.{Event}
 use Rattle.world.specs.declared.world.Scene.{Scene}
@@ -20,11 +18,10 @@ pub data Begins : WorldState → Type 0 where
   fixed : (m : ℕ) → 2 ≤ m → Begins (fixed_world m)
   controlled : (settings : Parameters) → AreAllowed settings → Begins (controlled_world settings)
 
--- With a controller the events are of octets, as all events of the code are, and no mobile begins with a message of radio resource
--- management, which is PAGING RESPONSE. In the fixed world they may be any.
+-- With a controller the events are of octets, as all events of the code are. In the fixed world they may be any.
 abbrev pub AreOf : Scene → List Event → Type 0
 AreOf (Fixed world) events = Unit {0}
-AreOf (Controlled w) events = AreOctetEvents events × AllByRecursion OpensInFlow events
+AreOf (Controlled w) events = AreOctetEvents events
 
 -- the list is the beginning of what the mobile sent whose connection this is
 pub record IsBeginningOfSent (begin : Scene) (events : List Event) (scene : Scene) (connection : ℕ) (list : List (List ℕ)) : Type 0 where

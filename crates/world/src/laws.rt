@@ -7,8 +7,8 @@ ghost use Rattle.world.specs.Headline.{AreOf, Begins, IsInOrder, QueuesKeepOrder
 
 /// The order of messages, over every list of events from a beginning: what the switch accepts of a connection's flow is the
 /// beginning of what its mobile's upper layers sent, once and in order; no gap is ever judged; and each relay queue gives
-/// what was put there, in order. With a controller, events are of octets and no mobile begins with PAGING RESPONSE. It is a law on
-/// the definitions that `World::run` cites: it does nothing.
+/// what was put there, in order. With a controller, events are of octets. It is a law on the definitions that `World::run` cites: it
+/// does nothing.
 pub fn keeps_order()
     ensures { (begin : WorldState) (events : List Event) → Begins begin → AreOf begin.scene events → IsInOrder begin.scene events (after_all begin events).scene }
 {}

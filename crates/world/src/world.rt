@@ -108,7 +108,7 @@ impl World {
 
         // Whatever events made the world from a beginning, what the switch accepts in a connection is the beginning of what
         // its mobile sent, no filter ever finds a gap, and each queue gives what was put there, in order. The events are of
-        // octets, and with a controller no mobile begins with PAGING RESPONSE.
+        // octets.
         ensures in_order { OnOk result ((begin : WorldState) (before : List WorldEvent) → Begins begin → AreOf begin.scene (before ++ events.now)
             → self.old ≡ after_all begin before → IsInOrder begin.scene (before ++ events.now) self.new.scene) }
 

@@ -1,5 +1,5 @@
 -- A mobile that asked comes onto the serving channel: from then on it is lined up with its connection.
-use Rattle.std.proofs.Common.{◌≡◌, ◌≢◌, ℕ, ◌&&◌, nat_eq, Bool, true, false, List, [], ◌∷◌, ◌++◌, None, refl, sym, ap, ◌∙◌, subst, arith}
+use Rattle.std.proofs.Common.{◌≡◌, ◌≢◌, ℕ, ◌&&◌, nat_eq, Bool, true, false, List, [], ◌∷◌, ◌++◌, None, refl, sym, ap, ◌∙◌, subst}
 use Rattle.std.proofs.lemmas.Bool.{eq-eqb}
 use Rattle.conn_messages.specs.declared.parameters.TheConstants.{SWITCH_LINK}
 use Rattle.conn_table.specs.declared.state.State.TheVariants.{WaitEstablish}
@@ -10,12 +10,11 @@ use Rattle.hold_queue.specs.ChainState.{empty_tenure}
 use Rattle.lineup.specs.Alive.{Alive}
 use Rattle.lineup.specs.Alive.Condition.{sound}
 use Rattle.lineup.specs.Alive.Follows.{goes_on}
-use Rattle.lineup.specs.Alive.Stands.{rests}
+use Rattle.lineup.specs.Alive.Stands.{opens}
 use Rattle.lineup.specs.Alive.Stays.{remains}
-use Rattle.lineup.specs.LineUp.{Item, controls_in, controls_of, flow, fresh, messages_in}
+use Rattle.lineup.specs.LineUp.{Item, flow, fresh, messages_in}
 use Rattle.lineup.specs.LineUp.Seat.{on_serving}
 use Rattle.lineup.proofs.Following.{Follows-line}
-use Rattle.mobile_end.specs.DataLink.{to_be_taken}
 use Rattle.mobile_end.specs.DataLinkState.{DataLinkState}
 use Rattle.mobile_end.specs.GoesOn.{GoesOn}
 use Rattle.world_table.specs.declared.seat.Seat.TheVariants.{On}
@@ -28,13 +27,13 @@ use Rattle.world_laws.specs.Seated.Remembers.{nothing}
 use Rattle.world_laws.specs.Seated.Sits.{stays}
 use Rattle.world_access.specs.Coming.{IsNew}
 
--- nothing came, and the link of its station is up
-begin-alive : {m : ℕ} (sent : List (List ℕ)) (link : DataLinkState) (items : List Item) → messages_in items ≡ [] → GoesOn m sent [] link → controls_of (to_be_taken link) ≡ 0
+-- nothing came, and the link of its station is up: the initial message, whatever it is, is to come
+begin-alive : {m : ℕ} (sent : List (List ℕ)) (link : DataLinkState) (items : List Item) → messages_in items ≡ [] → GoesOn m sent [] link
     → Alive m (assembled sent link on_serving WaitEstablish 0 [] (record { hold = []; items = items; is_lost = false; is_done = false }) fresh [] [])
-begin-alive {m} sent link items none goes no_control = record {
+begin-alive {m} sent link items none goes = record {
   follows = Follows-line (ap (λ (xs : List (List ℕ)). flow xs ++ []) (sym none)) (goes_on goes);
   first = λ is. refl;
-  stands = rests remains (let controls : controls_in items ≡ 0 = ap controls_of none in omega (arith, controls, no_control));
+  stands = opens remains refl;
   condition = sound;
   bare = refl;
 }
@@ -50,7 +49,7 @@ bare-of s is stands = let bare = (subst (λ (x : _). StandsBy x s.draining s.dow
 pub begins-lined : {m : ℕ} (w : Actors) (p : Mobile) (s : Connection) → s.state ≡ WaitEstablish → IsBareOf s → s.serving.station ≢ SWITCH_LINK → p.seat ≡ On (tenure_at w (place_of s.serving)) None → IsNew m p → is_station_up w s.serving.station ≡ true
     → messages_in (coming_up w (place_of s.serving)) ≡ [] → going_down w (place_of s.serving) ≡ [] → waiting_of w s.number ≡ [] → taken_of w s.number ≡ [] → LinedUp m w p s
 begins-lined {m} w p s state bare placed seat new up none uncommanded unsaid untaken = record {
-  alive = subst (Alive m) (sym reads) (begin-alive p.end.sent p.end.zero (coming_up w (place_of s.serving)) none new.goes_on new.no_control);
+  alive = subst (Alive m) (sym reads) (begin-alive p.end.sent p.end.zero (coming_up w (place_of s.serving)) none new.goes_on);
   sits = rw (state, seat) (stays refl nothing);
   led = rw (uncommanded) tt;
   none_on_target = rw (state) tt;

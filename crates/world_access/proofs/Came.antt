@@ -1,5 +1,5 @@
 -- What becomes of a connection that is coming when the controller takes a step.
-use Rattle.std.proofs.Common.{◌≡◌, ◌≢◌, ℕ, ◌≤◌, ◌&&◌, nat_eq, not, Bool, true, List, [], ◌∷◌, ◌++◌, find, length, Option, Some, None, unwrap_or, refl, sym, ap, ◌∙◌, subst, append_assoc, arith}
+use Rattle.std.proofs.Common.{◌≡◌, ◌≢◌, ℕ, ◌+◌, ◌≤◌, ◌&&◌, nat_eq, not, Bool, true, List, [], ◌∷◌, ◌++◌, find, length, Option, Some, None, unwrap_or, refl, sym, ap, ◌∙◌, subst, append_assoc, arith}
 use Rattle.std.specs.List.{AllByRecursion, flat_map}
 use Rattle.std.proofs.lemmas.Bool.{eq-eqb}
 use Rattle.conn_messages.specs.declared.channel.Place.{Place}
@@ -13,7 +13,8 @@ use Rattle.controller_laws.specs.History.{connection_of}
 use Rattle.controller_laws.proofs.Fitting.{aged_holds}
 use Rattle.controller_table.specs.Controller.{Controller, Turn, place_of}
 use Rattle.lineup.specs.Alive.{Alive}
-use Rattle.lineup.specs.LineUp.{flow, fresh, messages_in}
+use Rattle.lineup.specs.LineUp.{controls_in, controls_of, flow, fresh, messages_in}
+use Rattle.mobile_end.specs.DataLink.{to_be_taken}
 use Rattle.lineup.specs.LineUp.Item.{brought}
 use Rattle.lineup.specs.LineUp.Seat.{on_serving}
 use Rattle.lineup.proofs.Lines.{messages_in-append}
@@ -27,7 +28,7 @@ use Rattle.world_table.specs.Life.{actors_after_all}
 use Rattle.world_table.specs.Relay.{with_turn}
 use Rattle.world_table.specs.World.{Actors, Mobile, base_of, has_number, is_station_up, mobile_of, modulus_in, new_actors, tenure_at}
 use Rattle.world_table.proofs.Leads.{turn-leads}
-use Rattle.world_laws.specs.Acknowledged.{read_of}
+use Rattle.world_laws.specs.Acknowledged.{messages_up, read_of}
 use Rattle.world_laws.specs.ComingUp.{brings_in, coming_up, made_of}
 use Rattle.world_laws.specs.GoingDown.{going_down}
 use Rattle.world_laws.specs.LineUps.{assembled, line_up, taken_of, waiting_of}
@@ -39,13 +40,14 @@ use Rattle.world_laws.specs.Staying.{AreLinedUp}
 use Rattle.world_laws.proofs.Others.{turn-mobiles}
 use Rattle.world_laws.proofs.OwnTurn.{turn-stations}
 use Rattle.world_laws.proofs.Sublists.{Sub, sub-append, sub-behind, sub-flat_map, sub-itself, sub-length, sub-nothing}
-use Rattle.world_access.specs.Coming.{AreAssigned, BeginsOnce, Comes, IsComing, IsEarly}
+use Rattle.world_access.specs.Coming.{AreAssigned, BeginsOnce, Comes, IsComing, IsEarly, data_by, data_up}
 use Rattle.world_access.specs.Coming.BeginsOnce.{began, to_begin}
 use Rattle.world_access.specs.Coming.Comes.{arrived, asks}
 use Rattle.world_access.specs.Requested.{Came}
 use Rattle.world_access.specs.Requested.Came.{comes as still_comes}
 use Rattle.world_access.proofs.Arriving.{None-target}
 use Rattle.world_access.proofs.Beginning.{IsBareOf}
+use Rattle.world_access.proofs.Behind.{controls-sub}
 use Rattle.world_access.proofs.Requesting.{of_items, requests-alive}
 
 some-same : {X : Type 0} {x y : X} → Some x ≡ Some y → x ≡ y
@@ -111,6 +113,9 @@ module _ (settings : Parameters) (done : List Event) (mobile : ℕ) (s : Connect
   pub v-initials : (target : Option Tenure) (t : Turn) (items : List RelayItem) (p : Place) → initials_up (turned target t items) p ≡ initials_up (before items) p
   v-initials target t items p = turn-leads (λ v. initials_up v p ≡ initials_up (before items) p) target t (before items) (λ links. refl)
 
+  pub v-data : (target : Option Tenure) (t : Turn) (items : List RelayItem) (p : Place) → data_up (turned target t items) p ≡ data_up (before items) p
+  v-data target t items p = turn-leads (λ v. data_up v p ≡ data_up (before items) p) target t (before items) (λ links. refl)
+
   pub v-tenure : (target : Option Tenure) (t : Turn) (items : List RelayItem) (p : Place) → tenure_at (turned target t items) p ≡ tenure_at world p
   v-tenure target t items p = turn-leads (λ v. tenure_at v p ≡ tenure_at world p) target t (before items) (λ links. refl)
 
@@ -121,6 +126,7 @@ module _ (settings : Parameters) (done : List Event) (mobile : ℕ) (s : Connect
   pub record IsLess (items : List RelayItem) : Type 0 where
     pub messages : Sub (messages_in (coming_up (before items) at)) (messages_in (coming_up world at))
     pub initials : Sub (initials_up (before items) at) (initials_up world at)
+    pub later : Sub (data_up (before items) at) (data_up world at)
 
   pub first-of : (item : RelayItem) (items : List RelayItem) → world.inbox ≡ item ∷ items → coming_up world at ≡ brings_in at item ++ coming_up (before items) at
   first-of item items stood = ap (λ (xs : List RelayItem). flat_map (brings_in at) xs ++ made_of at.number (base_of world at.station).messages) stood ∙ append_assoc (brings_in at item) (flat_map (brings_in at) items) (made_of at.number (base_of world at.station).messages)
@@ -128,8 +134,11 @@ module _ (settings : Parameters) (done : List Event) (mobile : ℕ) (s : Connect
   pub behind-less : (item : RelayItem) (items : List RelayItem) → world.inbox ≡ item ∷ items → IsLess items
   behind-less item items stood = record {
     messages = subst (Sub (messages_in (coming_up (before items) at))) (sym (ap messages_in (first-of item items stood) ∙ messages_in-append (brings_in at item) (coming_up (before items) at))) (sub-behind (messages_in (brings_in at item)) (messages_in (coming_up (before items) at)));
-    initials = sub-flat_map (initial_by at.number) (sub-append (subst (λ (xs : List RelayItem). Sub (flat_map (read_of at.station) items) (flat_map (read_of at.station) xs)) (sym stood) (sub-behind (read_of at.station item) (flat_map (read_of at.station) items))) (sub-itself (base_of world at.station).messages));
-  }
+    initials = sub-flat_map (initial_by at.number) ups;
+    later = sub-flat_map (data_by at.number) ups;
+  } where
+    ups : Sub (messages_up (before items) at.station) (messages_up world at.station)
+    ups = sub-append (subst (λ (xs : List RelayItem). Sub (flat_map (read_of at.station) items) (flat_map (read_of at.station) xs)) (sym stood) (sub-behind (read_of at.station item) (flat_map (read_of at.station) items))) (sub-itself (base_of world at.station).messages)
 
   -- ---- it stays as it is
 
@@ -141,8 +150,10 @@ module _ (settings : Parameters) (done : List Event) (mobile : ℕ) (s : Connect
       let after = lined state (record { one = one; found = found; lined = own }) in
       arrived state (seat ∙ ap (λ (x : Tenure). On x None) (sym (v-tenure target t items at))) (subst (λ (x : Mobile). LinedUp modulus (turned target t items) x s) (some-same (sym after.found ∙ v-mobile target t items mobile ∙ found)) after.lined) (once begun) where
         once : BeginsOnce world one at → BeginsOnce (turned target t items) one at
-        once (to_begin opens none) = to_begin opens (ap messages_in (v-coming target t items at) ∙ sub-nothing (subst (Sub (messages_in (coming_up (before items) at))) none less.messages))
-        once (began opens few) = began opens (let fewer = sub-length less.initials in let same = ap length (v-initials target t items at) in omega (arith, few, fewer, same))
+        once (to_begin opens none behind) = to_begin opens (ap messages_in (v-coming target t items at) ∙ sub-nothing (subst (Sub (messages_in (coming_up (before items) at))) none less.messages)) behind
+        once (began opens few none) =
+            began opens (let fewer = sub-length less.initials in let same = ap length (v-initials target t items at) in omega (arith, few, fewer, same))
+            (let fewer = controls-sub less.later in let same = ap controls_of (v-data target t items at) in omega (arith, none, fewer, same))
 
   pub stays-came : (target : Option Tenure) (t : Turn) (items : List RelayItem) (x : Connection) (coming : IsComing modulus world mobile s) → IsAged s x → connection_of t.next s.number ≡ Some x → Comes modulus (turned target t items) s coming.one → AreAssigned (turned target t items) mobile s → Came modulus (turned target t items) mobile s
   stays-came target t items x coming aged there comes assigned =
@@ -198,9 +209,9 @@ module _ (settings : Parameters) (done : List Event) (mobile : ℕ) (s : Connect
 
   pub asks-lined : (target : Option Tenure) (t : Turn) (items : List RelayItem) (initial : List ℕ) (one : Mobile) → s.state ≡ WaitEstablish → IsBareOf s → one.seat ≡ On (tenure_at world at) None → LinedUp modulus world one s → s.serving.station ≢ SWITCH_LINK
       → coming_up world at ≡ brought initial ∷ coming_up (turned target t items) at → going_down (turned target t items) at ≡ going_down world at → waiting_of world s.number ≡ [] → taken_of world s.number ≡ [] → waiting_of (turned target t items) s.number ≡ initial ∷ []
-      → LinedUp modulus (turned target t items) one (enter WaitConfirm s)
-  asks-lined target t items initial one state bare seat lined placed came down unsaid untaken said = record {
-    alive = subst (Alive modulus) (sym reads) (requests-alive one.end.sent one.end.zero initial (coming_up v at) (not (is_station_up world s.serving.station)) (subst (Alive modulus) was lined.alive));
+      → controls_in (coming_up (turned target t items) at) + controls_of (to_be_taken one.end.zero) ≡ 0 → LinedUp modulus (turned target t items) one (enter WaitConfirm s)
+  asks-lined target t items initial one state bare seat lined placed came down unsaid untaken said left = record {
+    alive = subst (Alive modulus) (sym reads) (requests-alive one.end.sent one.end.zero initial (coming_up v at) (not (is_station_up world s.serving.station)) left (subst (Alive modulus) was lined.alive));
     sits = rw (seat, sym (v-tenure target t items at)) (sits_stays refl nothing);
     led = rw (down, quiet) tt;
     none_on_target = tt;

@@ -49,7 +49,7 @@ use Rattle.world_laws.proofs.OwnerRun.{MobilesSitOnTheirs-new}
 use Rattle.world_laws.proofs.Standing.{ConnectionsStand-new}
 use Rattle.world_laws.proofs.Sublists.{sub-itself}
 use Rattle.world_access.specs.Arriving.{IsKnown}
-use Rattle.world_access.specs.Coming.{IsComing, IsEarly}
+use Rattle.world_access.specs.Coming.{IsComing, IsEarly, data_up}
 use Rattle.world_access.specs.Requested.{AreBeside, AssignsAnother, Came, ControllerBringsComing, IsBeside, AreForOthers, AreOneEach}
 use Rattle.world_access.specs.Requested.Came.{comes as still_comes, goes as is_gone}
 use Rattle.world_access.proofs.Beginning.{IsBareOf, bare-of}
@@ -61,7 +61,7 @@ use Rattle.world_access.proofs.CameSteps.{Opens, acked-came, asked-came, not-tim
 use Rattle.world_laws.specs.Staying.{BringsNothing}
 use Rattle.world_laws.specs.Lives.{AcksAgree}
 use Rattle.controller_laws.specs.Acts.{FitsNone}
-use Rattle.world_access.proofs.Ignored.{ignored-silent}
+use Rattle.world_access.proofs.Ignored.{ignored-silent, none-of-data}
 use Rattle.controller_laws.specs.Naming.{NamesItsMobile}
 use Rattle.controller_laws.specs.Numbers.{IsNumbered}
 use Rattle.controller_laws.proofs.NamingLife.{life_names}
@@ -143,7 +143,7 @@ module _ (settings : Parameters) (done : List Event) (mobile : ℕ) (s : Connect
     by (acked state row_is) =
         acked-came settings done mobile s target (step world.controller st) items s1 coming h.less own_aged state (own ∙ ap (λ (x : Row). kept x.next) row_is) (puts ∙ ap (λ (x : Row). outs_of s.number x.outs) row_is) h.sent h.beside
     by (asks_switch state place initial input_is here row_is) =
-        asked-came settings done mobile s target (step world.controller st) items s1 initial owner coming allowed known own_aged state
+        asked-came settings done mobile s target (step world.controller st) items s1 initial owner coming allowed known h.less own_aged state
         (h.opening place initial (subst (IsBrought (brought_in world.controller s.number st)) input_is brought_it) (subst (λ (c : Channel). is_at place c ≡ true) like.serving here)) switch
         (own ∙ ap (λ (x : Row). kept x.next) row_is) (puts ∙ ap (λ (x : Row). outs_of s.number x.outs) row_is) h.sent h.beside h.sits
 
@@ -198,7 +198,7 @@ module _ (settings : Parameters) (done : List Event) (mobile : ℕ) (s : Connect
       still : FitsNone (brought_in world.controller s.number (Take item)) (Some s) → AllByRecursion (IsForOthers target s) (take item world.controller).outs → s.state ≡ WaitEstablish → AreLinedUp modulus world mobile s → AreLinedUp modulus (after target (take item world.controller) items) mobile s
       still fits_none others state lined =
           let bare : IsBareOf s = bare-of s state (ConnectionsStand-new settings done s.number s coming.had.there) in
-          let silent : BringsNothing s item = rw (bare.draining, state) (ignored-silent settings done mobile s item items allowed coming.had stood acks state lined.lined fits_none, tt) in
+          let silent : BringsNothing s item = rw (bare.draining, state) (ignored-silent settings done mobile s item items allowed coming.had stood acks state (none-of-data coming.comes) fits_none, tt) in
           subst (λ (v : Actors). AreLinedUp modulus v mobile s) (handled-is (item ∷ items) stood) (RelayLeavesOthers-new settings done mobile s (subst (IsOthers world s) (sym stood) (silent, others)) lined)
 
       stepping : Stepping (Take item) target items owner
@@ -231,7 +231,7 @@ module _ (settings : Parameters) (done : List Event) (mobile : ℕ) (s : Connect
 
     stepping : Stepping (Tick ms) None world.inbox owner
     stepping = record {
-      less = record { messages = sub-itself (messages_in (coming_up world at)); initials = sub-itself (initials_up world at) };
+      less = record { messages = sub-itself (messages_in (coming_up world at)); initials = sub-itself (initials_up world at); later = sub-itself (data_up world at) };
       sent = sends-at (Tick ms) allowed (front-all ComesInOctets (all_steps (new_actors settings) done) (step_at world (events.Tick ms)) both) tt;
       beside = beside-all (Tick ms) None one_each coming (sends-at (Tick ms) allowed (front-all ComesInOctets (all_steps (new_actors settings) done) (step_at world (events.Tick ms)) both) tt) (all-without s (tick ms world.controller).outs);
       still = λ fits_none. ages_on;

@@ -1,5 +1,5 @@
 -- What each step of the controller makes of a connection that is coming.
-use Rattle.std.proofs.Common.{◌≡◌, ◌≢◌, ℕ, ◌≤◌, ◌==◌, Bool, true, false, if◌then◌else◌, cond, List, [], ◌∷◌, ◌++◌, length, map, option_to_list, Result, Ok, Err, Option, Some, None, unwrap_or, refl, sym, ap, ◌∙◌, subst, arith}
+use Rattle.std.proofs.Common.{◌≡◌, ◌≢◌, ℕ, ◌+◌, ◌≤◌, ◌==◌, Bool, true, false, if◌then◌else◌, cond, List, [], ◌∷◌, ◌++◌, length, map, option_to_list, Result, Ok, Err, Option, Some, None, unwrap_or, refl, sym, ap, ◌∙◌, subst, arith}
 use Rattle.std.specs.List.{AllByRecursion, flat_map}
 use Rattle.conn_messages.specs.declared.channel.Channel.{Channel}
 use Rattle.conn_messages.specs.declared.channel.Place.{Place}
@@ -31,7 +31,8 @@ use Rattle.controller_table.specs.Views.{forwarded}
 use Rattle.dtap_codec.specs.declared.sapi.Sapi.{Sapi}
 use Rattle.dtap_codec.specs.declared.sapi.Sapi.TheVariants.{Zero, Three}
 use Rattle.ipa_framing.specs.declared.frame.Frame.{Frame}
-use Rattle.lineup.specs.LineUp.{Item, messages_in}
+use Rattle.lineup.specs.LineUp.{Item, controls_in, controls_of, messages_in}
+use Rattle.mobile_end.specs.DataLink.{to_be_taken}
 use Rattle.lineup.specs.LineUp.Item.{brought}
 use Rattle.relay_items.specs.declared.Item.{Item as RelayItem}
 use Rattle.relay_items.specs.declared.What.{What}
@@ -67,10 +68,12 @@ use Rattle.world_access.specs.Requested.{AreBeside, Came, IsBeside}
 use Rattle.world_access.specs.Requested.Came.{requests as has_requested}
 use Rattle.world_access.proofs.Arriving.{serving-placed}
 use Rattle.world_access.proofs.Beginning.{IsBareOf, bare-of}
+use Rattle.world_access.proofs.Behind.{controls-sub}
 use Rattle.world_access.proofs.Brings.{Establishes, frame-establishes}
 use Rattle.world_access.proofs.Served.{served-by}
 use Rattle.world_access.proofs.Turning.{all-down, all-two, all-zero, another-assigns, assigned-turn, assigns-own, command_of, none-own, of-all, own-among, own-assigns, own-leads}
 use Rattle.world_access.proofs.Came.{IsLess, IsLike, aged-like, asks-lined, before, stays-came, told-came, told-comes, turn-comes, turned, v-controller, v-initials, v-mobile, v-tenure, v-coming}
+use Rattle.world_access.proofs.Upcoming.{controls-up}
 use Rattle.dtap_codec.specs.declared.rr.RrMessage.{RrMessage}
 use Rattle.dtap_codec.specs.declared.rr.RrMessage.TheVariants.{ImmediateAssignment}
 use Rattle.dtap_codec.specs.declared.rr_fault.RrFault.{RrFault}
@@ -258,9 +261,9 @@ module _ (settings : Parameters) (done : List Event) (mobile : ℕ) (s : Connect
 
   -- ---- it asks the switch
 
-  pub asked-came : (target : Option Tenure) (t : Turn) (items : List RelayItem) (s1 : Connection) (initial : List ℕ) (owner : Tenure → ℕ) (coming : IsComing modulus world mobile s) → AreAllowed settings → IsKnown modulus world mobile s → IsAged s s1 → s1.state ≡ WaitEstablish → Opens items initial → is_up world SWITCH_LINK ≡ true
+  pub asked-came : (target : Option Tenure) (t : Turn) (items : List RelayItem) (s1 : Connection) (initial : List ℕ) (owner : Tenure → ℕ) (coming : IsComing modulus world mobile s) → AreAllowed settings → IsKnown modulus world mobile s → IsLess settings done mobile s items → IsAged s s1 → s1.state ≡ WaitEstablish → Opens items initial → is_up world SWITCH_LINK ≡ true
       → connection_of t.next s.number ≡ Some (enter WaitConfirm s1) → outs_for s.number t.outs ≡ outs_of s.number (complete_layer3 s1.serving initial ∷ []) → AllByRecursion IsSent t.outs → AreBeside target mobile s t.outs → AllSitBy owner (after target t items) → Came modulus (after target t items) mobile s
-  asked-came target t items s1 initial owner coming allowed known aged state opens_with up there put sent beside sits = by coming.comes where
+  asked-came target t items s1 initial owner coming allowed known less aged state opens_with up there put sent beside sits = by coming.comes where
     v : Actors
     v = after target t items
 
@@ -300,12 +303,17 @@ module _ (settings : Parameters) (done : List Event) (mobile : ℕ) (s : Connect
     by (asks seat new none uncommanded) = absurd (let both : initial ∷ messages_in (coming_up v at) ≡ [] = sym (ap messages_in came) ∙ none in cc)
     by (arrived own_state seat lined begun) = once begun where
       once : BeginsOnce world coming.one at → Came modulus v mobile s
-      once (to_begin opens none) = absurd (let both : initial ∷ messages_in (coming_up v at) ≡ [] = sym (ap messages_in came) ∙ none in cc)
-      once (began opens few) =
+      once (to_begin opens none behind) = absurd (let both : initial ∷ messages_in (coming_up v at) ≡ [] = sym (ap messages_in came) ∙ none in cc)
+      once (began opens few none) =
           let none_left : initials_up (waiting items) at ≡ [] = none-longer initial (initials_up (waiting items) at) (let count = ap length opens_with.one in omega (arith, few, count)) in
           let none_up : initials_up v (place_of s1.serving) ≡ [] = ap (λ (c : Channel). initials_up v (place_of c)) like.serving ∙ v-initials settings done mobile s target t items at ∙ none_left in
+          let left : controls_in (coming_up v at) + controls_of (to_be_taken coming.one.end.zero) ≡ 0 =
+          let all = ap controls_in (v-coming settings done mobile s target t items at) ∙ controls-up (waiting items) at in
+          let first = ap controls_of none_left in
+          let fewer = controls-sub less.later in
+          omega (arith, all, first, fewer, none) in
           let bare : IsBareOf s = bare-of s own_state (ConnectionsStand-new settings done s.number s coming.had.there) in
-          let own : LinedUp modulus v coming.one (enter WaitConfirm s) = asks-lined settings done mobile s target t items initial coming.one own_state bare seat lined placed came down known.none_waits untaken said in
+          let own : LinedUp modulus v coming.one (enter WaitConfirm s) = asks-lined settings done mobile s target t items initial coming.one own_state bare seat lined placed came down known.none_waits untaken said left in
           let aged_own : LinedUp modulus v coming.one (enter WaitConfirm s1) = aged_holds (λ (y : Connection). LinedUp modulus v coming.one (enter WaitConfirm y)) (λ ms y l. record { alive = l.alive; sits = l.sits; led = l.led; none_on_target = l.none_on_target; apart = l.apart; placed = l.placed }) s s1 aged own in
           let none_drains : s1.draining ≡ [] = aged_holds (λ (y : Connection). y.draining ≡ []) (λ ms y is. is) s s1 aged bare.draining in
           let found : mobile_of v mobile ≡ Some coming.one = v-mobile settings done mobile s target t items mobile ∙ coming.found in

@@ -1,5 +1,5 @@
 -- A connection that is coming stays so at each event of others.
-use Rattle.std.proofs.Common.{◌≡◌, ◌≢◌, ℕ, ◌==◌, ◌&&◌, nat_eq, not, Bool, true, false, if◌then◌else◌, List, [], ◌∷◌, ◌++◌, find, length, map, Option, Some, None, Result, Ok, Err, unwrap_or, refl, sym, ap, ◌∙◌, subst, arith, inl, inr, ◌⊎◌}
+use Rattle.std.proofs.Common.{◌≡◌, ◌≢◌, ℕ, ◌+◌, ◌==◌, ◌&&◌, nat_eq, not, Bool, true, false, if◌then◌else◌, List, [], ◌∷◌, ◌++◌, find, length, map, Option, Some, None, Result, Ok, Err, unwrap_or, refl, sym, ap, ◌∙◌, subst, arith, inl, inr, ◌⊎◌}
 use Rattle.std.specs.List.{AllByRecursion}
 use Rattle.std.proofs.lemmas.Bool.{eqb-true, eqb-false}
 use Rattle.conn_messages.specs.declared.channel.Change.{Change}
@@ -18,7 +18,10 @@ use Rattle.dtap_codec.specs.declared.rr.RrMessage.TheVariants.{AssignmentCommand
 use Rattle.dtap_codec.specs.declared.rr_fault.RrFault.{RrFault}
 use Rattle.dtap_codec.specs.declared.sapi.Sapi.TheVariants.{Zero, Three}
 use Rattle.dtap_codec.specs.RrReading.{rr_reading}
-use Rattle.lineup.specs.LineUp.{messages_in}
+use Rattle.lineup.specs.LineUp.{controls_of, messages_in}
+use Rattle.lineup.proofs.Lines.{controls-append}
+use Rattle.mobile_end.specs.DataLink.{after_lending, to_be_taken}
+use Rattle.mobile_end.specs.MobileState.{MobileState}
 use Rattle.settings.specs.Parameters.{AreAllowed, Parameters}
 use Rattle.world_table.specs.declared.event.Event.{Event}
 use Rattle.world_table.specs.declared.event.Event.TheVariants as events
@@ -42,7 +45,7 @@ use Rattle.world_laws.specs.Seated.{IsElsewhere, LinedUp, Sits}
 use Rattle.world_laws.specs.Seated.Remembers.{nothing}
 use Rattle.world_laws.specs.Seated.Sits.{stays as sits_stays, gone as sits_gone}
 use Rattle.world_laws.specs.Staying.{AreLinedUp}
-use Rattle.world_laws.proofs.AirUp.{all-other}
+use Rattle.world_laws.proofs.AirUp.{Lent, all-other, frame-lent}
 use Rattle.world_laws.proofs.Framing.{all-right}
 use Rattle.world_laws.proofs.Quiet.{down-with_base}
 use Rattle.world_laws.proofs.Seeing.{back-found, back-other, found-number}
@@ -50,16 +53,17 @@ use Rattle.world_laws.proofs.Spots.{set-apart, set-same, tenure-with_base}
 use Rattle.world_laws.proofs.Standing.{ConnectionsStand-new}
 use Rattle.world_laws.proofs.Sublists.{Sub, sub-all, sub-length, sub-nothing}
 use Rattle.world_access.specs.Arriving.{IsKnown, LetsNoneGo, OthersKeepComing, is_of_others, is_release}
-use Rattle.world_access.specs.Coming.{AreAssigned, Assigns, AssignsBy, AssignsIn, BeginsOnce, Comes, IsComing, IsNew}
+use Rattle.world_access.specs.Coming.{AreAssigned, Assigns, AssignsBy, AssignsIn, BeginsOnce, Comes, IsComing, IsNew, behind_first}
 use Rattle.world_access.specs.Coming.BeginsOnce.{began, to_begin}
 use Rattle.world_access.specs.Coming.Comes.{arrived, asks}
 use Rattle.world_access.proofs.Arriving.{None-target, serving-placed, stays-lined}
 use Rattle.world_access.proofs.Beginning.{bare-of, begins-lined}
+use Rattle.world_access.proofs.Behind.{GivesNoMore, controls-sub, gives-same, lent-first}
 use Rattle.world_access.proofs.Mobiles.{AllGo, Goes, IsAssigned, IsToMove, all-same, event-goes}
 use Rattle.world_access.proofs.Mobiles.Goes.{comes as gets, hears, moves, same, stays}
 use Rattle.world_access.proofs.Passes.{Passes, passes-itself}
 use Rattle.world_access.proofs.Travels.{event-passes, is_passing}
-use Rattle.world_access.proofs.Upcoming.{initials-apart, initials-later, initials-more, initials-none, initials-pass, none-passes}
+use Rattle.world_access.proofs.Upcoming.{data-apart, data-first, data-later, data-none, data-pass, initials-apart, initials-later, initials-more, initials-none, initials-pass, none-passes}
 
 -- ---- seats
 
@@ -104,6 +108,27 @@ hearing-opens p a = by_kind (is_dtap a.message) where
   by_kind true = refl
   by_kind false = by_message a.target (rr_reading a.message)
 
+hearing-end : (p : Mobile) (a : AirMessage) → (hearing p a).end ≡ p.end
+hearing-end p a = by_kind (is_dtap a.message) where
+  by_seat : (change : Change) (target : Tenure) (seat : Seat) → (remembering p change target seat).end ≡ p.end
+  by_seat change target Asking = refl
+  by_seat change target (On tenure command) = refl
+  by_seat change target (Moving from command) = refl
+  by_seat change target Gone = refl
+
+  by_message : (target : Option Tenure) (r : Result RrMessage RrFault) → (controlled p target r).end ≡ p.end
+  by_message target (Ok (ChannelRelease cause)) = refl
+  by_message (Some target) (Ok (AssignmentCommand channel)) = by_seat Assignment target p.seat
+  by_message (Some target) (Ok (HandoverCommand cell channel reference)) = by_seat Handover target p.seat
+  by_message None (Ok (AssignmentCommand channel)) = refl
+  by_message None (Ok (HandoverCommand cell channel reference)) = refl
+  by_message target (Ok _) = refl
+  by_message target (Err fault) = refl
+
+  by_kind : (b : Bool) → (if b then record p { received = p.received ++ a.message ∷ [] } else controlled p a.target (rr_reading a.message)).end ≡ p.end
+  by_kind true = refl
+  by_kind false = by_message a.target (rr_reading a.message)
+
 hearing-stays : (p : Mobile) (a : AirMessage) {tenure : Tenure} {command : Option Command} → p.seat ≡ On tenure command → LetsNoneGo a → (hearing p a).seat ≡ Gone → ⊥
 hearing-stays p a {tenure} {command} seat kept = by_kind (is_dtap a.message) refl where
   own : p.seat ≡ Gone → ⊥
@@ -132,14 +157,14 @@ hearing-stays p a {tenure} {command} seat kept = by_kind (is_dtap a.message) ref
 
 goes-opens : {w v : Actors} {event : Event} {number : ℕ} {p q : Mobile} {tenure : Tenure} → p.seat ≡ On tenure None → Goes w event v number p q → q.opens ≡ p.opens
 goes-opens seat (same is) = ap (λ (x : Mobile). x.opens) is
-goes-opens seat (stays there opens other) = opens
+goes-opens seat (stays there opens other gives) = opens
 goes-opens {p = p} seat (hears tenure command first others there air is) = ap (λ (x : Mobile). x.opens) is ∙ hearing-opens p first
 goes-opens seat (moves to_move opens) = absurd (subst IsToMove seat to_move)
 goes-opens seat (gets a) = absurd (on-asks (sym seat ∙ a.asked))
 
 goes-kept : {w v : Actors} {event : Event} {number : ℕ} {p q : Mobile} (at : Place) (tenure : Tenure) → tenure.at ≡ at → p.seat ≡ On tenure None → AllByRecursion LetsNoneGo (spot_at w at).air → Goes w event v number p q → q.seat ≡ Gone → ⊥
 goes-kept at tenure at_is seat kept (same is) gone = on-gone (sym seat ∙ ap (λ (x : Mobile). x.seat) (sym is) ∙ gone)
-goes-kept at tenure at_is seat kept (stays there opens other) gone = on-gone (sym seat ∙ sym there ∙ gone)
+goes-kept at tenure at_is seat kept (stays there opens other gives) gone = on-gone (sym seat ∙ sym there ∙ gone)
 goes-kept {w} {p = p} at tenure at_is seat kept (hears other command first others there air is) gone =
     let one : other ≡ tenure = ap (λ (x : Seat). tenure-in x tenure) (sym there ∙ seat) in
     let stands : (spot_at w at).air ≡ first ∷ others = ap (λ (x : Place). (spot_at w x).air) (sym at_is ∙ ap (λ (t : Tenure). t.at) (sym one)) ∙ air in
@@ -147,10 +172,19 @@ goes-kept {w} {p = p} at tenure at_is seat kept (hears other command first other
 goes-kept at tenure at_is seat kept (moves to_move opens) gone = absurd (subst IsToMove seat to_move)
 goes-kept at tenure at_is seat kept (gets a) gone = absurd (on-asks (sym seat ∙ a.asked))
 
+goes-gives : {w v : Actors} {event : Event} {number : ℕ} {p q : Mobile} {tenure : Tenure} → p.seat ≡ On tenure None → Goes w event v number p q → GivesNoMore q.end.zero p.end.zero
+goes-gives seat (same is) = gives-same (ap (λ (x : Mobile). x.end.zero) is)
+goes-gives seat (stays there opens other gives) = gives
+goes-gives {p = p} seat (hears tenure command first others there air is) = gives-same (ap (λ (x : Mobile). x.end.zero) is ∙ ap (λ (e : MobileState). e.zero) (hearing-end p first))
+goes-gives seat (moves to_move opens) = absurd (subst IsToMove seat to_move)
+goes-gives seat (gets a) = absurd (on-asks (sym seat ∙ a.asked))
+
 -- it is still to begin, or began
-begins-passes : {w v : Actors} {p q : Mobile} (at : Place) → at.station ≢ SWITCH_LINK → q.opens ≡ p.opens → Passes w v → BeginsOnce w p at → BeginsOnce v q at
-begins-passes at is same_opens passes (to_begin opens none) = to_begin (same_opens ∙ opens) (none-passes at is passes none)
-begins-passes at is same_opens passes (began opens few) = began (same_opens ∙ opens) (let less = sub-length (initials-pass at is passes) in omega (arith, less, few))
+begins-passes : {w v : Actors} {p q : Mobile} (at : Place) → at.station ≢ SWITCH_LINK → q.opens ≡ p.opens → GivesNoMore q.end.zero p.end.zero → Passes w v → BeginsOnce w p at → BeginsOnce v q at
+begins-passes at is same_opens gives passes (to_begin opens none behind) = to_begin (same_opens ∙ opens) (none-passes at is passes none) (let less = gives.behind in omega (arith, less, behind))
+begins-passes at is same_opens gives passes (began opens few none) =
+    began (same_opens ∙ opens) (let less = sub-length (initials-pass at is passes) in omega (arith, less, few))
+    (let less = controls-sub (data-pass at is passes) in let whole = gives.whole in omega (arith, less, whole, none))
 
 -- ---- it is told its channel
 
@@ -198,14 +232,14 @@ module _ (settings : Parameters) (done : List Event) (mobile : ℕ) (s : Connect
       let unsaid : waiting_of v s.number ≡ [] = ap (λ (x : Actors). waiting_of x s.number) a.leads ∙ waiting-taken world a.station a.others s.number station_is ∙ known.none_waits in
       let untaken : taken_of v s.number ≡ [] = ap (λ (x : Actors). taken_of x s.number) a.leads ∙ ap taken_in known.none_taken in
       let fresh : IsNew modulus q = new-after p q (On (tenure_at world (place_at a.station a.channel.channel.0)) None) a.after new in
-      arrived own.1 seat (begins-lined v q s own.1 (bare-of s own.1 (ConnectionsStand-new settings done s.number s had.there)) placed seat fresh up silent quiet unsaid untaken) (to_begin fresh.opens silent)
+      arrived own.1 seat (begins-lined v q s own.1 (bare-of s own.1 (ConnectionsStand-new settings done s.number s had.there)) placed seat fresh up silent quiet unsaid untaken) (to_begin fresh.opens silent fresh.no_control)
 
   asks-goes : (event : Event) (v : Actors) (p q : Mobile) → AreAllowed settings → IsHad world s → IsKnown modulus world mobile s → AreAssigned world mobile s → Passes world v → Goes world event v mobile p q → p.seat ≡ Asking → IsNew modulus p
       → messages_in (coming_up world (place_of s.serving)) ≡ [] → going_down world (place_of s.serving) ≡ [] → Comes modulus v s q
   asks-goes event v p q allowed had known assigned passes (same is) seat new none uncommanded =
       let placed : s.serving.station ≢ SWITCH_LINK = serving-placed settings done s allowed had in
       asks (ap (λ (x : Mobile). x.seat) is ∙ seat) (subst (IsNew modulus) (sym is) new) (none-passes (place_of s.serving) placed passes none) (sub-nothing (subst (Sub (going_down v (place_of s.serving))) uncommanded (passes.downs s.serving placed)))
-  asks-goes event v p q allowed had known assigned passes (stays there opens other) seat new none uncommanded = absurd (other seat)
+  asks-goes event v p q allowed had known assigned passes (stays there opens other gives) seat new none uncommanded = absurd (other seat)
   asks-goes event v p q allowed had known assigned passes (hears tenure command first others there air is) seat new none uncommanded = absurd (on-asks (sym there ∙ seat))
   asks-goes event v p q allowed had known assigned passes (moves to_move opens) seat new none uncommanded = absurd (subst IsToMove seat to_move)
   asks-goes event v p q allowed had known assigned passes (gets a) seat new none uncommanded = arrives event v p q allowed had known assigned passes a new none uncommanded
@@ -217,7 +251,7 @@ module _ (settings : Parameters) (done : List Event) (mobile : ℕ) (s : Connect
       let placed : s.serving.station ≢ SWITCH_LINK = serving-placed settings done s allowed had in
       let own : LinedUp modulus v q s = subst (λ (x : Mobile). LinedUp modulus v x s) (some-same (sym lined.found ∙ found)) lined.lined in
       let sits : Sits v s.serving None q.seat = subst (λ (o : Option _). Sits v s.serving o q.seat) (None-target s.state state) own.sits in
-      arrived state (sits-there sits (goes-kept (place_of s.serving) (tenure_at world (place_of s.serving)) refl seat known.kept goes)) own (begins-passes (place_of s.serving) placed (goes-opens seat goes) passes begins)
+      arrived state (sits-there sits (goes-kept (place_of s.serving) (tenure_at world (place_of s.serving)) refl seat known.kept goes)) own (begins-passes (place_of s.serving) placed (goes-opens seat goes) (goes-gives seat goes) passes begins)
 
   passing-comes : (event : Event) (v : Actors) (p q : Mobile) → AreAllowed settings → IsHad world s → IsKnown modulus world mobile s → AreAssigned world mobile s → Passes world v → Goes world event v mobile p q → mobile_of v mobile ≡ Some q
       → (s.state ≡ WaitEstablish → AreLinedUp modulus world mobile s → AreLinedUp modulus v mobile s) → mobile_of world mobile ≡ Some p → Comes modulus world s p → Comes modulus v s q
@@ -262,8 +296,10 @@ module _ (settings : Parameters) (done : List Event) (mobile : ℕ) (s : Connect
     here = tenure-with_base world tenure.at.station (signalling_brought (base_of world tenure.at.station) tenure.at.number p.opens frame) (place_of s.serving)
 
     begins : BeginsOnce world one (place_of s.serving) → BeginsOnce v one (place_of s.serving)
-    begins (to_begin opens none) = to_begin opens (ap messages_in came ∙ none)
-    begins (began opens few) = began opens (let less = sub-length (initials-apart world p tenure frame s.serving reached placed apart) in omega (arith, less, few))
+    begins (to_begin opens none behind) = to_begin opens (ap messages_in came ∙ none) behind
+    begins (began opens few none) =
+        began opens (let less = sub-length (initials-apart world p tenure frame s.serving reached placed apart) in omega (arith, less, few))
+        (let less = controls-sub (data-apart world p tenure frame s.serving reached placed apart) in omega (arith, less, none))
 
     by : (AreLinedUp modulus v mobile s) ⊎ (one.seat ≡ Asking) → Comes modulus world s one → Comes modulus v s one
     by either (asks seat new none uncommanded) = asks seat new (ap messages_in came ∙ none) (down ∙ uncommanded)
@@ -271,28 +307,41 @@ module _ (settings : Parameters) (done : List Event) (mobile : ℕ) (s : Connect
     by (inl lined2) (arrived state seat lined once) =
         arrived state (seat ∙ ap (λ (t : Tenure). On t None) (sym here)) (subst (λ (x : Mobile). LinedUp modulus v x s) (some-same (sym lined2.found ∙ found)) lined2.lined) (begins once)
 
-  sent-there : (tenure : Tenure) (command : Option Command) (frame : List ℕ) (one : Mobile) → one.seat ≡ On tenure command → mobile_of (brought world one tenure.at Zero frame) mobile ≡ Some (record (framed one Zero) { opens = false })
+  sent-there : (tenure : Tenure) (command : Option Command) (frame : List ℕ) (one : Mobile) → one.seat ≡ On tenure command → Lent one.end frame → mobile_of (brought world one tenure.at Zero frame) mobile ≡ Some (record (framed one Zero) { opens = false })
       → AreLinedUp modulus (brought world one tenure.at Zero frame) mobile s → Comes modulus world s one → Comes modulus (brought world one tenure.at Zero frame) s (record (framed one Zero) { opens = false })
-  sent-there tenure command frame one sits found lined2 (asks seat new none uncommanded) = absurd (on-asks (sym sits ∙ seat))
-  sent-there tenure command frame one sits found lined2 (arrived state seat lined once) =
+  sent-there tenure command frame one sits lent found lined2 (asks seat new none uncommanded) = absurd (on-asks (sym sits ∙ seat))
+  sent-there tenure command frame one sits lent found lined2 (arrived state seat lined once) =
       arrived state
       (seat ∙ ap (λ (t : Tenure). On t None) (sym (tenure-with_base world tenure.at.station (signalling_brought (base_of world tenure.at.station) tenure.at.number one.opens frame) (place_of s.serving))))
       (subst (λ (x : Mobile). LinedUp modulus v x s) (some-same (sym lined2.found ∙ found)) lined2.lined) (begins once) where
         v : Actors
         v = brought world one tenure.at Zero frame
 
+        taken : to_be_taken one.end.zero ≡ frame ∷ to_be_taken (after_lending one.end.zero)
+        taken = lent-first one.end.zero frame lent.lent
+
+        left : to_be_taken (framed one Zero).end.zero ≡ to_be_taken (after_lending one.end.zero)
+        left = ap (λ (e : MobileState). to_be_taken e.zero) lent.after
+
         begins : BeginsOnce world one (place_of s.serving) → BeginsOnce v (record (framed one Zero) { opens = false }) (place_of s.serving)
-        begins (to_begin opens none) = began refl (let more = initials-more world one tenure frame (place_of s.serving) in let nothing_yet = ap length (initials-none world (place_of s.serving) none) in omega (arith, more, nothing_yet))
-        begins (began opens few) = began refl (let less = sub-length (initials-later world one tenure frame (place_of s.serving) opens) in omega (arith, less, few))
+        begins (to_begin opens none behind) =
+            began refl (let more = initials-more world one tenure frame (place_of s.serving) in let nothing_yet = ap length (initials-none world (place_of s.serving) none) in omega (arith, more, nothing_yet))
+            (let less = controls-sub (data-first world one tenure frame (place_of s.serving) opens) in let nothing_yet = ap controls_of (data-none world (place_of s.serving) none) in let counts = ap controls_of left in let first = ap (λ (xs : List (List ℕ)). controls_of (behind_first xs)) taken in
+            omega (arith, less, nothing_yet, counts, first, behind))
+        begins (began opens few none) =
+            began refl (let less = sub-length (initials-later world one tenure frame (place_of s.serving) opens) in omega (arith, less, few))
+            (let less = data-later world one tenure frame (place_of s.serving) in let counts = ap controls_of left in let all = ap controls_of taken in
+            let sum : controls_of (frame ∷ to_be_taken (after_lending one.end.zero)) ≡ controls_of (frame ∷ []) + controls_of (to_be_taken (after_lending one.end.zero)) = controls-append (frame ∷ []) (to_be_taken (after_lending one.end.zero)) in
+            omega (arith, less, counts, all, sum, none))
 
   or-asks : (v : Actors) (one : Mobile) → mobile_of world mobile ≡ Some one → (s.state ≡ WaitEstablish → AreLinedUp modulus world mobile s → AreLinedUp modulus v mobile s) → Comes modulus world s one → (AreLinedUp modulus v mobile s) ⊎ (one.seat ≡ Asking)
   or-asks v one found stays_lined (asks seat new none uncommanded) = inr seat
   or-asks v one found stays_lined (arrived state seat lined once) = inl (stays_lined state (record { one = one; found = found; lined = lined }))
 
   -- the station takes the frame of a mobile
-  sent-comes : (number : ℕ) (p : Mobile) (tenure : Tenure) (command : Option Command) (frame : List ℕ) → mobile_of world number ≡ Some p → p.seat ≡ On tenure command → is_reached world tenure ≡ true → AreAllowed settings → IsKnown modulus world mobile s → IsComing modulus world mobile s
+  sent-comes : (number : ℕ) (p : Mobile) (tenure : Tenure) (command : Option Command) (frame : List ℕ) → mobile_of world number ≡ Some p → p.seat ≡ On tenure command → Lent p.end frame → is_reached world tenure ≡ true → AreAllowed settings → IsKnown modulus world mobile s → IsComing modulus world mobile s
       → (s.state ≡ WaitEstablish → AreLinedUp modulus world mobile s → AreLinedUp modulus (brought world p tenure.at Zero frame) mobile s) → IsComing modulus (brought world p tenure.at Zero frame) mobile s
-  sent-comes number p tenure command frame acts sits reached allowed known coming stays_lined = by_number (nat_eq number mobile) refl where
+  sent-comes number p tenure command frame acts sits lent reached allowed known coming stays_lined = by_number (nat_eq number mobile) refl where
     v : Actors
     v = brought world p tenure.at Zero frame
 
@@ -306,7 +355,7 @@ module _ (settings : Parameters) (done : List Event) (mobile : ℕ) (s : Connect
     q_number = found-number number world.mobiles p acts
 
     own-comes : mobile_of v mobile ≡ Some q → Comes modulus world s p → (AreLinedUp modulus v mobile s) ⊎ (p.seat ≡ Asking) → Comes modulus v s q
-    own-comes found comes (inl lined) = sent-there tenure command frame p sits found lined comes
+    own-comes found comes (inl lined) = sent-there tenure command frame p sits lent found lined comes
     own-comes found comes (inr asking) = absurd (on-asks (sym sits ∙ asking))
 
     by_number : (b : Bool) → nat_eq number mobile ≡ b → IsComing modulus v mobile s
@@ -327,7 +376,7 @@ module _ (settings : Parameters) (done : List Event) (mobile : ℕ) (s : Connect
   keeps-sent number allowed known coming =
       let event : Event = events.AirUp number Zero in
       let P : Actors → Type 0 = λ v. (s.state ≡ WaitEstablish → AreLinedUp modulus world mobile s → AreLinedUp modulus v mobile s) → IsComing modulus v mobile s in
-      after-taken P (event_after world event) world (air_up-leads P world number Zero (λ p tenure command frame acts sits lent reached. sent-comes number p tenure command frame acts sits reached allowed known coming)) (λ _. coming)
+      after-taken P (event_after world event) world (air_up-leads P world number Zero (λ p tenure command frame acts sits lent reached. sent-comes number p tenure command frame acts sits (frame-lent p.end frame lent) reached allowed known coming)) (λ _. coming)
       (λ state lined. stays-lined settings done mobile s event refl state allowed coming.had known lined)
 
 pub OthersKeepComing-new : (settings : Parameters) (done : List Event) (event : Event) → OthersKeepComing settings done event

@@ -22,11 +22,10 @@ use Rattle.controller_table.specs.Life.{life}
 use Rattle.controller_table.specs.Reading.{word_of}
 use Rattle.dtap_codec.specs.declared.sapi.Sapi.TheVariants.{Zero}
 use Rattle.ipa_framing.specs.declared.frame.Frame.{Frame}
-use Rattle.lineup.specs.LineUp.{Item, messages_in}
-use Rattle.lineup.specs.LineUp.Item.{brought}
 use Rattle.relay_items.specs.declared.Item.{Item as RelayItem}
 use Rattle.relay_items.specs.declared.What.{What}
 use Rattle.relay_items.specs.declared.What.TheVariants as whats
+use Rattle.rsl_codec.specs.declared.radio_link.Data.{Data}
 use Rattle.rsl_codec.specs.declared.rsl.Rsl.{Rsl}
 use Rattle.rsl_codec.specs.declared.rsl.Rsl.TheVariants as rsl
 use Rattle.settings.specs.Parameters.{AreAllowed, Parameters}
@@ -34,13 +33,11 @@ use Rattle.world_table.specs.declared.event.Event.{Event}
 use Rattle.world_table.specs.Life.{actors_after_all}
 use Rattle.world_table.specs.Stations.{rsl_in}
 use Rattle.world_table.specs.Steps.{all_steps}
-use Rattle.world_table.specs.World.{Actors, Mobile, base_of, modulus_in, new_actors}
+use Rattle.world_table.specs.World.{Actors, Mobile, base_of, new_actors}
 use Rattle.world_table.proofs.Living.{LivesByTable-new}
 use Rattle.world_laws.specs.Acknowledged.{messages_up, read_by, read_of}
-use Rattle.world_laws.specs.ComingUp.{brings_if, brings_in, coming_up}
-use Rattle.world_laws.specs.LineUps.{commanded_target}
+use Rattle.world_laws.specs.ComingUp.{brings_if, brings_in}
 use Rattle.world_laws.specs.OthersFrame.{IsHad}
-use Rattle.world_laws.specs.Seated.{LinedUp}
 use Rattle.world_laws.proofs.Standing.{ConnectionsStand-new}
 use Rattle.world_access.proofs.Arriving.{serving-placed}
 use Rattle.world_access.proofs.Beginning.{bare-of}
@@ -50,26 +47,32 @@ use Rattle.controller_laws.proofs.OwningLife.{life_owns}
 use Rattle.conn_table.specs.Roles.{roles_of, target_channels}
 use Rattle.conn_table.specs.Steps.{dropping}
 use Rattle.conn_table.specs.Table.{access, on_dtap, on_establish_indication, row_if}
-use Rattle.lineup.specs.Alive.{Stands}
-use Rattle.lineup.specs.LineUp.{Seat, controls_in, controls_of}
+use Rattle.lineup.specs.LineUp.{controls_of}
 use Rattle.lineup.proofs.Lines.{controls-first}
 use Rattle.mobile_end.specs.Control.{is_control}
 use Rattle.world_table.specs.Pipe.{acknowledgements}
 use Rattle.world_table.proofs.OwnerItems.{IsKnown as IsKnownWhat, IsKnownItem, known-inbox}
 use Rattle.world_laws.specs.Acknowledged.{NoneReleases}
 use Rattle.world_laws.specs.ComingUp.{brings_by}
-use Rattle.world_laws.specs.LineUps.{is_changing}
 use Rattle.world_laws.specs.Lives.{AcksAgree}
-use Rattle.world_access.proofs.Came.{before, first-of}
-use Rattle.world_access.proofs.Silent.{FirstBrings, first-brings, releases-not, stands-none}
+use Rattle.world_access.specs.Coming.{BeginsOnce, Comes, data_by, data_up}
+use Rattle.world_access.specs.Coming.BeginsOnce.{began, to_begin}
+use Rattle.world_access.specs.Coming.Comes.{arrived, asks}
+use Rattle.world_access.proofs.Silent.{FirstBrings, first-brings, releases-not}
+use Rattle.world_access.proofs.Upcoming.{data-none}
 use Rattle.world_access.proofs.Silent.FirstBrings.{brings_none, control, ends, opening, text}
 
 row-there : (b : Bool) (x : Row) → b ≡ true → row_if b x ≡ None → ⊥
 row-there true x is none = absurd cc
 row-there false x is none = absurd cc
 
-stands-early : {commands serving texts target link : ℕ} {seat : Seat} (state : State) → state ≡ WaitEstablish → Stands (is_changing (commanded_target state)) commands seat serving texts target link → serving ≡ 0
-stands-early {commands} {serving} {texts} {target} {link} {seat} state is stands = stands-none (subst (λ (x : State). Stands (is_changing (commanded_target x)) commands seat serving texts target link) is stands)
+-- no DATA INDICATION brings one of radio resource management
+pub none-of-data : {m : ℕ} {w : Actors} {s : Connection} {p : Mobile} → Comes m w s p → controls_of (data_up w (place_of s.serving)) ≡ 0
+none-of-data {w = w} {s} (asks seat new none uncommanded) = ap controls_of (data-none w (place_of s.serving) none)
+none-of-data {w = w} {s} (arrived state seat lined begun) = by begun where
+  by : {p : Mobile} → BeginsOnce w p (place_of s.serving) → controls_of (data_up w (place_of s.serving)) ≡ 0
+  by (to_begin opens none behind) = ap controls_of (data-none w (place_of s.serving) none)
+  by (began opens few none) = omega (arith, none)
 
 module _ (settings : Parameters) (done : List Event) (mobile : ℕ) (s : Connection) where
   abbrev world : Actors
@@ -108,12 +111,19 @@ module _ (settings : Parameters) (done : List Event) (mobile : ℕ) (s : Connect
   unfolding row_of
   no-text l3 state misses = row-there (is_at at s.serving) (dropping s) here (subst (λ (x : State). on_dtap x s at Zero l3 ≡ None) state misses.1)
 
-  no-control : (item : RelayItem) (items : List RelayItem) (one : Mobile) (l3 : List ℕ) → world.inbox ≡ item ∷ items → s.state ≡ WaitEstablish → LinedUp (modulus_in settings) world one s → is_control l3 ≡ true → brings_in at item ≡ brought l3 ∷ [] → ⊥
-  no-control item items one l3 stood state lined control_is brings_it =
-      let none : controls_in (coming_up world at) ≡ 0 = stands-early s.state state lined.alive.stands in
-      let first : controls_of (messages_in (coming_up (before settings done mobile s items) at)) + 1 ≤ controls_of (l3 ∷ messages_in (coming_up (before settings done mobile s items) at)) = controls-first l3 (messages_in (coming_up (before settings done mobile s items) at)) control_is in
-      let came : controls_in (coming_up world at) ≡ controls_of (l3 ∷ messages_in (coming_up (before settings done mobile s items) at)) = ap controls_in (first-of settings done mobile s item items stood ∙ ap (λ (xs : List Item). xs ++ coming_up (before settings done mobile s items) at) brings_it) in
-      absurd (omega (arith, none, first, came))
+  no-control : (item : RelayItem) (items : List RelayItem) (frame : Frame) (l3 : List ℕ) (d : Data) → world.inbox ≡ item ∷ items → controls_of (data_up world at) ≡ 0 → is_control l3 ≡ true → item.what ≡ whats.Frame frame → rsl_in frame ≡ Some (rsl.DataIndication d) → item.source ≡ at.station
+      → data_by at.number (rsl.DataIndication d) ≡ l3 ∷ [] → ⊥
+  no-control item items frame l3 d stood none control_is what_is read station brings_it =
+      let reads_it : read_of at.station item ≡ rsl.DataIndication d ∷ [] =
+      ap (read_by at.station item.source) what_is ∙ ap (λ (b : Bool). cond b (option_to_list (rsl_in frame)) []) (eq-eqb item.source at.station station) ∙ ap option_to_list read in
+      let rest : List (List ℕ) = flat_map (data_by at.number) (flat_map (read_of at.station) items ++ (base_of world at.station).messages) in
+      let up : data_up world at ≡ l3 ∷ rest =
+      ap (λ (xs : List RelayItem). flat_map (data_by at.number) (flat_map (read_of at.station) xs ++ (base_of world at.station).messages)) stood
+      ∙ ap (λ (xs : List Rsl). flat_map (data_by at.number) ((xs ++ flat_map (read_of at.station) items) ++ (base_of world at.station).messages)) reads_it
+      ∙ ap (λ (xs : List (List ℕ)). xs ++ rest) brings_it in
+      let first : controls_of rest + 1 ≤ controls_of (l3 ∷ rest) = controls-first l3 rest control_is in
+      let all = ap controls_of up in
+      absurd (omega (arith, none, first, all))
 
   no-end : (item : RelayItem) (items : List RelayItem) (frame : Frame) → world.inbox ≡ item ∷ items → AcksAgree world s → item.what ≡ whats.Frame frame → item.source ≡ at.station → rsl_in frame ≡ Some (rsl.RfChannelReleaseAck at.number) → ⊥
   no-end item items frame stood acks what_is station read =
@@ -125,8 +135,8 @@ module _ (settings : Parameters) (done : List Event) (mobile : ℕ) (s : Connect
       ∙ ap (λ (xs : List Rsl). (xs ++ flat_map (read_of at.station) items) ++ (base_of world at.station).messages) reads_it in
       releases-not at.number rest (subst (λ (ms : List Rsl). NoneReleases (acknowledgements at.number ms)) up acks.others_go_on.0)
 
-  pub ignored-silent : (item : RelayItem) (items : List RelayItem) → AreAllowed settings → IsHad world s → world.inbox ≡ item ∷ items → AcksAgree world s → s.state ≡ WaitEstablish → {one : Mobile} → LinedUp (modulus_in settings) world one s → FitsNone (brought_in world.controller s.number (Take item)) (Some s) → brings_in at item ≡ []
-  ignored-silent item items allowed had stood acks state {one} lined fits_none = by item.what refl where
+  pub ignored-silent : (item : RelayItem) (items : List RelayItem) → AreAllowed settings → IsHad world s → world.inbox ≡ item ∷ items → AcksAgree world s → s.state ≡ WaitEstablish → controls_of (data_up world at) ≡ 0 → FitsNone (brought_in world.controller s.number (Take item)) (Some s) → brings_in at item ≡ []
+  ignored-silent item items allowed had stood acks state none fits_none = by item.what refl where
     placed : s.serving.station ≢ SWITCH_LINK
     placed = serving-placed settings done s allowed had
 
@@ -143,7 +153,7 @@ module _ (settings : Parameters) (done : List Event) (mobile : ℕ) (s : Connect
     by_first frame what_is (brings_none is) = ap (brings_by at item.source) what_is ∙ is
     by_first frame what_is (opening l3 word station) = absurd (no-opening l3 state (misses frame (inputs.EstablishIndication at Zero (Some l3)) what_is station word))
     by_first frame what_is (text l3 word station) = absurd (no-text l3 state (misses frame (inputs.Dtap at Zero l3) what_is station word))
-    by_first frame what_is (control l3 control_is is) = absurd (no-control item items one l3 stood state lined control_is (ap (brings_by at item.source) what_is ∙ is))
+    by_first frame what_is (control l3 d control_is read station brings_it) = absurd (no-control item items frame l3 d stood none control_is what_is read station brings_it)
     by_first frame what_is (ends read station) = absurd (no-end item items frame stood acks what_is station read)
 
     by : (what : What) → item.what ≡ what → brings_in at item ≡ []

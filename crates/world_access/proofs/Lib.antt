@@ -1,5 +1,6 @@
 pub mod Passes
 pub mod Travels
+pub mod Behind
 pub mod Mobiles
 pub mod Upcoming
 pub mod Beginning

@@ -36,6 +36,7 @@ use Rattle.world_table.specs.SwitchSide.{sccp_in}
 use Rattle.world_table.specs.World.{Actors, Mobile, base_of, has_number, is_active_at, is_reached, is_station_up, mobile_of, outbox_of, put_back, spot_at, tenure_at, with_mobile, with_outbox, with_spot}
 use Rattle.world_table.proofs.Leads.{FromAir, OfTaken, air_down-leads, air_down_lost-leads, air_up-leads, arrive-leads, base_takes-leads, broken-leads, by_mobile-leads, connect-leads, does-leads, move-leads, only_if-leads, push-leads, report-leads, return-leads, switch_takes-leads, switch_took-leads, touch-leads, unless_last-leads}
 use Rattle.world_laws.proofs.Seeing.{back-found, back-other, found-number}
+use Rattle.world_access.proofs.Behind.{GivesNoMore, acked-gives, frame-gives, queue-gives}
 use Rattle.world_access.proofs.Travels.{is_passing}
 
 -- ---- what becomes of one
@@ -67,7 +68,7 @@ IsToMove _ = ⊥
 
 pub data Goes (w : Actors) (event : Event) (v : Actors) (number : ℕ) (p q : Mobile) : Type 0 where
   same : q ≡ p → Goes w event v number p q
-  stays : q.seat ≡ p.seat → q.opens ≡ p.opens → (p.seat ≡ Asking → ⊥) → Goes w event v number p q
+  stays : q.seat ≡ p.seat → q.opens ≡ p.opens → (p.seat ≡ Asking → ⊥) → GivesNoMore q.end.zero p.end.zero → Goes w event v number p q
   hears : (tenure : Tenure) (command : Option Command) (first : AirMessage) (others : List AirMessage) → p.seat ≡ On tenure command → (spot_at w tenure.at).air ≡ first ∷ others → q ≡ hearing p first → Goes w event v number p q
   moves : IsToMove p.seat → (q.opens ≡ p.opens) ⊎ (q.opens ≡ false) → Goes w event v number p q
   comes : IsAssigned w event v number p q → Goes w event v number p q
@@ -148,13 +149,17 @@ and-left : (a b : Bool) → a && b ≡ true → a ≡ true
 and-left true b is = refl
 and-left false b is = absurd cc
 
+and-right : (a b : Bool) → a && b ≡ true → b ≡ true
+and-right true b is = is
+and-right false b is = absurd cc
+
 acks-go : (w : Actors) (event : Event) (number : ℕ) (sapi : Sapi) (p : Mobile) → mobile_of w number ≡ Some p → OfTaken (AllGo w event) (acknowledged w sapi p p.seat)
 unfolding OfTaken
 acks-go w event number sapi p found = by_seat p.seat refl where
   by_seat : (seat : Seat) → p.seat ≡ seat → OfTaken (AllGo w event) (acknowledged w sapi p seat)
   by_seat Asking is = tt
   by_seat (On tenure command) is = only_if-leads (AllGo w event) (is_reached w tenure && is_acknowledged p.end sapi) (with_mobile (record p { end = after_acked p.end sapi }) w)
-      (λ _. one-goes w w event number p (record p { end = after_acked p.end sapi }) found refl refl (stays refl refl (not-asking is on-asks)))
+      (λ _. one-goes w w event number p (record p { end = after_acked p.end sapi }) found refl refl (stays refl refl (not-asking is on-asks) (acked-gives p.end sapi)))
   by_seat (Moving from command) is = tt
   by_seat Gone is = tt
 
@@ -231,10 +236,10 @@ pub event-goes : (w : Actors) (event : Event) → is_passing event ≡ true → 
 unfolding event_after FromAir
 event-goes w (events.Upper number sapi message) is = by_mobile-leads (AllGo w (events.Upper number sapi message)) w number (sent_by w sapi message) (λ p found.
     only_if-leads (AllGo w (events.Upper number sapi message)) (may_send p.seat && is_none (refusal_of_send p.end sapi message)) (with_mobile (record p { end = after_queue p.end sapi message }) w)
-    (λ may. one-goes w w (events.Upper number sapi message) number p (record p { end = after_queue p.end sapi message }) found refl refl (stays refl refl (can-send p.seat (and-left (may_send p.seat) (is_none (refusal_of_send p.end sapi message)) may)))))
+    (λ may. one-goes w w (events.Upper number sapi message) number p (record p { end = after_queue p.end sapi message }) found refl refl (stays refl refl (can-send p.seat (and-left (may_send p.seat) (is_none (refusal_of_send p.end sapi message)) may)) (queue-gives p.end sapi message (and-right (may_send p.seat) (is_none (refusal_of_send p.end sapi message)) may)))))
 event-goes w (events.Connect number station initial accepts) is = connect-leads (AllGo w _) w number station initial accepts (λ may. connect-goes w _ _ (connected w.modulus number initial accepts) refl)
 event-goes w (events.AirUp number Zero) is = absurd cc
-event-goes w (events.AirUp number Three) is = air_up-leads (AllGo w _) w number Three (λ p tenure command frame found seat lent reached. one-goes w _ _ number p (framed p Three) found refl refl (stays refl refl (not-asking seat on-asks)))
+event-goes w (events.AirUp number Three) is = air_up-leads (AllGo w _) w number Three (λ p tenure command frame found seat lent reached. one-goes w _ _ number p (framed p Three) found refl refl (stays refl refl (not-asking seat on-asks) (frame-gives p.end)))
 event-goes w (events.AirAck number sapi) is = by_mobile-leads (AllGo w _) w number (λ p. acknowledged w sapi p p.seat) (λ p found. acks-go w (events.AirAck number sapi) number sapi p found)
 event-goes w (events.AirDown number) is = air_down-leads (AllGo w _) w number (λ p tenure command found seat reached first others air. one-goes w _ _ number p (hearing p first) found refl (hearing-number p first) (hears tenure command first others seat air refl))
 event-goes w (events.AirDownLost number) is = air_down_lost-leads (AllGo w _) w number (λ p tenure command found seat reached first others air. one-goes w _ _ number p p found refl refl (same refl))

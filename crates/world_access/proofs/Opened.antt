@@ -67,7 +67,7 @@ record HasSent (v : Actors) (number : ℕ) : Type 0 where
 
 goes-sent : {w v : Actors} {event : Event} {number : ℕ} {p q : Mobile} → p.opens ≡ false → Goes w event v number p q → q.opens ≡ false
 goes-sent sent (same is) = ap (λ (x : Mobile). x.opens) is ∙ sent
-goes-sent sent (stays there opens other) = opens ∙ sent
+goes-sent sent (stays there opens other gives) = opens ∙ sent
 goes-sent {p = p} sent (hears tenure command first others there air is) = ap (λ (x : Mobile). x.opens) is ∙ hearing-opens p first ∙ sent
 goes-sent sent (moves to_move (inl opens)) = opens ∙ sent
 goes-sent sent (moves to_move (inr opens)) = opens

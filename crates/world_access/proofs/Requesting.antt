@@ -1,14 +1,16 @@
--- The row that puts CR keeps a connection lined up: the initial message moves from its channel to what waits for the switch.
-use Rattle.std.proofs.Common.{◌≡◌, ℕ, ◌≤◌, Bool, true, false, List, [], ◌∷◌, ◌++◌, refl, sym, ap, ◌∙◌, append_assoc, arith}
+-- The row that puts CR keeps a connection lined up: the initial message moves from its channel to what waits for the switch, and none of
+-- radio resource management is behind it.
+use Rattle.std.proofs.Common.{◌≡◌, ℕ, ◌+◌, Bool, true, false, List, [], ◌∷◌, ◌++◌, refl, sym, ap, ◌∙◌, append_assoc, arith}
 use Rattle.conn_table.specs.declared.state.State.TheVariants.{WaitConfirm, WaitEstablish}
 use Rattle.lineup.specs.Alive.{Alive, Stands}
 use Rattle.lineup.specs.Alive.Stands.{rests}
 use Rattle.lineup.specs.Alive.Stays.{remains}
-use Rattle.lineup.specs.LineUp.{Item, Tenure, flow, fresh, messages_in}
+use Rattle.lineup.specs.LineUp.{Item, Tenure, controls_in, controls_of, flow, fresh, messages_in}
 use Rattle.lineup.specs.LineUp.Item.{brought}
 use Rattle.lineup.specs.LineUp.Seat.{on_serving}
 use Rattle.lineup.proofs.Following.{Follows-line}
-use Rattle.lineup.proofs.Lines.{controls-behind, flow-cons}
+use Rattle.lineup.proofs.Lines.{flow-cons}
+use Rattle.mobile_end.specs.DataLink.{to_be_taken}
 use Rattle.mobile_end.specs.DataLinkState.{DataLinkState}
 use Rattle.world_laws.specs.LineUps.{assembled}
 use Rattle.world_laws.proofs.OwnRow.{flow-twice}
@@ -16,14 +18,14 @@ use Rattle.world_laws.proofs.OwnRow.{flow-twice}
 abbrev pub of_items : List Item → Bool → Tenure
 of_items items lost = record { hold = []; items = items; is_lost = lost; is_done = false }
 
--- nothing changes, and nothing is told
-stands-less : {commands serving less texts target link : ℕ} → less ≤ serving → Stands false commands on_serving serving texts target link → Stands false commands on_serving less texts target link
-stands-less fewer (rests remains none) = rests remains (omega (arith, fewer, none))
+-- nothing changes, and nothing of radio resource management is left behind the initial message
+stands-bare : {serving link : ℕ} → serving + link ≡ 0 → Stands false false 0 on_serving serving 0 0 link
+stands-bare left = rests remains (omega (arith, left))
 
-pub requests-alive : {m : ℕ} (sent : List (List ℕ)) (link : DataLinkState) (initial : List ℕ) (items : List Item) (lost : Bool)
+pub requests-alive : {m : ℕ} (sent : List (List ℕ)) (link : DataLinkState) (initial : List ℕ) (items : List Item) (lost : Bool) → controls_in items + controls_of (to_be_taken link) ≡ 0
     → Alive m (assembled sent link on_serving WaitEstablish 0 [] (of_items (brought initial ∷ items) lost) fresh [] [])
     → Alive m (assembled sent link on_serving WaitConfirm 0 [] (of_items items lost) fresh (flow (initial ∷ [])) [])
-requests-alive {m} sent link initial items lost alive = by lost alive where
+requests-alive {m} sent link initial items lost left alive = by lost alive where
   moves : (rest : List (List ℕ)) → flow (initial ∷ messages_in items) ++ rest ≡ flow (flow (initial ∷ [])) ++ (flow (messages_in items) ++ rest)
   moves rest = ap (λ (xs : List (List ℕ)). xs ++ rest) (flow-cons initial (messages_in items) ∙ ap (λ (xs : List (List ℕ)). xs ++ flow (messages_in items)) (sym (flow-twice (initial ∷ []))))
       ∙ append_assoc (flow (flow (initial ∷ []))) (flow (messages_in items)) rest
@@ -33,14 +35,14 @@ requests-alive {m} sent link initial items lost alive = by lost alive where
   by true alive = record {
     follows = Follows-line (moves []) alive.follows;
     first = λ is. refl;
-    stands = stands-less (controls-behind initial (messages_in items)) alive.stands;
+    stands = stands-bare left;
     condition = alive.condition;
     bare = refl;
   }
   by false alive = record {
     follows = Follows-line (moves []) alive.follows;
     first = λ is. refl;
-    stands = stands-less (controls-behind initial (messages_in items)) alive.stands;
+    stands = stands-bare left;
     condition = alive.condition;
     bare = refl;
   }

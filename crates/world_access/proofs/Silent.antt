@@ -1,5 +1,5 @@
 -- What the first item of the inbox brings of a channel, by what it says.
-use Rattle.std.proofs.Common.{◌≡◌, ◌≢◌, ℕ, ◌==◌, not, nat_eq, Bool, true, false, if◌then◌else◌, cond, List, [], ◌∷◌, Option, Some, None, refl, sym, ap, ◌∙◌, subst, arith}
+use Rattle.std.proofs.Common.{◌≡◌, ◌≢◌, ℕ, ◌==◌, not, nat_eq, Bool, true, false, if◌then◌else◌, cond, List, [], ◌∷◌, Option, Some, None, refl, sym, ap, ◌∙◌, subst}
 use Rattle.std.proofs.lemmas.Bool.{eqb-true, eq-eqb}
 use Rattle.conn_messages.specs.declared.channel.Place.{Place}
 use Rattle.conn_messages.specs.declared.parameters.TheConstants.{SWITCH_LINK}
@@ -11,9 +11,7 @@ use Rattle.controller_table.specs.Reading.{data_word, of_sapi, rsl_word, sapi_of
 use Rattle.dtap_codec.specs.declared.sapi.Sapi.{Sapi}
 use Rattle.dtap_codec.specs.declared.sapi.Sapi.TheVariants.{Zero, Three}
 use Rattle.ipa_framing.specs.declared.frame.Frame.{Frame}
-use Rattle.lineup.specs.Alive.{Stands}
-use Rattle.lineup.specs.Alive.Stands.{rests}
-use Rattle.lineup.specs.LineUp.{Item, Seat}
+use Rattle.lineup.specs.LineUp.{Item, messages_in}
 use Rattle.lineup.specs.LineUp.Item.{brought}
 use Rattle.mobile_end.specs.Control.{is_control}
 use Rattle.relay_items.specs.declared.What.TheVariants as whats
@@ -30,12 +28,13 @@ use Rattle.world_table.specs.Stations.{rsl_in}
 use Rattle.world_laws.specs.Acknowledged.{NoneReleases}
 use Rattle.world_laws.specs.ComingUp.{brings, brings_by, brings_if, of_establishment, of_main}
 use Rattle.world_laws.proofs.OrderHeard.{read-known, word-known}
+use Rattle.world_access.specs.Coming.{data_by}
 
 pub data FirstBrings (at : Place) (source : ℕ) (frame : Frame) (xs : List Item) : Type 0 where
   brings_none : xs ≡ [] → FirstBrings at source frame xs
   opening : (l3 : List ℕ) → word_of source frame ≡ OnChannel at (inputs.EstablishIndication at Zero (Some l3)) → source ≡ at.station → FirstBrings at source frame xs
   text : (l3 : List ℕ) → word_of source frame ≡ OnChannel at (inputs.Dtap at Zero l3) → source ≡ at.station → FirstBrings at source frame xs
-  control : (l3 : List ℕ) → is_control l3 ≡ true → xs ≡ brought l3 ∷ [] → FirstBrings at source frame xs
+  control : (l3 : List ℕ) (d : Data) → is_control l3 ≡ true → rsl_in frame ≡ Some (rsl.DataIndication d) → source ≡ at.station → data_by at.number (rsl.DataIndication d) ≡ l3 ∷ [] → FirstBrings at source frame xs
   ends : rsl_in frame ≡ Some (rsl.RfChannelReleaseAck at.number) → source ≡ at.station → FirstBrings at source frame xs
 
 -- whether a message is of radio resource management
@@ -72,14 +71,16 @@ establishes-first at source frame xs e station word is = by (nat_eq e.channel at
   by false miss = brings_none (none-in (e.channel == at.number) xs (of_establishment (sapi_of e.link) e.l3) miss is)
   by true hit = by_message (sapi_of e.link) e.l3 refl refl hit (some-in (e.channel == at.number) xs (of_establishment (sapi_of e.link) e.l3) hit is)
 
-data-first : (at : Place) (source : ℕ) (frame : Frame) (xs : List Item) (d : Data) → source ≡ at.station → word_of source frame ≡ rsl_word source (rsl.DataIndication d) → xs ≡ brings at.number (rsl.DataIndication d) → FirstBrings at source frame xs
-data-first at source frame xs d station word is = by (nat_eq d.channel at.number) refl where
+data-first : (at : Place) (source : ℕ) (frame : Frame) (xs : List Item) (d : Data) → source ≡ at.station → rsl_in frame ≡ Some (rsl.DataIndication d) → word_of source frame ≡ rsl_word source (rsl.DataIndication d) → xs ≡ brings at.number (rsl.DataIndication d) → FirstBrings at source frame xs
+data-first at source frame xs d station read word is = by (nat_eq d.channel at.number) refl where
   by_kind : (b : Bool) → is_dtap d.l3 ≡ b → sapi_of d.link ≡ Some Zero → (d.channel == at.number) ≡ true → xs ≡ brought d.l3 ∷ [] → FirstBrings at source frame xs
   by_kind true dtap link number items =
       text d.l3 (word ∙ ap (λ (b : Bool). data_word b (place_at source d.channel) (sapi_of d.link) d.l3) dtap
       ∙ ap (λ (o : Option Sapi). of_sapi (place_at source d.channel) o (λ s. inputs.Dtap (place_at source d.channel) s d.l3)) link
       ∙ ap (λ (p : Place). OnChannel p (inputs.Dtap p Zero d.l3)) (same-place at source d.channel station number)) station
-  by_kind false other link number items = control d.l3 (control-or d.l3 ∙ ap not other) items
+  by_kind false other link number items =
+      control d.l3 d (control-or d.l3 ∙ ap not other) read station
+      (ap (λ (b : Bool). cond b (messages_in (of_main (sapi_of d.link) d.l3)) []) number ∙ ap (λ (o : Option Sapi). messages_in (of_main o d.l3)) link)
 
   by_link : (sapi : Option Sapi) → sapi_of d.link ≡ sapi → (d.channel == at.number) ≡ true → xs ≡ of_main sapi d.l3 → FirstBrings at source frame xs
   by_link None link number items = brings_none items
@@ -98,7 +99,7 @@ ends-first at source frame xs channel station read is = by (nat_eq channel at.nu
 
 message-first : (at : Place) (source : ℕ) (frame : Frame) (xs : List Item) (m : Rsl) → source ≡ at.station → rsl_in frame ≡ Some m → word_of source frame ≡ rsl_word source m → xs ≡ brings at.number m → FirstBrings at source frame xs
 message-first at source frame xs (rsl.EstablishIndication e) station read word is = establishes-first at source frame xs e station word is
-message-first at source frame xs (rsl.DataIndication d) station read word is = data-first at source frame xs d station word is
+message-first at source frame xs (rsl.DataIndication d) station read word is = data-first at source frame xs d station read word is
 message-first at source frame xs (rsl.RfChannelReleaseAck channel) station read word is = ends-first at source frame xs channel station read is
 message-first at source frame xs _ station read word is = brings_none is
 
@@ -113,9 +114,6 @@ first-brings at source m at_is reads = by (nat_eq source at.station) refl where
       (ap (λ (b : Bool). if b then brings_if at.number (rsl_in (frame_of m)) else []) hit ∙ ap (brings_if at.number) (read-known m reads))
 
 -- ---- what is against it
-
-pub stands-none : {commands serving texts target link : ℕ} {seat : Seat} → Stands false commands seat serving texts target link → serving ≡ 0
-stands-none (rests remains none) = omega (arith, none)
 
 pub releases-not : (channel : ℕ) (rest : List Rsl) → NoneReleases (acknowledgements channel (rsl.RfChannelReleaseAck channel ∷ rest)) → ⊥
 releases-not channel rest none =

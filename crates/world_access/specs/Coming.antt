@@ -1,11 +1,12 @@
 -- A connection that is coming: it has its channel, and hasn't asked the switch for its connection yet. How its mobile comes to it.
-use Rattle.std.specs.Prelude.{◌≡◌, ℕ, ◌≤◌, true, false, [], length, slice_index_or, Option, Some, None, Result, Ok}
-use Rattle.std.specs.List.{AllByRecursion}
+use Rattle.std.specs.Prelude.{◌≡◌, ℕ, ◌+◌, ◌≤◌, ◌==◌, if◌then◌else◌, true, false, List, [], ◌∷◌, length, slice_index_or, Option, Some, None, Result, Ok}
+use Rattle.std.specs.List.{AllByRecursion, flat_map}
 use Rattle.conn_table.specs.declared.state.State.{State}
 use Rattle.conn_table.specs.declared.state.State.TheVariants.{WaitActivation, WaitEstablish}
 use Rattle.conn_messages.specs.declared.channel.Place.{Place}
 use Rattle.conn_table.specs.Connection.{Connection}
 use Rattle.controller_table.specs.Controller.{place_at, place_of}
+use Rattle.controller_table.specs.Reading.{sapi_of}
 use Rattle.dtap_codec.specs.declared.rr.RrMessage.{RrMessage}
 use Rattle.dtap_codec.specs.declared.rr.RrMessage.TheVariants.{ImmediateAssignment}
 use Rattle.dtap_codec.specs.declared.rr_fault.RrFault.{RrFault}
@@ -14,12 +15,13 @@ use Rattle.lineup.specs.LineUp.{controls_of, messages_in}
 use Rattle.mobile_end.specs.DataLink.{to_be_taken}
 use Rattle.mobile_end.specs.GoesOn.{GoesOn}
 use Rattle.rsl_codec.specs.declared.rsl.Rsl.{Rsl}
-use Rattle.rsl_codec.specs.declared.rsl.Rsl.TheVariants.{ImmediateAssignCommand}
+use Rattle.rsl_codec.specs.declared.rsl.Rsl.TheVariants.{DataIndication, ImmediateAssignCommand}
 use Rattle.world_table.specs.declared.line.OutboxEntry.{OutboxEntry}
 use Rattle.world_table.specs.declared.seat.Seat.TheVariants.{Asking, On}
 use Rattle.world_table.specs.Stations.{rsl_in}
 use Rattle.world_table.specs.World.{Actors, Mobile, mobile_of, outbox_of, tenure_at}
-use Rattle.world_laws.specs.ComingUp.{coming_up}
+use Rattle.world_laws.specs.Acknowledged.{messages_up}
+use Rattle.world_laws.specs.ComingUp.{coming_up, of_main}
 use Rattle.world_laws.specs.GoingDown.{going_down}
 use Rattle.world_laws.specs.Lives.{initials_up}
 use Rattle.world_laws.specs.OthersFrame.{IsHad}
@@ -27,16 +29,32 @@ use Rattle.world_laws.specs.Seated.{LinedUp}
 
 -- ---- the mobile
 
--- it sent nothing yet: its link begins with the first message of the flow that its upper layers sent, and gives no COMPLETE or FAILURE
+-- the messages behind the first one
+abbrev pub behind_first : List (List ℕ) → List (List ℕ)
+behind_first [] = []
+behind_first (_ ∷ messages) = messages
+
+-- it sent nothing yet: its link begins with the first message of the flow that its upper layers sent, whatever that is, and gives no
+-- message of radio resource management behind it
 pub record IsNew (m : ℕ) (p : Mobile) : Type 0 where
   pub opens : p.opens ≡ true
   pub goes_on : GoesOn m p.end.sent [] p.end.zero
-  pub no_control : controls_of (to_be_taken p.end.zero) ≡ 0
+  pub no_control : controls_of (behind_first (to_be_taken p.end.zero)) ≡ 0
+
+-- what a DATA INDICATION of SAPI 0 brings of a channel
+abbrev pub data_by : ℕ → Rsl → List (List ℕ)
+data_by channel (DataIndication d) = if d.channel == channel then messages_in (of_main (sapi_of d.link) d.l3) else []
+data_by channel _ = []
+
+-- the messages on their way up from a channel that aren't initial ones
+abbrev pub data_up : Actors → Place → List (List ℕ)
+data_up w at = flat_map (data_by at.number) (messages_up w at.station)
 
 -- It is to send its initial message, and nothing came of the channel; or it sent it, and at most one initial message is on its way.
+-- Behind the initial message, which may be any, none of radio resource management is on its way up or to be taken of its link.
 pub data BeginsOnce (w : Actors) (p : Mobile) (at : Place) : Type 0 where
-  to_begin : p.opens ≡ true → messages_in (coming_up w at) ≡ [] → BeginsOnce w p at
-  began : p.opens ≡ false → length (initials_up w at) ≤ 1 → BeginsOnce w p at
+  to_begin : p.opens ≡ true → messages_in (coming_up w at) ≡ [] → controls_of (behind_first (to_be_taken p.end.zero)) ≡ 0 → BeginsOnce w p at
+  began : p.opens ≡ false → length (initials_up w at) ≤ 1 → controls_of (data_up w at) + controls_of (to_be_taken p.end.zero) ≡ 0 → BeginsOnce w p at
 
 -- It asks for a channel, and the serving channel is quiet; or it is on the serving channel in its present tenure, lined up with the
 -- connection.

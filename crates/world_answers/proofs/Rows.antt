@@ -1,5 +1,5 @@
 -- What the laws' definitions say, at literal events.
-use Rattle.std.proofs.Common.{◌≡◌, ℕ, true, List, [], ◌∷◌, option_map, Some, refl, arith}
+use Rattle.std.proofs.Common.{◌≡◌, ℕ, true, List, [], ◌∷◌, option_map, Some, refl, sym, ap, ◌∙◌, arith}
 use Rattle.controller_laws.specs.History.{connection_of}
 use Rattle.controller_table.proofs.Lives.{usual_settings}
 use Rattle.lineup.specs.LineUp.{controls_of}
@@ -7,10 +7,10 @@ use Rattle.mobile_end.specs.DataLink.{to_be_taken}
 use Rattle.world_table.specs.declared.event.Event.TheVariants.{BasePush, Connect, Handle}
 use Rattle.world_table.specs.Life.{actors_after_all}
 use Rattle.world_table.specs.Mobiles.{connected}
-use Rattle.world_table.specs.World.{Actors, mobile_of, new_actors}
+use Rattle.world_table.specs.World.{Actors, Mobile, mobile_of, new_actors}
 use Rattle.world_table.proofs.Worlds.{on_literals}
-use Rattle.world_access.specs.Coming.{IsNew}
-use Rattle.world_answers.specs.Beginning.{OpensInFlow}
+use Rattle.world_access.specs.Coming.{behind_first, IsNew}
+use Rattle.world_answers.proofs.Coming.{connected-goes}
 
 begin : Actors
 begin = new_actors usual_settings
@@ -40,26 +40,35 @@ begun_for_it = refl
 
 -- ---- how it begins
 
-in_the_flow : OpensInFlow (Connect 7 1 service true)
-in_the_flow = refl
+-- its link holds its initial message, and nothing behind it
+holds_service : to_be_taken (connected 4 7 service true).end.zero ≡ service ∷ []
+holds_service = refl
 
-not_in_the_flow : OpensInFlow (Connect 7 1 paging true) → ⊥
-not_in_the_flow is = absurd cc
+holds_paging : to_be_taken (connected 4 7 paging true).end.zero ≡ paging ∷ []
+holds_paging = refl
 
--- PAGING RESPONSE is counted with COMPLETE and FAILURE, so a mobile that begins with it isn't new
-counted_of_service : controls_of (to_be_taken (connected 4 7 service true).end.zero) ≡ 0
-counted_of_service = refl
-
+-- a PAGING RESPONSE would be counted with COMPLETE and FAILURE, but the initial message is not among what is counted
 counted_of_paging : controls_of (to_be_taken (connected 4 7 paging true).end.zero) ≡ 1
 counted_of_paging = refl
 
+behind_paging : controls_of (behind_first (to_be_taken (connected 4 7 paging true).end.zero)) ≡ 0
+behind_paging = refl
+
+-- so a mobile is new with any initial message
+new_with_service : IsNew 4 (connected 4 7 service true)
+new_with_service = record { opens = refl; goes_on = connected-goes 4 service refl; no_control = refl }
+
+new_with_paging : IsNew 4 (connected 4 7 paging true)
+new_with_paging = record { opens = refl; goes_on = connected-goes 4 paging refl; no_control = refl }
+
+-- and not with a message of radio resource management behind it
 one-and-none : (n : ℕ) → n ≡ 1 → n ≡ 0 → ⊥
 one-and-none n one none = absurd (omega (arith, one, none))
 
-not_new_with_paging : IsNew 4 (connected 4 7 paging true) → ⊥
-not_new_with_paging new = one-and-none 1 refl new.no_control
+not_new_with_paging_behind : (p : Mobile) → to_be_taken p.end.zero ≡ service ∷ paging ∷ [] → IsNew 4 p → ⊥
+not_new_with_paging_behind p holds new = one-and-none 1 refl (ap (λ (messages : List (List ℕ)). controls_of (behind_first messages)) (sym holds) ∙ new.no_control)
 
--- though a connection begins for it as for any other
+-- a connection begins for a mobile with PAGING RESPONSE as for any other
 begun_with_paging : option_map (λ s. s.request.access) (connection_of (actors_after_all begin (Connect 7 1 paging true ∷ BasePush 1 ∷ Handle ∷ [])).controller 1) ≡ Some 7
 unfolding on_literals begin
 begun_with_paging = refl

@@ -120,7 +120,7 @@ counts-all m w (event ∷ rest) is = counts-all m (actors_after w event) rest (a
 
 goes-asking : {w v : Actors} {event : Event} {number : ℕ} {p q : Mobile} → p.seat ≡ Asking → NoneNames w number → Goes w event v number p q → q ≡ p
 goes-asking seat none (same is) = is
-goes-asking seat none (stays there opens other) = absurd (other seat)
+goes-asking seat none (stays there opens other gives) = absurd (other seat)
 goes-asking seat none (hears tenure command first others there air is) = absurd (on-asks (sym there ∙ seat))
 goes-asking seat none (moves to_move opens) = absurd (subst IsToMove seat to_move)
 goes-asking {w} {number = number} seat none (gets a) =

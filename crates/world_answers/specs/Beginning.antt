@@ -1,13 +1,10 @@
 -- A connection begins coming.
-use Rattle.std.specs.Prelude.{◌≡◌, ℕ, ◌≤◌, false, List, [], ◌∷◌, ◌++◌, Some}
-use Rattle.std.specs.List.{AllByRecursion}
+use Rattle.std.specs.Prelude.{◌≡◌, ℕ, ◌≤◌, List, [], ◌∷◌, ◌++◌, Some}
 use Rattle.conn_table.specs.declared.state.State.TheVariants.{WaitActivation}
 use Rattle.conn_table.specs.Connection.{Connection}
 use Rattle.controller_table.specs.Controller.{place_of}
-use Rattle.mobile_end.specs.Control.{is_control}
 use Rattle.settings.specs.Parameters.{AreAllowed, Parameters}
 use Rattle.world_table.specs.declared.event.Event.{Event}
-use Rattle.world_table.specs.declared.event.Event.TheVariants.{Connect}
 use Rattle.world_table.specs.Life.{actors_after, actors_after_all}
 use Rattle.world_table.specs.World.{Actors, Mobile, mobile_of, modulus_in, new_actors}
 use Rattle.world_laws.specs.OthersFrame.{CameInOctets, IsHad}
@@ -41,14 +38,8 @@ ConnectionsBegin settings events event =
 
 -- ---- it is coming
 
--- A mobile that connects doesn't begin with a message of radio resource management, such as PAGING RESPONSE: that one would be counted
--- with COMPLETE and FAILURE in the line-up.
-abbrev pub OpensInFlow : Event → Type 0
-OpensInFlow (Connect mobile station initial accepts) = is_control initial ≡ false
-OpensInFlow _ = Unit {0}
-
--- so it is coming to its mobile, where all mobiles of the run begin so
+-- so it is coming to its mobile, whatever message the mobile begins with
 abbrev pub ConnectionsBeginComing : Parameters → List Event → Event → Type 0
 ConnectionsBeginComing settings events event =
-    (number : ℕ) → AreAllowed settings → CameInOctets settings (events ++ event ∷ []) → AllByRecursion OpensInFlow events → 1 ≤ number → (actors_after_all (new_actors settings) events).controller.next_number ≤ number
+    (number : ℕ) → AreAllowed settings → CameInOctets settings (events ++ event ∷ []) → 1 ≤ number → (actors_after_all (new_actors settings) events).controller.next_number ≤ number
     → HasBegun (λ w s. IsComing (modulus_in settings) w s.request.access s) (actors_after (actors_after_all (new_actors settings) events) event) number

@@ -17,7 +17,7 @@ pub fn connections_begin()
     ensures { (settings : Parameters) (events : List WorldEvent) (event : WorldEvent) → ConnectionsBegin settings events event }
 {}
 
-/// Law: so it is coming to its mobile, where no mobile of the run begins with a message of radio resource management.
+/// Law: so it is coming to its mobile, whatever message the mobile begins with.
 pub fn connections_begin_coming()
     ensures { (settings : Parameters) (events : List WorldEvent) (event : WorldEvent) → ConnectionsBeginComing settings events event }
 {}

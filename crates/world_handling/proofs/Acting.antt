@@ -31,7 +31,7 @@ use Rattle.controller_table.specs.Controller.{Turn}
 use Rattle.controller_table.specs.Views.{forwarded}
 use Rattle.dtap_codec.specs.declared.sapi.Sapi.{Sapi}
 use Rattle.dtap_codec.specs.declared.sapi.Sapi.TheVariants.{Three, Zero}
-use Rattle.world_laws.specs.LineUps.{commanded_target, is_confirmed}
+use Rattle.world_laws.specs.LineUps.{commanded_target, is_confirmed, is_opening}
 use Rattle.world_laws.specs.OwnFrame.{IsRequested}
 use Rattle.world_handling.proofs.Finishing.{IsSame}
 use Rattle.world_handling.proofs.Leaving.{SameLine, line-itself, none-forwarded, silent-forwards}
@@ -59,7 +59,7 @@ record IsOlder (s next : Connection) : Type 0 where
 older : (s next : Connection) → IsAged s next → IsOlder s next
 older s next aged = aged_holds (IsOlder s)
     (λ ms c is. record {
-      line = record { number = is.line.number; serving = is.line.serving; draining = is.line.draining; tenures = is.line.tenures; target = is.line.target; confirmed = is.line.confirmed };
+      line = record { number = is.line.number; serving = is.line.serving; draining = is.line.draining; tenures = is.line.tenures; target = is.line.target; confirmed = is.line.confirmed; opening = is.line.opening };
       state = is.state;
       request = is.request;
     }) s next aged (record { line = line-itself s; state = refl; request = refl })
@@ -72,6 +72,7 @@ line-trans f g = record {
   tenures = g.tenures ∙ f.tenures;
   target = g.target ∙ f.target;
   confirmed = g.confirmed ∙ f.confirmed;
+  opening = g.opening ∙ f.opening;
 }
 
 -- ---- a handover begins
@@ -88,7 +89,7 @@ begin-keeps reference stage s None is none = record { line = line-itself s; requ
   nothing_relayed : (sapi : Sapi) → relayed sapi [] ≡ []
   nothing_relayed sapi = refl
 begin-keeps reference stage s (Some channel) is none = record {
-  line = record { number = refl; serving = refl; draining = refl; tenures = refl; target = sym (ap commanded_target is ∙ none); confirmed = sym (ap is_confirmed is) };
+  line = record { number = refl; serving = refl; draining = refl; tenures = refl; target = sym (ap commanded_target is ∙ none); confirmed = sym (ap is_confirmed is); opening = sym (ap is_opening is) };
   requested = tt;
   request = refl;
   relays = nothing_relayed;

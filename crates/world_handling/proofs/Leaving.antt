@@ -32,7 +32,7 @@ use Rattle.world_table.proofs.Leads.{turn-leads}
 use Rattle.world_laws.specs.ComingUp.{coming_up}
 use Rattle.world_laws.specs.Ended.{HasEnded}
 use Rattle.world_laws.specs.GoingDown.{going_down}
-use Rattle.world_laws.specs.LineUps.{commanded_target, is_confirmed, line_up, taken_of, waiting_of}
+use Rattle.world_laws.specs.LineUps.{commanded_target, is_confirmed, is_opening, line_up, taken_of, waiting_of}
 use Rattle.world_laws.specs.Seated.{Leads, LinedUp, NoneOn, Sits}
 use Rattle.world_laws.proofs.Others.{turn-mobiles}
 use Rattle.world_laws.proofs.OwnTurn.{turn-down, turn-stations, turn-waiting}
@@ -50,12 +50,13 @@ pub record SameLine (s next : Connection) : Type 0 where
   pub tenures : next.up.tenures ≡ s.up.tenures
   pub target : commanded_target next.state ≡ commanded_target s.state
   pub confirmed : is_confirmed next.state ≡ is_confirmed s.state
+  pub opening : is_opening next.state ≡ is_opening s.state
 
 pub line-itself : (s : Connection) → SameLine s s
-line-itself s = record { number = refl; serving = refl; draining = refl; tenures = refl; target = refl; confirmed = refl }
+line-itself s = record { number = refl; serving = refl; draining = refl; tenures = refl; target = refl; confirmed = refl; opening = refl }
 
 line-is : (w : Actors) (p : Mobile) (s next : Connection) → SameLine s next → line_up w p next ≡ line_up w p s
-line-is w p s next same = rw (same.number, same.serving, same.draining, same.tenures, same.target, same.confirmed) refl
+line-is w p s next same = rw (same.number, same.serving, same.draining, same.tenures, same.target, same.confirmed, same.opening) refl
 
 pub line-same : {m : ℕ} {w : Actors} {p : Mobile} {s : Connection} (next : Connection) → SameLine s next → AreApart (used_channels next) → ArePlaced (used_channels next) → LinedUp m w p s → LinedUp m w p next
 line-same {m} {w} {p} {s} next same apart placed lined = record {

@@ -39,7 +39,7 @@ use Rattle.controller_table.proofs.Numbers.{keeps_number}
 use Rattle.dtap_codec.specs.declared.sapi.Sapi.TheVariants.{Three, Zero}
 use Rattle.ipa_framing.specs.declared.frame.Frame.{Frame}
 use Rattle.lineup.specs.Alive.{Stands as AliveStands}
-use Rattle.lineup.specs.Alive.Stands.{arrives, leaves, rests, returns, waits}
+use Rattle.lineup.specs.Alive.Stands.{arrives, leaves, opens, rests, returns, waits}
 use Rattle.lineup.specs.LineUp.{Item, controls_in, messages_in}
 use Rattle.lineup.specs.LineUp.Item.{brought, released}
 use Rattle.lineup.proofs.Lines.{controls-first}
@@ -163,7 +163,8 @@ failure-is (Closed clearing) s at change cause offer r fits = absurd cc
 failure-is Removed s at change cause offer r fits = absurd cc
 
 -- FAILURE is on its way: so no COMPLETE is
-no-complete : {changing : Bool} {commands serving texts target link : ℕ} {seat : _} → AliveStands changing commands seat serving texts target link → 1 ≤ serving → target ≡ 0
+no-complete : {opening changing : Bool} {commands serving texts target link : ℕ} {seat : _} → AliveStands opening changing commands seat serving texts target link → 1 ≤ serving → target ≡ 0
+no-complete (opens stays none) some = omega arith
 no-complete (rests stays none) some = omega arith
 no-complete (waits stays few none) some = omega arith
 no-complete (leaves none) some = omega arith

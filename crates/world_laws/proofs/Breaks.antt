@@ -108,14 +108,14 @@ old-breaks before after up now_up (d ∷ ds) [] broken last = let a = one-breaks
 old-breaks before after up now_up (d ∷ ds) (held ∷ others) broken last = let a = one-breaks before after up now_up d ds held.zero broken last in (a.0, old-breaks before after up now_up ds others a.1.0 a.1.1)
 
 -- nothing came of a target that the mobile didn't come to
-no-texts : {commands serving texts target link : ℕ} {seat : Seat} → came seat ≡ false → Stands true commands seat serving texts target link → texts ≡ 0
+no-texts : {opening : Bool} {commands serving texts target link : ℕ} {seat : Seat} → came seat ≡ false → Stands opening true commands seat serving texts target link → texts ≡ 0
 no-texts away (waits here few none) = omega arith
 no-texts away (leaves none) = omega arith
 no-texts away (arrives remains none few) = absurd cc
 no-texts away (arrives left none few) = absurd cc
 no-texts away (returns here none few) = omega arith
 
-target-bare : (f : Place → List Item) (up : ℕ → Bool) (seat : Seat) (o : Option Target) {commands serving target link : ℕ} → Stands (is_changing o) commands seat serving (texts_in (target_tenure f up seat o).items) target link → came seat ≡ false → texts_in (target_tenure f up seat o).items ≡ 0
+target-bare : (f : Place → List Item) (up : ℕ → Bool) (seat : Seat) (o : Option Target) {opening : Bool} {commands serving target link : ℕ} → Stands opening (is_changing o) commands seat serving (texts_in (target_tenure f up seat o).items) target link → came seat ≡ false → texts_in (target_tenure f up seat o).items ≡ 0
 target-bare f up seat None stands away = refl
 target-bare f up seat (Some t) stands away = no-texts away stands
 

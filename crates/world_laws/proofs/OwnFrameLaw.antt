@@ -26,6 +26,7 @@ use Rattle.world_table.specs.Relay.{target_in as tenure_in}
 use Rattle.world_table.specs.Stations.{rsl_in}
 use Rattle.world_table.specs.World.{Actors, tenure_at}
 use Rattle.world_laws.specs.ComingUp.{brings_by}
+use Rattle.world_laws.specs.LineUps.{is_opening}
 use Rattle.world_laws.specs.OwnFrame.{IsRequested, freed_for, IsSaidTo, FrameIsHandled}
 use Rattle.world_laws.specs.OwnFrame.IsSaidTo.{on_channel, on_connection}
 use Rattle.world_laws.specs.OwnHandle.{BeginsTenure}
@@ -58,6 +59,12 @@ word-outs {c} {s = s} source r (on_connection number input e word_is found is) f
     ∙ ap (λ (x : Connection). outs_of x.number r.outs) is
 
 -- ---- what it says, by the row that fits
+
+-- it put its connection request
+unrequested : (state : State) → IsRequested state → is_opening state ≡ true → ⊥
+unrequested WaitConfirm requested opens = absurd cc
+unrequested (Live reference stage) requested opens = absurd cc
+unrequested _ requested opens = requested
 
 -- no initial message comes any more
 plain-of : (s : Connection) (input : Input) (offer : Option Channel) (r : Row) → IsRequested s.state → row_of s input offer ≡ Some r → IsPlain input
@@ -135,6 +142,7 @@ FrameIsHandled-new w item s input offer r frame =
       record {
         fits = frame.fits;
         stays_open = frame.stays_open;
+        awaits = λ opens. absurd (unrequested s.state frame.requested opens);
         outs = ap (λ (b : Bool). (on_what b item.source item.what w.controller).outs) frame.up ∙ ap (λ (x : What). (on_what true item.source x w.controller).outs) frame.is ∙ word-outs item.source r frame.said frame.fits;
         carried = frame.carried;
         read = says.read;

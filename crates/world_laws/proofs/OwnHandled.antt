@@ -58,6 +58,7 @@ takes-of : {w : Actors} {item : RelayItem} (items : List RelayItem) {s : Connect
 takes-of {w} {item} items {s} {input} stood handles order read apart = record {
   fits = handles.fits;
   stays_open = handles.stays_open;
+  awaits = handles.awaits;
   stands = order.stands;
   carried = handles.carried;
   apart = apart;
@@ -99,6 +100,7 @@ with-commands : {s : Connection} {input : Input} {offer : Option Channel} {r : R
 with-commands does rest = record {
   fits = does.fits;
   stays_open = does.stays_open;
+  awaits = does.awaits;
   stands = does.stands;
   carried = does.carried;
   apart = does.apart;

@@ -111,6 +111,7 @@ finish : {s : Connection} {input : Input} {offer : Option Channel} {r : Row} {te
 finish {s} {input} {offer} {r} {text} {before} {after} {commands} {commands2} up seat step is takes old serving serving_on own = record {
   fits = takes.fits;
   stays_open = takes.stays_open;
+  awaits = takes.awaits;
   stands = takes.stands;
   carried = takes.carried;
   apart = takes.apart;

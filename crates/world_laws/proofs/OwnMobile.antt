@@ -41,7 +41,7 @@ LinedUp-end {m} {w} {p} {s} q seat alive lined = record {
 
 -- ---- its upper layers send
 
-sendable-of : (e : MobileState) (sapi : Sapi) (message : List ℕ) → is_none (refusal_of_send e sapi message) ≡ true → is_sendable sapi message ≡ true
+pub sendable-of : (e : MobileState) (sapi : Sapi) (message : List ℕ) → is_none (refusal_of_send e sapi message) ≡ true → is_sendable sapi message ≡ true
 sendable-of e sapi message may = by_stage e.stage may where
   by_stage : (stage : Stage) → is_none (first_refusal (refusal_before_connect stage) (if is_sendable sapi message then None else Some BadMessage)) ≡ true → is_sendable sapi message ≡ true
   by_stage New is = absurd cc
@@ -51,7 +51,7 @@ sendable-of e sapi message may = by_stage e.stage may where
     by_message false is = absurd cc
 
 -- the upper layers send no control message
-no-control : (message : List ℕ) → is_sendable Zero message ≡ true → is_control message ≡ false
+pub no-control : (message : List ℕ) → is_sendable Zero message ≡ true → is_control message ≡ false
 no-control [] is = refl
 no-control (first ∷ rest) is = by_kind (is_control (first ∷ rest)) refl where
   three : (a b c d : Bool) → a && (b && not c) && d ≡ true → c ≡ true → ⊥

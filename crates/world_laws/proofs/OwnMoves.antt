@@ -17,7 +17,7 @@ use Rattle.dtap_codec.specs.declared.sapi.Sapi.TheVariants.{Zero}
 use Rattle.dtap_codec.specs.RrReading.{rr_reading}
 use Rattle.lineup.specs.Alive.{Alive, Stands}
 use Rattle.lineup.specs.Alive.Condition.{left_the_cell}
-use Rattle.lineup.specs.Alive.Stands.{rests, waits, arrives, returns}
+use Rattle.lineup.specs.Alive.Stands.{opens, rests, waits, arrives, returns}
 use Rattle.lineup.specs.LineUp.{Item, Tenure, Seat, LineUp, flow}
 use Rattle.lineup.specs.LineUp.Seat.{on_serving, on_target, moving, gone}
 use Rattle.lineup.specs.MobileStep.MobileStep.{follows_command, arrives as arrives_step, returns as returns_step, dismissed_from_serving, dismissed_from_target}
@@ -65,7 +65,8 @@ alive-fewer l n fewer alive = record {
 }
 
 -- one is on its way, or remembered, where the mobile is on the serving channel
-only-one : {changing : Bool} {commands serving texts target link : ℕ} → Stands changing commands on_serving serving texts target link → 1 ≤ commands → commands ≡ 1
+only-one : {opening changing : Bool} {commands serving texts target link : ℕ} → Stands opening changing commands on_serving serving texts target link → 1 ≤ commands → commands ≡ 1
+only-one (opens here none) some = absurd (omega arith)
 only-one (rests here none) some = absurd (omega arith)
 only-one (waits here few none) some = omega arith
 only-one (arrives here none few) some = elim here [ ]

@@ -19,7 +19,7 @@ use Rattle.lineup.proofs.Following.{Follows-line, Follows-rise}
 use Rattle.lineup.proofs.Lines.{flow-append}
 use Rattle.mobile_end.specs.DataLink.{to_be_taken}
 use Rattle.mobile_end.specs.DataLinkState.{DataLinkState}
-use Rattle.world_laws.specs.LineUps.{draining_tenure, old_tenure, old_tenures, serving_hold, serving_tenure, commanded_target, target_tenure, is_changing, is_confirmed, is_intact, assembled}
+use Rattle.world_laws.specs.LineUps.{draining_tenure, old_tenure, old_tenures, serving_hold, serving_tenure, commanded_target, target_tenure, is_changing, is_confirmed, is_intact, is_opening, assembled}
 use Rattle.world_laws.proofs.Breaks.{target-came}
 use Rattle.world_laws.proofs.Cutting.{condition-of}
 
@@ -88,7 +88,7 @@ pub record Rowed (s next : Connection) (seat seat2 : Seat) (before after : Place
       → is_intact seat (old_tenures before up s.draining s.up.tenures) (serving_tenure before up s.serving (serving_hold s.draining s.up.tenures)) (target_tenure before up seat (commanded_target s.state)) ≡ true
 
 pub row-alive : {m : ℕ} (s next : Connection) (sent : List (List ℕ)) (link : DataLinkState) (seat seat2 : Seat) (commands commands2 : ℕ) (before after : Place → List Item) (up : ℕ → Bool) (relayed out taken : List (List ℕ)) → StandsAlone next → Rowed s next seat seat2 before after up relayed
-    → Stands (is_changing (commanded_target next.state)) commands2 seat2 (controls_in (after (place_of next.serving))) (texts_in (target_tenure after up seat2 (commanded_target next.state)).items) (controls_in (target_tenure after up seat2 (commanded_target next.state)).items) (controls_of (to_be_taken link))
+    → Stands (is_opening next.state) (is_changing (commanded_target next.state)) commands2 seat2 (controls_in (after (place_of next.serving))) (texts_in (target_tenure after up seat2 (commanded_target next.state)).items) (controls_in (target_tenure after up seat2 (commanded_target next.state)).items) (controls_of (to_be_taken link))
     → Alive m (assembled sent link seat s.state commands (old_tenures before up s.draining s.up.tenures) (serving_tenure before up s.serving (serving_hold s.draining s.up.tenures)) (target_tenure before up seat (commanded_target s.state)) out taken)
     → Alive m (assembled sent link seat2 next.state commands2 (old_tenures after up next.draining next.up.tenures) (serving_tenure after up next.serving (serving_hold next.draining next.up.tenures)) (target_tenure after up seat2 (commanded_target next.state)) (out ++ flow relayed) taken)
 row-alive s next sent link seat seat2 commands commands2 before after up relayed out taken alone rowed stands alive = record {

@@ -44,4 +44,4 @@ RowKeepsLineUp-new m s input offer r before after up commands commands2 seat sea
       line = row-line s input r does.future before after up seat seat2 keeps does.stays_open does.was does.now does.whole;
       intact = λ is. none-intact before up seat s (step-intact does.step (stands-counted before up seat s (controls_of (to_be_taken link)) alive.stands) (intact-none after up seat2 r.next is));
     })
-    (step-stands (controls_of (to_be_taken link)) does.step alive.stands) alive
+    (step-stands (controls_of (to_be_taken link)) does.step does.awaits alive.stands) alive

@@ -9,7 +9,7 @@ use Rattle.conn_table.specs.Connection.{Connection, is_at}
 use Rattle.conn_table.proofs.Standing.{nothing as no-length}
 use Rattle.controller_table.specs.Controller.{place_of}
 use Rattle.lineup.specs.Alive.{Stands, Stays}
-use Rattle.lineup.specs.Alive.Stands.{rests, waits, leaves, arrives, returns}
+use Rattle.lineup.specs.Alive.Stands.{opens, rests, waits, leaves, arrives, returns}
 use Rattle.lineup.specs.Alive.Stays.{remains, left}
 use Rattle.lineup.specs.ChangeStep.{after_complete}
 use Rattle.lineup.specs.LineUp.{Item, Seat, controls_in}
@@ -19,7 +19,7 @@ use Rattle.world_table.specs.declared.seat.Seat.{Seat as MobileSeat}
 use Rattle.world_table.specs.declared.seat.Tenure.{Tenure}
 use Rattle.world_table.specs.World.{Actors, tenure_at}
 use Rattle.world_laws.specs.GoingDown.{going_down}
-use Rattle.world_laws.specs.LineUps.{seat_from, remembered, commanded_target}
+use Rattle.world_laws.specs.LineUps.{seat_from, remembered, is_opening, commanded_target}
 use Rattle.world_laws.specs.OwnStep.{OwnStep}
 use Rattle.world_laws.specs.OwnStep.OwnStep.{stays as step_stays, tells, completes, goes_back}
 use Rattle.world_laws.specs.Seated.{Sits, Leads, NoneOn}
@@ -30,16 +30,17 @@ use Rattle.world_laws.proofs.OwnSteps.{StandsWith}
 
 -- ---- where a change stands
 
-none-commanded : {c s x t k : ℕ} {seat : Seat} → Stands false c seat s x t k → c ≡ 0
+none-commanded : {opening : Bool} {c s x t k : ℕ} {seat : Seat} → Stands opening false c seat s x t k → c ≡ 0
+none-commanded (opens here none) = omega arith
 none-commanded (rests here none) = omega arith
 
-all-arrived : {c s x t k : ℕ} {seat : Seat} → 1 ≤ t → Stands true c seat s x t k → Stays on_target seat × (c ≡ 0)
+all-arrived : {opening : Bool} {c s x t k : ℕ} {seat : Seat} → 1 ≤ t → Stands opening true c seat s x t k → Stays on_target seat × (c ≡ 0)
 all-arrived more (waits here few none) = absurd (omega arith)
 all-arrived more (leaves none) = absurd (omega arith)
 all-arrived more (arrives here none few) = (here, omega arith)
 all-arrived more (returns here none few) = absurd (omega arith)
 
-all-returned : {c s x t k : ℕ} {seat : Seat} → 1 ≤ s → Stands true c seat s x t k → Stays on_serving seat × (c ≡ 0)
+all-returned : {opening : Bool} {c s x t k : ℕ} {seat : Seat} → 1 ≤ s → Stands opening true c seat s x t k → Stays on_serving seat × (c ≡ 0)
 all-returned more (waits here few none) = absurd (omega arith)
 all-returned more (leaves none) = absurd (omega arith)
 all-returned more (arrives here none few) = absurd (omega arith)
@@ -111,7 +112,7 @@ pub record OwnRest (w v : Actors) (seat : MobileSeat) (s next : Connection) (bef
 -- the connection before the row
 pub record OwnBefore (w : Actors) (seat : MobileSeat) (s : Connection) (before : Place → List Item) (link : ℕ) (seat1 : Seat) : Type 0 where
   pub seen : seat1 ≡ seat_from s.serving seat
-  pub stands : StandsWith (commanded_target s.state) (length (going_down w (place_of s.serving)) + remembered seat) seat1 (controls_in (before (place_of s.serving))) before link
+  pub stands : StandsWith (is_opening s.state) (commanded_target s.state) (length (going_down w (place_of s.serving)) + remembered seat) seat1 (controls_in (before (place_of s.serving))) before link
   pub sits : Sits w s.serving (commanded_target s.state) seat
   pub led : AllByRecursion (λ a. Leads w a (commanded_target s.state)) (going_down w (place_of s.serving))
   pub none : NoneOn w (commanded_target s.state)
@@ -153,7 +154,7 @@ rest-tells {w} {v} {seat} {s} {next} {before} {seat1 = seat1} {link} was idle_be
   none = subst (NoneOn v) (sym to) quiet;
 } where
   idle : length (going_down w (place_of s.serving)) + remembered seat ≡ 0
-  idle = none-commanded (subst (λ (o : Option Target). StandsWith o (length (going_down w (place_of s.serving)) + remembered seat) seat1 (controls_in (before (place_of s.serving))) before link) idle_before was.stands)
+  idle = none-commanded (subst (λ (o : Option Target). StandsWith (is_opening s.state) o (length (going_down w (place_of s.serving)) + remembered seat) seat1 (controls_in (before (place_of s.serving))) before link) idle_before was.stands)
 
   none_before : going_down w (place_of s.serving) ≡ []
   none_before = no-length (going_down w (place_of s.serving)) (let both = idle in omega arith)
@@ -174,7 +175,7 @@ rest-completes {w} {v} {seat} {s} {next} {before} {seat1 = seat1} {link} was t c
   none = subst (NoneOn v) (sym ended) tt;
 } where
   here : Stays on_target seat1
-  here = (all-arrived more (subst (λ (o : Option Target). StandsWith o (length (going_down w (place_of s.serving)) + remembered seat) seat1 (controls_in (before (place_of s.serving))) before link) changed was.stands)).0
+  here = (all-arrived more (subst (λ (o : Option Target). StandsWith (is_opening s.state) o (length (going_down w (place_of s.serving)) + remembered seat) seat1 (controls_in (before (place_of s.serving))) before link) changed was.stands)).0
 
   now_sits : Sits w t.channel None seat × (after_complete (seat_from s.serving seat) ≡ seat_from t.channel seat)
   now_sits = sits-completes (subst (λ (o : Option Target). Sits w s.serving o seat) changed was.sits) (subst (Stays on_target) was.seen here)
@@ -196,7 +197,7 @@ rest-goes_back {w} {v} {seat} {s} {next} {before} {seat1 = seat1} {link} was t c
   none = subst (NoneOn v) (sym ended) tt;
 } where
   back : Stays on_serving seat1 × (length (going_down w (place_of s.serving)) + remembered seat ≡ 0)
-  back = all-returned more (subst (λ (o : Option Target). StandsWith o (length (going_down w (place_of s.serving)) + remembered seat) seat1 (controls_in (before (place_of s.serving))) before link) changed was.stands)
+  back = all-returned more (subst (λ (o : Option Target). StandsWith (is_opening s.state) o (length (going_down w (place_of s.serving)) + remembered seat) seat1 (controls_in (before (place_of s.serving))) before link) changed was.stands)
 
   none_before : going_down w (place_of s.serving) ≡ []
   none_before = no-length (going_down w (place_of s.serving)) (let idle = back.1 in omega arith)

@@ -2,19 +2,22 @@
 use Rattle.std.proofs.Common.{◌≡◌, ℕ, Bool, true, false, ◌&&◌, ◌||◌, not, if◌then◌else◌, List, [], ◌∷◌, length, Option, Some, None, refl, sym, ap, ◌∙◌, subst, arith}
 use Rattle.conn_messages.specs.declared.channel.Place.{Place}
 use Rattle.conn_table.specs.declared.state.Drain.{Drain}
+use Rattle.conn_table.specs.declared.state.State.{State}
+use Rattle.conn_table.specs.declared.state.State.TheVariants.{WaitActivation, WaitEstablish, WaitConfirm, Live, Closed, Removed}
 use Rattle.conn_table.specs.declared.state.Target.{Target}
 use Rattle.conn_table.specs.Connection.{Connection}
 use Rattle.controller_table.specs.Controller.{place_of}
 use Rattle.hold_queue.specs.ChainState.{Tenure as Held}
 use Rattle.lineup.specs.Alive.{Stands, Stays, some_lost}
+use Rattle.lineup.specs.Alive.Stands.{opens, rests}
 use Rattle.lineup.specs.Alive.Stays.{remains, left}
 use Rattle.lineup.specs.ChangeStep.{after_complete, ended}
 use Rattle.lineup.specs.LineUp.{Item, Seat, flow, controls_of, controls_in, texts_in}
 use Rattle.lineup.specs.LineUp.Seat.{on_serving, on_target, moving, gone}
 use Rattle.lineup.proofs.Standing.{Stands-fewer, Stands-commands, Stands-completes, Stands-goes_back}
-use Rattle.world_laws.specs.OwnStep.{lacks, some_lacks, target_items, OwnStep}
+use Rattle.world_laws.specs.OwnStep.{lacks, some_lacks, target_items, OwnStep, StillAwaits}
 use Rattle.world_laws.specs.OwnStep.OwnStep.{stays, tells, completes, goes_back}
-use Rattle.world_laws.specs.LineUps.{is_ended, draining_tenure, old_tenure, old_tenures, came, is_gone, commanded_target, target_tenure, is_changing}
+use Rattle.world_laws.specs.LineUps.{is_ended, draining_tenure, old_tenure, old_tenures, came, is_gone, commanded_target, target_tenure, is_changing, is_opening}
 
 -- ---- whether something is missing, whatever is held
 
@@ -40,45 +43,75 @@ target-controls coming up seat None = refl
 target-controls coming up seat (Some t) = refl
 
 -- by counts alone
-abbrev pub StandsWith : Option Target → ℕ → Seat → ℕ → (Place → List Item) → ℕ → Type 0
-StandsWith o commands seat serving coming link = Stands (is_changing o) commands seat serving (texts_in (target_items coming o)) (controls_in (target_items coming o)) link
+abbrev pub StandsWith : Bool → Option Target → ℕ → Seat → ℕ → (Place → List Item) → ℕ → Type 0
+StandsWith opening o commands seat serving coming link = Stands opening (is_changing o) commands seat serving (texts_in (target_items coming o)) (controls_in (target_items coming o)) link
 
-counted : {before after : Place → List Item} {up : ℕ → Bool} {s next : Connection} {commands commands2 : ℕ} {seat seat2 : Seat} (link : ℕ) → OwnStep before after up s next commands commands2 seat seat2
-    → StandsWith (commanded_target s.state) commands seat (controls_in (before (place_of s.serving))) before link → StandsWith (commanded_target next.state) commands2 seat2 (controls_in (after (place_of next.serving))) after link
-counted {before} {after} {s} {next} {commands} {commands2} {seat} link (stays serving same fewer texts controls told covers) stands =
-    subst (λ (o : Option Target). StandsWith o commands2 seat (controls_in (after (place_of next.serving))) after link) (sym same)
+-- while the initial message is to come, no change is under way
+pub opening-unchanging : (state : State) → is_opening state ≡ true → commanded_target state ≡ None
+opening-unchanging WaitEstablish is = refl
+opening-unchanging WaitActivation is = refl
+opening-unchanging WaitConfirm is = refl
+opening-unchanging (Live reference stage) is = absurd cc
+opening-unchanging (Closed clearing) is = refl
+opening-unchanging Removed is = refl
+
+some-none : {t : Target} {o : Option Target} → o ≡ None → o ≡ Some t → ⊥
+some-none {t} none is = differs (sym none ∙ is) where
+  differs : None ≡ Some t → ⊥
+  differs is = absurd cc
+
+-- the COMMAND is put behind the connection request
+commanded : {opening : Bool} {c s x t k : ℕ} {seat : Seat} → (opening ≡ true → ⊥) → Stands opening false c seat s x t k → Stands opening true 1 seat s x t k
+commanded {opening = false} request stands = Stands-commands stands
+commanded {opening = true} request stands = absurd (request refl)
+
+-- a connection begins to wait for its initial message, or waits on
+awaits-stands : (opening opening2 : Bool) (o : Option Target) {c s x t k : ℕ} {seat : Seat} → (opening ≡ true → opening2 ≡ true) → (opening2 ≡ true → o ≡ None) → Stands opening (is_changing o) c seat s x t k → Stands opening2 (is_changing o) c seat s x t k
+awaits-stands false false o awaits unchanging stands = stands
+awaits-stands true true o awaits unchanging stands = stands
+awaits-stands true false o awaits unchanging stands = absurd (let is = awaits refl in cc)
+awaits-stands false true (Some t) awaits unchanging stands = absurd (some-none (unchanging refl) refl)
+awaits-stands false true None awaits unchanging stands = begins stands where
+  begins : {c s x t k : ℕ} {seat : Seat} → Stands false false c seat s x t k → Stands true false c seat s x t k
+  begins (rests here zero) = opens here (omega arith)
+
+counted : {opening : Bool} {before after : Place → List Item} {up : ℕ → Bool} {s next : Connection} {commands commands2 : ℕ} {seat seat2 : Seat} (link : ℕ) → OwnStep before after up s next commands commands2 seat seat2
+    → (opening ≡ true → commanded_target next.state ≡ None) → StandsWith opening (commanded_target s.state) commands seat (controls_in (before (place_of s.serving))) before link → StandsWith opening (commanded_target next.state) commands2 seat2 (controls_in (after (place_of next.serving))) after link
+counted {opening} {before} {after} {s} {next} {commands} {commands2} {seat} link (stays serving same fewer texts controls told covers) unchanging stands =
+    subst (λ (o : Option Target). StandsWith opening o commands2 seat (controls_in (after (place_of next.serving))) after link) (sym same)
     (let moved = ap (λ (c : _). controls_in (after (place_of c))) serving in Stands-fewer told (omega arith) texts controls (omega arith) stands)
-counted {before} {after} {s} {next} {commands} {commands2} {seat} link (tells serving none t to fewer nothing told covers) stands =
-    subst (λ (o : Option Target). StandsWith o commands2 seat (controls_in (after (place_of next.serving))) after link) (sym to)
+counted {opening} {before} {after} {s} {next} {commands} {commands2} {seat} link (tells serving none t to fewer nothing told covers) unchanging stands =
+    subst (λ (o : Option Target). StandsWith opening o commands2 seat (controls_in (after (place_of next.serving))) after link) (sym to)
     (let moved = ap (λ (c : _). controls_in (after (place_of c))) serving in
     let texts = ap (λ (ms : List (List ℕ)). length (flow ms)) nothing in
     let controls = ap controls_of nothing in
-    Stands-fewer told (omega arith) (omega arith) (omega arith) (omega arith) (Stands-commands (subst (λ (o : Option Target). StandsWith o commands seat (controls_in (before (place_of s.serving))) before link) none stands)))
-counted {before} {after} {s} {next} {commands} {commands2} {seat} link (completes t was now serving more told covers) stands =
-    subst (λ (o : Option Target). StandsWith o commands2 (after_complete seat) (controls_in (after (place_of next.serving))) after link) (sym now)
+    Stands-fewer told (omega arith) (omega arith) (omega arith) (omega arith) (commanded (λ opens. some-none (unchanging opens) to) (subst (λ (o : Option Target). StandsWith opening o commands seat (controls_in (before (place_of s.serving))) before link) none stands)))
+counted {opening} {before} {after} {s} {next} {commands} {commands2} {seat} link (completes t was now serving more told covers) unchanging stands =
+    subst (λ (o : Option Target). StandsWith opening o commands2 (after_complete seat) (controls_in (after (place_of next.serving))) after link) (sym now)
     (let moved = ap (λ (c : _). controls_in (after (place_of c))) serving in
-    Stands-fewer told (omega arith) (omega arith) (omega arith) (omega arith) (Stands-completes more (subst (λ (o : Option Target). StandsWith o commands seat (controls_in (before (place_of s.serving))) before link) was stands)))
-counted {before} {after} {s} {next} {commands} {commands2} {seat} link (goes_back t was now serving more told covers) stands =
-    subst (λ (o : Option Target). StandsWith o commands2 seat (controls_in (after (place_of next.serving))) after link) (sym now)
+    Stands-fewer told (omega arith) (omega arith) (omega arith) (omega arith) (Stands-completes more (subst (λ (o : Option Target). StandsWith opening o commands seat (controls_in (before (place_of s.serving))) before link) was stands)))
+counted {opening} {before} {after} {s} {next} {commands} {commands2} {seat} link (goes_back t was now serving more told covers) unchanging stands =
+    subst (λ (o : Option Target). StandsWith opening o commands2 seat (controls_in (after (place_of next.serving))) after link) (sym now)
     (let moved = ap (λ (c : _). controls_in (after (place_of c))) serving in
-    let back = Stands-goes_back more (subst (λ (o : Option Target). StandsWith o commands seat (controls_in (before (place_of s.serving))) before link) was stands) in
+    let back = Stands-goes_back more (subst (λ (o : Option Target). StandsWith opening o commands seat (controls_in (before (place_of s.serving))) before link) was stands) in
     Stands-fewer told (omega arith) (omega arith) (omega arith) (omega arith) back.1)
 
 pub step-stands : {before after : Place → List Item} {up : ℕ → Bool} {s next : Connection} {commands commands2 : ℕ} {seat seat2 : Seat} (link : ℕ) → OwnStep before after up s next commands commands2 seat seat2
-    → Stands (is_changing (commanded_target s.state)) commands seat (controls_in (before (place_of s.serving))) (texts_in (target_tenure before up seat (commanded_target s.state)).items) (controls_in (target_tenure before up seat (commanded_target s.state)).items) link
-    → Stands (is_changing (commanded_target next.state)) commands2 seat2 (controls_in (after (place_of next.serving))) (texts_in (target_tenure after up seat2 (commanded_target next.state)).items) (controls_in (target_tenure after up seat2 (commanded_target next.state)).items) link
-step-stands {before} {after} {up} {s} {next} {seat} {seat2} link step stands =
+    → StillAwaits s.state next.state → Stands (is_opening s.state) (is_changing (commanded_target s.state)) commands seat (controls_in (before (place_of s.serving))) (texts_in (target_tenure before up seat (commanded_target s.state)).items) (controls_in (target_tenure before up seat (commanded_target s.state)).items) link
+    → Stands (is_opening next.state) (is_changing (commanded_target next.state)) commands2 seat2 (controls_in (after (place_of next.serving))) (texts_in (target_tenure after up seat2 (commanded_target next.state)).items) (controls_in (target_tenure after up seat2 (commanded_target next.state)).items) link
+step-stands {before} {after} {up} {s} {next} {seat} {seat2} link step awaits stands =
     let a = target-texts before up seat (commanded_target s.state) in
     let b = target-controls before up seat (commanded_target s.state) in
     let c = target-texts after up seat2 (commanded_target next.state) in
     let d = target-controls after up seat2 (commanded_target next.state) in
     Stands-fewer (omega arith) (omega arith) (omega arith) (omega arith) (omega arith)
-    (counted link step (Stands-fewer (omega arith) (omega arith) (omega arith) (omega arith) (omega arith) stands))
+    (awaits-stands (is_opening s.state) (is_opening next.state) (commanded_target next.state) awaits (opening-unchanging next.state)
+    (counted link step (λ opens. opening-unchanging next.state (awaits opens)) (Stands-fewer (omega arith) (omega arith) (omega arith) (omega arith) (omega arith) stands)))
 
 -- the counts of a line-up
-pub stands-counted : (coming : Place → List Item) (up : ℕ → Bool) (seat : Seat) (s : Connection) {commands serving : ℕ} (link : ℕ)
-    → Stands (is_changing (commanded_target s.state)) commands seat serving (texts_in (target_tenure coming up seat (commanded_target s.state)).items) (controls_in (target_tenure coming up seat (commanded_target s.state)).items) link
-    → StandsWith (commanded_target s.state) commands seat serving coming link
+pub stands-counted : {opening : Bool} (coming : Place → List Item) (up : ℕ → Bool) (seat : Seat) (s : Connection) {commands serving : ℕ} (link : ℕ)
+    → Stands opening (is_changing (commanded_target s.state)) commands seat serving (texts_in (target_tenure coming up seat (commanded_target s.state)).items) (controls_in (target_tenure coming up seat (commanded_target s.state)).items) link
+    → StandsWith opening (commanded_target s.state) commands seat serving coming link
 stands-counted coming up seat s link stands =
     let a = target-texts coming up seat (commanded_target s.state) in
     let b = target-controls coming up seat (commanded_target s.state) in
@@ -131,30 +164,30 @@ lost-away coming up seat (Some t) away = both (not (up t.channel.station)) away 
   both true is = is
   both false is = refl
 
-pub step-intact : {before after : Place → List Item} {up : ℕ → Bool} {s next : Connection} {commands commands2 link : ℕ} {seat seat2 : Seat} → OwnStep before after up s next commands commands2 seat seat2
-    → StandsWith (commanded_target s.state) commands seat (controls_in (before (place_of s.serving))) before link
+pub step-intact : {opening : Bool} {before after : Place → List Item} {up : ℕ → Bool} {s next : Connection} {commands commands2 link : ℕ} {seat seat2 : Seat} → OwnStep before after up s next commands commands2 seat seat2
+    → StandsWith opening (commanded_target s.state) commands seat (controls_in (before (place_of s.serving))) before link
     → NoneMissing seat2 (some_lacks after up next.draining) (not (up next.serving.station)) (target_tenure after up seat2 (commanded_target next.state)).is_lost → NoneMissing seat (some_lacks before up s.draining) (not (up s.serving.station)) (target_tenure before up seat (commanded_target s.state)).is_lost
-step-intact {before} {after} {up} {s} {next} {seat} (stays serving same fewer texts controls told covers) stands none = record {
+step-intact {opening} {before} {after} {up} {s} {next} {seat} (stays serving same fewer texts controls told covers) stands none = record {
   here = none.here;
   old_none = covers none.old_none;
   serving_none = ap (λ (c : _). not (up c.station)) (sym serving) ∙ none.serving_none;
   target_none = target-lost after before up seat (commanded_target s.state) ∙ ap (λ (o : Option Target). (target_tenure after up seat o).is_lost) (sym same) ∙ none.target_none;
 }
-step-intact {before} {up} {s} {seat} (tells serving no_target t to fewer nothing told covers) stands none = record {
+step-intact {opening} {before} {up} {s} {seat} (tells serving no_target t to fewer nothing told covers) stands none = record {
   here = none.here;
   old_none = covers none.old_none;
   serving_none = ap (λ (c : _). not (up c.station)) (sym serving) ∙ none.serving_none;
   target_none = ap (λ (o : Option Target). (target_tenure before up seat o).is_lost) no_target;
 }
-step-intact {before} {up} {s} {seat} (completes t was now serving more told covers) stands none = record {
+step-intact {opening} {before} {up} {s} {seat} (completes t was now serving more told covers) stands none = record {
   here = sym (gone-complete seat) ∙ none.here;
   old_none = (covers none.old_none).0;
   serving_none = (covers none.old_none).1;
   target_none = ap (λ (o : Option Target). (target_tenure before up seat o).is_lost) was ∙ either-false (not (up t.channel.station)) (came seat) (ap (λ (c : _). not (up c.station)) (sym serving) ∙ none.serving_none);
 }
-step-intact {before} {up} {s} {commands} {link} {seat} (goes_back t was now serving more told covers) stands none = record {
+step-intact {opening} {before} {up} {s} {commands} {link} {seat} (goes_back t was now serving more told covers) stands none = record {
   here = none.here;
   old_none = covers none.old_none;
   serving_none = ap (λ (c : _). not (up c.station)) (sym serving) ∙ none.serving_none;
-  target_none = lost-away before up seat (commanded_target s.state) (not-came (Stands-goes_back more (subst (λ (o : Option Target). StandsWith o commands seat (controls_in (before (place_of s.serving))) before link) was stands)).0 none.here);
+  target_none = lost-away before up seat (commanded_target s.state) (not-came (Stands-goes_back more (subst (λ (o : Option Target). StandsWith opening o commands seat (controls_in (before (place_of s.serving))) before link) was stands)).0 none.here);
 }

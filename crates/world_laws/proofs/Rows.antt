@@ -27,12 +27,12 @@ use Rattle.lineup.proofs.Ordering.{IsInOrder-alive}
 use Rattle.msc_end.specs.declared.connection.Stage.TheVariants.{Open}
 use Rattle.world_table.specs.declared.seat.Tenure.{Tenure as ChannelTenure}
 use Rattle.link_model.specs.declared.air_link.Air.TheVariants.{Empty, Reached}
-use Rattle.lineup.specs.LineUp.{LineUp, Seat, Tenure, fresh, line}
+use Rattle.lineup.specs.LineUp.{LineUp, Seat, controls_in, Tenure, fresh, line}
 use Rattle.lineup.specs.LineUp.Item.{brought, released}
 use Rattle.lineup.specs.LineUp.Seat.{on_serving, on_target, moving}
-use Rattle.world_table.specs.declared.event.Event.TheVariants.{Upper, AirUp, AirAck, AirDown, Move, Arrive, BaseTakes, BasePush, Handle, SwitchTakes, SwitchDoes, BaseDown}
+use Rattle.world_table.specs.declared.event.Event.TheVariants.{Connect, Upper, AirUp, AirAck, AirDown, Move, Arrive, BaseTakes, BasePush, Handle, SwitchTakes, SwitchDoes, BaseDown}
 use Rattle.world_table.specs.declared.event.SwitchAction.TheVariants.{Assign, Clear}
-use Rattle.world_table.specs.World.{Actors, Mobile, World, mobile_of, new_link, new_spot, outbox_of}
+use Rattle.world_table.specs.World.{Actors, Mobile, World, mobile_of, new_link, new_spot, new_world, outbox_of}
 use Rattle.world_table.proofs.Rows.{opened}
 use Rattle.world_table.proofs.Worlds.{on_literals, after_all}
 use Rattle.world_laws.specs.ComingUp.{coming_up}
@@ -57,6 +57,7 @@ second_in_air seat changing old serving target out taken = record {
   link = record { waiting = (0x03 ∷ 0x8f ∷ []) ∷ []; air = Reached (0x03 ∷ 0x45 ∷ []) };
   seat = seat;
   is_intact = true;
+  is_opening = false;
   commands = 0;
   is_changing = changing;
   is_confirmed = true;
@@ -76,7 +77,29 @@ sending_is : line_up_of sending 1 1 ≡ Some (second_in_air on_serving false []
 unfolding on_literals
 sending_is = refl
 
--- that message waits for the switch, and the COMMAND for the station
+-- a mobile that was called came onto its channel with a PAGING RESPONSE, which its station then makes an ESTABLISH INDICATION of
+abbrev answering : World
+answering = after_all (new_world usual_settings) (Connect 1 1 (0x06 ∷ 0x27 ∷ 0x00 ∷ []) true ∷ BasePush 1 ∷ Handle ∷ BaseTakes 1 ∷ BasePush 1 ∷ Handle ∷ BaseTakes 1 ∷ AirUp 1 Zero ∷ [])
+
+-- it is still to open, though that message of radio resource management is on its way
+answering_opens : option_map (λ l. l.is_opening) (line_up_of answering 1 1) ≡ Some true
+unfolding on_literals
+answering_opens = refl
+
+answering_brings : option_map (λ l. controls_in l.serving.items) (line_up_of answering 1 1) ≡ Some 1
+unfolding on_literals
+answering_brings = refl
+
+-- and none is behind it once the controller put CR
+answered_opened : option_map (λ l. l.is_opening) (line_up_of (after_all answering (BasePush 1 ∷ Handle ∷ [])) 1 1) ≡ Some false
+unfolding on_literals
+answered_opened = refl
+
+answered_brings : option_map (λ l. controls_in l.serving.items) (line_up_of (after_all answering (BasePush 1 ∷ Handle ∷ [])) 1 1) ≡ Some 0
+unfolding on_literals
+answered_brings = refl
+
+-- the second message waits for the switch, and the COMMAND for the station
 abbrev told : World
 told = after_all sending (SwitchDoes (Assign 1) ∷ BasePush 0 ∷ Handle ∷ BaseTakes 1 ∷ BasePush 1 ∷ Handle ∷ BasePush 1 ∷ BasePush 1 ∷ Handle ∷ Handle ∷ BasePush 1 ∷ Handle ∷ [])
 

@@ -6,7 +6,7 @@ use Rattle.conn_messages.specs.declared.channel.Place.{Place}
 use Rattle.conn_table.specs.declared.state.Drain.{Drain}
 use Rattle.conn_table.specs.declared.state.Stage.TheVariants.{Active, Changing, Draining}
 use Rattle.conn_table.specs.declared.state.State.{State}
-use Rattle.conn_table.specs.declared.state.State.TheVariants.{Live, WaitConfirm}
+use Rattle.conn_table.specs.declared.state.State.TheVariants.{Live, WaitActivation, WaitConfirm, WaitEstablish}
 use Rattle.conn_table.specs.declared.state.Target.{Target}
 use Rattle.conn_table.specs.Connection.{Connection, new_connection}
 use Rattle.controller_table.specs.Controller.{place_at}
@@ -25,9 +25,9 @@ use Rattle.rsl_codec.specs.declared.rsl.Rsl.TheVariants.{RfChannelReleaseAck}
 use Rattle.world_table.proofs.Worlds.{on_literals}
 use Rattle.world_table.specs.Relay.{station_item}
 use Rattle.world_laws.specs.ComingUp.{brings, brings_in, made_of}
-use Rattle.world_laws.specs.LineUps.{is_ended, came}
+use Rattle.world_laws.specs.LineUps.{is_ended, is_opening, came}
 use Rattle.world_laws.specs.OwnRow.{Opens, over}
-use Rattle.world_laws.specs.OwnStep.{OwnStep, lacks}
+use Rattle.world_laws.specs.OwnStep.{OwnStep, StillAwaits, lacks}
 use Rattle.world_laws.specs.OwnStep.OwnStep.{completes, tells}
 use Rattle.world_laws.specs.Seated.{change_in}
 use Rattle.world_laws.specs.Staying.{EndsLast}
@@ -134,6 +134,7 @@ is_over_old_and_serving : over (coming (brought (0x0a ∷ []) ∷ []) (brought (
       link = link;
       seat = on_serving;
       is_intact = false;
+      is_opening = false;
       commands = 3;
       is_changing = false;
       is_confirmed = true;
@@ -172,6 +173,15 @@ completes_once (completes t is none serves fewer less none_lost) = absurd (omega
 
 tells_the_command : OwnStep (coming [] []) (coming [] []) (up true true) (connection_with (Live 0x800001 Active) (channel 1 0x41) [] (empty_tenure ∷ [])) changing 0 1 on_serving on_serving
 tells_the_command = tells refl refl target refl (omega arith) refl (omega arith) (λ h. refl)
+
+-- ---- the initial message is still to come
+
+waits_to_open : map is_opening (WaitActivation ∷ WaitEstablish ∷ WaitConfirm ∷ Live 0x800001 Active ∷ []) ≡ false ∷ true ∷ false ∷ false ∷ []
+waits_to_open = refl
+
+-- the row that puts CR is none by which it still does
+still_awaits : StillAwaits WaitActivation WaitEstablish × StillAwaits WaitEstablish WaitEstablish × StillAwaits WaitConfirm (Live 0x800001 Active) × (StillAwaits WaitEstablish WaitConfirm → ⊥)
+still_awaits = (λ is. absurd cc, λ is. is, λ is. absurd cc, λ awaits. absurd (let is = awaits refl in cc))
 
 -- ---- the row that opens a connection
 

@@ -6,7 +6,7 @@ use Rattle.conn_messages.specs.declared.parameters.TheConstants.{SWITCH_LINK}
 use Rattle.conn_table.specs.declared.state.Drain.{Drain}
 use Rattle.conn_table.specs.declared.state.Stage.TheVariants.{Changing}
 use Rattle.conn_table.specs.declared.state.State.{State}
-use Rattle.conn_table.specs.declared.state.State.TheVariants.{Live}
+use Rattle.conn_table.specs.declared.state.State.TheVariants.{Live, WaitEstablish}
 use Rattle.conn_table.specs.declared.state.Target.{Target}
 use Rattle.conn_table.specs.Connection.{Connection, is_at}
 use Rattle.controller_table.specs.Controller.{place_of}
@@ -108,6 +108,11 @@ abbrev pub is_gone : Seat → Bool
 is_gone gone = true
 is_gone _ = false
 
+-- its channel is active, and the initial message is still to come
+abbrev pub is_opening : State → Bool
+is_opening WaitEstablish = true
+is_opening _ = false
+
 abbrev pub is_changing : Option Target → Bool
 is_changing None = false
 is_changing (Some target) = true
@@ -125,6 +130,7 @@ assembled sent link seat state commands old serving target out taken = record {
   link = link;
   seat = seat;
   is_intact = is_intact seat old serving target;
+  is_opening = is_opening state;
   commands = commands;
   is_changing = is_changing (commanded_target state);
   is_confirmed = is_confirmed state;

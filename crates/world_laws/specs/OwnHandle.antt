@@ -31,6 +31,7 @@ use Rattle.world_laws.specs.ComingUp.{brings_in, coming_up}
 use Rattle.world_laws.specs.GoingDown.{going_down}
 use Rattle.world_laws.specs.LineUps.{is_ended}
 use Rattle.world_laws.specs.OwnItem.{said_by, IsRead, IsBesideTarget}
+use Rattle.world_laws.specs.OwnStep.{StillAwaits}
 use Rattle.world_laws.specs.Staying.{AreLinedUp, EndLast, IsForOthers}
 use Rattle.world_laws.specs.ToCome.{AreLayer3, texts_of}
 
@@ -40,10 +41,12 @@ BeginsTenure w role_commands (Some t) tenure = tenure ≡ Some (tenure_at w (pla
 BeginsTenure w role_commands None tenure = ⊥
 BeginsTenure w _ o tenure = tenure ≡ None
 
--- The item brings an input to the connection; the row that fits is done, and is all that is put. The connection stays open.
+-- The item brings an input to the connection; the row that fits is done, and is all that is put. It doesn't put CR, and the
+-- connection stays open.
 pub record HandlesFor (w : Actors) (item : RelayItem) (s : Connection) (input : Input) (offer : Option Channel) (r : Row) (text : List ℕ) : Type 0 where
   pub fits : row_of s input offer ≡ Some r
   pub stays_open : IsOpen r.next.state
+  pub awaits : StillAwaits s.state r.next.state
   pub outs : (take item w.controller).outs ≡ outs_of s.number r.outs
   pub carried : IsCarried input
   pub read : IsRead input text

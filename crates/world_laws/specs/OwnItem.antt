@@ -22,6 +22,7 @@ use Rattle.mobile_end.specs.Control.{is_control}
 use Rattle.mobile_end.specs.DataLinkState.{DataLinkState}
 use Rattle.world_laws.specs.LineUps.{is_ended}
 use Rattle.world_laws.specs.OwnRow.{over}
+use Rattle.world_laws.specs.OwnStep.{StillAwaits}
 use Rattle.world_laws.specs.Staying.{EndsLast}
 use Rattle.world_laws.specs.ToCome.{AreLayer3, texts_of}
 
@@ -75,10 +76,11 @@ abbrev pub seat_after : RoleStep → Seat → Seat
 seat_after role_completes seat = after_complete seat
 seat_after _ seat = seat
 
--- The row that fits it is done, and the connection stays open.
+-- The row that fits it is done, doesn't put CR, and the connection stays open.
 pub record TakesInput (s : Connection) (input : Input) (offer : Option Channel) (r : Row) (text : List ℕ) (before after : Place → List Item) (commands commands2 : ℕ) : Type 0 where
   pub fits : row_of s input offer ≡ Some r
   pub stays_open : IsOpen r.next.state
+  pub awaits : StillAwaits s.state r.next.state
   pub stands : Stands s
   pub carried : IsCarried input
   pub apart : AreApart (used_channels s)

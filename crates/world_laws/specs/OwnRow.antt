@@ -19,7 +19,7 @@ use Rattle.mobile_end.specs.DataLink.{to_be_taken}
 use Rattle.mobile_end.specs.GoesOn.{GoesOn}
 use Rattle.mobile_end.specs.DataLinkState.{DataLinkState}
 use Rattle.world_laws.specs.LineUps.{old_tenures, serving_hold, serving_tenure, commanded_target, target_tenure, assembled}
-use Rattle.world_laws.specs.OwnStep.{OwnStep}
+use Rattle.world_laws.specs.OwnStep.{OwnStep, StillAwaits}
 use Rattle.world_laws.specs.ToCome.{AreLayer3, StandsFor}
 
 -- a mobile's messages on their way over a connection's channels, by what is on its way up from each
@@ -28,10 +28,12 @@ over coming up s sent link seat commands out taken = assembled sent link seat s.
     (serving_tenure coming up s.serving (serving_hold s.draining s.up.tenures)) (target_tenure coming up seat (commanded_target s.state)) out taken
 
 -- The row that fits an input, by which the connection stays open: what is on its way up was one message more, the input's; and
--- the row changes the roles of channels by a step that what is on its way allows.
+-- the row changes the roles of channels by a step that what is on its way allows. It isn't the row that puts CR, of which more is asked
+-- below.
 pub record DoesRow (s : Connection) (input : Input) (offer : Option Channel) (r : Row) (before after : Place → List Item) (up : ℕ → Bool) (commands commands2 : ℕ) (seat seat2 : Seat) : Type 0 where
   pub fits : row_of s input offer ≡ Some r
   pub stays_open : IsOpen r.next.state
+  pub awaits : StillAwaits s.state r.next.state
   pub stands : Stands s
   pub carried : IsCarried input
   pub apart : AreApart (used_channels s)

@@ -1,13 +1,18 @@
 -- What a row does to the line-up of its connection, by the roles of its channels.
-use Rattle.std.specs.Prelude.{◌≡◌, ℕ, ◌+◌, ◌≤◌, ◌&&◌, ◌||◌, not, Bool, false, if◌then◌else◌, List, [], ◌∷◌, Option, Some, None}
+use Rattle.std.specs.Prelude.{◌≡◌, ℕ, ◌+◌, ◌≤◌, ◌&&◌, ◌||◌, not, Bool, true, false, if◌then◌else◌, List, [], ◌∷◌, Option, Some, None}
 use Rattle.conn_messages.specs.declared.channel.Place.{Place}
 use Rattle.conn_table.specs.declared.state.Drain.{Drain}
+use Rattle.conn_table.specs.declared.state.State.{State}
 use Rattle.conn_table.specs.declared.state.Target.{Target}
 use Rattle.conn_table.specs.Connection.{Connection}
 use Rattle.controller_table.specs.Controller.{place_of}
 use Rattle.lineup.specs.ChangeStep.{after_complete}
 use Rattle.lineup.specs.LineUp.{Item, Seat, messages_in, controls_in, texts_in}
-use Rattle.world_laws.specs.LineUps.{is_ended, commanded_target}
+use Rattle.world_laws.specs.LineUps.{is_ended, is_opening, commanded_target}
+
+-- The row doesn't put the connection request: a connection that waits for its initial message still does.
+abbrev pub StillAwaits : State → State → Type 0
+StillAwaits state next = is_opening state ≡ true → is_opening next ≡ true
 
 -- whether something may be missing of an old channel
 abbrev pub lacks : (Place → List Item) → (ℕ → Bool) → Drain → Bool

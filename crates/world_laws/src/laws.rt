@@ -68,8 +68,9 @@ pub fn frames_are_for_others()
 {}
 
 /// Law: and it stays lined up when the controller handles an item for the connection itself, by the row that fits the input that
-/// the item brings, while the connection stays open: where what is on its way on its channels is in order, the link of the switch
-/// is up, and what the row puts is read as it was put. And it stays so when time passes and none of its timers expires.
+/// the item brings, while the connection stays open: where the row isn't the one that puts CR, what is on its way on its channels is
+/// in order, the link of the switch is up, and what the row puts is read as it was put. And it stays so when time passes and none of
+/// its timers expires.
 pub fn handle_keeps_line_ups()
     ensures handled { (settings : Parameters) (events : List WorldEvent) → HandleKeepsLineUps settings events }
     ensures passed { (settings : Parameters) (events : List WorldEvent) (ms : ℕ) → TimeAgesLineUps settings events ms }
@@ -90,16 +91,17 @@ pub fn frames_keep_line_ups()
     ensures { (settings : Parameters) (events : List WorldEvent) → FramesKeepLineUps settings events }
 {}
 
-/// Law: a row of the table by which a connection stays open keeps it lined up: what it relays joins what waits for the switch, and
-/// its channels change their roles. What is on its way up is said as lists; the step is one that what is on its way allows.
+/// Law: a row of the table by which a connection stays open, and which doesn't put CR, keeps it lined up: what it relays joins what
+/// waits for the switch, and its channels change their roles. What is on its way up is said as lists; the step is one that what is on
+/// its way allows.
 pub fn rows_keep_line_ups()
     ensures { (m : ℕ) (s : Connection) (input : Input) (offer : Option Channel) (r : Row) → RowKeepsLineUp m s input offer r }
 {}
 
 /// Law: the row that fits an input keeps its connection lined up, where what the input brings came first on its channel, an RF
 /// CHANNEL RELEASE ACK comes last on an old channel and on no other, nothing comes of a target before the COMMAND or of one from
-/// which the mobile came back, and no COMMAND but the row's joins those on their way. It is told from the step that the input brings
-/// to the roles of channels: so COMPLETE, FAILURE, releases and DTAP are all of it.
+/// which the mobile came back, no COMMAND but the row's joins those on their way, and the row isn't the one that puts CR. It is told
+/// from the step that the input brings to the roles of channels: so COMPLETE, FAILURE, releases and DTAP are all of it.
 pub fn inputs_keep_line_ups()
     ensures { (m : ℕ) (s : Connection) (input : Input) (offer : Option Channel) (r : Row) → InputKeepsLineUp m s input offer r }
 {}

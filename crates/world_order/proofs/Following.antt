@@ -9,21 +9,16 @@ use Rattle.settings.specs.Parameters.{AreAllowed, Parameters}
 use Rattle.world_table.specs.declared.event.Event.{Event}
 use Rattle.world_table.specs.Life.{actors_after, actors_after_all}
 use Rattle.world_table.specs.World.{Actors, Mobile, broken_link, modulus_in, new_actors, new_link}
+use Rattle.world_laws.specs.OthersFrame.{CameInOctets}
 use Rattle.world_order.specs.Facts.{Holds}
 use Rattle.world_order.specs.Openers.{first_served, served_by}
-use Rattle.world_answers.specs.Beginning.{OpensInFlow}
-use Rattle.world_order.specs.Order.{Comes, CutNumbersStay, Facts, NumbersStand}
+use Rattle.world_order.specs.Order.{CutNumbersStay, Facts, NumbersStand}
 use Rattle.world_order.specs.Standing.{OnceDown, Standing}
 use Rattle.world_order.specs.Standing.Standing.{while_up}
 use Rattle.world_order.specs.Standing.WhileUp.{unborn}
 use Rattle.world_order.proofs.Controllers.{octets-front}
-use Rattle.world_order.proofs.OctetRun.{all-before}
 use Rattle.world_order.proofs.Openers.{snoc-actors, snoc-served}
 use Rattle.world_order.proofs.Steps.{cut-then, stands-then}
-
--- what came before came so, too
-comes-front : (settings : Parameters) (events more : List Event) → Comes settings (events ++ more) → Comes settings events
-comes-front settings events more comes = record { octets = octets-front settings events more comes.octets; opens = all-before OpensInFlow events more comes.opens }
 
 -- it does at the beginning
 stands-first : (settings : Parameters) (IsComing : Actors → ℕ → Connection → Type 0) (IsFresh : Actors → Mobile → Connection → Type 0) (number : ℕ) → 1 ≤ number → Standing IsComing IsFresh (modulus_in settings) (new_actors settings) (first_served (new_actors settings) [] number) number
@@ -31,13 +26,13 @@ stands-first settings IsComing IsFresh number from_one = while_up (ap (λ (count
 
 module _ (settings : Parameters) (IsComing : Actors → ℕ → Connection → Type 0) (IsFresh : Actors → Mobile → Connection → Type 0) (facts : Facts settings IsComing IsFresh) (allowed : AreAllowed settings) (number : ℕ) (from_one : 1 ≤ number) where
   -- and after each event
-  stands-next : (events : List Event) (event : Event) → Comes settings (events ++ event ∷ []) → Standing IsComing IsFresh (modulus_in settings) (actors_after_all (new_actors settings) events) (first_served (new_actors settings) events number) number
+  stands-next : (events : List Event) (event : Event) → CameInOctets settings (events ++ event ∷ []) → Standing IsComing IsFresh (modulus_in settings) (actors_after_all (new_actors settings) events) (first_served (new_actors settings) events number) number
       → Standing IsComing IsFresh (modulus_in settings) (actors_after_all (new_actors settings) (events ++ event ∷ [])) (first_served (new_actors settings) (events ++ event ∷ []) number) number
   stands-next events event octets at =
       let next : actors_after_all (new_actors settings) (events ++ event ∷ []) ≡ actors_after (actors_after_all (new_actors settings) events) event = snoc-actors (new_actors settings) events event in
       let now : Standing IsComing IsFresh (modulus_in settings) (actors_after (actors_after_all (new_actors settings) events) event) (option_or (first_served (new_actors settings) events number) (served_by (actors_after (actors_after_all (new_actors settings) events) event) number)) number =
       stands-then settings events event IsComing IsFresh (first_served (new_actors settings) events number) number (record {
-        before = facts.holds events allowed (comes-front settings events (event ∷ []) octets);
+        before = facts.holds events allowed (octets-front settings events (event ∷ []) octets);
         at = facts.holds_at events event allowed octets;
         after = subst (Holds IsComing IsFresh (modulus_in settings)) next (facts.holds (events ++ event ∷ []) allowed octets);
       }) from_one at in
@@ -45,13 +40,13 @@ module _ (settings : Parameters) (IsComing : Actors → ℕ → Connection → T
       (subst (λ (o : Option ℕ). Standing IsComing IsFresh (modulus_in settings) (actors_after (actors_after_all (new_actors settings) events) event) o number) (sym (snoc-served (new_actors settings) events event number)) now)
 
   -- these, and then those
-  stands-through : (done rest : List Event) → Comes settings (done ++ rest) → Standing IsComing IsFresh (modulus_in settings) (actors_after_all (new_actors settings) done) (first_served (new_actors settings) done number) number
+  stands-through : (done rest : List Event) → CameInOctets settings (done ++ rest) → Standing IsComing IsFresh (modulus_in settings) (actors_after_all (new_actors settings) done) (first_served (new_actors settings) done number) number
       → Standing IsComing IsFresh (modulus_in settings) (actors_after_all (new_actors settings) (done ++ rest)) (first_served (new_actors settings) (done ++ rest) number) number
   stands-through done [] octets at = subst (λ (events : List Event). Standing IsComing IsFresh (modulus_in settings) (actors_after_all (new_actors settings) events) (first_served (new_actors settings) events number) number) (sym (append-nil done)) at
   stands-through done (event ∷ rest) octets at =
       let same : (done ++ event ∷ []) ++ rest ≡ done ++ event ∷ rest = append_assoc done (event ∷ []) rest in
       subst (λ (events : List Event). Standing IsComing IsFresh (modulus_in settings) (actors_after_all (new_actors settings) events) (first_served (new_actors settings) events number) number) same
-      (stands-through (done ++ event ∷ []) rest (subst (Comes settings) (sym same) octets) (stands-next done event (comes-front settings (done ++ event ∷ []) rest (subst (Comes settings) (sym same) octets)) at))
+      (stands-through (done ++ event ∷ []) rest (subst (CameInOctets settings) (sym same) octets) (stands-next done event (octets-front settings (done ++ event ∷ []) rest (subst (CameInOctets settings) (sym same) octets)) at))
 
 pub NumbersStand-new : (IsComing : Actors → ℕ → Connection → Type 0) (IsFresh : Actors → Mobile → Connection → Type 0) (settings : Parameters) (events : List Event) → NumbersStand IsComing IsFresh settings events
 NumbersStand-new IsComing IsFresh settings events number facts allowed octets from_one = stands-through settings IsComing IsFresh facts allowed number from_one [] events octets (stands-first settings IsComing IsFresh number from_one)

@@ -19,12 +19,13 @@ use Rattle.world_table.specs.Views.{accepted, progress_of}
 use Rattle.world_table.specs.World.{Actors, Mobile, mobile_of, modulus_in, new_actors}
 use Rattle.world_laws.specs.Ended.{HasEnded}
 use Rattle.world_laws.specs.LineUps.{is_of_peer, taken_in, taken_of}
+use Rattle.world_laws.specs.OthersFrame.{CameInOctets}
 use Rattle.world_laws.specs.Staying.{AreLinedUp}
 use Rattle.world_laws.proofs.Ending.{EndedAreInOrder-new}
 use Rattle.world_laws.proofs.InOrder.{LineUpsAreInOrder-new}
 use Rattle.world_order.specs.Facts.{Holds, IsAsking}
 use Rattle.world_order.specs.Openers.{first_served}
-use Rattle.world_order.specs.Order.{Comes, Facts, IsBeginningOfSent, RunsAreInOrder}
+use Rattle.world_order.specs.Order.{Facts, IsBeginningOfSent, RunsAreInOrder}
 use Rattle.world_order.specs.Standing.{Standing}
 use Rattle.world_order.specs.Standing.OnceDown.{silent, cut}
 use Rattle.world_order.specs.Standing.Standing.{while_up, once_down}
@@ -77,7 +78,7 @@ two-numbers settings = by settings.network.release98 where
   by true = omega arith
   by false = omega arith
 
-module _ (settings : Parameters) (events : List Event) (IsComing : Actors → ℕ → Connection → Type 0) (IsFresh : Actors → Mobile → Connection → Type 0) (facts : Facts settings IsComing IsFresh) (allowed : AreAllowed settings) (octets : Comes settings events) where
+module _ (settings : Parameters) (events : List Event) (IsComing : Actors → ℕ → Connection → Type 0) (IsFresh : Actors → Mobile → Connection → Type 0) (facts : Facts settings IsComing IsFresh) (allowed : AreAllowed settings) (octets : CameInOctets settings events) where
   abbrev w : Actors
   w = actors_after_all (new_actors settings) events
 

@@ -39,7 +39,7 @@ use Rattle.world_handling.specs.Faring.FaresOn.{goes_on as fares-on, is_over as 
 use Rattle.world_handling.proofs.Faring.{LiveConnectionsFareOn-new}
 use Rattle.world_owners.proofs.Alone.{ConnectionsAreAlone-new}
 use Rattle.world_owners.proofs.OneEach.{ConnectionsAreOneEach-new}
-use Rattle.world_answers.specs.Beginning.{HasBegun, OpensInFlow}
+use Rattle.world_answers.specs.Beginning.{HasBegun}
 use Rattle.world_answers.specs.Beginning.HasBegun.{not_yet as no-number, begins as begins-so}
 use Rattle.world_answers.proofs.Coming.{ConnectionsBeginComing-new}
 use Rattle.world_references.specs.Over.{TakesOctets}
@@ -53,12 +53,11 @@ use Rattle.world_order.specs.Facts.Begun.{not_yet, begins}
 use Rattle.world_order.specs.Facts.Came.{comes, asks, goes}
 use Rattle.world_order.specs.Facts.Handled.{goes_on, ends}
 use Rattle.world_order.specs.Openers.{has_asked}
-use Rattle.world_order.specs.Order.{AllRunsAreInOrder, Comes, Facts}
+use Rattle.world_order.specs.Order.{AllRunsAreInOrder, Facts}
 use Rattle.world_order.specs.Standing.{IsSilent}
 use Rattle.world_order.proofs.Controllers.{none-given, octets-front, snoc-steps}
 use Rattle.world_order.proofs.Fairly.{ComeInOctets-new}
 use Rattle.world_order.proofs.InOrder.{RunsAreInOrder-new}
-use Rattle.world_order.proofs.OctetRun.{all-before}
 
 -- ---- words
 
@@ -200,10 +199,9 @@ begins-then settings events event number allowed octets next (begins-so s same c
           (ChannelsBeginQuiet-new settings events event s allowed octets (none-given settings events s.number past) (subst (λ (v : Actors). IsHad v s) (sym snoc) coming.had) coming.early),
     )
 
-holds-at-of : (settings : Parameters) (events : List Event) (event : Event) → AreAllowed settings → Comes settings (events ++ event ∷ [])
+holds-at-of : (settings : Parameters) (events : List Event) (event : Event) → AreAllowed settings → CameInOctets settings (events ++ event ∷ [])
     → HoldsAt (IsComingTo settings) IsFresh (modulus_in settings) (actors_after_all (new_actors settings) events) event
-holds-at-of settings events event allowed run =
-    let octets : CameInOctets settings (events ++ event ∷ []) = run.octets in
+holds-at-of settings events event allowed octets =
     let w : Actors = actors_after_all (new_actors settings) events in
     let before : CameInOctets settings events = octets-front settings events (event ∷ []) octets in
     let takes : TakesOctets w event = takes-octets settings events event octets in
@@ -216,7 +214,7 @@ holds-at-of settings events event allowed run =
       fresh = λ mobile s next q lives alone agree fresh same had found. TargetsStayFresh-new settings events event mobile s next q allowed octets lives alone fresh same had found;
       opened = λ mobile s next lives alone agree same had fresh lined. OpenedStayOpened-new settings events event mobile s next lives alone same had fresh lined;
       handled = λ mobile s of lives agree up. handled-of (LiveConnectionsFareOn-new settings events event mobile s (controllers-event event of) allowed octets up lives agree);
-      begun = λ number from_one up next. begins-then settings events event number allowed octets next (ConnectionsBeginComing-new settings events event number allowed octets (all-before OpensInFlow events (event ∷ []) run.opens) from_one next);
+      begun = λ number from_one up next. begins-then settings events event number allowed octets next (ConnectionsBeginComing-new settings events event number allowed octets from_one next);
       came = λ mobile s up coming. comes-then settings events event mobile s allowed octets up coming;
     }
 
@@ -224,10 +222,9 @@ holds-at-of settings events event allowed run =
 
 facts : (settings : Parameters) → Facts settings (IsComingTo settings) IsFresh
 facts settings = record {
-  holds = λ events allowed run. holds-of settings events allowed run.octets;
-  holds_at = λ events event allowed run. holds-at-of settings events event allowed run;
+  holds = holds-of settings;
+  holds_at = holds-at-of settings;
 }
 
 pub runs-are-in-order : (settings : Parameters) (events : List Event) → AllRunsAreInOrder settings events
-runs-are-in-order settings events allowed octets opens =
-    RunsAreInOrder-new (IsComingTo settings) IsFresh settings events (facts settings) allowed (record { octets = ComeInOctets-new settings events allowed octets; opens = opens })
+runs-are-in-order settings events allowed octets = RunsAreInOrder-new (IsComingTo settings) IsFresh settings events (facts settings) allowed (ComeInOctets-new settings events allowed octets)

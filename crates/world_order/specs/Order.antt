@@ -1,6 +1,5 @@
 -- The order of a run, end to end, and what it rests on.
 use Rattle.std.specs.Prelude.{◌≡◌, ℕ, ◌≤◌, false, Option, Some, IsSome, List, [], ◌∷◌, ◌++◌}
-use Rattle.std.specs.List.{AllByRecursion}
 use Rattle.std.specs.Option.{option_and_then}
 use Rattle.conn_messages.specs.declared.parameters.TheConstants.{SWITCH_LINK}
 use Rattle.conn_table.specs.Connection.{Connection}
@@ -13,7 +12,6 @@ use Rattle.world_table.specs.Views.{accepted, progress_of, sent}
 use Rattle.world_table.specs.World.{Actors, Mobile, is_up, modulus_in, new_actors}
 use Rattle.world_laws.specs.OthersFrame.{CameInOctets}
 use Rattle.world_order.specs.OctetEvents.{AreOctetEvents}
-use Rattle.world_answers.specs.Beginning.{OpensInFlow}
 use Rattle.world_order.specs.Facts.{Holds, HoldsAt}
 use Rattle.world_order.specs.Openers.{first_served}
 use Rattle.world_order.specs.Standing.{OnceDown, Standing}
@@ -39,31 +37,25 @@ pub record IsInOrderFor (begin : Actors) (events : List Event) : Type 0 where
 
 -- ---- what it rests on
 
--- What comes in a run is octets, and no mobile begins with a message of radio resource management.
-pub record Comes (settings : Parameters) (events : List Event) : Type 0 where
-  pub octets : CameInOctets settings events
-  pub opens : AllByRecursion OpensInFlow events
-
--- In each such run of these settings: what holds of its world, and of each event after it.
+-- In each run of these settings in which what comes is octets: what holds of its world, and of each event after it.
 pub record Facts (settings : Parameters) (IsComing : Actors → ℕ → Connection → Type 0) (IsFresh : Actors → Mobile → Connection → Type 0) : Type 0 where
-  pub holds : (events : List Event) → AreAllowed settings → Comes settings events → Holds IsComing IsFresh (modulus_in settings) (actors_after_all (new_actors settings) events)
-  pub holds_at : (events : List Event) (event : Event) → AreAllowed settings → Comes settings (events ++ event ∷ []) → HoldsAt IsComing IsFresh (modulus_in settings) (actors_after_all (new_actors settings) events) event
+  pub holds : (events : List Event) → AreAllowed settings → CameInOctets settings events → Holds IsComing IsFresh (modulus_in settings) (actors_after_all (new_actors settings) events)
+  pub holds_at : (events : List Event) (event : Event) → AreAllowed settings → CameInOctets settings (events ++ event ∷ []) → HoldsAt IsComing IsFresh (modulus_in settings) (actors_after_all (new_actors settings) events) event
 
 -- ---- from the one to the other
 
 -- each number stands
 abbrev pub NumbersStand : (Actors → ℕ → Connection → Type 0) → (Actors → Mobile → Connection → Type 0) → Parameters → List Event → Type 0
 NumbersStand IsComing IsFresh settings events =
-    (number : ℕ) → Facts settings IsComing IsFresh → AreAllowed settings → Comes settings events → 1 ≤ number
+    (number : ℕ) → Facts settings IsComing IsFresh → AreAllowed settings → CameInOctets settings events → 1 ≤ number
     → Standing IsComing IsFresh (modulus_in settings) (actors_after_all (new_actors settings) events) (first_served (new_actors settings) events number) number
 
 abbrev pub RunsAreInOrder : (Actors → ℕ → Connection → Type 0) → (Actors → Mobile → Connection → Type 0) → Parameters → List Event → Type 0
-RunsAreInOrder IsComing IsFresh settings events = Facts settings IsComing IsFresh → AreAllowed settings → Comes settings events → IsInOrderFor (new_actors settings) events
+RunsAreInOrder IsComing IsFresh settings events = Facts settings IsComing IsFresh → AreAllowed settings → CameInOctets settings events → IsInOrderFor (new_actors settings) events
 
--- It all holds: so each run is in order, with settings that are allowed and events of octets, where no mobile begins with a message
--- of radio resource management.
+-- It all holds: so each run is in order, with settings that are allowed and events of octets.
 abbrev pub AllRunsAreInOrder : Parameters → List Event → Type 0
-AllRunsAreInOrder settings events = AreAllowed settings → AreOctetEvents events → AllByRecursion OpensInFlow events → IsInOrderFor (new_actors settings) events
+AllRunsAreInOrder settings events = AreAllowed settings → AreOctetEvents events → IsInOrderFor (new_actors settings) events
 
 -- Of a connection whose switch's link is down it rests on nothing.
 abbrev pub CutNumbersStay : Parameters → List Event → Event → Type 0
