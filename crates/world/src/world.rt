@@ -61,6 +61,7 @@ impl World {
     /// mobiles and its switch count as the settings' network does. It is refused only for want of memory.
     pub fn new(alloc: Global, settings: Settings) -> Result<World, Memory>
         ensures world { IfOk result (λ world. world ≡ controlled_world settings) }
+        ensures begins { IfOk result (λ world. Begins world) }
     {
         Ok(World {
             scene: Scene::Controlled(Network::new(alloc, settings)?),

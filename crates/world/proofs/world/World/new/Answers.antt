@@ -1,0 +1,10 @@
+use Rattle.std.proofs.Common.{rules}
+use Rattle.settings.specs.Parameters.{AreAllowed}
+use Rattle.world.specs.Headline.Begins.{controlled}
+use Rattle.world.proofs.world.World.new.Goals as goal
+
+-- settings are allowed, whichever they are
+pub returns-clause-begins : goal.returns-clause-begins
+returns-clause-begins c =
+    let allowed : AreAllowed c.args.settings = search rules in
+    rw c.in_ok-new.ensures (controlled c.args.settings allowed)
