@@ -1,4 +1,3 @@
-pub mod Numbered
 pub mod Naming
 pub mod Unanswered
 pub mod Opens

@@ -50,7 +50,7 @@ use Rattle.world_order.specs.OctetEvents.{HasFairCause, IsFair}
 use Rattle.world_order.proofs.CauseRows.{HasSmall, IsSmallMessage, IsSmallRow, row_small}
 use Rattle.world_order.proofs.Controllers.{each-behind}
 use Rattle.world_order.proofs.OctetRun.{all-before}
-use Rattle.world_order.proofs.Numbered.{IsOfOne, outs-of-one}
+use Rattle.world_references.proofs.Numbered.{IsOfOne, outs-of-one}
 
 -- ---- a connection of the controller
 

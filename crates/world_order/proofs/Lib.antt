@@ -10,7 +10,6 @@ pub mod OctetSwitch
 pub mod OctetRun
 pub mod PutLists
 pub mod CauseRows
-pub mod Numbered
 pub mod CauseLife
 pub mod Fairly
 pub mod Following
