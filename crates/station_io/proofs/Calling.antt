@@ -2,7 +2,8 @@
 use Rattle.std.proofs.Common.{◌≡◌, ℕ, zero, suc, List, [], ◌∷◌, ◌++◌, length, Option, Some, None, refl, sym, ap, ◌∙◌, subst, arith, append-nil, length-append}
 use mathlib.Core.Option.{some}
 use lib.ListN.{get_elem?}
-use Rattle.call_worker.specs.Call.{Parts, Runs as CallRuns}
+use Rattle.call_worker.specs.Call.{IsMemory, Parts, Runs as CallRuns}
+use Rattle.call_worker.specs.Links.{lines}
 use Rattle.call_worker.specs.Taking.{HasTaken}
 use Rattle.link_io.specs.declared.fault.IoFault.{IoFault}
 use Rattle.relay_items.specs.declared.Item.{Item}
@@ -11,15 +12,15 @@ use Rattle.station_io.specs.declared.work.HasCalled.{HasCalled}
 use Rattle.station_io.specs.Calls.{Calls}
 use Rattle.station_io.specs.Done.{IsCalled}
 
-pub calls : (fault : Option IoFault) (old new : Parts) → CallRuns fault old new → Calls old.controller old.desk old.putters fault new.desk new.putters
-calls None old new runs = record {
+pub calls : (fault : Option IoFault) (old new : Parts) → IsMemory fault → CallRuns fault old new → Calls old.controller old.desk old.putters fault new.desk new.putters
+calls None old new memory runs = record {
   steps = runs.steps;
   items = runs.items;
   taken = subst (λ (is : List Item). HasTaken old.desk is new.desk) (ap (λ last. runs.items ++ last) (runs.none refl) ∙ append-nil runs.items) runs.desk;
   count = runs.count;
   links = runs.links;
 }
-calls (Some fault) old new runs = tt
+calls (Some fault) old new memory runs = (memory, runs.count, λ number p here. let serves = (runs.links number p here).2 in (lines serves.sent, serves.put))
 
 -- the call worker has run without a fault, and what is there is what it gave back
 pub called : {K : Type 0} (w : Calling K) (given d : HasCalled) → (d ≡ given) × (given.fault ≡ None) → Calls w.controller w.desk w.putters.items given.fault given.desk given.putters.items → IsCalled w d

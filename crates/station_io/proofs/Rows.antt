@@ -23,11 +23,12 @@ use Rattle.ruled_relay.specs.declared.outbox.Line.TheVariants as marks
 use Rattle.ruled_relay.specs.Ends.{EndView}
 use Rattle.ruled_relay.specs.Inbox.{PassView}
 use Rattle.ruled_relay.specs.Outbox.{PutterView, TakerView}
+use Rattle.ruled_relay.specs.Row.{EachAt}
 use Rattle.ruled_relay.specs.Rule.{taking}
 use Rattle.station_io.specs.declared.link.Link.{Link}
 use Rattle.station_io.specs.declared.work.HasRead.{HasRead}
 use Rattle.station_io.specs.declared.work.HasWritten.{HasWritten}
-use Rattle.station_io.specs.Calls.{Calls}
+use Rattle.station_io.specs.Calls.{Calls, HasEnd}
 use Rattle.station_io.specs.Done.{AreRead, AreWritten}
 use Rattle.station_io.specs.Given.{Follows, HasRoom, all_given, given_back}
 use Rattle.station_io.specs.Links.{Comes, Ended, LinkView, Relays, Writes, ended_view, fault_of, link_view}
@@ -352,9 +353,24 @@ one_writer_is_missing alloc a bad = omega (arith, bad.0)
 
 -- ---- a run of the call worker
 
--- a fault says nothing of what was taken and put
-a_fault_says_nothing : (a : TableId) → Calls start (end_at a [] ∷ []) (putter a [] 0 ∷ []) (Some Memory) [] []
-a_fault_says_nothing a = tt
+has_end : (a : TableId) → EachAt (putter a (marks.Frame ping ∷ marks.End ∷ []) 0 ∷ []) (λ number p. HasEnd p)
+has_end a zero p here = subst (λ (q : PutterView). HasEnd q) (some-injective (putter a (marks.Frame ping ∷ marks.End ∷ []) 0) p here) (marks.Frame ping ∷ [], refl)
+has_end a (suc number) p here = absurd (some-ne-none p (sym here))
+
+-- a fault says nothing of what was taken
+fault_behind_end : (a : TableId) → Calls start (end_at a [] ∷ []) (putter a [] 0 ∷ []) (Some Memory) [] (putter a (marks.Frame ping ∷ marks.End ∷ []) 0 ∷ [])
+fault_behind_end a = (refl, refl, has_end a)
+
+fault_without_end : (a : TableId) → Calls start [] (putter a [] 0 ∷ []) (Some Memory) [] (putter a [] 0 ∷ []) → ⊥
+fault_without_end a bad =
+    let last = bad.2 0 (putter a [] 0) refl in
+    omega (arith, ap length last.1, length-append last.0 (marks.End ∷ []))
+
+fault_loses_an_outbox : (a : TableId) → Calls start [] (putter a [] 0 ∷ []) (Some Memory) [] [] → ⊥
+fault_loses_an_outbox a bad = omega (arith, bad.1)
+
+another_fault : Calls start [] [] (Some ReadFailed) [] [] → ⊥
+another_fault bad = let e : ReadFailed ≡ Memory = bad.0 in absurd (cc e)
 
 no_links : Calls start [] [] None [] []
 no_links = record { steps = []; items = []; taken = (refl, λ at e h. absurd (some-ne-none e (sym h))); count = refl; links = λ at p h. absurd (some-ne-none p (sym h)) }

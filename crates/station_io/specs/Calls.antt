@@ -1,5 +1,5 @@
 -- What the call worker leaves to the links.
-use Rattle.std.specs.Prelude.{◌≡◌, ℕ, List, [], length, Option, Some, None}
+use Rattle.std.specs.Prelude.{◌≡◌, ℕ, List, [], ◌∷◌, ◌++◌, length, Option, Some, None}
 use mathlib.Core.Option.{some}
 use lib.ListN.{get_elem?}
 use Rattle.call_worker.specs.Call.{Serves}
@@ -8,7 +8,10 @@ use Rattle.call_worker.specs.Taking.{HasTaken}
 use Rattle.controller_table.specs.declared.step.Step.{Step}
 use Rattle.controller_table.specs.Controller.{Controller}
 use Rattle.link_io.specs.declared.fault.IoFault.{IoFault}
+use Rattle.link_io.specs.declared.fault.IoFault.TheVariants.{Memory}
 use Rattle.relay_items.specs.declared.Item.{Item}
+use Rattle.ruled_relay.specs.declared.outbox.Line.{Line}
+use Rattle.ruled_relay.specs.declared.outbox.Line.TheVariants.{End}
 use Rattle.ruled_relay.specs.Outbox.{PutterView}
 use Rattle.ruled_relay.specs.Row.{EachAt, Row}
 
@@ -21,6 +24,11 @@ pub record Runs (start : Controller) (desk : Row) (putters : List PutterView) (l
   pub links : EachAt ended (λ number p.
       (before : PutterView) × (get_elem? putters number ≡ some before) × Serves None steps (frames_to number (over start steps).outs) items number before p)
 
+-- End was put last
+abbrev pub HasEnd : PutterView → Type 0
+HasEnd p = (before : List Line) × (p.put ≡ before ++ End ∷ [])
+
+-- A fault is want of memory; then too each outbox has its End, so that its writer ends.
 abbrev pub Calls : Controller → Row → List PutterView → Option IoFault → Row → List PutterView → Type 0
 Calls start desk putters None left ended = Runs start desk putters left ended
-Calls start desk putters (Some fault) left ended = Unit {0}
+Calls start desk putters (Some fault) left ended = (fault ≡ Memory) × (length ended ≡ length putters) × EachAt ended (λ number p. HasEnd p)
