@@ -123,6 +123,15 @@ keeps_no_channel : usual_channels (after handing_over (down 1 ∷ [])) ≡ Free 
 unfolding on_literals
 keeps_no_channel = refl
 
+-- where the switch's link breaks, each is free once its release is acknowledged
+frees_none_with_the_switch : usual_channels (after handing_over (down 0 ∷ [])) ≡ Releasing 1 ∷ Free ∷ Free ∷ Releasing 1 ∷ Free ∷ []
+unfolding on_literals
+frees_none_with_the_switch = refl
+
+frees_one_after_the_switch : usual_channels (after handing_over (down 0 ∷ from_station 1 (0x08 ∷ 0x33 ∷ 0x01 ∷ 0x41 ∷ []) ∷ [])) ≡ Free ∷ Free ∷ Free ∷ Releasing 1 ∷ Free ∷ []
+unfolding on_literals
+frees_one_after_the_switch = refl
+
 has_two_channels : usual_channels handing_over ≡ InUse 1 ∷ Free ∷ Free ∷ InUse 1 ∷ Free ∷ []
 unfolding on_literals
 has_two_channels = refl
