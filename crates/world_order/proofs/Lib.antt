@@ -17,3 +17,19 @@ pub mod Modulus
 pub mod InOrder
 pub mod Whole
 mod Rows
+pub mod Naming
+pub mod Unanswered
+pub mod Opens
+pub mod Beginning
+pub mod Coming
+mod AnswerRows
+pub mod Numbering
+pub mod Avoiding
+pub mod NoData
+pub mod AirDown
+pub mod QuietDown
+pub mod Early
+pub mod Down
+pub mod Begin
+pub mod Begun
+mod BesideRows

@@ -27,9 +27,9 @@ use Rattle.world_access.proofs.CameLaw.{ControllerBringsComing-new}
 use Rattle.world_access.proofs.Coming.{OthersKeepComing-new}
 use Rattle.world_access.proofs.Opened.{OpenedStayOpened-new}
 use Rattle.world_channels.proofs.BegunRun.{EstablishedAreActive-new, ServedAreActive-new}
-use Rattle.world_beside.proofs.Begun.{ChannelsBeginQuiet-new}
-use Rattle.world_beside.specs.QuietDown.{Quiet}
-use Rattle.world_beside.proofs.Down.{ChannelsStayQuiet-new, QuietLetsNoneGo-new}
+use Rattle.world_order.proofs.Begun.{ChannelsBeginQuiet-new}
+use Rattle.world_order.specs.QuietDown.{Quiet}
+use Rattle.world_order.proofs.Down.{ChannelsStayQuiet-new, QuietLetsNoneGo-new}
 use Rattle.controller_table.specs.Controller.{place_of}
 use Rattle.world_order.proofs.Openers.{snoc-actors}
 use Rattle.world_references.proofs.Always.{PeersDiffer-new}
@@ -39,9 +39,9 @@ use Rattle.world_handling.specs.Faring.FaresOn.{goes_on as fares-on, is_over as 
 use Rattle.world_handling.proofs.Faring.{LiveConnectionsFareOn-new}
 use Rattle.world_owners.proofs.Alone.{ConnectionsAreAlone-new}
 use Rattle.world_owners.proofs.OneEach.{ConnectionsAreOneEach-new}
-use Rattle.world_answers.specs.Beginning.{HasBegun}
-use Rattle.world_answers.specs.Beginning.HasBegun.{not_yet as no-number, begins as begins-so}
-use Rattle.world_answers.proofs.Coming.{ConnectionsBeginComing-new}
+use Rattle.world_order.specs.Beginning.{HasBegun}
+use Rattle.world_order.specs.Beginning.HasBegun.{not_yet as no-number, begins as begins-so}
+use Rattle.world_order.proofs.Coming.{ConnectionsBeginComing-new}
 use Rattle.world_references.specs.Over.{TakesOctets}
 use Rattle.world_references.specs.Taken.{HasNotAsked, IsEarlyIn, IsUnheardOf}
 use Rattle.world_references.proofs.Heard.{DroppedAreUnheard-new, SwitchDeliversOrRefuses-new, UnaskedAreUnheardOf-new, UnheardStayUnheard-new}

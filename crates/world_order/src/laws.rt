@@ -1,9 +1,39 @@
 ghost use Rattle.std.specs.Prelude.{List};
 ghost use Rattle.settings.specs.Parameters.{Parameters};
 ghost use Rattle.world_table.specs.declared.event.Event.{Event as WorldEvent};
+ghost use Rattle.world_order.specs.Beginning.{ConnectionsBegin, ConnectionsBeginComing};
 ghost use Rattle.world_order.specs.OctetEvents.{ComeInOctets, PutsFairly, StationsGiveOctets};
 ghost use Rattle.world_order.specs.Order.{AllRunsAreInOrder, CutNumbersStay};
+ghost use Rattle.world_order.specs.QuietDown.{ChannelsBeginQuiet, ChannelsStayQuiet, QuietLetsNoneGo};
 ghost use Rattle.world_order.specs.Standing.{SwitchIsOfModulus};
+ghost use Rattle.world_order.specs.Unanswered.{UnansweredMobilesAsk};
+
+/// Law: whatever events happened, a mobile to which no connection was ever the answer is as it connected: it asks for a channel, and
+/// sent nothing. And no IMMEDIATE ASSIGNMENT that waits for a station names it. So it is with settings that are allowed, where what
+/// came was octets. It does nothing, as all here.
+pub fn unanswered_mobiles_ask()
+    ensures { (settings : Parameters) (events : List WorldEvent) → UnansweredMobilesAsk settings events }
+{}
+
+/// Law: whatever events happened before, a connection that begins at an event is in its first state, the mobile that asked for it is
+/// as it connected, nothing is on its way on its channel, and no one told the mobile a channel.
+pub fn connections_begin()
+    ensures { (settings : Parameters) (events : List WorldEvent) (event : WorldEvent) → ConnectionsBegin settings events event }
+{}
+
+/// Law: so it is coming to its mobile, whatever message the mobile begins with.
+pub fn connections_begin_coming()
+    ensures { (settings : Parameters) (events : List WorldEvent) (event : WorldEvent) → ConnectionsBeginComing settings events event }
+{}
+
+/// Law: whatever events happened, the serving channel of a connection that begins at an event is quiet, and that of one that hasn't
+/// asked the switch for its connection yet stays so at an event: its activation waits, and it isn't active, or nothing is in its air
+/// and no DATA REQUEST for it waits. So no CHANNEL RELEASE is in the air there. It does nothing, as all here.
+pub fn channel_of_a_coming_one_is_quiet_down()
+    ensures begins { (settings : Parameters) (events : List WorldEvent) (event : WorldEvent) → ChannelsBeginQuiet settings events event }
+    ensures stays { (settings : Parameters) (events : List WorldEvent) (event : WorldEvent) → ChannelsStayQuiet settings events event }
+    ensures none_go { (settings : Parameters) (events : List WorldEvent) → QuietLetsNoneGo settings events }
+{}
 
 /// Law: once the link of the switch is down, a number stays as it stands, whatever happens: the switch has no connection for it and
 /// nothing of it waits, or what it took of it is in order, of the mobile that was first served. It does nothing, as all here.

@@ -9,7 +9,7 @@ use Rattle.world_table.specs.Life.{actors_after, actors_after_all}
 use Rattle.world_table.specs.World.{Actors, Mobile, mobile_of, modulus_in, new_actors}
 use Rattle.world_laws.specs.OthersFrame.{CameInOctets, IsHad}
 use Rattle.world_access.specs.Coming.{IsComing}
-use Rattle.world_answers.specs.Unanswered.{IsAsItConnected, NoneNames}
+use Rattle.world_order.specs.Unanswered.{IsAsItConnected, NoneNames}
 use Rattle.world_targets.specs.Quiet.{IsQuiet}
 
 -- ---- a connection that begins

@@ -28,9 +28,9 @@ use Rattle.controller_table.specs.Controller.{channel_state, is_up as hears}
 use Rattle.world_targets.specs.Quiet.{is_ending}
 use Rattle.world_targets.proofs.Settled.{comes-idle}
 use Rattle.world_targets.proofs.Ways.{come-up}
-use Rattle.world_beside.specs.QuietDown.{NoDataEntry, Waits, activates}
-use Rattle.world_beside.specs.QuietDown.Waits.{here, later}
-use Rattle.world_beside.proofs.NoData.{NoDataOut, entries-none}
+use Rattle.world_order.specs.QuietDown.{NoDataEntry, Waits, activates}
+use Rattle.world_order.specs.QuietDown.Waits.{here, later}
+use Rattle.world_order.proofs.NoData.{NoDataOut, entries-none}
 
 -- ---- what is put
 

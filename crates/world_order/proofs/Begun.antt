@@ -62,16 +62,16 @@ use Rattle.world_targets.specs.Quiet.{is_ending}
 use Rattle.world_targets.proofs.Calm.{down-active}
 use Rattle.world_targets.proofs.FreeQuiet.{Known, hear-free, known-new}
 use Rattle.world_targets.proofs.Ways.{heard-read}
-use Rattle.world_beside.specs.QuietDown.{ChannelsBeginQuiet, NoDataEntry, Quiet, Waits}
-use Rattle.world_beside.specs.QuietDown.Quiet.{begun, waits}
-use Rattle.world_beside.proofs.Avoiding.{OthersPut, others-put}
-use Rattle.world_beside.proofs.Begin.{begins-waiting}
-use Rattle.world_beside.proofs.Down.{less-one, stations-all, steps-snoc}
-use Rattle.world_beside.proofs.Early.{Fate, fate}
-use Rattle.world_beside.proofs.Early.Fate.{begins, stayed}
-use Rattle.world_beside.proofs.NoData.{NoDataOut, by-each, entries-none, messages-none, pong-none}
-use Rattle.world_beside.proofs.Numbering.{step-numbered}
-use Rattle.world_beside.proofs.QuietDown.{IsIdle, quiet-step}
+use Rattle.world_order.specs.QuietDown.{ChannelsBeginQuiet, NoDataEntry, Quiet, Waits}
+use Rattle.world_order.specs.QuietDown.Quiet.{begun, waits}
+use Rattle.world_order.proofs.Avoiding.{OthersPut, others-put}
+use Rattle.world_order.proofs.Begin.{begins-waiting}
+use Rattle.world_order.proofs.Down.{less-one, stations-all, steps-snoc}
+use Rattle.world_order.proofs.Early.{Fate, fate}
+use Rattle.world_order.proofs.Early.Fate.{begins, stayed}
+use Rattle.world_order.proofs.NoData.{NoDataOut, by-each, entries-none, messages-none, pong-none}
+use Rattle.world_order.proofs.Numbering.{step-numbered}
+use Rattle.world_order.proofs.QuietDown.{IsIdle, quiet-step}
 use Rattle.controller_laws.proofs.UsingLife.{life_ready}
 use Rattle.controller_laws.proofs.UsingWords.{Ready}
 

@@ -43,8 +43,8 @@ use Rattle.world_access.proofs.Mobiles.{AllGo, Goes, IsToMove, all-same, event-g
 use Rattle.world_access.proofs.Mobiles.Goes.{comes as gets, hears, moves, same, stays}
 use Rattle.world_access.proofs.Passes.{Passes, passes-itself}
 use Rattle.world_access.proofs.Travels.{event-passes, is_passing}
-use Rattle.world_answers.specs.Unanswered.{IsAsItConnected, NoneNames, StillAsks, UnansweredMobilesAsk, WasNeverAnswered}
-use Rattle.world_answers.proofs.Naming.{step-names, turn-names}
+use Rattle.world_order.specs.Unanswered.{IsAsItConnected, NoneNames, StillAsks, UnansweredMobilesAsk, WasNeverAnswered}
+use Rattle.world_order.proofs.Naming.{step-names, turn-names}
 use Rattle.world_owners.specs.OneEach.{IsUnanswered}
 use Rattle.world_owners.proofs.Making.{plain-quiet}
 

@@ -29,7 +29,7 @@ use Rattle.world_table.proofs.Honesty.{up-right}
 use Rattle.world_table.proofs.Leads.{OfTaken, FromAir, Seats, assigned-leads, upper-leads, connect-leads, air_up-leads, air_ack-leads, air_down-leads, air_down_lost-leads, move-leads, touch-leads, arrive-leads, return-leads, report-leads, base_takes-leads, handle-leads, turn-leads, push-leads, broken-leads, switch_takes-leads, switch_took-leads, does-leads, after-taken, unless_last-leads}
 use Rattle.world_table.proofs.Ticketing.{reached-station, spot-with_base}
 use Rattle.world_targets.proofs.Places.{is_place, same-place, spot-apart, spot-here}
-use Rattle.world_beside.specs.QuietDown.{NoDataEntry, NoDataOn}
+use Rattle.world_order.specs.QuietDown.{NoDataEntry, NoDataOn}
 
 module _ (at : Place) (at_is : at.station ≢ SWITCH_LINK) where
   abbrev Empty : Actors → Type 0

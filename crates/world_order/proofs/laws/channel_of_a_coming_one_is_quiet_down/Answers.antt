@@ -1,6 +1,6 @@
-use Rattle.world_beside.proofs.Begun.{ChannelsBeginQuiet-new}
-use Rattle.world_beside.proofs.Down.{ChannelsStayQuiet-new, QuietLetsNoneGo-new}
-use Rattle.world_beside.proofs.laws.channel_of_a_coming_one_is_quiet_down.Goals as goal
+use Rattle.world_order.proofs.Begun.{ChannelsBeginQuiet-new}
+use Rattle.world_order.proofs.Down.{ChannelsStayQuiet-new, QuietLetsNoneGo-new}
+use Rattle.world_order.proofs.laws.channel_of_a_coming_one_is_quiet_down.Goals as goal
 
 pub returns-clause-begins : goal.returns-clause-begins
 returns-clause-begins c = ChannelsBeginQuiet-new

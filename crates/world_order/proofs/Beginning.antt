@@ -66,13 +66,13 @@ use Rattle.world_laws.proofs.Sublists.{Sub, sub-behind, sub-nothing}
 use Rattle.world_access.proofs.Passes.{Passes, passes-itself}
 use Rattle.world_access.proofs.Travels.{event-passes, is_passing}
 use Rattle.world_access.proofs.Upcoming.{initials-none}
-use Rattle.world_answers.specs.Beginning.{Begins, ConnectionsBegin, HasBegun}
-use Rattle.world_answers.specs.Beginning.HasBegun.{begins as has_begun, not_yet}
-use Rattle.world_answers.specs.Unanswered.{StillAsks, WasNeverAnswered}
-use Rattle.world_answers.proofs.Naming.{step-names, turn-names}
-use Rattle.world_answers.proofs.Opens.{Opens, take-opens, tick-numbers}
-use Rattle.world_answers.proofs.Opens.Opens.{begins as opens_one, stays as opens_none}
-use Rattle.world_answers.proofs.Unanswered.{UnansweredMobilesAsk-new}
+use Rattle.world_order.specs.Beginning.{Begins, ConnectionsBegin, HasBegun}
+use Rattle.world_order.specs.Beginning.HasBegun.{begins as has_begun, not_yet}
+use Rattle.world_order.specs.Unanswered.{StillAsks, WasNeverAnswered}
+use Rattle.world_order.proofs.Naming.{step-names, turn-names}
+use Rattle.world_order.proofs.Opens.{Opens, take-opens, tick-numbers}
+use Rattle.world_order.proofs.Opens.Opens.{begins as opens_one, stays as opens_none}
+use Rattle.world_order.proofs.Unanswered.{UnansweredMobilesAsk-new}
 use Rattle.world_owners.specs.OneEach.{AsksOnce, requests_in, requests_up, said_in}
 use Rattle.world_owners.proofs.Asking.{asking-says}
 use Rattle.world_owners.proofs.Making.{requests-append}

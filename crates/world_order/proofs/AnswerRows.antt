@@ -10,7 +10,7 @@ use Rattle.world_table.specs.Mobiles.{connected}
 use Rattle.world_table.specs.World.{Actors, Mobile, mobile_of, new_actors}
 use Rattle.world_table.proofs.Worlds.{on_literals}
 use Rattle.world_access.specs.Coming.{behind_first, IsNew}
-use Rattle.world_answers.proofs.Coming.{connected-goes}
+use Rattle.world_order.proofs.Coming.{connected-goes}
 
 begin : Actors
 begin = new_actors usual_settings

@@ -27,10 +27,10 @@ use Rattle.world_table.specs.World.{Actors, Mobile, modulus_in, new_actors, outb
 use Rattle.world_access.specs.Coming.{Assigns, AssignsBy, AssignsIn, behind_first, IsComing, IsEarly, IsNew}
 use Rattle.world_access.specs.Coming.Comes.{asks}
 use Rattle.world_access.specs.Requested.{AssignsAnother, NamesAnother}
-use Rattle.world_answers.specs.Beginning.{Begins, ConnectionsBeginComing, HasBegun}
-use Rattle.world_answers.specs.Beginning.HasBegun.{begins, not_yet}
-use Rattle.world_answers.specs.Unanswered.{IsAsItConnected}
-use Rattle.world_answers.proofs.Beginning.{ConnectionsBegin-new}
+use Rattle.world_order.specs.Beginning.{Begins, ConnectionsBeginComing, HasBegun}
+use Rattle.world_order.specs.Beginning.HasBegun.{begins, not_yet}
+use Rattle.world_order.specs.Unanswered.{IsAsItConnected}
+use Rattle.world_order.proofs.Beginning.{ConnectionsBegin-new}
 
 -- ---- a mobile as it connected
 

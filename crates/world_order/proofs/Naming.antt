@@ -43,7 +43,7 @@ use Rattle.world_table.proofs.Outboxes.{all_join}
 use Rattle.world_laws.proofs.Others.{entry-out}
 use Rattle.world_laws.proofs.OrderTexts.{assignment_back, read-of}
 use Rattle.world_access.specs.Requested.{AssignsAnother, NamesAnother}
-use Rattle.world_answers.specs.Unanswered.{NoneNames}
+use Rattle.world_order.specs.Unanswered.{NoneNames}
 use Rattle.world_references.proofs.Numbered.{AreOfOne, IsOfOne, outs-of-one}
 use Rattle.world_owners.specs.OneEach.{IsUnanswered}
 

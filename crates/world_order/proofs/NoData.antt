@@ -25,8 +25,8 @@ use Rattle.world_table.specs.Stations.{rsl_in}
 use Rattle.world_table.proofs.OwnerPuts.{said_to}
 use Rattle.world_laws.proofs.Others.{entry-out}
 use Rattle.world_laws.proofs.OrderTexts.{no-switch, read-of, said-other, said-own}
-use Rattle.world_beside.specs.QuietDown.{NoDataEntry, NoDataOn}
-use Rattle.world_beside.proofs.Numbering.{AreNumbered, IsNumberedOut}
+use Rattle.world_order.specs.QuietDown.{NoDataEntry, NoDataOn}
+use Rattle.world_order.proofs.Numbering.{AreNumbered, IsNumberedOut}
 
 abbrev pub NoDataOut : Place → Out → Type 0
 NoDataOut at out = NoDataOn at.number (said_to at out)

@@ -9,9 +9,9 @@ use Rattle.world_table.specs.declared.line.AirMessage.{AirMessage}
 use Rattle.world_table.specs.declared.line.OutboxEntry.{OutboxEntry}
 use Rattle.world_table.specs.Stations.{rsl_in}
 use Rattle.world_table.specs.World.{Actors, is_active_at, spot_at}
-use Rattle.world_beside.specs.QuietDown.{NoDataOn, Quiet, Waits, activates}
-use Rattle.world_beside.specs.QuietDown.Waits.{here, later}
-use Rattle.world_beside.specs.QuietDown.Quiet.{waits, begun}
+use Rattle.world_order.specs.QuietDown.{NoDataOn, Quiet, Waits, activates}
+use Rattle.world_order.specs.QuietDown.Waits.{here, later}
+use Rattle.world_order.specs.QuietDown.Quiet.{waits, begun}
 
 abbrev activation : Activation → ℕ → Rsl
 activation a channel = ChannelActivation (record a { channel = channel })

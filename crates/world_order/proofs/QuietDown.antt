@@ -24,10 +24,10 @@ use Rattle.world_table.proofs.Piping.{Step as PipeStep}
 use Rattle.world_table.proofs.Piping.Step.{flows, stops}
 use Rattle.world_laws.proofs.Framing.{all-right}
 use Rattle.world_targets.proofs.Calm.{down-active}
-use Rattle.world_beside.proofs.AirDown.{air-step}
-use Rattle.world_beside.specs.QuietDown.{NoDataEntry, NoDataOn, Quiet, Waits, activates}
-use Rattle.world_beside.specs.QuietDown.Quiet.{begun, waits}
-use Rattle.world_beside.specs.QuietDown.Waits.{here, later}
+use Rattle.world_order.proofs.AirDown.{air-step}
+use Rattle.world_order.specs.QuietDown.{NoDataEntry, NoDataOn, Quiet, Waits, activates}
+use Rattle.world_order.specs.QuietDown.Quiet.{begun, waits}
+use Rattle.world_order.specs.QuietDown.Waits.{here, later}
 
 abbrev pub IsIdle : Actors → Place → Type 0
 IsIdle w at = is_active_at w at ≡ false → (spot_at w at).air ≡ []

@@ -44,13 +44,13 @@ use Rattle.world_channels.proofs.Agreeing.{IsPlaced, owns-at, placed-at}
 use Rattle.world_handling.proofs.Finishing.{controller-is, handle-is, tick-is}
 use Rattle.world_handling.proofs.Knowing.{Steps, octets-came, steps-known, world}
 use Rattle.world_targets.proofs.FreeQuiet.{Known, known-new}
-use Rattle.world_beside.specs.QuietDown.{ChannelsStayQuiet, NoDataEntry, Quiet, QuietLetsNoneGo}
-use Rattle.world_beside.proofs.Avoiding.{OthersPut, others-put}
-use Rattle.world_beside.proofs.Early.{Fate, fate}
-use Rattle.world_beside.proofs.Early.Fate.{begins, stayed}
-use Rattle.world_beside.proofs.NoData.{NoDataOut, by-each, entries-none, messages-none, pong-none}
-use Rattle.world_beside.proofs.Numbering.{AreNumbered, step-numbered}
-use Rattle.world_beside.proofs.QuietDown.{IsIdle, quiet-air, quiet-step}
+use Rattle.world_order.specs.QuietDown.{ChannelsStayQuiet, NoDataEntry, Quiet, QuietLetsNoneGo}
+use Rattle.world_order.proofs.Avoiding.{OthersPut, others-put}
+use Rattle.world_order.proofs.Early.{Fate, fate}
+use Rattle.world_order.proofs.Early.Fate.{begins, stayed}
+use Rattle.world_order.proofs.NoData.{NoDataOut, by-each, entries-none, messages-none, pong-none}
+use Rattle.world_order.proofs.Numbering.{AreNumbered, step-numbered}
+use Rattle.world_order.proofs.QuietDown.{IsIdle, quiet-air, quiet-step}
 use Rattle.world_handling.proofs.Knowing.{known}
 
 -- ---- the steps of a run
