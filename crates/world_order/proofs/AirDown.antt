@@ -1,6 +1,6 @@
 -- The air of a channel stays empty, where no DATA REQUEST for the channel is taken.
-use Rattle.std.proofs.Common.{◌≡◌, ◌≢◌, ◌⊎◌, inl, inr, ℕ, ◌+◌, ◌%◌, ◌==◌, ◌&&◌, nat_eq, Bool, true, false, if◌then◌else◌, List, [], ◌∷◌, ◌++◌, unwrap_or, Option, Some, None, refl, sym, ap, ◌∙◌, subst}
-use Rattle.std.proofs.lemmas.Bool.{cases_Bool, eqb-true, eq-eqb}
+use Rattle.std.proofs.Common.{◌≡◌, ◌≢◌, inl, inr, ℕ, ◌+◌, ◌%◌, ◌==◌, ◌&&◌, Bool, true, false, if◌then◌else◌, List, [], ◌∷◌, ◌++◌, unwrap_or, Option, Some, None, refl, sym, ap, ◌∙◌, subst}
+use Rattle.std.proofs.lemmas.Bool.{cases_Bool}
 use Rattle.conn_messages.specs.declared.channel.Place.{Place}
 use Rattle.conn_messages.specs.declared.parameters.TheConstants.{SWITCH_LINK}
 use Rattle.controller_table.specs.Controller.{place_at}
@@ -22,7 +22,7 @@ use Rattle.world_table.specs.declared.seat.Tenure.{Tenure}
 use Rattle.world_table.specs.Life.{event_after, actors_after}
 use Rattle.world_table.specs.Mobiles.{brought, connected, short_message_brought, signalling_brought, after_upper, after_connecting, after_air_up, after_air_ack, after_air_down, after_air_down_lost, after_move, after_touch, after_arriving, after_return, after_report}
 use Rattle.world_table.specs.Relay.{after_base_push, after_handle, after_tick, after_break, target_in}
-use Rattle.world_table.specs.Stations.{accepts, activated, activated_unless, after_base_takes, answered, link_answer, mobile_on, new_tenure, rsl_in, took}
+use Rattle.world_table.specs.Stations.{accepts, activated, activated_unless, after_base_takes, answered, mobile_on, new_tenure, rsl_in, took}
 use Rattle.world_table.specs.SwitchSide.{sccp_in, after_switch_takes, after_switch_does}
 use Rattle.world_table.specs.World.{Actors, Mobile, Spot, base_of, is_active_at, outbox_of, spot_at, tenure_at, with_base, with_outbox, with_spot}
 use Rattle.world_table.proofs.Honesty.{up-right}

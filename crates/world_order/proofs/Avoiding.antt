@@ -1,6 +1,6 @@
 -- What a step puts for one connection passes the channels by that another one uses before and after it.
-use Rattle.std.proofs.Common.{◌≡◌, ◌≢◌, ℕ, ◌==◌, ◌≤◌, ◌&&◌, ◌||◌, not, Bool, true, false, if◌then◌else◌, List, [], ◌∷◌, Option, Some, None, Result, Ok, refl, sym, subst, ap, ◌∙◌, inl, inr, true≢false, eq-eqb}
-use Rattle.std.proofs.lemmas.Bool.{cases_Bool, eqb-true, eqb-false, and_parts}
+use Rattle.std.proofs.Common.{◌≡◌, ◌≢◌, ℕ, ◌==◌, ◌≤◌, ◌&&◌, ◌||◌, not, Bool, false, List, [], ◌∷◌, Option, Some, None, refl, sym, subst, ap, ◌∙◌, inl, inr, true≢false}
+use Rattle.std.proofs.lemmas.Bool.{cases_Bool, eqb-true, and_parts}
 use Rattle.std.specs.List.{AllByRecursion, list_any}
 use Rattle.conn_messages.specs.declared.channel.Change.{Change}
 use Rattle.conn_messages.specs.declared.channel.Change.TheVariants.{Assignment, Handover}
@@ -8,8 +8,7 @@ use Rattle.conn_messages.specs.declared.channel.Channel.{Channel}
 use Rattle.conn_messages.specs.declared.channel.Place.{Place}
 use Rattle.conn_messages.specs.declared.message.Message.{Message}
 use Rattle.conn_messages.specs.declared.message.Message.TheVariants.{Station, Request, Data, ReleaseComplete}
-use Rattle.conn_messages.specs.declared.out.Out.{Out}
-use Rattle.conn_messages.specs.Out.{IsReadOf, out_of, outs_of}
+use Rattle.conn_messages.specs.Out.{outs_of}
 use Rattle.conn_messages.specs.StationMessage.{change_activation}
 use Rattle.conn_table.proofs.DownlinkMessages.{AllByRecursion-append}
 use Rattle.conn_table.specs.declared.input.Input.{Input}
@@ -24,7 +23,7 @@ use Rattle.conn_table.specs.Steps.{Row}
 use Rattle.conn_table.specs.Streams.{IsOpen}
 use Rattle.controller_laws.specs.Acts.{Acts, Brought, brought_in, kept_in}
 use Rattle.controller_laws.specs.Acts.Acts.{ages, goes, opens, rests}
-use Rattle.controller_laws.specs.History.{connection_of, is_for, outs_for}
+use Rattle.controller_laws.specs.History.{connection_of, outs_for}
 use Rattle.controller_laws.specs.Owning.{OwnsOpen}
 use Rattle.controller_laws.specs.Placing.{used_by}
 use Rattle.controller_laws.proofs.Fitting.{IsFine, aged_holds, fine_old}
@@ -36,21 +35,10 @@ use Rattle.controller_laws.proofs.UsingLife.{life_after, run_step}
 use Rattle.controller_table.specs.declared.channel_state.ChannelState.{ChannelState}
 use Rattle.controller_table.specs.declared.channel_state.ChannelState.TheVariants.{InUse}
 use Rattle.controller_table.specs.declared.step.Step.{Step}
-use Rattle.controller_table.specs.declared.step.Step.TheVariants.{Take}
-use Rattle.controller_table.specs.declared.word.Word.TheVariants.{Ping}
 use Rattle.controller_table.specs.Controller.{Controller, channel_state, is_up, place_at, place_of, state_in}
-use Rattle.controller_table.specs.Life.{life, step, take}
-use Rattle.controller_table.specs.Ownership.{concerned}
-use Rattle.controller_table.specs.Reading.{word_of}
+use Rattle.controller_table.specs.Life.{life, step}
 use Rattle.conn_messages.specs.declared.parameters.TheConstants.{SWITCH_LINK}
-use Rattle.ipa_framing.specs.declared.frame.Frame.{Frame}
-use Rattle.relay_items.specs.declared.What.TheVariants as whats
-use Rattle.rsl_codec.specs.declared.fault.RslFault.{RslFault}
-use Rattle.rsl_codec.specs.declared.radio_link.Data.{Data as DataMessage}
-use Rattle.rsl_codec.specs.declared.rsl.Rsl.{Rsl}
 use Rattle.rsl_codec.specs.declared.rsl.Rsl.TheVariants as rsl
-use Rattle.rsl_codec.specs.RslReading.{rsl_reading}
-use Rattle.rsl_codec.specs.RslText.{rsl_text}
 use Rattle.settings.specs.Parameters.{AreAllowed, Parameters}
 use Rattle.controller_laws.proofs.Passing.{IsNotOn, UsesElsewhere}
 

@@ -1,12 +1,12 @@
 -- The serving channel of a connection that begins is quiet: its activation waits, or goes to no link.
-use Rattle.std.proofs.Common.{◌≡◌, ◌≢◌, ◌⊎◌, inl, inr, ℕ, ◌≤◌, ◌==◌, ◌&&◌, nat_eq, not, Bool, true, false, cond, if◌then◌else◌, map, length, List, [], ◌∷◌, ◌++◌, Contains, Option, Some, None, refl, sym, ap, ◌∙◌, subst, arith, append_assoc}
-use Rattle.std.proofs.lemmas.Bool.{cases_Bool, cond-false, cond-true, eqb-true, eqb-false, ne_eqb, eq-eqb}
+use Rattle.std.proofs.Common.{◌≡◌, ◌⊎◌, ℕ, ◌==◌, ◌&&◌, not, Bool, true, false, cond, if◌then◌else◌, map, List, [], ◌∷◌, ◌++◌, Option, Some, None, refl, sym, ap, ◌∙◌, subst}
+use Rattle.std.proofs.lemmas.Bool.{cond-false, cond-true, ne_eqb, eq-eqb}
 use Rattle.std.proofs.lemmas.List.{append-nil}
-use Rattle.std.specs.List.{AllByRecursion, list_any, flat_map}
+use Rattle.std.specs.List.{AllByRecursion}
 use Rattle.conn_messages.specs.declared.channel.Place.{Place}
 use Rattle.conn_messages.specs.declared.out.Out.{Out}
 use Rattle.controller_table.specs.declared.channel_state.ChannelState.{ChannelState}
-use Rattle.controller_table.specs.declared.channel_state.ChannelState.TheVariants.{Free, InUse, Releasing}
+use Rattle.controller_table.specs.declared.channel_state.ChannelState.TheVariants.{Free, InUse}
 use Rattle.link_model.specs.Message.{activation_ack}
 use Rattle.rsl_codec.specs.declared.rsl.Rsl.{Rsl}
 use Rattle.rsl_codec.specs.declared.rsl.Rsl.TheVariants as rsl
@@ -17,18 +17,17 @@ use Rattle.world_table.specs.Pipe.{acknowledgement, due, is_active_then}
 use Rattle.world_table.specs.Queues.{to_link}
 use Rattle.world_table.specs.Relay.{entry_of}
 use Rattle.world_table.specs.Stations.{rsl_in}
-use Rattle.world_table.specs.World.{Actors, is_active_at, is_up, outbox_of, spot_at}
+use Rattle.world_table.specs.World.{Actors, is_active_at, is_up, outbox_of}
 use Rattle.world_table.proofs.Outboxes.{Both-empty}
-use Rattle.world_table.proofs.OwnerPuts.{Goes, Passes, Runs, runs-kept, said_to}
+use Rattle.world_table.proofs.OwnerPuts.{Goes, Passes, runs-kept, said_to}
 use Rattle.world_table.proofs.OwnerPuts.Goes.{activates as goes_activates, first_passes, runs}
-use Rattle.world_table.proofs.OwnerTurn.{hear}
 use Rattle.world_laws.specs.Acknowledged.{acknowledgements_up}
 use Rattle.world_laws.proofs.Others.{entry-out}
 use Rattle.controller_table.specs.Controller.{channel_state, is_up as hears}
 use Rattle.world_targets.specs.Quiet.{is_ending}
 use Rattle.world_targets.proofs.Settled.{comes-idle}
 use Rattle.world_targets.proofs.Ways.{come-up}
-use Rattle.world_order.specs.QuietDown.{NoDataEntry, Waits, activates}
+use Rattle.world_order.specs.QuietDown.{Waits, activates}
 use Rattle.world_order.specs.QuietDown.Waits.{here, later}
 use Rattle.world_order.proofs.NoData.{NoDataOut, entries-none}
 

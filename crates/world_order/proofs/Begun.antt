@@ -1,5 +1,5 @@
 -- The serving channel of a connection that begins is quiet.
-use Rattle.std.proofs.Common.{◌≡◌, ◌≢◌, ◌⊎◌, inl, inr, ℕ, ◌-◌, ◌≤◌, ◌==◌, nat_eq, Bool, true, false, if◌then◌else◌, map, length, List, [], ◌∷◌, ◌++◌, option_map, Contains, Option, Some, None, refl, sym, ap, ◌∙◌, subst, arith, append_assoc}
+use Rattle.std.proofs.Common.{◌≡◌, ◌≢◌, ◌⊎◌, inl, inr, ℕ, ◌≤◌, nat_eq, Bool, true, false, if◌then◌else◌, map, length, List, [], ◌∷◌, ◌++◌, Contains, Option, Some, None, refl, sym, ap, ◌∙◌, subst, arith, append_assoc}
 use Rattle.std.proofs.lemmas.Bool.{cases_Bool, eqb-true, eqb-false}
 use Rattle.std.proofs.lemmas.List.{append-nil}
 use Rattle.std.specs.List.{AllByRecursion, flat_map, list_any}
@@ -8,7 +8,6 @@ use Rattle.conn_messages.specs.declared.message.Message.{Message}
 use Rattle.conn_messages.specs.declared.out.Out.{Out}
 use Rattle.conn_messages.specs.declared.parameters.TheConstants.{SWITCH_LINK}
 use Rattle.conn_messages.specs.Out.{outs_of}
-use Rattle.conn_messages.specs.StationMessage.{access_activation}
 use Rattle.conn_table.specs.Connection.{Connection}
 use Rattle.conn_table.proofs.DownlinkMessages.{AllByRecursion-filter}
 use Rattle.controller_laws.specs.Acts.{Acts, brought_in}
@@ -23,7 +22,7 @@ use Rattle.controller_table.specs.declared.channel_state.ChannelState.{ChannelSt
 use Rattle.controller_table.specs.declared.channel_state.ChannelState.TheVariants.{Free, InUse, Releasing}
 use Rattle.controller_table.specs.declared.step.Step.{Step}
 use Rattle.controller_table.specs.declared.step.Step.TheVariants as steps
-use Rattle.controller_table.specs.Controller.{Controller, Turn, channel_state, is_up as hears, place_of}
+use Rattle.controller_table.specs.Controller.{Controller, channel_state, is_up as hears, place_of}
 use Rattle.controller_table.specs.Life.{life, step, take, tick}
 use Rattle.relay_items.specs.declared.Item.{Item as RelayItem}
 use Rattle.rsl_codec.specs.declared.rsl.Rsl.{Rsl}
@@ -33,7 +32,7 @@ use Rattle.world_table.specs.declared.event.Event.{Event}
 use Rattle.world_table.specs.declared.event.Event.TheVariants as events
 use Rattle.world_table.specs.declared.line.OutboxEntry.{OutboxEntry}
 use Rattle.world_table.specs.declared.seat.Tenure.{Tenure}
-use Rattle.world_table.specs.Life.{actors_after, actors_after_all}
+use Rattle.world_table.specs.Life.{actors_after}
 use Rattle.world_table.specs.OwnerLines.{AllAgree}
 use Rattle.world_table.specs.Owners.{owner_in}
 use Rattle.link_model.specs.Base.{is_active}
@@ -41,17 +40,17 @@ use Rattle.world_table.specs.Pipe.{acknowledgements, active_all}
 use Rattle.world_table.specs.Queues.{outputs, outputs_at, put, taken, to_link}
 use Rattle.world_table.specs.Relay.{entry_of, target_in}
 use Rattle.world_table.specs.Steps.{all_steps, first_taken, step_at}
-use Rattle.world_table.specs.World.{Actors, Link, base_of, is_active_at, is_up, new_actors, outbox_of, spot_at}
+use Rattle.world_table.specs.World.{Actors, Link, base_of, is_active_at, is_up, new_actors, outbox_of}
 use Rattle.world_table.proofs.Living.{LivesByTable-new}
 use Rattle.world_table.proofs.Outboxes.{step as outbox-step, Step as OutboxStep}
 use Rattle.world_table.proofs.Outboxes.Step.{goes, breaks}
-use Rattle.world_table.proofs.OwnerPuts.{Goes, Runs, runs-kept}
+use Rattle.world_table.proofs.OwnerPuts.{Goes, runs-kept}
 use Rattle.world_table.proofs.OwnerPuts.Goes.{activates as goes_activates, first_passes, runs}
 use Rattle.world_table.proofs.OwnerRuns.{ServesAt, heard_of}
 use Rattle.world_table.proofs.OwnerTurn.{Serves, hear}
 use Rattle.world_table.proofs.Piping.{acks-append, length-stations_from, step as pipe-step, Step as PipeStep}
 use Rattle.world_table.proofs.Piping.Step.{flows, stops}
-use Rattle.world_laws.specs.Acknowledged.{acknowledgements_up, is_release_ack, messages_up, read_of}
+use Rattle.world_laws.specs.Acknowledged.{acknowledgements_up, is_release_ack, read_of}
 use Rattle.world_laws.specs.OthersFrame.{CameInOctets, IsHad}
 use Rattle.world_laws.proofs.OwnerRun.{serves-event, snoc-actors}
 use Rattle.world_access.specs.Coming.{IsEarly}

@@ -1,5 +1,5 @@
 -- Definitions against literal values: which entries activate channel 8 or send on it, what waits, and what is quiet.
-use Rattle.std.proofs.Common.{◌≡◌, ℕ, true, false, List, [], ◌∷◌, Some, None, refl, sym, ap, ◌∙◌}
+use Rattle.std.proofs.Common.{◌≡◌, ℕ, true, false, [], ◌∷◌, Some, None, refl, sym, ap, ◌∙◌}
 use Rattle.conn_messages.specs.declared.channel.Place.{Place}
 use Rattle.rsl_codec.specs.declared.dedicated_channel.Activation.{Activation}
 use Rattle.rsl_codec.specs.declared.radio_link.Data.{Data as DataMessage}

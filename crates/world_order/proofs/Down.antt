@@ -1,11 +1,10 @@
 -- The serving channel of a connection that is coming stays quiet at each event.
-use Rattle.std.proofs.Common.{◌≡◌, ◌≢◌, ◌⊎◌, inl, inr, ℕ, zero, suc, ◌-◌, ◌≤◌, ◌<◌, ◌==◌, nat_eq, Bool, true, false, if◌then◌else◌, map, length, List, [], ◌∷◌, ◌++◌, Option, Some, None, refl, sym, ap, ◌∙◌, subst, arith, append_assoc}
+use Rattle.std.proofs.Common.{◌≡◌, ◌≢◌, inl, inr, ℕ, zero, suc, ◌-◌, ◌≤◌, ◌<◌, nat_eq, Bool, true, false, if◌then◌else◌, map, length, List, [], ◌∷◌, ◌++◌, Option, Some, None, refl, sym, ap, ◌∙◌, subst, arith, append_assoc}
 use Rattle.std.proofs.lemmas.Bool.{cases_Bool, eqb-true, eqb-false}
 use Rattle.std.proofs.lemmas.List.{append-nil}
 use Rattle.std.specs.List.{AllByRecursion}
 use Rattle.conn_messages.specs.declared.channel.Place.{Place}
 use Rattle.conn_messages.specs.declared.message.Message.{Message}
-use Rattle.conn_messages.specs.declared.out.Out.{Out}
 use Rattle.conn_messages.specs.declared.parameters.TheConstants.{SWITCH_LINK}
 use Rattle.conn_messages.specs.Out.{outs_of}
 use Rattle.conn_table.specs.Connection.{Connection}
@@ -16,11 +15,10 @@ use Rattle.controller_laws.specs.Sending.{ComesInOctets, IsSent}
 use Rattle.controller_laws.proofs.Fitting.{IsFine}
 use Rattle.controller_laws.proofs.Passing.{IsNotOn}
 use Rattle.controller_laws.proofs.UsingLife.{life_after}
-use Rattle.controller_table.specs.declared.channel_state.ChannelState.{ChannelState}
 use Rattle.controller_table.specs.declared.channel_state.ChannelState.TheVariants.{Free, InUse}
 use Rattle.controller_table.specs.declared.step.Step.{Step}
 use Rattle.controller_table.specs.declared.step.Step.TheVariants as steps
-use Rattle.controller_table.specs.Controller.{Controller, Turn, channel_state, is_up as hears, place_of}
+use Rattle.controller_table.specs.Controller.{Controller, channel_state, is_up as hears, place_of}
 use Rattle.controller_table.specs.Life.{life, step, take, tick}
 use Rattle.relay_items.specs.declared.Item.{Item as RelayItem}
 use Rattle.settings.specs.Parameters.{AreAllowed, Parameters}
@@ -32,7 +30,7 @@ use Rattle.world_table.specs.Life.{actors_after, actors_after_all}
 use Rattle.world_table.specs.Queues.{outputs, outputs_at, put, to_link}
 use Rattle.world_table.specs.Relay.{entry_of, target_in}
 use Rattle.world_table.specs.Steps.{all_steps, first_taken, step_at}
-use Rattle.world_table.specs.World.{Actors, is_up, new_actors, outbox_of, spot_at}
+use Rattle.world_table.specs.World.{Actors, is_up, new_actors}
 use Rattle.world_table.proofs.Counting.{same-stations}
 use Rattle.world_table.proofs.Living.{LivesByTable-new}
 use Rattle.world_table.proofs.Piping.{length-stations_from, step as pipe-step}
@@ -49,7 +47,7 @@ use Rattle.world_order.proofs.Avoiding.{OthersPut, others-put}
 use Rattle.world_order.proofs.Early.{Fate, fate}
 use Rattle.world_order.proofs.Early.Fate.{begins, stayed}
 use Rattle.world_order.proofs.NoData.{NoDataOut, by-each, entries-none, messages-none, pong-none}
-use Rattle.world_order.proofs.Numbering.{AreNumbered, step-numbered}
+use Rattle.world_order.proofs.Numbering.{step-numbered}
 use Rattle.world_order.proofs.QuietDown.{IsIdle, quiet-air, quiet-step}
 use Rattle.world_handling.proofs.Knowing.{known}
 

@@ -16,6 +16,7 @@ pub mod Following
 pub mod Modulus
 pub mod InOrder
 pub mod Whole
+pub mod Targets
 mod Rows
 pub mod Naming
 pub mod Unanswered

@@ -1,5 +1,5 @@
 -- Outputs and entries that carry no DATA REQUEST on a channel.
-use Rattle.std.proofs.Common.{◌≡◌, ◌≢◌, ◌⊎◌, inl, inr, ℕ, ◌≤◌, ◌==◌, nat_eq, Bool, true, false, cond, if◌then◌else◌, List, [], ◌∷◌, map, Option, Some, None, refl, sym, ap, ◌∙◌, subst}
+use Rattle.std.proofs.Common.{◌≡◌, ◌≢◌, inl, inr, ℕ, ◌≤◌, ◌==◌, Bool, true, false, cond, if◌then◌else◌, List, [], ◌∷◌, map, Option, Some, None, refl, sym, ap, ◌∙◌, subst}
 use Rattle.std.proofs.lemmas.Bool.{cases_Bool, cond-false, cond-true, eqb-true, eq-eqb}
 use Rattle.std.specs.List.{AllByRecursion}
 use Rattle.conn_messages.specs.declared.channel.Place.{Place}
@@ -10,10 +10,9 @@ use Rattle.conn_messages.specs.Out.{out_of, outs_of}
 use Rattle.controller_laws.specs.History.{is_for, outs_for}
 use Rattle.controller_laws.specs.Sending.{IsSent}
 use Rattle.controller_laws.proofs.Passing.{IsNotOn}
-use Rattle.controller_laws.proofs.SeenStations.{is_request, request_is, request_known, same_channel, same_kind}
+use Rattle.controller_laws.proofs.SeenStations.{request_is, request_known, same_channel, same_kind}
 use Rattle.controller_table.specs.Controller.{place_at}
 use Rattle.controller_table.specs.Life.{pong}
-use Rattle.rsl_codec.specs.declared.radio_link.Data.{Data as DataMessage}
 use Rattle.rsl_codec.specs.declared.rsl.Rsl.{Rsl}
 use Rattle.rsl_codec.specs.declared.rsl.Rsl.TheVariants as rsl
 use Rattle.rsl_codec.specs.RslText.{rsl_text}

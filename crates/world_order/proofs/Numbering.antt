@@ -1,10 +1,10 @@
 -- What the controller puts is a connection's, of a number from 1 on, or PONG.
-use Rattle.std.proofs.Common.{◌≡◌, ◌⊎◌, inl, inr, ℕ, ◌≤◌, ◌==◌, Bool, true, false, cond, if◌then◌else◌, List, [], ◌∷◌, ◌++◌, find, map, Option, Some, None, refl, sym, ap, ◌∙◌, subst, arith}
+use Rattle.std.proofs.Common.{◌≡◌, ◌⊎◌, inl, inr, ℕ, ◌≤◌, Bool, true, false, cond, if◌then◌else◌, List, [], ◌∷◌, find, map, Option, Some, None, refl, sym, subst, arith}
 use Rattle.std.specs.List.{AllByRecursion}
 use Rattle.std.specs.Option.{option_and_then}
 use Rattle.conn_messages.specs.declared.message.Message.{Message}
 use Rattle.conn_messages.specs.declared.out.Out.{Out}
-use Rattle.conn_messages.specs.Out.{out_of, outs_of}
+use Rattle.conn_messages.specs.Out.{outs_of}
 use Rattle.conn_table.specs.declared.input.Input.{Input}
 use Rattle.conn_table.specs.declared.input.Input.TheVariants as inputs
 use Rattle.conn_table.specs.Steps.{Row}
@@ -20,7 +20,7 @@ use Rattle.controller_table.specs.declared.word.Word.{Word}
 use Rattle.controller_table.specs.declared.word.Word.TheVariants.{Asks, Nothing, OnChannel, OnConnection, Ping, Reports}
 use Rattle.controller_table.specs.Channels.{access_channel, handover_offer}
 use Rattle.controller_table.specs.Controller.{Controller, Entry, Turn, channel_state, each, entry_of, freed, holder, ignoring, is_up, turn, with_down, with_entry}
-use Rattle.controller_table.specs.Life.{aged, all_aged, asked, break_of, by_fitting, concerning, concerning_too, decided, entry_at, expiry, frees, given, may_open, measured, measures, on_break, on_decision, on_expiry, on_freed, on_report, on_state, on_what, on_word, pong, row_in, step, take, tick, timed, told, with_report}
+use Rattle.controller_table.specs.Life.{aged, all_aged, break_of, by_fitting, concerning, concerning_too, entry_at, expiry, frees, given, may_open, measured, measures, on_decision, on_expiry, on_freed, on_report, on_what, on_word, pong, row_in, step, take, tick, timed, told, with_report}
 use Rattle.controller_table.specs.Reading.{word_of}
 use Rattle.ho_decision.specs.declared.decision.Decision.{Decision}
 use Rattle.ho_decision.specs.declared.decision.Decision.TheVariants.{Move, Stay}

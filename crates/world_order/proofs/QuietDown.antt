@@ -1,13 +1,11 @@
 -- A channel on which no DATA REQUEST was put since its activation has nothing in its air.
-use Rattle.std.proofs.Common.{◌≡◌, ◌≢◌, ◌⊎◌, inl, inr, ℕ, ◌==◌, ◌&&◌, ◌||◌, not, Bool, true, false, if◌then◌else◌, is_some, List, [], ◌∷◌, ◌++◌, Option, Some, None, refl, sym, ap, ◌∙◌, subst}
+use Rattle.std.proofs.Common.{◌≡◌, ◌≢◌, ◌⊎◌, inl, inr, ℕ, ◌==◌, ◌&&◌, not, Bool, true, false, if◌then◌else◌, is_some, List, [], ◌∷◌, ◌++◌, Option, Some, None, refl, sym, ap, ◌∙◌, subst}
 use Rattle.std.proofs.lemmas.Bool.{eqb-true}
 use Rattle.std.specs.List.{AllByRecursion}
 use Rattle.conn_messages.specs.declared.channel.Place.{Place}
 use Rattle.conn_messages.specs.declared.parameters.TheConstants.{SWITCH_LINK}
 use Rattle.conn_table.proofs.DownlinkMessages.{AllByRecursion-append}
-use Rattle.link_model.specs.BaseState.{BaseState}
 use Rattle.link_model.specs.Base.{is_active}
-use Rattle.rsl_codec.specs.declared.radio_link.Data.{Data as DataMessage}
 use Rattle.rsl_codec.specs.declared.rsl.Rsl.{Rsl}
 use Rattle.rsl_codec.specs.declared.rsl.Rsl.TheVariants as rsl
 use Rattle.world_table.specs.declared.event.Event.{Event}
@@ -17,7 +15,7 @@ use Rattle.world_table.specs.Life.{actors_after, event_after}
 use Rattle.world_table.specs.Pipe.{active_all, is_active_then}
 use Rattle.world_table.specs.Queues.{first_of, put, taken}
 use Rattle.world_table.specs.Stations.{rsl_in}
-use Rattle.world_table.specs.World.{Actors, Link, base_of, is_active_at, is_up, outbox_of, spot_at}
+use Rattle.world_table.specs.World.{Actors, Link, is_active_at, is_up, outbox_of, spot_at}
 use Rattle.world_table.proofs.Outboxes.{step as outbox-step, Step as OutboxStep}
 use Rattle.world_table.proofs.Outboxes.Step.{goes, breaks}
 use Rattle.world_table.proofs.Piping.{Step as PipeStep}

@@ -1,5 +1,5 @@
 -- Rows: which states asked the switch, which events are of octets, and what is fair.
-use Rattle.std.proofs.Common.{◌≡◌, ◌<◌, true, false, List, [], ◌∷◌, map, Some, None, refl, arith}
+use Rattle.std.proofs.Common.{◌≡◌, ◌<◌, true, false, [], ◌∷◌, map, Some, None, refl, arith}
 use Rattle.bssmap_codec.specs.declared.sccp.Sccp.TheVariants.{ConnectionRequest}
 use Rattle.conn_table.specs.declared.state.Clearing.TheVariants.{Due}
 use Rattle.conn_table.specs.declared.state.State.TheVariants.{WaitActivation, WaitEstablish, WaitConfirm, Closed, Removed}

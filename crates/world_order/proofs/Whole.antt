@@ -1,11 +1,10 @@
 -- All that the order of a run rests on holds: what is a law elsewhere, in the form in which it is used.
-use Rattle.std.proofs.Common.{◌≡◌, ℕ, ◌≤◌, Bool, true, false, List, [], ◌∷◌, ◌++◌, Option, Some, None, option_map, inl, inr, refl, sym, ap, ◌∙◌, subst}
+use Rattle.std.proofs.Common.{◌≡◌, ℕ, ◌≤◌, Bool, true, false, List, [], ◌∷◌, ◌++◌, Option, Some, None, inl, inr, refl, sym, subst}
 use Rattle.std.specs.List.{AllByRecursion}
 use Rattle.conn_messages.specs.declared.parameters.TheConstants.{SWITCH_LINK}
 use Rattle.conn_table.specs.declared.state.State.{State}
 use Rattle.conn_table.specs.declared.state.State.TheVariants.{WaitActivation, WaitEstablish, WaitConfirm, Live, Closed, Removed}
 use Rattle.conn_table.specs.Connection.{Connection}
-use Rattle.controller_laws.specs.End.{IsThere}
 use Rattle.controller_laws.specs.History.{connection_of}
 use Rattle.controller_laws.specs.Sending.{ComesInOctets}
 use Rattle.controller_table.specs.declared.step.Step.{Step}
@@ -16,7 +15,6 @@ use Rattle.world_table.specs.Life.{actors_after, actors_after_all}
 use Rattle.world_table.specs.Steps.{all_steps, step_at}
 use Rattle.world_table.specs.World.{Actors, Mobile, is_up, modulus_in, new_actors}
 use Rattle.world_laws.specs.OthersFrame.{CameInOctets, IsHad}
-use Rattle.world_laws.specs.Lives.{AcksAgree, Lives}
 use Rattle.world_laws.specs.Seated.{IsAlone}
 use Rattle.world_laws.proofs.StationTakes.{StationsKeepLineUps-new}
 use Rattle.world_access.specs.Arriving.{IsKnown, is_of_others}
@@ -48,7 +46,7 @@ use Rattle.world_references.proofs.Heard.{DroppedAreUnheard-new, SwitchDeliversO
 use Rattle.world_references.proofs.Over.{OverPutsNoMore-new}
 use Rattle.world_targets.specs.Fresh.{IsFreshIn}
 use Rattle.world_targets.proofs.StaysFresh.{FreshTells-new, TargetsStayFresh-new}
-use Rattle.world_order.specs.Facts.{Begun, Came, Handled, Holds, HoldsAt, IsAsking, IsOfController, IsOver}
+use Rattle.world_order.specs.Facts.{Begun, Came, Handled, Holds, HoldsAt, IsAsking, IsOfController}
 use Rattle.world_order.specs.Facts.Begun.{not_yet, begins}
 use Rattle.world_order.specs.Facts.Came.{comes, asks, goes}
 use Rattle.world_order.specs.Facts.Handled.{goes_on, ends}
@@ -220,7 +218,7 @@ holds-at-of settings events event allowed octets =
 
 -- ---- so each run is in order
 
-facts : (settings : Parameters) → Facts settings (IsComingTo settings) IsFresh
+pub facts : (settings : Parameters) → Facts settings (IsComingTo settings) IsFresh
 facts settings = record {
   holds = holds-of settings;
   holds_at = holds-at-of settings;

@@ -2,6 +2,7 @@ pub mod Openers
 pub mod Standing
 pub mod Facts
 pub mod Order
+pub mod Targets
 pub mod OctetEvents
 pub mod Unanswered
 pub mod Beginning

@@ -6,6 +6,7 @@ ghost use Rattle.world_order.specs.OctetEvents.{ComeInOctets, PutsFairly, Statio
 ghost use Rattle.world_order.specs.Order.{AllRunsAreInOrder, CutNumbersStay};
 ghost use Rattle.world_order.specs.QuietDown.{ChannelsBeginQuiet, ChannelsStayQuiet, QuietLetsNoneGo};
 ghost use Rattle.world_order.specs.Standing.{SwitchIsOfModulus};
+ghost use Rattle.world_order.specs.Targets.{TargetsAreFresh};
 ghost use Rattle.world_order.specs.Unanswered.{UnansweredMobilesAsk};
 
 /// Law: whatever events happened, a mobile to which no connection was ever the answer is as it connected: it asks for a channel, and
@@ -66,4 +67,11 @@ pub fn octets_come()
 /// upper layers sent, once and in order, and no gap is ever judged: with settings that are allowed, where events are of octets.
 pub fn runs_are_in_order()
     ensures { (settings : Parameters) (events : List WorldEvent) → AllRunsAreInOrder settings events }
+{}
+
+/// Law: while the link of the switch is up, whatever events happened, the target of a change of channel is fresh: nothing comes of it
+/// before the mobile is commanded there, and from then on COMPLETE comes first. So it is for each connection that the switch confirmed,
+/// with settings that are allowed, where events are of octets. It does nothing, as all here.
+pub fn targets_are_fresh()
+    ensures { (settings : Parameters) (events : List WorldEvent) → TargetsAreFresh settings events }
 {}

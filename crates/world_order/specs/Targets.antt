@@ -1,0 +1,30 @@
+-- In each run: nothing comes of the channel to which a connection changes before its mobile is commanded there, and then COMPLETE
+-- comes first. That is the second thing that an honest station keeps, beside the laws of stations alone.
+use Rattle.std.specs.Prelude.{◌≡◌, ℕ, true, Option, Some, List}
+use Rattle.conn_messages.specs.declared.parameters.TheConstants.{SWITCH_LINK}
+use Rattle.conn_table.specs.declared.state.Stage.{Stage}
+use Rattle.conn_table.specs.declared.state.State.TheVariants.{Live}
+use Rattle.conn_table.specs.Connection.{Connection}
+use Rattle.settings.specs.Parameters.{AreAllowed, Parameters}
+use Rattle.world_table.specs.declared.event.Event.{Event}
+use Rattle.world_table.specs.Life.{actors_after_all}
+use Rattle.world_table.specs.World.{Actors, is_up, modulus_in, new_actors}
+use Rattle.world_laws.specs.Lives.{Lives}
+use Rattle.world_laws.specs.OthersFrame.{IsHad}
+use Rattle.world_targets.specs.Fresh.{IsFreshIn}
+use Rattle.world_order.specs.OctetEvents.{AreOctetEvents}
+use Rattle.world_order.specs.Openers.{first_served}
+
+-- It lives with the mobile that it first served, and the target to which it changes is fresh, as the mobile finds it.
+pub record IsServed (m : ℕ) (w : Actors) (opener : Option ℕ) (s : Connection) : Type 0 where
+  pub mobile : ℕ
+  pub opened : opener ≡ Some mobile
+  pub lives : Lives m w mobile s
+  pub fresh : IsFreshIn w lives.lined.one s.state
+
+-- whatever happened, of each connection that the switch confirmed, while the link of the switch is up
+abbrev pub TargetsAreFresh : Parameters → List Event → Type 0
+TargetsAreFresh settings events =
+    (s : Connection) (reference : ℕ) (stage : Stage) → AreAllowed settings → AreOctetEvents events → is_up (actors_after_all (new_actors settings) events) SWITCH_LINK ≡ true
+    → IsHad (actors_after_all (new_actors settings) events) s → s.state ≡ Live reference stage
+    → IsServed (modulus_in settings) (actors_after_all (new_actors settings) events) (first_served (new_actors settings) events s.number) s
