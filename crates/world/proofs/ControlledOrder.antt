@@ -1,9 +1,8 @@
 -- The order of messages in every world with a controller.
-use Rattle.std.proofs.Common.{ℕ, Option, List, refl, sym, subst}
+use Rattle.std.proofs.Common.{List, refl, sym, subst}
 use Rattle.settings.specs.Parameters.{AreAllowed, Parameters}
 use Rattle.world_table.specs.declared.event.Event.{Event}
-use Rattle.world_table.specs.Life.{actors_after_all}
-use Rattle.world_table.specs.World.{Actors, new_actors}
+use Rattle.world_table.specs.World.{new_actors}
 use Rattle.world_order.specs.OctetEvents.{AreOctetEvents}
 use Rattle.world_order.specs.Order.{IsInOrderFor}
 use Rattle.world_order.proofs.Whole.{runs-are-in-order}

@@ -1,18 +1,17 @@
 -- The queues of a world with a controller, over any list of events.
-use Rattle.std.proofs.Common.{◌≡◌, ℕ, ◌==◌, true, List, [], ◌∷◌, ◌++◌, Option, Some, None, refl, sym, ap, ◌∙◌, subst, unwrap_or, option_map, map, filter}
+use Rattle.std.proofs.Common.{◌≡◌, ℕ, ◌==◌, true, List, [], ◌∷◌, ◌++◌, Option, Some, None, refl, sym, ap, ◌∙◌, subst, unwrap_or, option_map, map}
 use Rattle.std.proofs.lemmas.List.{map-append}
 use Rattle.std.proofs.lemmas.List.Elements.{filter-append}
 use Rattle.octets.specs.Lists.{IsPrefix}
 use Rattle.relay_items.specs.declared.Item.{Item}
 use Rattle.settings.specs.Parameters.{Parameters}
 use Rattle.world_table.specs.declared.event.Event.{Event}
-use Rattle.world_table.specs.declared.line.OutboxEntry.{OutboxEntry}
 use Rattle.world_table.specs.Life.{event_after, actors_after as next_actors, actors_after_all}
 use Rattle.world_table.specs.Queues.{put, taken, pushed, popped, of_source, all_put, all_taken, all_pushed, all_popped}
-use Rattle.world_table.specs.World.{Actors, new_actors, is_up, outbox_of}
+use Rattle.world_table.specs.World.{Actors, new_actors, outbox_of}
 use Rattle.world_table.proofs.Outboxes.{KeepsQueues-new}
 use Rattle.world.specs.declared.world.Scene.{Scene}
-use Rattle.world.specs.declared.world.Scene.TheVariants.{Fixed, Controlled}
+use Rattle.world.specs.declared.world.Scene.TheVariants.{Controlled}
 use Rattle.world.specs.Headline.{QueuesKeepOrder}
 use Rattle.world.specs.Queues.{Queue, Queued, outbox, inbox, entry, item, controlled_put, controlled_taken, controlled_left, all_messages_put, all_messages_taken, is_kept, IsTakenBySwitch}
 use Rattle.world.specs.World.{controlled_world, actors_after, after, after_all}

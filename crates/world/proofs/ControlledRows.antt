@@ -1,15 +1,14 @@
 -- The world with a controller against literal events: what is seen of it, its queues, its events with a break.
-use Rattle.std.proofs.Common.{◌≡◌, ℕ, ◌∷◌, Bool, true, false, List, [], ◌++◌, length, map, Option, Some, None, option_map, refl}
-use Rattle.controller_table.proofs.Lives.{usual_settings}
+use Rattle.std.proofs.Common.{◌≡◌, ℕ, ◌∷◌, Bool, true, false, List, [], ◌++◌, length, map, Option, Some, None, refl}
+use Rattle.controller_table.proofs.Lives.{eager_settings, usual_settings}
 use Rattle.dtap_codec.specs.declared.sapi.Sapi.TheVariants.{Zero}
 use Rattle.relay_items.specs.declared.What.{What}
 use Rattle.relay_items.specs.declared.What.TheVariants as whats
 use Rattle.settings.specs.Parameters.{Parameters}
 use Rattle.world_table.specs.declared.event.Event.{Event}
-use Rattle.world_table.specs.declared.event.Event.TheVariants.{Upper, Connect, AirUp, AirAck, AirDown, Move, BaseTakes, BasePush, Handle, SwitchTakes, SwitchDoes, Tick, BaseDown}
-use Rattle.world_table.specs.declared.event.SwitchAction.TheVariants.{Clear}
+use Rattle.world_table.specs.declared.event.Event.TheVariants.{Upper, Connect, AirUp, AirAck, AirDown, Move, Touch, Arrive, BaseTakes, BasePush, Handle, SwitchTakes, SwitchDoes, Tick, BaseDown, Report}
+use Rattle.world_table.specs.declared.event.SwitchAction.TheVariants.{Clear, Dtap}
 use Rattle.world_table.proofs.Worlds.{on_literals}
-use Rattle.world.specs.declared.world.Scene.{Scene}
 use Rattle.world.specs.Openers.{opener_in}
 use Rattle.world.specs.Queues.{Queue, Queued, outbox, inbox, message, entry, item, all_messages_put, all_messages_taken, messages_left, is_kept, messages_of, switch_of}
 use Rattle.world.specs.Views.{accepted_list, progress_in, received_list, sent_list, taken_list, unnumbered_list}
@@ -125,6 +124,41 @@ opener_of_cleared = refl
 
 opener_in_fixed : map (opener_in (fixed_world 4).scene []) (0 ∷ 1 ∷ 2 ∷ []) ≡ None ∷ Some 1 ∷ None ∷ []
 opener_in_fixed = refl
+
+-- ---- a handover
+
+-- What examples/handover.script plays, up to the clearing, with settings by which the first report decides: the third message stays
+-- with station 1 until the fourth came over station 2, and the switch's message is held while the channel changes.
+abbrev moved : List Event
+moved =
+    opening_by 1 1
+    ++ Upper 1 Zero (0x03 ∷ 0x05 ∷ []) ∷ AirUp 1 Zero ∷ AirAck 1 Zero ∷ BasePush 1 ∷ Handle ∷ SwitchTakes
+    ∷ Report 1 (0x14 ∷ 0x14 ∷ 0x50 ∷ 0x57 ∷ 0x02 ∷ 0x40 ∷ 0x00 ∷ 0x00 ∷ 0x00 ∷ 0x00 ∷ 0x00 ∷ 0x00 ∷ 0x00 ∷ 0x00 ∷ 0x00 ∷ 0x00 ∷ [])
+    ∷ BasePush 1 ∷ Handle ∷ BaseTakes 2 ∷ BasePush 2 ∷ Handle ∷ Upper 1 Zero (0x03 ∷ 0x01 ∷ []) ∷ AirUp 1 Zero
+    ∷ AirAck 1 Zero ∷ BaseTakes 1 ∷ AirDown 1 ∷ SwitchDoes (Dtap 1 Zero (0x83 ∷ 0x07 ∷ [])) ∷ BasePush 0 ∷ Handle ∷ Move 1
+    ∷ Touch 1 ∷ Arrive 1 ∷ AirUp 1 Zero ∷ AirAck 1 Zero ∷ BasePush 2 ∷ Handle ∷ BasePush 2 ∷ Handle ∷ BasePush 2 ∷ Handle
+    ∷ Upper 1 Zero (0x03 ∷ 0x0f ∷ []) ∷ AirUp 1 Zero ∷ AirAck 1 Zero ∷ BasePush 2 ∷ Handle ∷ BasePush 1 ∷ Handle
+    ∷ BaseTakes 1 ∷ BasePush 1 ∷ Handle ∷ SwitchTakes ∷ SwitchTakes ∷ SwitchTakes ∷ BaseTakes 2 ∷ AirDown 1
+    ∷ Upper 1 Zero (0x03 ∷ 0x25 ∷ []) ∷ AirUp 1 Zero ∷ AirAck 1 Zero ∷ BasePush 2 ∷ Handle ∷ SwitchTakes ∷ []
+
+abbrev moved_world : WorldState
+moved_world = after_all (controlled_world eager_settings) moved
+
+opener_of_moved : opener_in (controlled_world eager_settings).scene moved 1 ≡ Some 1
+unfolding on_literals
+opener_of_moved = refl
+
+accepted_of_moved : accepted_list moved_world.scene 1 ≡ Some ((0x05 ∷ 0x24 ∷ 0x71 ∷ []) ∷ (0x03 ∷ 0x05 ∷ []) ∷ (0x03 ∷ 0x01 ∷ []) ∷ (0x03 ∷ 0x0f ∷ []) ∷ (0x03 ∷ 0x25 ∷ []) ∷ [])
+unfolding on_literals
+accepted_of_moved = refl
+
+received_of_moved : received_list moved_world.scene 1 ≡ Some ((0x83 ∷ 0x07 ∷ []) ∷ [])
+unfolding on_literals
+received_of_moved = refl
+
+all_of_moved_is_taken : moved_world.not_taken ≡ 0
+unfolding on_literals
+all_of_moved_is_taken = refl
 
 -- ---- queues
 

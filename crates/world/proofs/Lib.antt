@@ -10,5 +10,6 @@ pub mod HexadecimalLemmas
 pub mod Reading
 pub mod Saying
 pub mod Lines
+pub mod LineOctets
 mod Rows
 mod ControlledRows

@@ -18,7 +18,7 @@ use Rattle.world.specs.Fixed.{fixed_beginning}
 use Rattle.world.specs.WorldState.{WorldState}
 use Rattle.world.specs.World.{fixed_world, after, after_all, actors_after}
 use Rattle.world.specs.Queues.{Queue, outbox, in_switch_outbox, all_messages_put, all_messages_taken}
-use Rattle.world.specs.Headline.{AreOf, Begins, IsInOrder}
+use Rattle.world.specs.Headline.{AreEventsFor, Begins, IsInOrder}
 use Rattle.world.specs.Headline.Begins.{fixed, controlled}
 use Rattle.world.proofs.ControlledOrder.{IsInOrder-controlled}
 use Rattle.world.proofs.FixedKept.{IsFixedKept, IsFixedKept-beginning}
@@ -95,7 +95,7 @@ IsInOrder-fixed m two events =
     }
 
 -- whatever events made a world from a beginning
-pub IsInOrder-reached : (begin : WorldState) (events : List Event) → Begins begin → AreOf begin.scene events → IsInOrder begin.scene events (after_all begin events).scene
+pub IsInOrder-reached : (begin : WorldState) (events : List Event) → Begins begin → AreEventsFor begin.scene events → IsInOrder begin.scene events (after_all begin events).scene
 IsInOrder-reached begin events (fixed m two) of =
     subst (λ (scene : Scene). IsInOrder (Fixed (fixed_beginning m)) events scene) (sym (scene-after_all (fixed_world m) (fixed_beginning m) events refl)) (IsInOrder-fixed m two events)
 IsInOrder-reached begin events (controlled settings allowed) of = IsInOrder-controlled settings events allowed of

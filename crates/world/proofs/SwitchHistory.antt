@@ -1,5 +1,5 @@
 -- The switch of a world with a controller has what was taken out of its outbox: what it does of its own takes nothing.
-use Rattle.std.proofs.Common.{◌≡◌, ℕ, ◌+◌, ◌-◌, ◌==◌, ◌&&◌, not, nat_le, nat_eq, Bool, true, false, cond, if◌then◌else◌, List, [], ◌∷◌, ◌++◌, length, fold, map, get_or, set, Option, Some, None, refl, sym, ap, ◌∙◌, subst, unwrap_or, is_some, option_map}
+use Rattle.std.proofs.Common.{◌≡◌, ℕ, ◌+◌, ◌-◌, ◌==◌, ◌&&◌, not, nat_le, nat_eq, Bool, true, false, if◌then◌else◌, List, [], ◌∷◌, ◌++◌, length, fold, map, get_or, set, Option, Some, None, refl, sym, ap, ◌∙◌, subst, unwrap_or, is_some, option_map}
 use Rattle.std.specs.Prelude.{slice_get, slice_set}
 use Rattle.std.specs.Option.{is_none}
 use Rattle.std.proofs.lemmas.List.{map-append, length-map, map-set}
@@ -19,7 +19,6 @@ use Rattle.dtap_codec.specs.declared.sapi.Sapi.TheVariants.{Zero, Three}
 use Rattle.msc_end.specs.declared.connection.Connection.{Connection}
 use Rattle.msc_end.specs.declared.connection.Stage.{Stage}
 use Rattle.msc_end.specs.declared.connection.Stage.TheVariants.{Open, Clearing, Ended}
-use Rattle.msc_end.specs.declared.fault.MscFault.{MscFault}
 use Rattle.msc_end.specs.declared.parameters.TheConstants.{CONNECTION_LIMIT, REFERENCE_BASE}
 use Rattle.msc_end.specs.Refusal.{send_fault, stage_fault}
 use Rattle.msc_end.specs.Switch.{after, after_clear, assignment_request, clear_command, data_forms_on, dlci_for, connection_of, connection_after, connections_after, connections_after_clear, connections_by, message_in, with_connection, with_stage, initial_messages}
@@ -34,7 +33,7 @@ use Rattle.world_table.specs.declared.line.OutboxEntry.{OutboxEntry}
 use Rattle.world_table.specs.declared.seat.Tenure.{Tenure}
 use Rattle.world_table.specs.Life.{event_after, actors_after, actors_after_all}
 use Rattle.world_table.specs.Queues.{first_of, taken, all_taken}
-use Rattle.world_table.specs.SwitchSide.{is_layer_3, may_send_on, sccp_in, sent_on, switch_took, switch_took_first, after_switch_does, after_switch_takes}
+use Rattle.world_table.specs.SwitchSide.{is_layer_3, may_send_on, sccp_in, sent_on, switch_took, switch_took_first, after_switch_does}
 use Rattle.world_table.specs.World.{Actors, is_up, modulus_in, new_actors, outbox_of, with_outbox}
 use Rattle.world_table.specs.Mobiles.{brought, after_upper, after_connecting, after_air_up, after_air_ack, after_air_down, after_air_down_lost, after_move, after_touch, after_arriving, after_return, after_report}
 use Rattle.world_table.specs.Relay.{after_base_push, after_break, after_handle, target_in, with_turn}

@@ -19,9 +19,9 @@ pub data Begins : WorldState → Type 0 where
   controlled : (settings : Parameters) → AreAllowed settings → Begins (controlled_world settings)
 
 -- With a controller the events are of octets, as all events of the code are. In the fixed world they may be any.
-abbrev pub AreOf : Scene → List Event → Type 0
-AreOf (Fixed world) events = Unit {0}
-AreOf (Controlled w) events = AreOctetEvents events
+abbrev pub AreEventsFor : Scene → List Event → Type 0
+AreEventsFor (Fixed world) events = Unit {0}
+AreEventsFor (Controlled w) events = AreOctetEvents events
 
 -- the list is the beginning of what the mobile sent whose connection this is
 pub record IsBeginningOfSent (begin : Scene) (events : List Event) (scene : Scene) (connection : ℕ) (list : List (List ℕ)) : Type 0 where

@@ -2,7 +2,7 @@
 //! stays the beginning of what the mobile sent.
 #![tactic(auto)]
 
-pub use laws::{keeps_order, queues_keep_order};
+pub use laws::{keeps_order, lines_are_of_octets, queues_keep_order};
 pub use line_fault::LineFault;
 pub use script::read_line;
 pub use value::read_source;

@@ -6,7 +6,7 @@ ghost use Rattle.world_table.specs.Takes.{Takes};
 ghost use Rattle.world.specs.WorldState.{WorldState};
 ghost use Rattle.world.specs.World.{fixed_world, controlled_world, scene_after, after, after_all, broken};
 ghost use Rattle.world.specs.Views.{sent_list, received_list, taken_list, accepted_list, unnumbered_list};
-ghost use Rattle.world.specs.Headline.{AreOf, Begins, IsInOrder, QueuesKeepOrder};
+ghost use Rattle.world.specs.Headline.{AreEventsFor, Begins, IsInOrder, QueuesKeepOrder};
 
 use crate::Event;
 use crate::fixed::{FIXED_CONNECTION, FIXED_MOBILE, FixedWorld};
@@ -31,7 +31,7 @@ pub(crate) enum Scene {
 pub struct World {
     scene: Scene,
     not_taken: u64,
-    /// Whether an event wanted memory: nothing is said of the actors from then on.
+    /// Whether memory ran out at an event: nothing is said of the actors from then on.
     failed: bool,
 }
 
@@ -58,7 +58,7 @@ impl World {
     }
 
     /// The world with a controller of these settings: no mobile is there, each link is up, and nothing has happened. Its
-    /// mobiles and its switch count as the settings' network does. It is refused only for want of memory.
+    /// mobiles and its switch count as the settings' network does. It is refused only for lack of memory.
     pub fn new(alloc: Global, settings: Settings) -> Result<World, Memory>
         ensures world { IfOk result (λ world. world ≡ controlled_world settings) }
         ensures begins { IfOk result (λ world. Begins world) }
@@ -72,7 +72,7 @@ impl World {
 
     /// The world with a controller after these events, where the link of a source breaks before the event at `place`, from 0,
     /// or last where no event has that place. The source is 0 for the switch, else a station's number; the break of one that
-    /// isn't there is an event that isn't taken. It is refused only for want of memory.
+    /// isn't there is an event that isn't taken. It is refused only for lack of memory.
     pub fn with_break(
         alloc: Global,
         settings: Settings,
@@ -91,7 +91,7 @@ impl World {
     }
 
     /// Lets the event's actor act, and says whether it could. An event that its actor can't take is counted, and changes
-    /// nothing else, and memory is wanted only for one that it can take. Once a call has wanted memory, the world has failed,
+    /// nothing else, and memory is needed only for one that it can take. Once memory has run out, the world has failed,
     /// and every later event is refused so.
     pub fn step(&mut self, event: Event) -> Result<bool, Memory>
         ensures ok { OnOk result (self.new ≡ after self.old event) }
@@ -110,7 +110,7 @@ impl World {
         // Whatever events made the world from a beginning, what the switch accepts in a connection is the beginning of what
         // its mobile sent, no filter ever finds a gap, and each queue gives what was put there, in order. The events are of
         // octets.
-        ensures in_order { OnOk result ((begin : WorldState) (before : List WorldEvent) → Begins begin → AreOf begin.scene (before ++ events.now)
+        ensures in_order { OnOk result ((begin : WorldState) (before : List WorldEvent) → Begins begin → AreEventsFor begin.scene (before ++ events.now)
             → self.old ≡ after_all begin before → IsInOrder begin.scene (before ++ events.now) self.new.scene) }
 
         // And whatever events made the world from one with a controller, of whatever settings, each queue gives what was put

@@ -1,8 +1,8 @@
-use Rattle.std.proofs.Common.{◌≡◌, ℕ, min, List, length, take, drop, ap, ◌∙◌, arith}
+use Rattle.std.proofs.Common.{◌≡◌, min, List, length, take, drop, ap, ◌∙◌, arith}
 use Rattle.std.proofs.lemmas.Grind.{common_steps}
 use Rattle.world_table.specs.declared.event.Event.{Event}
 use Rattle.world_table.specs.declared.event.Event.TheVariants.{BaseDown}
-use Rattle.world.specs.World.{controlled_world, after, after_all, broken}
+use Rattle.world.specs.World.{controlled_world, after, after_all}
 use Rattle.world.specs.WorldState.{WorldState}
 use Rattle.world.proofs.Breaking.{after_all-broken}
 use Rattle.world.proofs.world.World.with_break.Goals as goal
