@@ -5,6 +5,7 @@ pub mod Names
 pub mod Decoded
 pub mod Report
 pub mod Script
+pub mod ScriptOrder
 pub mod Breaks
 pub mod Asked
 pub mod Replayed

@@ -4,6 +4,7 @@
 pub use decode_command::decode;
 pub use failure::Failure;
 pub use fault::ProgramFault;
+pub use laws::scripts_run_in_order;
 pub use replay_command::replay;
 pub use settings_text::read_settings;
 
@@ -12,6 +13,7 @@ mod decode_command;
 mod failure;
 mod fault;
 mod input;
+mod laws;
 mod names;
 mod output;
 mod read_count;

@@ -1,0 +1,12 @@
+-- The order of messages in the world that a script's events make.
+use Rattle.std.specs.Prelude.{ℕ, List, length}
+use Rattle.settings.specs.Parameters.{AreAllowed, Parameters}
+use Rattle.world_table.specs.declared.event.Event.{Event}
+use Rattle.world.specs.Headline.{IsInOrder}
+use Rattle.world.specs.World.{after_all, controlled_world}
+use Rattle.bsc_program.specs.Script.{IsScript}
+
+-- A script for a network of allowed settings: the world that its events make is in order.
+abbrev pub ScriptsRunInOrder : Parameters → List ℕ → List Event → Type 0
+ScriptsRunInOrder settings octets events =
+    AreAllowed settings → IsScript (length settings.cells) octets events → IsInOrder (controlled_world settings).scene events (after_all (controlled_world settings) events).scene
