@@ -19,7 +19,7 @@ some_kind kinds e (inl memory) other none = other memory
 some_kind [] e (inr among) other none = among
 some_kind (k ∷ kinds) e (inr among) other none = absurd cc
 
--- one that failed, and not for want of memory
+-- one that failed, and not for lack of memory
 pub refused_by : (a b : App) (words : List Text) (e : Error) → a ≡ b → is_simple_and_free b ≡ true → (is_simple_and_free a ≡ true → HasKind (fault_of a words) e) → kind_of e ≢ OutOfMemory → fault_of b words ≢ []
 refused_by a b words e same simple fails other none =
     some_kind (fault_of a words) e (fails (ap is_simple_and_free same ∙ simple)) other (ap (λ (app : App). fault_of app words) same ∙ none)

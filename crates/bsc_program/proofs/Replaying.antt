@@ -83,7 +83,7 @@ pub asked_nothing : (found : Result Parameters ProgramFault) (breaks : Option (L
 asked_nothing found breaks settings word cells is some many reads =
     asked_word found breaks settings word is some ∙ ap (λ (n : ℕ). asked_of_source settings (source_in n word)) (sym many) ∙ ap (asked_of_source settings) reads
 
--- settings that weren't read have this fault, unless memory was wanted
+-- settings that weren't read have this fault, unless memory ran out
 unless_memory : (fault : ProgramFault) (found : Result Parameters ProgramFault) → ((let r : Result Parameters ProgramFault = Err fault in r) ≢ Err (Failed Memory) → (let r : Result Parameters ProgramFault = Err fault in r) ≡ found)
     → (fault ≡ Failed Memory) ⊎ (found ≡ Err fault)
 unless_memory UnreadSettings found says = inr (sym (says (λ is. absurd (cc is))))
@@ -131,7 +131,7 @@ prints_as a asked start old new is replays = subst (λ (r : Result Asked Program
 
 -- ---- the status
 
--- options that ask for nothing, unless memory is wanted
+-- options that ask for nothing, unless memory runs out
 pub asked_status : (a : Result Asked ProgramFault) (start : Option (List ℕ)) (fault : ProgramFault) (status : ℕ) → status ≡ status_of_fault fault → Fails a start fault → IfErr a (λ found. (status ≡ status_of_fault found) ⊎ (status ≡ 3))
 asked_status (Ok asked) start fault status is fails = tt
 asked_status (Err found) start fault status is (inl same) = inl (is ∙ ap status_of_fault same)

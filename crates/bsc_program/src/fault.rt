@@ -12,7 +12,7 @@ pub enum ProgramFault {
     /// The file of the settings can't be read, or isn't UTF-8.
     #[error("settings: cannot read")]
     UnreadSettings,
-    /// The settings have this fault, which isn't want of memory.
+    /// The settings have this fault, which isn't that memory ran out.
     #[error("settings: {0}")]
     Settings(SettingsFault),
     /// There are no settings, or none of their sources has the number behind `--break`.

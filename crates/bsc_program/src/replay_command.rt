@@ -28,7 +28,7 @@ const FIXED_CELLS: u16 = 1;
 /// Replays the script on `input`, in the world of these settings or else in the fixed one, and writes the report to `output`;
 /// with `breaks`, the number of a source, a line for each place of the script at which its link breaks. It gives the status
 /// that the program ends with: 0, 1 for a fault of the settings, 2 for `breaks` that is no source's number or comes without
-/// settings, or for a bad line, 3 where memory was wanted or a device failed. The causes are looked for in this order, and
+/// settings, or for a bad line, 3 where memory ran out or a device failed. The causes are looked for in this order, and
 /// the whole script is read before any event is run. The text of a status above 0 goes to `errors`.
 pub fn replay<R: Read, W: Write, E: Write>(
     alloc: Global,
@@ -39,7 +39,7 @@ pub fn replay<R: Read, W: Write, E: Write>(
     errors: &mut E,
 ) -> u8
     ensures status { (result ≡ 0) ⊎ (result ≡ 1) ⊎ (result ≡ 2) ⊎ (result ≡ 3) }
-    // Options that ask for nothing give the status of their first fault, unless memory is wanted.
+    // Options that ask for nothing give the status of their first fault, unless memory runs out.
     ensures asked { IfErr (asked (option_map (λ text. text.now) settings.entry) (option_map (λ word. word.now) breaks.entry))
         (λ fault. (result ≡ status_of_fault fault) ⊎ (result ≡ 3)) }
     // It ends with 1 only where the settings have a fault.

@@ -60,7 +60,7 @@ pub data FirstFault : List ℕ → Option InterfaceFault → Type 0 where
   no_header : (rest : List ℕ) → length rest < 2 → FirstFault (TRANSFER ∷ rest) (Some Short)
   transfer : (dlci size : ℕ) (rest : List ℕ) → FirstFault (TRANSFER ∷ dlci ∷ size ∷ rest) (first_that_holds ((not (is_dlci dlci), UnknownType) ∷ (nat_lt (length rest) size, Short) ∷ layer3_causes (Some (take size rest))))
 
--- The result refuses octets with their first fault, and wants memory only where they have none.
+-- The result refuses octets with their first fault, and runs out of memory only where they have none.
 pub record RefusesBssap (octets : List ℕ) (result : Result Bssap InterfaceFault) : Type 0 where
   pub first : Option InterfaceFault
   pub is_first : FirstFault octets first

@@ -56,7 +56,7 @@ pub data FirstFault : List ℕ → Option InterfaceFault → Type 0 where
   form : (octet a b c segmenting pointer : ℕ) (more : List ℕ) → sccp_type octet ≡ Some DataForm1
       → FirstFault (octet ∷ a ∷ b ∷ c ∷ segmenting ∷ pointer ∷ more) (first_that_holds ((not (segmenting == UNSEGMENTED), UnknownType) ∷ part_causes pointer (pointer ∷ more)))
 
--- The result refuses octets with their first fault, and wants memory only where they have none.
+-- The result refuses octets with their first fault, and runs out of memory only where they have none.
 pub record RefusesSccp (octets : List ℕ) (result : Result Sccp InterfaceFault) : Type 0 where
   pub first : Option InterfaceFault
   pub is_first : FirstFault octets first

@@ -119,7 +119,7 @@ goes_still last old new controller putters ended marks desk time = record {
 pub goes_none : (s : State) → Goes [] s s
 goes_none s = goes_still [] s s refl refl refl (λ link. refl) (taken_none s.desk) refl
 
--- ---- calls that may want memory
+-- ---- calls that may run out of memory
 
 module _ {X E : Type 0} where
   pub by_both : (r : Result X E) (a b c : State) → Goes [] a b → MatchResult r (λ _. Goes [] b c) (λ _. GoesPart b c) → MatchResult r (λ _. Goes [] a c) (λ _. GoesPart a c)

@@ -308,7 +308,7 @@ step_taken old desk mid item b queues takes does is_down room =
     subst (λ (y : State). Goes [] old (record y { marks = noted b item.source y.marks })) (sym does.kept)
     (goes_taken old desk mid.controller mid.putters item b queues takes does.controller does.sent is_down room)
 
--- an item was taken whose step wanted memory
+-- an item was taken whose step ran out of memory
 pub goes_lost : (old : State) (desk : Row) (item : Item) → queues_of desk ≡ queues_of old.desk → TakesItem old.desk item desk → GoesPart old (record old { desk = desk })
 goes_lost old desk item queues takes =
     (item ∷ [], omega arith, goes_still (item ∷ []) old (record old { desk = desk }) refl refl refl (λ link. refl) (took_one old.desk desk item queues takes) refl)

@@ -46,7 +46,7 @@ pub record Parts : Type 0 where
   pub told : ℕ
 
 -- A run of the call worker, which ended with this fault or with none. The items of the steps are those that were taken,
--- but for one at most, the last, whose step wanted memory. The ticks are what the clock answered; less than a tick is left
+-- but for one at most, the last, whose step ran out of memory. The ticks are what the clock answered; less than a tick is left
 -- without a fault.
 pub record Runs (fault : Option IoFault) (old new : Parts) : Type 0 where
   pub steps : List Step

@@ -112,7 +112,7 @@ pub record Goes (last : List Item) (old new : State) : Type 0 where
       (before : PutterView) × (get_elem? old.putters link ≡ some before)
       × GoesOn old new link (frames_to link (over old.controller steps).outs) (whats_of link (items_of steps)) (whats_of link items) before p)
 
--- the same up to a step that wanted memory
+-- the same up to a step that ran out of memory
 abbrev pub GoesPart : State → State → Type 0
 GoesPart old new = (last : List Item) × (length last ≤ 1) × Goes last old new
 

@@ -69,7 +69,7 @@ impl Model for Channels {
 }
 
 impl Channels {
-    /// So many links, whose channels are all free. An `Err` is want of memory.
+    /// So many links, whose channels are all free. An `Err` says that memory ran out.
     pub fn new(alloc: Global, links: usize) -> Result<Channels, Memory>
         ensures { IfOk result (λ c. c ≡ replicate links free_channels) }
     {

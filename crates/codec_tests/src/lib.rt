@@ -1,4 +1,4 @@
-//! The calls of the codecs that can want memory, each with ample memory, its answer compared.
+//! The calls of the codecs that can run out of memory, each with ample memory, its answer compared.
 #![tactic(auto)]
 
 #[cfg(test)]

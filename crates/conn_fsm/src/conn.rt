@@ -55,7 +55,7 @@ impl Conn {
 
     /// Does the one row of the table that fits the input, with the channel that is offered to a change which begins in it:
     /// its frames are appended, and it answers true; where no row fits it answers false, and nothing changes. Layer 3
-    /// messages have 1 to 251 octets. A refusal, for want of memory, changes nothing.
+    /// messages have 1 to 251 octets. A refusal, for lack of memory, changes nothing.
     #[tactic(auto, unfolding(conn_table::specs::Table::row_of), using(crate::proofs::Keeping::step_stands))]
     pub fn step(
         &mut self,

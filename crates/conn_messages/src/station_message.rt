@@ -1,6 +1,6 @@
 //! The messages to a base station (TS 48.058 clause 8), and those to the mobile that they carry (TS 44.018 clause 9.1).
 //!
-//! A call that is refused wanted memory.
+//! A call is refused only where memory runs out.
 ghost use Rattle.std.specs.Prelude.{◌≡◌, IfOk};
 ghost use Rattle.bssmap_codec.specs.Layer3.{IsLayer3};
 ghost use Rattle.conn_messages.specs.declared.message.Message.TheVariants as messages;

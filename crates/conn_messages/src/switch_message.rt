@@ -1,7 +1,7 @@
 //! The messages to the switch on a connection (TS 48.006 clause 9.3, TS 48.008 clause 3.2.1). The switch's reference names
 //! the connection.
 //!
-//! A call that is refused wanted memory.
+//! A call is refused only where memory runs out.
 ghost use Rattle.std.specs.Prelude.{◌≡◌, ◌≤◌, length, IfOk};
 ghost use Rattle.bssmap_codec.specs.Layer3.{IsLayer3};
 ghost use Rattle.conn_messages.specs.Out.{IsLawfulMessage, IsWritable};

@@ -50,7 +50,7 @@ impl Connections {
     }
 
     /// One more, whose access channel was activated for the request of a CHANNEL REQUIRED and its access delay. Its number is
-    /// above all others. A refusal, for want of memory, changes nothing.
+    /// above all others. A refusal, for lack of memory, changes nothing.
     pub fn open(
         &mut self,
         number: u32,
@@ -101,7 +101,7 @@ impl Connections {
     /// The connection with this number does the one row of the table that fits the input, with the channel that is offered to
     /// a change which begins in it: the row's frames are appended, and the answer is true. Averages begin anew where another
     /// channel serves then, and a connection that is removed goes. Where no row fits, or there is no such connection, the
-    /// answer is false and nothing changes. Layer 3 messages have 1 to 251 octets. A refusal, for want of memory, changes
+    /// answer is false and nothing changes. Layer 3 messages have 1 to 251 octets. A refusal, for lack of memory, changes
     /// nothing.
     pub fn step(
         &mut self,
@@ -144,7 +144,7 @@ impl Connections {
     }
 
     /// What is decided over the reports of the connection with this number once it has this one of its serving channel too,
-    /// with the report's number. Where it isn't there, it stays. Nothing changes; a refusal is for want of memory.
+    /// with the report's number. Where it isn't there, it stays. Nothing changes; a refusal is for lack of memory.
     pub fn decide_with(
         &self,
         number: u32,

@@ -29,7 +29,7 @@ use settings::Settings;
 use std::alloc::Global;
 
 /// A controller with these settings over a list of steps: what it is then, and what it put, which are those of its life
-/// (`life`). So the laws of a life hold of them. An `Err` is want of memory.
+/// (`life`). So the laws of a life hold of them. An `Err` says that memory ran out.
 pub fn run(
     alloc: Global,
     settings: Settings,
@@ -89,7 +89,7 @@ fn live(
 }
 
 impl Controller {
-    /// Does a step. What it puts is appended to the outputs. A refusal, for want of memory, changes nothing.
+    /// Does a step. What it puts is appended to the outputs. A refusal, for lack of memory, changes nothing.
     pub fn run_one(&mut self, step: Step, outputs: &mut Outputs) -> Result<(), Memory>
         ensures ok { OnOk result (Turns (words.step self.old step) self.old self.new outputs.old.outs outputs.new.outs) }
         ensures err { OnErr result (Stays self.old self.new outputs.old.outs outputs.new.outs) }

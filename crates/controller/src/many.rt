@@ -102,7 +102,7 @@ impl Controller {
     }
 }
 
-/// How many frames the steps put. An `Err` is want of memory: no memory has so many.
+/// How many frames the steps put. An `Err` says that memory ran out: no memory has so many.
 pub(crate) fn frames(planned: &[Planned]) -> Result<usize, Memory>
     ensures { IfOk result (λ count. count ≡ sum_by frames_of planned.now) }
 {

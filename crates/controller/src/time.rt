@@ -13,7 +13,7 @@ use settings::Settings;
 
 impl Controller {
     /// So many milliseconds pass: for all connections; then what expires does, by rising number of the connections. A refusal,
-    /// for want of memory, changes nothing.
+    /// for lack of memory, changes nothing.
     pub fn tick(&mut self, ms: u32, outputs: &mut Outputs) -> Result<(), Memory>
         ensures ok { OnOk result (Turns (words.tick ms self.old) self.old self.new outputs.old.outs outputs.new.outs) }
         ensures err { OnErr result (Stays self.old self.new outputs.old.outs outputs.new.outs) }

@@ -1,5 +1,5 @@
-//! Lives of the whole controller over octets: the frames that it takes, and those that it puts. Each call that can want memory
-//! is made with ample memory, and a life goes on where memory was refused once.
+//! Lives of the whole controller over octets: the frames that it takes, and those that it puts. Each call that can run out
+//! of memory is made with ample memory, and a life goes on where memory was refused once.
 #![tactic(auto)]
 
 #[cfg(test)]

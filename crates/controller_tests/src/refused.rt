@@ -63,7 +63,7 @@ impl Life {
     }
 }
 
-/// Asserts what the controller has put. Where it wanted memory on the way, that is told; with ample memory it doesn't come.
+/// Asserts what the controller has put. Where memory ran out on the way, that is told; with ample memory it doesn't come.
 fn ends(rt: &(impl Abort + AllocGlobal), life: Life, expected: &[Line]) -> Result<(), Fail> {
     are(rt, &life.outputs, expected)?;
     assert!(rt; life.controller.ignored() == 0);

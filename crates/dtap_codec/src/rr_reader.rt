@@ -36,7 +36,7 @@ impl RrMessage {
         // A refusal is the first fault, and memory runs out only where there is none.
         ensures refused { RefusesBy RrFault.Memory result (result_err (reading.rr_reading octets.now)) }
         // Short are octets that are no text, but octets behind them would make one of them; where no octets behind them
-        // would, the fault is UnknownRr; memory is wanted for a text alone.
+        // would, the fault is UnknownRr; memory is needed for a text alone.
         ensures fault { IfErr result (λ fault. HasFault octets.now fault) }
     {
         read_message(alloc, octets)

@@ -12,8 +12,8 @@ use std::alloc::Global;
 
 /// What a frame says that came on the link `source`, 0 the switch's, i that of the i-th cell's station.
 ///
-/// Every link has CCM, the switch's SCCP, and a station's RSL. A body that its codec refuses says nothing. Where the codec
-/// wants memory, and there is none, this is refused.
+/// Every link has CCM, the switch's SCCP, and a station's RSL. A body that its codec refuses says nothing. It is refused
+/// where memory runs out.
 #[tactic(auto, unfolding(controller_table::specs::Reading::word_of))]
 pub fn read_word(alloc: Global, source: u16, frame: &Frame) -> Result<Word, Memory>
     // What is answered is what the frame says.

@@ -40,7 +40,7 @@ impl Queues {
         self.zero.len() + self.three.len()
     }
 
-    /// Puts a message behind those of its SAPI, or hands it back for want of memory.
+    /// Puts a message behind those of its SAPI, or hands it back for lack of memory.
     pub(crate) fn put(&mut self, sapi: Sapi, message: Vec<u8>) -> Result<(), HoldFault>
         ensures put { OnOk result (self.new ≡ with_tenure_messages self.old sapi (tenure_messages self.old sapi ++ message.items ∷ [])) }
         ensures memory { IfErr result (IsMemory message.items) }
@@ -95,7 +95,7 @@ impl Queues {
     }
 }
 
-// Puts a message behind the others of its queue, or hands it back for want of memory.
+// Puts a message behind the others of its queue, or hands it back for lack of memory.
 fn append(queue: &mut VecDeque<Octets>, message: Vec<u8>) -> Result<(), HoldFault>
     ensures ok { OnOk result (queue.new.items ≡ queue.old.items ++ message.items ∷ []) }
     ensures err { OnErr result (queue.new.items ≡ queue.old.items) }

@@ -109,7 +109,7 @@ fn put_frames<G: Gate, R: Wait>(
 /// Law: frames that stand at the front of octets are the first of the frames that the octets are, and all of them where only
 /// the beginning of a frame stands behind them, or one that is too long. It does nothing.
 ///
-/// So what a reader puts are the first frames of the octets that it read, and all of them unless it wanted memory or its
+/// So what a reader puts are the first frames of the octets that it read, and all of them unless memory ran out or its
 /// gate stayed shut.
 pub fn frames_put_are_the_first()
     ensures first { (octets : List ℕ) (frames : List FrameValue) (rest : List ℕ) (all : List FrameValue) (end : List ℕ) →

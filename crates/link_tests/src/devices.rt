@@ -168,7 +168,7 @@ impl Write for Flushed {
 /// The frame PING.
 pub(crate) const PING: &[u8] = &[0x00, 0x01, 0xfe, 0x00];
 
-/// What a test ends with where a worker wanted memory, and all else was right. With ample memory it doesn't come.
+/// What a test ends with where a worker ran out of memory, and all else was right. With ample memory it doesn't come.
 pub(crate) fn ended(fault: Option<IoFault>) -> Result<(), Fail> {
     match fault {
         None => Ok(()),

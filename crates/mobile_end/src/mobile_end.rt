@@ -119,7 +119,7 @@ impl MobileEnd {
         Ok(())
     }
 
-    /// Why `send` refuses this message, where it doesn't for want of memory; none where it takes it.
+    /// Why `send` refuses this message, where it doesn't for lack of memory; none where it takes it.
     pub fn refusal(&self, sapi: Sapi, message: &[u8]) -> Option<MobileFault>
         ensures { result ≡ refusal_of_send self.now sapi message.now }
     {

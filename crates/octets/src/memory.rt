@@ -1,7 +1,7 @@
 use std::alloc::{AllocError, AllocFailed};
 use thiserror::Error;
 
-/// A call wanted memory, and there was none. It is the one fault of calls that can refuse for no other cause.
+/// Memory ran out. It is the one fault of calls that can refuse for no other cause.
 #[derive(Clone, Copy, Debug, PartialEq, Eq, Error)]
 #[error("out of memory")]
 pub struct Memory;

@@ -75,7 +75,7 @@ pub data FirstFault : List ℕ → Option RslFault → Type 0 where
   known : (discriminator octet : ℕ) (body : List ℕ) (kind : RslType) (es : List Element) (is_cut : Bool) → rsl_type discriminator octet ≡ Some kind → AreElements ELEMENTS body es is_cut
       → FirstFault (discriminator ∷ octet ∷ body) (first_that_holds ((is_cut, Short) ∷ element_causes kind es))
 
--- The result refuses octets with their first fault, and wants memory only where they have none.
+-- The result refuses octets with their first fault, and runs out of memory only where they have none.
 pub record RefusesRsl (octets : List ℕ) (result : Result Rsl RslFault) : Type 0 where
   pub first : Option RslFault
   pub is_first : FirstFault octets first

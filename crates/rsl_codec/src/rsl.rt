@@ -104,7 +104,7 @@ impl Rsl {
     /// Elements stand in any order; of a repeated one the first counts; from the first identifier outside the table on
     /// nothing is looked at. Refused are, in this order, fewer than two octets, an unknown discriminator with type, an
     /// element that is cut, a missing element in written order, a bad channel number, L3 information
-    /// without octets, one of more than 251, and want of memory.
+    /// without octets, one of more than 251, and that memory runs out.
     pub fn read(alloc: Global, octets: &[u8]) -> Result<Rsl, RslFault>
         // What is answered is what the octets are read as.
         ensures reads { Gives RslFault.Memory (λ v. v) result (rsl_reading octets.now) }
@@ -233,7 +233,7 @@ impl Rsl {
     }
 
     /// Appends the written text of the message. An empty L3 information is refused as `Short`, then what is too long,
-    /// then want of memory; a refusal appends nothing.
+    /// then that memory runs out; a refusal appends nothing.
     pub fn write(&self, alloc: Global, out: &mut Vec<u8>) -> Result<(), RslFault>
         ensures ok { OnOk result (out.new.items ≡ out.old.items ++ rsl_text self.now) }
         ensures err { OnErr result (out.new.items ≡ out.old.items) }

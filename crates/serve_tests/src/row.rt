@@ -34,7 +34,7 @@ fn texts(alloc: Global) -> Result<[Vec<u8>; 3], AllocError> {
     Ok([switch, one, second])
 }
 
-/// Looks at how the links ended. Where one wanted memory each has got a first part, and a gate may have stayed shut.
+/// Looks at how the links ended. Where one ran out of memory each has got a first part, and a gate may have stayed shut.
 fn judge<R>(ended: &[Ended<R>], texts: &[Vec<u8>; 3]) -> Result<(), Fail> {
     let mut wanting = false;
     let mut shut = false;

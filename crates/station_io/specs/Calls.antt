@@ -28,7 +28,7 @@ pub record Runs (start : Controller) (desk : Row) (putters : List PutterView) (l
 abbrev pub HasEnd : PutterView → Type 0
 HasEnd p = (before : List Line) × (p.put ≡ before ++ End ∷ [])
 
--- A fault is want of memory; then too each outbox has its End, so that its writer ends.
+-- A fault is that memory ran out; then too each outbox has its End, so that its writer ends.
 abbrev pub Calls : Controller → Row → List PutterView → Option IoFault → Row → List PutterView → Type 0
 Calls start desk putters None left ended = Runs start desk putters left ended
 Calls start desk putters (Some fault) left ended = (fault ≡ Memory) × (length ended ≡ length putters) × EachAt ended (λ number p. HasEnd p)

@@ -134,7 +134,7 @@ fn drain<I: LinkReader + Drop, G: Gate + Drop, R: Wait>(
 }
 
 /// Does all works at once: those of the links each in a thread of its own, that of the call worker in the thread that called.
-/// `Memory`: a thread couldn't be had, and then none began; or the call worker ended with want of memory.
+/// `Memory`: a thread couldn't be had, and then none began; or the call worker ran out of memory.
 pub(crate) fn run<
     I: LinkReader + Drop + Send + 'static,
     O: Write + Drop + Send + 'static,

@@ -138,7 +138,7 @@ line_at cells words = do
   kind ← value_at kind_in words
   event_at cells kind.0 kind.1
 
--- An event, or want of memory where the words are one's.
+-- An event, or that memory ran out where the words are one's.
 abbrev pub GivesEvent : Result Event LineFault → Option Event → Type 0
 GivesEvent (Ok event) said = said ≡ Some event
 GivesEvent (Err BadEvent) said = said ≡ None

@@ -1,4 +1,4 @@
--- A world: its actors, the number of events that none could take, and whether memory was wanted.
+-- A world: its actors, the number of events that none could take, and whether memory ran out.
 use Rattle.std.specs.Prelude.{ℕ, Bool}
 use Rattle.world.specs.declared.world.Scene.{Scene}
 

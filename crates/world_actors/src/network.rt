@@ -14,7 +14,7 @@ use world_stations::Stations;
 use world_switch::Switch;
 use world_table::Tenure;
 
-/// The actors of a world with a controller. An event of an actor that can't take it changes nothing, and memory is wanted only for
+/// The actors of a world with a controller. An event of an actor that can't take it changes nothing, and memory is needed only for
 /// one that it can take.
 #[derive(Drop)]
 pub struct Network {

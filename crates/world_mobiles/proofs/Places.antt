@@ -83,7 +83,7 @@ some_found number happens s p k at found some =
       by_next None some = some
       by_next (Some next) some = refl
 
--- ---- the same of a call that may want memory
+-- ---- the same of a call that may run out of memory
 
 pub sends_found : (r : Result Bool Memory) (number : ℕ) (happens : Mobile → Option Mobile) (s : MobilesState) (p q : Mobile) (k : ℕ) → k ≡ place_in number s.mobiles → slice_get s.mobiles k ≡ Some p
     → IfOk r (λ taken. Takes p (happens p) taken q) → IfOk r (λ taken. Takes s (by_mobile number happens s) taken (record s { mobiles = set s.mobiles k q }))

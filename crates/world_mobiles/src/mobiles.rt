@@ -19,7 +19,7 @@ use std::marker::Model;
 use world_table::{AirMessage, Command, Tenure};
 
 /// The mobiles of a world, in the order in which they connected. What happens to a mobile of another number changes nothing.
-/// An `Err` is want of memory.
+/// An `Err` says that memory ran out.
 #[derive(Drop)]
 pub struct Mobiles {
     alloc: Global,

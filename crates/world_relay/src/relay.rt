@@ -23,7 +23,8 @@ use std::collections::VecDeque;
 use std::marker::Model;
 use world_table::{OutboxEntry, Tenure};
 
-/// The controller of a world, with the inbox of all its sources and an outbox for each of its links. An `Err` is want of memory.
+/// The controller of a world, with the inbox of all its sources and an outbox for each of its links. An `Err` says that
+/// memory ran out.
 #[derive(Drop)]
 pub struct Relay {
     alloc: Global,

@@ -19,7 +19,7 @@ use std::marker::Model;
 use world_table::{AirMessage, Tenure};
 
 /// The base stations of a world, from number 1 on, a station for each cell of the settings. What happens on a station of
-/// another number changes nothing. An `Err` is want of memory.
+/// another number changes nothing. An `Err` says that memory ran out.
 #[derive(Drop)]
 pub struct Stations {
     stations: Vec<BaseStation>,

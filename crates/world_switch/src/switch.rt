@@ -23,7 +23,7 @@ use std::collections::VecDeque;
 use std::marker::Model;
 
 /// The switch of a world: its end of the interface, and what it made and didn't give out yet, in order. All that it made can be
-/// written. An `Err` is want of memory.
+/// written. An `Err` says that memory ran out.
 #[derive(Drop)]
 pub struct Switch {
     alloc: Global,
@@ -180,7 +180,7 @@ impl Switch {
     }
 }
 
-// A call that its end refused does nothing, unless memory was wanting.
+// A call that its end refused does nothing, unless memory ran out.
 fn not_sent(fault: MscFault) -> Result<bool, Memory>
     ensures refused { IfOk result (λ taken. (taken ≡ false) × (fault ≢ OutOfMemory)) }
     ensures memory { OnErr result (fault ≡ OutOfMemory) }
