@@ -3,13 +3,20 @@ use Rattle.std.proofs.Common.{◌≡◌, ℕ, [], ◌∷◌, map, Some, None, re
 use Rattle.std.specs.declared.io.ErrorKind.TheVariants as kinds
 use Rattle.std.specs.declared.time.Instant.{Instant}
 use Rattle.link_sockets.specs.declared.fault.RunFault.TheVariants.{Memory, Device}
+use Rattle.link_sockets.specs.declared.name.LinkName.TheVariants.{Switch, Cell}
 use Rattle.link_sockets.specs.Faults.{fault_of}
+use Rattle.link_sockets.specs.Naming.{name_of}
 use Rattle.link_sockets.specs.Telling.{Tells, millis_to_tell}
 
 -- ---- faults
 
 faults : map fault_of (kinds.OutOfMemory ∷ kinds.AddrInUse ∷ kinds.ConnectionRefused ∷ kinds.Interrupted ∷ kinds.Other ∷ []) ≡ Memory ∷ Device ∷ Device ∷ Device ∷ Device ∷ []
 faults = refl
+
+-- ---- names of links
+
+names : map name_of (0 ∷ 1 ∷ 2 ∷ 32 ∷ []) ≡ Switch ∷ Cell 1 ∷ Cell 2 ∷ Cell 32 ∷ []
+names = refl
 
 -- ---- a stopwatch
 

@@ -1,3 +1,6 @@
+ghost use Rattle.std.specs.Prelude.{◌≡◌};
+ghost use Rattle.link_sockets.specs.Naming.{name_of};
+
 use std::fmt;
 
 /// Which link a line of the log speaks of.
@@ -11,7 +14,9 @@ pub enum LinkName {
 
 impl LinkName {
     /// The name of the link at this place: the switch's comes first, then those of the cells in their order.
-    pub fn of_link(place: usize) -> LinkName {
+    pub fn of_link(place: usize) -> LinkName
+        ensures { result ≡ name_of place }
+    {
         match place {
             0 => LinkName::Switch,
             number => LinkName::Cell(number),
