@@ -17,6 +17,7 @@ use Rattle.dtap_codec.specs.RrReading.{rr_reading}
 use Rattle.link_model.specs.declared.fault.LinkFault.{LinkFault}
 use Rattle.link_model.specs.Base.{refusal_of_activate}
 use Rattle.mobile_end.specs.Mobile.{after_acked, after_arrival, after_leave, after_queue, is_acknowledged, refusal_of_send}
+use Rattle.rsl_codec.specs.ChannelNumber.{is_channel}
 use Rattle.rsl_codec.specs.declared.common_channel.ImmediateAssignment.{ImmediateAssignment as AssignCommand}
 use Rattle.rsl_codec.specs.declared.rsl.Rsl.{Rsl}
 use Rattle.rsl_codec.specs.declared.rsl.Rsl.TheVariants as rsl
@@ -219,7 +220,10 @@ takes-go w station first others up stood = by_message (rsl_in first.out.frame) r
     by_seat Gone is = quiet u refl
 
   by_reading : (command : AssignCommand) → rsl_in first.out.frame ≡ Some (rsl.ImmediateAssignCommand command) → (r : Result RrMessage RrFault) → rr_reading command.information ≡ r → OfTaken (AllGo w event) (Some (assigned station r u))
-  by_reading command reads (Ok (ImmediateAssignment channel request advance)) says = assigning command reads channel request advance says (mobile_of w (slice_index_or request 0 0)) refl
+  by_reading command reads (Ok (ImmediateAssignment channel request advance)) says = by_number (is_channel channel.channel.0) where
+    by_number : (b : Bool) → AllGo w event (if b then assigned_to (mobile_of u (slice_index_or request 0 0)) (tenure_at u (place_at station channel.channel.0)) u else u)
+    by_number true = assigning command reads channel request advance says (mobile_of w (slice_index_or request 0 0)) refl
+    by_number false = quiet u refl
   by_reading command reads (Ok _) says = quiet u refl
   by_reading command reads (Err fault) says = quiet u refl
 

@@ -7,11 +7,7 @@ use Rattle.controller_table.specs.Controller.{place_at}
 use Rattle.dtap_codec.specs.RrReading.{rr_reading}
 use Rattle.link_model.specs.declared.fault.LinkFault.{LinkFault}
 use Rattle.link_model.specs.Base.{after_activate, after_release, refusal_of_activate}
-use Rattle.octets.proofs.Steps.{ok_is}
 use Rattle.octets.specs.declared.memory.Memory.{Memory}
-use Rattle.rsl_codec.specs.ChannelNumber.{channel_by, is_channel}
-use Rattle.rsl_codec.specs.declared.fault.RslFault.{RslFault}
-use Rattle.rsl_codec.specs.declared.fault.RslFault.TheVariants.{BadChannel}
 use Rattle.rsl_codec.specs.declared.rsl.Rsl.{Rsl}
 use Rattle.rsl_codec.specs.declared.rsl.Rsl.TheVariants as messages
 use Rattle.world_mobiles.specs.Mobiles.{assigned_to as assigned_in, at_mobile, mobile_in}
@@ -105,17 +101,11 @@ unassigned_is w number tenure asks = by_found (mobile_in number w.mobiles) (find
   by_found None are h = sym (ap (λ (x : Option Mobile). assigned_to x tenure w) are)
   by_found (Some p) are h = by_seat p p.seat h ∙ sym (ap (λ (x : Option Mobile). assigned_to x tenure w) are)
 
-channel_same : (octet channel : ℕ) → channel_by octet ≡ Ok channel → channel ≡ octet
-channel_same octet channel is = by_channel (is_channel octet) is where
-  by_channel : (b : Bool) → (if b then Ok octet else Err BadChannel) ≡ Ok channel → channel ≡ octet
-  by_channel true h = sym (ok_is {A = ℕ} {F = RslFault} octet channel h)
-  by_channel false h = absurd cc
-
-pub assigned_done : (w : Actors) (number station octet channel : ℕ) (tenure : Tenure) (mobiles : MobilesState) → is_asking_by w number ≡ true → channel_by octet ≡ Ok channel → tenure ≡ tenure_at w (place_at station channel)
-    → mobiles ≡ at_mobile number (assigned_in tenure) (mobiles_of w) → with_mobiles w mobiles ≡ assigned_to (mobile_of w number) (tenure_at w (place_at station octet)) w
-assigned_done w number station octet channel tenure mobiles asks reads is after =
-    ap (with_mobiles w) (after ∙ ap (λ (t : Tenure). at_mobile number (assigned_in t) (mobiles_of w)) (is ∙ ap (λ (n : ℕ). tenure_at w (place_at station n)) (channel_same octet channel reads)))
-    ∙ sym (assigned_is w number (tenure_at w (place_at station octet)) asks)
+pub assigned_done : (w : Actors) (number : ℕ) (tenure : Tenure) (at : Place) (mobiles : MobilesState) → is_asking_by w number ≡ true → tenure ≡ tenure_at w at
+    → mobiles ≡ at_mobile number (assigned_in tenure) (mobiles_of w) → with_mobiles w mobiles ≡ assigned_to (mobile_of w number) (tenure_at w at) w
+assigned_done w number tenure at mobiles asks is after =
+    ap (with_mobiles w) (after ∙ ap (λ (t : Tenure). at_mobile number (assigned_in t) (mobiles_of w)) is)
+    ∙ sym (assigned_is w number (tenure_at w at) asks)
 
 -- ---- a line is taken unless it activates a channel that had its last tenure
 

@@ -1,6 +1,7 @@
-ghost use Rattle.std.specs.Prelude.{◌≡◌, ◌≢◌, ◌&&◌, false, IfOk, IsSome, Ok, OnErr, OnOk, Some};
+ghost use Rattle.std.specs.Prelude.{◌≡◌, ◌≢◌, ◌&&◌, if◌then◌else◌, false, IfOk, IsSome, Ok, OnErr, OnOk, Some};
 ghost use Rattle.controller_table.specs.Controller.{place_at};
 ghost use Rattle.dtap_codec.specs.RrReading.{rr_reading};
+ghost use Rattle.rsl_codec.specs.ChannelNumber.{is_channel};
 ghost use Rattle.world_stations.specs.Activations.{activated_by};
 ghost use Rattle.world_table.specs.declared.limits.TheConstants.{MAX_TENURE as LAST};
 ghost use Rattle.world_table.specs.Lists.{first_in};
@@ -21,9 +22,6 @@ use world_table::{AirMessage, MAX_TENURE, OutboxEntry, Seat, Tenure};
 /// What stations take from the controller.
 impl Network {
     /// A station takes the first line of its outbox. It doesn't take the activation of a channel that had its last tenure.
-    ///
-    /// An IMMEDIATE ASSIGNMENT of an octet that is no channel number, to a mobile that asked for a channel, ends in `Err` too: a
-    /// tenure can't name such a channel. That the controller puts none isn't proved.
     pub fn base_takes(&mut self, station: u16) -> Result<bool, Memory>
         ensures ok { IfOk result (λ taken. Takes self.old (after_base_takes self.old station) taken self.new) }
         ensures memory { OnErr result (IsSome (after_base_takes self.old station)) }
@@ -143,39 +141,45 @@ impl Network {
         ensures { OnOk result (self.new ≡ assigned station (rr_reading information.now) self.old) }
     {
         match RrMessage::read(self.alloc, information) {
-            Ok(message) => self.assign_by(station, &message),
+            Ok(message) => {
+                self.assign_by(station, &message);
+                Ok(())
+            }
             Err(RrFault::Memory) => Err(Memory),
             Err(_) => Ok(()),
         }
     }
 
-    fn assign_by(&mut self, station: u16, message: &RrMessage) -> Result<(), Memory>
-        ensures { OnOk result (self.new ≡ assigned station (Ok message.now) self.old) }
+    fn assign_by(&mut self, station: u16, message: &RrMessage)
+        ensures { self.new ≡ assigned station (Ok message.now) self.old }
     {
         match message {
             RrMessage::ImmediateAssignment {
                 channel,
                 request_reference,
                 ..
-            } => self.assign_to(request_reference[0], station, channel.channel.0),
-            _ => Ok(()),
+            } => self.assign_on(request_reference[0], station, channel.channel.0),
+            _ => {}
         }
     }
 
-    // A mobile is on the channel with the number in this octet, if it is asking.
-    fn assign_to(&mut self, mobile: u8, station: u16, octet: u8) -> Result<(), Memory>
-        ensures { OnOk result (self.new ≡ assigned_to (mobile_of self.old mobile) (tenure_at self.old (place_at station octet)) self.old) }
+    // A mobile is on the channel with the number in this octet, if it is a channel's.
+    fn assign_on(&mut self, mobile: u8, station: u16, octet: u8)
+        ensures { self.new ≡ (if is_channel octet then assigned_to (mobile_of self.old mobile) (tenure_at self.old (place_at station octet)) self.old else self.old) }
     {
-        if !self.is_asking(mobile) {
-            return Ok(());
-        }
         match ChanNo::read(octet) {
-            Ok(number) => {
-                let tenure = self.last_tenure(Place { station, number });
-                self.mobiles.assign(mobile, tenure);
-                Ok(())
-            }
-            Err(_) => Err(Memory),
+            Ok(number) => self.assign_to(mobile, Place { station, number }),
+            Err(_) => {}
+        }
+    }
+
+    // A mobile is on the channel, if it is asking.
+    fn assign_to(&mut self, mobile: u8, at: Place)
+        ensures { self.new ≡ assigned_to (mobile_of self.old mobile) (tenure_at self.old at) self.old }
+    {
+        if self.is_asking(mobile) {
+            let tenure = self.last_tenure(at);
+            self.mobiles.assign(mobile, tenure);
         }
     }
 

@@ -18,6 +18,7 @@ use Rattle.mobile_end.specs.Mobile.{after_queue, refusal_of_connect, refusal_of_
 use Rattle.msc_end.specs.Switch.{after, after_clear, assignment_request, clear_command, connection_of, data_forms_on, dlci_for, replies}
 use Rattle.msc_end.specs.SwitchState.{SwitchState}
 use Rattle.relay_items.specs.declared.Item.{Item}
+use Rattle.rsl_codec.specs.ChannelNumber.{is_channel}
 use Rattle.rsl_codec.specs.declared.rsl.Rsl.{Rsl}
 use Rattle.rsl_codec.specs.declared.rsl.Rsl.TheVariants.{DataRequest, EstablishRequest, ImmediateAssignCommand, ChannelActivation, RfChannelRelease}
 use Rattle.dtap_codec.specs.declared.rr.RrMessage.{RrMessage}
@@ -286,9 +287,13 @@ assigned_to-leads : (P : Actors → Type 0) (station number channel : ℕ) (w : 
 assigned_to-leads P station number channel w None found nothing seats = nothing
 assigned_to-leads P station number channel w (Some p) found nothing seats = seated_from-leads P station number channel w p p.seat found refl nothing seats
 
+assigned_in-leads : (P : Actors → Type 0) (station number channel : ℕ) (w : Actors) (b : Bool) → P w → Seats P station w → P (if b then assigned_to (mobile_of w number) (tenure_at w (place_at station channel)) w else w)
+assigned_in-leads P station number channel w true nothing seats = assigned_to-leads P station number channel w (mobile_of w number) refl nothing seats
+assigned_in-leads P station number channel w false nothing seats = nothing
+
 pub assigned-leads : (P : Actors → Type 0) (station : ℕ) (w : Actors) (r : Result RrMessage RrFault) → P w → Seats P station w → P (assigned station r w)
 assigned-leads P station w (Ok (ImmediateAssignment channel request advance)) nothing seats =
-    assigned_to-leads P station (slice_index_or request 0 0) channel.channel.0 w (mobile_of w (slice_index_or request 0 0)) refl nothing seats
+    assigned_in-leads P station (slice_index_or request 0 0) channel.channel.0 w (is_channel channel.channel.0) nothing seats
 assigned-leads P station w (Ok _) nothing seats = nothing
 assigned-leads P station w (Err fault) nothing seats = nothing
 

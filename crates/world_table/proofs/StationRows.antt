@@ -75,6 +75,10 @@ assigns_who_asks : seat_of (after_all (record (after_all (new_world usual_settin
 unfolding on_literals
 assigns_who_asks = refl
 
+assigns_no_octet_without_channel : seat_of (after_all (record (after_all (new_world usual_settings) (Connect 7 1 (0x05 ∷ 0x24 ∷ 0x71 ∷ []) true ∷ [])) { actors = with_outbox 1 (record { out = record { to = 1; conn = 1; frame = record { stream = 0; body = (0x0c ∷ 0x16 ∷ 0x01 ∷ 0x90 ∷ 0x2b ∷ 0x17 ∷ 0x2d ∷ 0x06 ∷ 0x3f ∷ 0x00 ∷ 0x01 ∷ 0x20 ∷ 0x14 ∷ 0x07 ∷ 0x00 ∷ 0x00 ∷ 0x00 ∷ 0x00 ∷ 0x2b ∷ 0x2b ∷ 0x2b ∷ 0x2b ∷ 0x2b ∷ 0x2b ∷ 0x2b ∷ 0x2b ∷ 0x2b ∷ 0x2b ∷ 0x2b ∷ []) } }; target = None } ∷ []) ((after_all (new_world usual_settings) (Connect 7 1 (0x05 ∷ 0x24 ∷ 0x71 ∷ []) true ∷ []))).actors }) (BaseTakes 1 ∷ [])) 7 ≡ Some Asking
+unfolding on_literals
+assigns_no_octet_without_channel = refl
+
 assigns_no_other : seat_of (after_all (record (after_all (new_world usual_settings) (Connect 7 1 (0x05 ∷ 0x24 ∷ 0x71 ∷ []) true ∷ Connect 6 1 (0x05 ∷ 0x24 ∷ 0x71 ∷ []) true ∷ [])) { actors = with_outbox 1 (record { out = record { to = 1; conn = 1; frame = record { stream = 0; body = (0x0c ∷ 0x16 ∷ 0x01 ∷ 0x90 ∷ 0x2b ∷ 0x17 ∷ 0x2d ∷ 0x06 ∷ 0x3f ∷ 0x00 ∷ 0x49 ∷ 0x20 ∷ 0x14 ∷ 0x07 ∷ 0x00 ∷ 0x00 ∷ 0x00 ∷ 0x00 ∷ 0x2b ∷ 0x2b ∷ 0x2b ∷ 0x2b ∷ 0x2b ∷ 0x2b ∷ 0x2b ∷ 0x2b ∷ 0x2b ∷ 0x2b ∷ 0x2b ∷ []) } }; target = None } ∷ []) ((after_all (new_world usual_settings) (Connect 7 1 (0x05 ∷ 0x24 ∷ 0x71 ∷ []) true ∷ Connect 6 1 (0x05 ∷ 0x24 ∷ 0x71 ∷ []) true ∷ []))).actors }) (BaseTakes 1 ∷ [])) 6 ≡ Some Asking
 unfolding on_literals
 assigns_no_other = refl

@@ -21,6 +21,7 @@ use Rattle.link_model.specs.declared.fault.LinkFault.{LinkFault}
 use Rattle.link_model.specs.Base.{after_activate, after_release, refusal_of_activate}
 use Rattle.link_model.specs.BaseState.{BaseState}
 use Rattle.mobile_end.specs.Mobile.{after_acked, after_arrival, after_leave, after_queue}
+use Rattle.rsl_codec.specs.ChannelNumber.{is_channel}
 use Rattle.rsl_codec.specs.declared.rsl.Rsl.{Rsl}
 use Rattle.rsl_codec.specs.declared.rsl.Rsl.TheVariants.{DataRequest, EstablishRequest, ImmediateAssignCommand, ChannelActivation, RfChannelRelease}
 use Rattle.settings.specs.Parameters.{CellParameters, Parameters}
@@ -222,7 +223,7 @@ takes-air owner w number p q tenure first others reached is sits here =
 -- ---- what a station takes
 
 assigned-sits : (owner : Tenure → ℕ) (w : Actors) (station : ℕ) (r : Result RrMessage RrFault) → AssignsBy owner w station r → Sits owner w → Sits owner (assigned station r w)
-assigned-sits owner w station (Ok (ImmediateAssignment channel request advance)) names sits = by (mobile_of w (slice_index_or request 0 0)) refl
+assigned-sits owner w station (Ok (ImmediateAssignment channel request advance)) names sits = numbered (is_channel channel.channel.0)
   where
     tenure : Tenure
     tenure = tenure_at w (place_at station channel.channel.0)
@@ -236,6 +237,10 @@ assigned-sits owner w station (Ok (ImmediateAssignment channel request advance))
     by : (o : Option Mobile) → mobile_of w (slice_index_or request 0 0) ≡ o → Sits owner (assigned_to o tenure w)
     by None found = sits
     by (Some p) found = from p p.seat (names ∙ sym (has-number (slice_index_or request 0 0) w.mobiles p found))
+
+    numbered : (b : Bool) → Sits owner (if b then assigned_to (mobile_of w (slice_index_or request 0 0)) tenure w else w)
+    numbered true = by (mobile_of w (slice_index_or request 0 0)) refl
+    numbered false = sits
 assigned-sits owner w station (Ok _) names sits = sits
 assigned-sits owner w station (Err fault) names sits = sits
 

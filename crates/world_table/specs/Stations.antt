@@ -15,6 +15,7 @@ use Rattle.link_model.specs.Base.{after_activate, refusal_of_activate, after_rel
 use Rattle.link_model.specs.Message.{link_on}
 use Rattle.rsl_codec.specs.declared.rsl.Rsl.{Rsl}
 use Rattle.rsl_codec.specs.declared.rsl.Rsl.TheVariants.{DataRequest, EstablishRequest, EstablishConfirm, ReleaseIndication, ImmediateAssignCommand, ChannelActivation, RfChannelRelease}
+use Rattle.rsl_codec.specs.ChannelNumber.{is_channel}
 use Rattle.rsl_codec.specs.RslReading.{rsl_reading}
 use Rattle.world_table.specs.declared.line.AirMessage.{AirMessage}
 use Rattle.world_table.specs.declared.line.OutboxEntry.{OutboxEntry}
@@ -42,6 +43,7 @@ abbrev pub activated : Place → Actors → Actors
 activated at w = activated_unless (refusal_of_activate (base_of w at.station) at.number) at w
 
 -- ---- IMMEDIATE ASSIGNMENT: the mobile that its request reference names is on the channel, if it is asking
+-- an octet that is no channel number (TS 48.058 9.3.1) assigns nothing
 
 abbrev pub assigned_from : Seat → Tenure → Mobile → Actors → Actors
 assigned_from Asking tenure p w = with_mobile (record p { seat = On tenure None }) w
@@ -53,7 +55,7 @@ assigned_to (Some p) tenure w = assigned_from p.seat tenure p w
 
 abbrev pub assigned : ℕ → Result RrMessage RrFault → Actors → Actors
 assigned station (Ok (ImmediateAssignment channel request advance)) w =
-    assigned_to (mobile_of w (slice_index_or request 0 0)) (tenure_at w (place_at station channel.channel.0)) w
+    if is_channel channel.channel.0 then assigned_to (mobile_of w (slice_index_or request 0 0)) (tenure_at w (place_at station channel.channel.0)) w else w
 assigned station _ w = w
 
 -- ---- DATA REQUEST: the message goes into the air of an active channel

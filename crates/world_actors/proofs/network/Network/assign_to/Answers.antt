@@ -1,5 +1,4 @@
 use Rattle.std.proofs.Common.{◌≡◌, sym, ◌∙◌, true, subst}
-use Rattle.controller_table.specs.Controller.{place_at}
 use Rattle.world_table.specs.Stations.{assigned_to}
 use Rattle.world_table.specs.World.{Actors, mobile_of, tenure_at}
 use Rattle.world_actors.specs.contracts.network.Network.{the_view}
@@ -8,12 +7,12 @@ use Rattle.world_actors.proofs.Lines.{assigned_done, unassigned_is}
 use Rattle.world_actors.proofs.Upper.{with_mobiles}
 use Rattle.world_actors.proofs.network.Network.assign_to.Goals as goal
 
-pub returns-then-not-is_asking : goal.returns-then-not-is_asking
-returns-then-not-is_asking c =
-    unassigned_is c.args.self.now c.args.mobile (tenure_at c.args.self.now (place_at c.args.station c.args.octet)) (sym c.is_asking.ensures ∙ c.if-not-is_asking.true)
+pub returns-else-is_asking : goal.returns-else-is_asking
+returns-else-is_asking c =
+    unassigned_is c.args.self.now c.args.mobile (tenure_at c.args.self.now c.args.at) (sym c.is_asking.ensures ∙ c.if-is_asking.false)
 
-pub returns-in-Ok : goal.returns-in-Ok
-returns-in-Ok c =
-    subst (λ (w : Actors). is_asking_by w c.args.mobile ≡ true → c.last_tenure-tenure.result ≡ tenure_at w (place_at c.args.station c.in-Ok.number) → with_mobiles (the_view c.self.inside) c.assign.new.self ≡ assigned_to (mobile_of w c.args.mobile) (tenure_at w (place_at c.args.station c.args.octet)) w) c.self.view_is
-    (λ asks is. assigned_done (the_view c.self.inside) c.args.mobile c.args.station c.args.octet c.in-Ok.number c.last_tenure-tenure.result c.assign.new.self asks (sym c.read.ensures ∙ c.in-Ok.is) is c.assign.ensures)
-    (sym c.is_asking.ensures ∙ c.if-not-is_asking.false) c.last_tenure-tenure.ensures
+pub returns-then-is_asking : goal.returns-then-is_asking
+returns-then-is_asking c =
+    subst (λ (w : Actors). is_asking_by w c.args.mobile ≡ true → c.last_tenure-tenure.result ≡ tenure_at w c.args.at → with_mobiles (the_view c.self.inside) c.assign.new.self ≡ assigned_to (mobile_of w c.args.mobile) (tenure_at w c.args.at) w) c.self.view_is
+    (λ asks is. assigned_done (the_view c.self.inside) c.args.mobile c.last_tenure-tenure.result c.args.at c.assign.new.self asks is c.assign.ensures)
+    (sym c.is_asking.ensures ∙ c.if-is_asking.true) c.last_tenure-tenure.ensures
