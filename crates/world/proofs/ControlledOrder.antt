@@ -1,16 +1,33 @@
 -- The order of messages in every world with a controller.
-use Rattle.std.proofs.Common.{List, refl, sym, subst}
+use Rattle.std.proofs.Common.{ℕ, ◌≤◌, List, refl, sym, subst}
+use Rattle.controller_laws.specs.Downlink.{DownlinkIsConserved}
+use Rattle.controller_laws.specs.End.{SilenceIsKept}
+use Rattle.controller_laws.proofs.DownlinkLaw.{life_conserves}
+use Rattle.controller_laws.proofs.SilenceLife.{life_is_silent}
+use Rattle.controller_table.specs.declared.step.Step.{Step}
 use Rattle.settings.specs.Parameters.{AreAllowed, Parameters}
 use Rattle.world_table.specs.declared.event.Event.{Event}
+use Rattle.world_table.specs.Steps.{all_steps}
 use Rattle.world_table.specs.World.{new_actors}
+use Rattle.world_table.proofs.Living.{RunsByTable-new}
 use Rattle.world_order.specs.OctetEvents.{AreOctetEvents}
 use Rattle.world_order.specs.Order.{IsInOrderFor}
 use Rattle.world_order.proofs.Whole.{runs-are-in-order}
 use Rattle.world.specs.declared.world.Scene.{Scene}
 use Rattle.world.specs.declared.world.Scene.TheVariants.{Controlled}
+use Rattle.world.specs.Handing.{IsHandedInOrder}
 use Rattle.world.specs.Headline.{IsInOrder}
 use Rattle.world.specs.World.{controlled_world, after_all}
 use Rattle.world.proofs.ControlledQueues.{QueuesKeepOrder-controlled, scene-after_all}
+
+IsHandedInOrder-controlled : (settings : Parameters) (events : List Event) (connection : ℕ) → 1 ≤ connection → IsHandedInOrder (new_actors settings) events connection
+IsHandedInOrder-controlled settings events connection from_one =
+    let steps : List Step = all_steps (new_actors settings) events in
+    let runs = sym (RunsByTable-new settings events) in
+    record {
+      conserved = subst (DownlinkIsConserved connection settings steps) runs (life_conserves settings steps connection from_one);
+      silent = subst (SilenceIsKept connection settings steps) runs (life_is_silent settings steps connection from_one);
+    }
 
 pub IsInOrder-controlled : (settings : Parameters) (events : List Event) → AreAllowed settings → AreOctetEvents events → IsInOrder (controlled_world settings).scene events (after_all (controlled_world settings) events).scene
 IsInOrder-controlled settings events allowed octets =
@@ -22,5 +39,6 @@ IsInOrder-controlled settings events allowed octets =
           let first = order.in_order connection list is in
           record { mobile = first.mobile; opened = first.opened; sent = first.sent_list; is_sent = first.is_sent; is_prefix = first.is_prefix };
       no_gap = order.no_gap;
+      handed = λ connection from_one. IsHandedInOrder-controlled settings events connection from_one;
       queues = QueuesKeepOrder-controlled settings events;
     })

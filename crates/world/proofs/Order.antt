@@ -87,6 +87,7 @@ IsInOrder-fixed m two events =
             is_prefix = subst (λ (list : List (List ℕ)). IsPrefix list world.mobile.sent) found.1 (accepted-is_prefix world kept);
           };
       no_gap = λ connection p is. progress-is_some world kept p (cond_some (nat_eq connection FIXED_CONNECTION) _ _ is).1;
+      handed = tt;
       queues = record {
         first_out = λ queue. (in_switch_outbox queue world.outbox, sym (left-fixed m events queue));
         left = λ queue kept. left-fixed m events queue;

@@ -1,5 +1,6 @@
 -- The order of messages, end to end: for every list of events, what the switch accepts of the flow of a connection is the
--- beginning of what its mobile sent, once and in order; and each relay queue gives what was put there, in order.
+-- beginning of what its mobile sent, once and in order; what the switch sends is handed to the serving channel at most once, in
+-- order, never while the mobile changes its channel; and each relay queue gives what was put there, in order.
 use Rattle.std.specs.Prelude.{◌≡◌, ℕ, ◌≤◌, true, Option, Some, IsSome, List, ◌++◌}
 use Rattle.octets.specs.Lists.{IsPrefix}
 use Rattle.settings.specs.Parameters.{AreAllowed, Parameters}
@@ -7,6 +8,7 @@ use Rattle.world_order.specs.OctetEvents.{AreOctetEvents}
 use Rattle.world_table.specs.declared.event.Event.{Event}
 use Rattle.world.specs.declared.world.Scene.{Scene}
 use Rattle.world.specs.declared.world.Scene.TheVariants.{Fixed, Controlled}
+use Rattle.world.specs.Handing.{HandsInOrder}
 use Rattle.world.specs.Openers.{opener_in}
 use Rattle.world.specs.Queues.{Queue, outbox, all_messages_put, all_messages_taken, messages_left, is_kept, IsTakenBySwitch}
 use Rattle.world.specs.Views.{sent_list, accepted_list, progress_in}
@@ -46,5 +48,7 @@ pub record IsInOrder (begin : Scene) (events : List Event) (scene : Scene) : Typ
   pub accepted : (connection : ℕ) (list : List (List ℕ)) → accepted_list scene connection ≡ Some list → IsBeginningOfSent begin events scene connection list
   -- no gap is ever judged
   pub no_gap : (connection : ℕ) (progress : Option ℕ) → progress_in scene connection ≡ Some progress → IsSome progress
+  -- what the switch sends is handed to the mobile in order, and after CLEAR COMPLETE only RLC is put
+  pub handed : HandsInOrder begin events
   -- each relay queue gives what was put there, in order
   pub queues : QueuesKeepOrder begin events scene

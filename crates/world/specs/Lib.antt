@@ -5,6 +5,7 @@ pub mod World
 pub mod Views
 pub mod Openers
 pub mod Queues
+pub mod Handing
 pub mod Headline
 pub mod WordsLeft
 pub mod Words

@@ -1,8 +1,9 @@
 -- The controller of a world is the one after the steps that it took.
-use Rattle.std.proofs.Common.{◌≡◌, ℕ, List, [], ◌∷◌, ◌++◌, unwrap_or, Option, None, refl, sym, ap, ◌∙◌}
+use Rattle.std.proofs.Common.{◌≡◌, ℕ, List, [], ◌∷◌, ◌++◌, map, unwrap_or, Option, None, Some, append-nil, append_assoc, refl, sym, ap, ◌∙◌}
 use Rattle.controller_table.specs.declared.step.Step.{Step}
+use Rattle.conn_messages.specs.declared.out.Out.{Out}
 use Rattle.conn_messages.specs.declared.parameters.TheConstants.{SWITCH_LINK}
-use Rattle.controller_table.specs.Controller.{Controller, Turn, each}
+use Rattle.controller_table.specs.Controller.{Controller, Turn, each, new_controller, turn}
 use Rattle.controller_table.specs.Life.{take, tick, step, life}
 use Rattle.dtap_codec.specs.declared.sapi.Sapi.{Sapi}
 use Rattle.dtap_codec.specs.declared.sapi.Sapi.TheVariants.{Zero, Three}
@@ -14,9 +15,10 @@ use Rattle.world_table.specs.declared.event.Event.TheVariants.{Upper, Connect, A
 use Rattle.world_table.specs.declared.seat.Tenure.{Tenure}
 use Rattle.world_table.specs.Life.{event_after, actors_after, actors_after_all}
 use Rattle.world_table.specs.Mobiles.{brought, after_upper, after_connecting, after_air_up, after_air_ack, after_air_down, after_air_down_lost, after_move, after_touch, after_arriving, after_return, after_report}
-use Rattle.world_table.specs.Relay.{with_turn, target_in, handled, after_base_push, after_break}
+use Rattle.world_table.specs.Relay.{with_turn, entry_of, target_in, handled, after_base_push, after_break}
 use Rattle.world_table.specs.Stations.{took, rsl_in, after_base_takes}
-use Rattle.world_table.specs.Steps.{first_taken, step_at, all_steps, LivesByTable}
+use Rattle.world_table.specs.Queues.{outputs, outputs_at}
+use Rattle.world_table.specs.Steps.{first_taken, step_at, all_steps, all_outputs, LivesByTable, RunsByTable}
 use Rattle.world_table.specs.SwitchSide.{sccp_in, after_switch_takes, after_switch_does}
 use Rattle.world_table.specs.World.{Actors, new_actors, with_outbox}
 use Rattle.world_table.proofs.Leads.{OfTaken, FromAir, upper-leads, connect-leads, air_up-leads, air_ack-leads, air_down-leads, air_down_lost-leads, move-leads, touch-leads, arrive-leads, return-leads, report-leads, base_takes-leads, took-leads, turn-leads, switch_takes-leads, switch_took-leads, push-leads, does-leads, broken-leads, after-taken}
@@ -94,3 +96,39 @@ moves-all w (event ∷ events) =
 pub LivesByTable-new : (settings : Parameters) (events : List Event) → LivesByTable settings events
 unfolding life
 LivesByTable-new settings events = moves-all (new_actors settings) events
+
+-- ---- what it put
+
+outs_of-entries : (target : Option Tenure) (outs : List Out) → map (λ entry. entry.out) (map (entry_of target) outs) ≡ outs
+outs_of-entries None [] = refl
+outs_of-entries None (out ∷ outs) = ap (λ (xs : List Out). out ∷ xs) (outs_of-entries None outs)
+outs_of-entries (Some target) [] = refl
+outs_of-entries (Some target) (out ∷ outs) = ap (λ (xs : List Out). out ∷ xs) (outs_of-entries (Some target) outs)
+
+items-put : (w : Actors) (items : List Item) → map (λ entry. entry.out) (outputs_at w items) ≡ (each step w.controller (first_taken items)).outs
+items-put w [] = refl
+items-put w (item ∷ items) = outs_of-entries (target_in w item.source item.what) (take item w.controller).outs ∙ sym (append-nil (take item w.controller).outs)
+
+puts : (w : Actors) (event : Event) → map (λ entry. entry.out) (outputs w event) ≡ (each step w.controller (step_at w event)).outs
+puts w Handle = items-put w w.inbox
+puts w (Tick ms) = outs_of-entries None (tick ms w.controller).outs ∙ sym (append-nil (tick ms w.controller).outs)
+puts w _ = refl
+
+outs-append : (c : Controller) (xs ys : List Step) → (each step c (xs ++ ys)).outs ≡ (each step c xs).outs ++ (each step (after_steps c xs) ys).outs
+outs-append c [] ys = refl
+outs-append c (x ∷ xs) ys = ap (λ (outs : List Out). (step c x).outs ++ outs) (outs-append (step c x).next xs ys) ∙ sym (append_assoc (step c x).outs (each step (step c x).next xs).outs (each step (after_steps (step c x).next xs) ys).outs)
+
+puts-all : (w : Actors) (events : List Event) → all_outputs w events ≡ (each step w.controller (all_steps w events)).outs
+unfolding Moves
+puts-all w [] = refl
+puts-all w (event ∷ events) =
+    ap (λ (outs : List Out). outs ++ all_outputs (actors_after w event) events) (puts w event)
+    ∙ ap (λ (outs : List Out). (each step w.controller (step_at w event)).outs ++ outs) (puts-all (actors_after w event) events)
+    ∙ ap (λ (c : Controller). (each step w.controller (step_at w event)).outs ++ (each step c (all_steps (actors_after w event) events)).outs) (moves w event)
+    ∙ sym (outs-append w.controller (step_at w event) (all_steps (actors_after w event) events))
+
+pub RunsByTable-new : (settings : Parameters) (events : List Event) → RunsByTable settings events
+unfolding life
+RunsByTable-new settings events =
+    ap (λ (outs : List Out). turn outs (actors_after_all (new_actors settings) events).controller) (puts-all (new_actors settings) events)
+    ∙ ap (λ (c : Controller). turn (each step (new_controller settings) (all_steps (new_actors settings) events)).outs c) (moves-all (new_actors settings) events)

@@ -1,13 +1,16 @@
--- What the controller of a world took, step by step.
-use Rattle.std.specs.Prelude.{◌≡◌, List, [], ◌∷◌, ◌++◌}
+-- What the controller of a world took, step by step, and what it put.
+use Rattle.std.specs.Prelude.{◌≡◌, List, [], ◌∷◌, ◌++◌, map}
+use Rattle.conn_messages.specs.declared.out.Out.{Out}
 use Rattle.controller_table.specs.declared.step.Step.{Step}
 use Rattle.controller_table.specs.declared.step.Step.TheVariants as steps
+use Rattle.controller_table.specs.Controller.{Turn, turn}
 use Rattle.controller_table.specs.Life.{life}
 use Rattle.relay_items.specs.declared.Item.{Item}
 use Rattle.settings.specs.Parameters.{Parameters}
 use Rattle.world_table.specs.declared.event.Event.{Event}
 use Rattle.world_table.specs.declared.event.Event.TheVariants.{Handle, Tick}
 use Rattle.world_table.specs.Life.{actors_after, actors_after_all}
+use Rattle.world_table.specs.Queues.{outputs}
 use Rattle.world_table.specs.World.{Actors, new_actors}
 
 -- the first item of the inbox
@@ -25,6 +28,19 @@ abbrev pub all_steps : Actors → List Event → List Step
 all_steps w [] = []
 all_steps w (event ∷ events) = step_at w event ++ all_steps (actors_after w event) events
 
--- the controller is the one after these steps
+-- what the controller put at these events
+abbrev pub all_outputs : Actors → List Event → List Out
+all_outputs w [] = []
+all_outputs w (event ∷ events) = map (λ entry. entry.out) (outputs w event) ++ all_outputs (actors_after w event) events
+
+-- the controller after these events, and what it put
+abbrev pub controller_run : Actors → List Event → Turn
+controller_run w events = turn (all_outputs w events) (actors_after_all w events).controller
+
+-- the controller is the one after these steps,
 abbrev pub LivesByTable : Parameters → List Event → Type 0
 LivesByTable settings events = (actors_after_all (new_actors settings) events).controller ≡ (life settings (all_steps (new_actors settings) events)).next
+
+-- and what it put is what they put
+abbrev pub RunsByTable : Parameters → List Event → Type 0
+RunsByTable settings events = controller_run (new_actors settings) events ≡ life settings (all_steps (new_actors settings) events)

@@ -8,7 +8,7 @@ ghost use Rattle.world_table.specs.Queues.{KeepsQueues};
 ghost use Rattle.world_table.specs.Reading.{AreRead};
 ghost use Rattle.world_table.specs.declared.seat.Tenure.{Tenure as TenureValue};
 ghost use Rattle.world_table.specs.Life.{actors_after_all};
-ghost use Rattle.world_table.specs.Steps.{LivesByTable};
+ghost use Rattle.world_table.specs.Steps.{LivesByTable, RunsByTable};
 ghost use Rattle.world_table.specs.Tickets.{AllAreBy, AllSitBy, OneMobileEach, senders};
 ghost use Rattle.world_table.specs.World.{new_actors};
 
@@ -23,10 +23,11 @@ pub fn stations_are_honest()
     ensures { (settings : Parameters) (events : List WorldEvent) → AreHonest (new_actors settings) events }
 {}
 
-/// Law: the controller of a world is the one after the items that it handled and the time that passed for it. So what holds of
-/// the controller after any steps holds of it.
+/// Law: the controller of a world is the one after the items that it handled and the time that passed for it, and what it put
+/// at the events is what these steps put. So what holds of the controller after any steps, and of what they put, holds of it.
 pub fn controller_lives_by_its_table()
-    ensures { (settings : Parameters) (events : List WorldEvent) → LivesByTable settings events }
+    ensures lives { (settings : Parameters) (events : List WorldEvent) → LivesByTable settings events }
+    ensures runs { (settings : Parameters) (events : List WorldEvent) → RunsByTable settings events }
 {}
 
 /// Law: whatever events happen, the acknowledgements of a station on a channel follow what the controller put for it, in order: to

@@ -1,5 +1,8 @@
-use Rattle.world_table.proofs.Living.{LivesByTable-new}
+use Rattle.world_table.proofs.Living.{LivesByTable-new, RunsByTable-new}
 use Rattle.world_table.proofs.laws.controller_lives_by_its_table.Goals as goal
 
-pub returns : goal.returns
-returns c = LivesByTable-new
+pub returns-clause-lives : goal.returns-clause-lives
+returns-clause-lives c = LivesByTable-new
+
+pub returns-clause-runs : goal.returns-clause-runs
+returns-clause-runs c = RunsByTable-new

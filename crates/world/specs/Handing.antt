@@ -1,0 +1,22 @@
+-- The switch's messages on their way to the mobiles, over every list of events.
+use Rattle.std.specs.Prelude.{ℕ, ◌≤◌, List}
+use Rattle.controller_laws.specs.Downlink.{DownlinkIsConserved}
+use Rattle.controller_laws.specs.End.{SilenceIsKept}
+use Rattle.world_table.specs.declared.event.Event.{Event}
+use Rattle.world_table.specs.Steps.{all_steps, controller_run}
+use Rattle.world_table.specs.World.{Actors}
+use Rattle.world.specs.declared.world.Scene.{Scene}
+use Rattle.world.specs.declared.world.Scene.TheVariants.{Fixed, Controlled}
+
+-- what holds of a connection, with what came to the controller and what it put at these events
+pub record IsHandedInOrder (begin : Actors) (events : List Event) (connection : ℕ) : Type 0 where
+  -- per SAPI, what was handed, then what is held, is what the switch sent and wasn't rejected, as long as it is open
+  pub conserved : DownlinkIsConserved connection begin.controller.settings (all_steps begin events) (controller_run begin events)
+  -- nothing is handed while its mobile changes the channel, and what is handed goes to the channel that serves; after CLEAR
+  -- COMPLETE only RLC is put
+  pub silent : SilenceIsKept connection begin.controller.settings (all_steps begin events) (controller_run begin events)
+
+-- each connection; in the fixed world nothing is handed, since no controller is there
+abbrev pub HandsInOrder : Scene → List Event → Type 0
+HandsInOrder (Fixed world) events = Unit {0}
+HandsInOrder (Controlled w) events = (connection : ℕ) → 1 ≤ connection → IsHandedInOrder w events connection
