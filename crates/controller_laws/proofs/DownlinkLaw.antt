@@ -4,6 +4,7 @@ use Rattle.controller_laws.specs.Downlink.{DownlinkIsConserved, nothing_switched
 use Rattle.controller_laws.specs.History.{Moment, all_messages}
 use Rattle.controller_laws.proofs.DownlinkLife.{downlink_in_life, frames_in_life, history_of, moments_of}
 use Rattle.controller_laws.proofs.Fitting.{new_fits}
+use Rattle.controller_laws.proofs.Ordered.{handed_in_order}
 use Rattle.controller_laws.proofs.OwningLife.{new_holds}
 use Rattle.controller_laws.proofs.SeenStations.{handed_seen, handed_so_far, right_run}
 use Rattle.controller_laws.proofs.SoundLife.{life_sends_all}
@@ -22,6 +23,7 @@ life_conserves p steps number from_one =
       history = history_of number (new_controller p) from_one (new_fits number p) steps;
       frames = frames_in_life p steps number from_one;
       downlink = λ sapi. downlink_in_life p steps number from_one sapi;
+      in_order = λ sapi. handed_in_order p steps number from_one sapi;
       read = λ allowed octets sapi.
           handed_seen number (life p steps).outs (all_messages moments) from_one (frames_in_life p steps number from_one) (life_sends_all p steps allowed octets) sapi
           (right_run sapi number (new_controller p) from_one (λ n first. new_fits n p) (new_holds p allowed) (new_uses p) steps)

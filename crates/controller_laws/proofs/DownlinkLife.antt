@@ -59,22 +59,27 @@ found_begun number next (x ∷ xs) below = elim (cases_Bool (has_number number x
 pub begun_in : (number : ℕ) (c : Controller) → IsNumbered c → IsBegun number c.next_number (connection_of c number)
 begun_in number c numbered = found_begun number c.next_number c.entries numbered.below
 
+pub agree_step : (sapi : Sapi) (number : ℕ) (c : Controller) (from_one : 1 ≤ number) (fits : Fits number c) (a : Switched) (s : Step) → AgreesDown sapi number c.next_number a (connection_of c number) →
+    AgreesDown sapi number (step c s).next.next_number (with_moment number sapi a (record { taken = s; messages = (step_does number c s from_one fits.numbered).put })) (connection_of (step c s).next number)
+agree_step sapi number c from_one fits a s agrees =
+    let does = step_does number c s from_one fits.numbered in
+    acts_agree sapi number c.next_number (step c s).next.next_number (is_up c SWITCH_LINK) (brought_in c number s) (connection_of c number) (connection_of (step c s).next number) does.put a s does.acts (step_goes c s).numbers (begun_in number c fits.numbered) fits.fine fits.linked (in_break c number s)
+    (λ up. step_says c number s up) agrees
+
 agree_run : (sapi : Sapi) (number : ℕ) (c : Controller) (from_one : 1 ≤ number) (fits : Fits number c) (a : Switched) (steps : List Step) → AgreesDown sapi number c.next_number a (connection_of c number) →
     AgreesDown sapi number (each step c steps).next.next_number (fold (with_moment number sapi) a (moments_of number c from_one fits steps)) (connection_of (each step c steps).next number)
 unfolding moments_of
 agree_run sapi number c from_one fits a [] agrees = agrees
 agree_run sapi number c from_one fits a (s ∷ ss) agrees =
-    let does = step_does number c s from_one fits.numbered in
-    agree_run sapi number (step c s).next from_one (step_fits number c s from_one fits) (with_moment number sapi a (record { taken = s; messages = does.put })) ss
-    (acts_agree sapi number c.next_number (step c s).next.next_number (is_up c SWITCH_LINK) (brought_in c number s) (connection_of c number) (connection_of (step c s).next number) does.put a s does.acts (step_goes c s).numbers (begun_in number c fits.numbered) fits.fine fits.linked (in_break c number s)
-    (λ up. step_says c number s up) agrees)
+    agree_run sapi number (step c s).next from_one (step_fits number c s from_one fits) (with_moment number sapi a (record { taken = s; messages = (step_does number c s from_one fits.numbered).put })) ss
+    (agree_step sapi number c from_one fits a s agrees)
 
-conserved : (sapi : Sapi) (number next : ℕ) (a : Switched) (o : Option Connection) → AgreesDown sapi number next a o → ConservesDownlink a sapi o
+pub conserved : (sapi : Sapi) (number next : ℕ) (a : Switched) (o : Option Connection) → AgreesDown sapi number next a o → ConservesDownlink a sapi o
 unfolding AgreesDown
 conserved sapi number next a None agrees = tt
 conserved sapi number next a (Some s) agrees = λ there. (agrees there).1
 
-new_agrees : (sapi : Sapi) (number : ℕ) (p : Parameters) → AgreesDown sapi number 1 nothing_switched (connection_of (new_controller p) number)
+pub new_agrees : (sapi : Sapi) (number : ℕ) (p : Parameters) → AgreesDown sapi number 1 nothing_switched (connection_of (new_controller p) number)
 unfolding AgreesDown
 new_agrees sapi number p = λ less. refl
 

@@ -97,7 +97,7 @@ abbrev second : List ℕ
 second = 0x03 ∷ 0x02 ∷ []
 
 abbrev came : List (List ℕ) → List (List ℕ) → Switched
-came received handed = record { requested = true; confirmed = true; received = received; handed = handed }
+came received handed = record { requested = true; confirmed = true; came = received; received = received; handed = handed }
 
 -- a message of radio resource management is held with them
 abbrev holding : Connection
@@ -135,7 +135,7 @@ held_for_it s = turn [] (record busy { entries = entry s ∷ [] })
 
 downlink_at_first : DownlinkIsConserved 7 usual_settings [] at_first
 unfolding on_literals
-downlink_at_first = record { moments = []; history = tt; frames = refl; downlink = λ sapi. tt; read = λ allowed octets sapi. refl }
+downlink_at_first = record { moments = []; history = tt; frames = refl; downlink = λ sapi. tt; in_order = λ sapi. tt; read = λ allowed octets sapi. refl }
 
 handed_is_in_the_history : DownlinkIsConserved 7 usual_settings [] (turn (out_for 7 ∷ []) at_first.next) → ⊥
 handed_is_in_the_history kept = by kept.moments kept.history kept.frames where

@@ -16,6 +16,7 @@ pub mod Owning
 pub mod OwningRows
 pub mod OwningSteps
 pub mod OwningWords
+pub mod Ordered
 pub mod OwningLife
 mod OnLiterals
 mod Rows

@@ -1,5 +1,5 @@
 -- The definitions at literal values.
-use Rattle.std.proofs.Common.{◌≡◌, ℕ, true, false, List, [], ◌∷◌, set, codes, refl}
+use Rattle.std.proofs.Common.{inl, inr, ◌≡◌, ℕ, true, false, List, [], ◌∷◌, set, codes, refl}
 use Rattle.bssmap_codec.specs.declared.bssap.Bssap.TheVariants.{Management}
 use Rattle.bssmap_codec.specs.declared.bssmap.Bssmap.TheVariants.{CompleteLayer3Information, SapiNReject}
 use Rattle.conn_messages.specs.declared.channel.Channel.{Channel}
@@ -9,7 +9,7 @@ use Rattle.conn_messages.specs.StationMessage.{channel_release, handing}
 use Rattle.conn_table.specs.declared.input.Input.TheVariants as inputs
 use Rattle.controller_laws.specs.Acts.{brought_in}
 use Rattle.controller_laws.specs.Acts.Brought.{nothing, comes, breaks, passes}
-use Rattle.controller_laws.specs.Downlink.{switched}
+use Rattle.controller_laws.specs.Downlink.{IsPart, switched}
 use Rattle.controller_laws.specs.History.{Moment, outs_for}
 use Rattle.controller_laws.proofs.OnLiterals.{on_literals}
 use Rattle.controller_table.specs.declared.channel_state.ChannelState.TheVariants.{InUse, Releasing}
@@ -66,13 +66,13 @@ of_sapi_0 : switched 1 Zero
     ∷ moment (three_1 (0x09 ∷ 0x05 ∷ [])) []
     ∷ moment (zero_1 (0x06 ∷ 0x06 ∷ [])) (channel_release serving 0 ∷ [])
     ∷ moment (zero_1 (0x03 ∷ 0x07 ∷ [])) [] ∷ [])
-    ≡ record { requested = true; confirmed = true; received = (0x05 ∷ 0x03 ∷ []) ∷ (0x03 ∷ 0x07 ∷ []) ∷ []; handed = (0x05 ∷ 0x03 ∷ []) ∷ [] }
+    ≡ record { requested = true; confirmed = true; came = (0x05 ∷ 0x03 ∷ []) ∷ (0x03 ∷ 0x07 ∷ []) ∷ []; received = (0x05 ∷ 0x03 ∷ []) ∷ (0x03 ∷ 0x07 ∷ []) ∷ []; handed = (0x05 ∷ 0x03 ∷ []) ∷ [] }
 unfolding on_literals zero_1 zero_2 three_1 confirm_1 from_switch request serving
 of_sapi_0 = refl
 
 -- CC counts after CR alone
 confirmed_too_soon : switched 1 Zero (moment confirm_1 [] ∷ moment (Tick 1) (request ∷ []) ∷ moment (zero_1 (0x05 ∷ 0x02 ∷ [])) [] ∷ [])
-    ≡ record { requested = true; confirmed = false; received = []; handed = [] }
+    ≡ record { requested = true; confirmed = false; came = []; received = []; handed = [] }
 unfolding on_literals zero_1 confirm_1 from_switch request
 confirmed_too_soon = refl
 
@@ -83,14 +83,62 @@ rejected : switched 1 Three
     ∷ moment (three_1 (0x09 ∷ 0x02 ∷ [])) []
     ∷ moment (Tick 2) (reject ∷ [])
     ∷ moment (three_1 (0x09 ∷ 0x03 ∷ [])) [] ∷ [])
-    ≡ record { requested = true; confirmed = true; received = (0x09 ∷ 0x01 ∷ []) ∷ (0x09 ∷ 0x03 ∷ []) ∷ []; handed = (0x09 ∷ 0x01 ∷ []) ∷ [] }
+    ≡ record { requested = true; confirmed = true; came = (0x09 ∷ 0x01 ∷ []) ∷ (0x09 ∷ 0x02 ∷ []) ∷ (0x09 ∷ 0x03 ∷ []) ∷ []; received = (0x09 ∷ 0x01 ∷ []) ∷ (0x09 ∷ 0x03 ∷ []) ∷ []; handed = (0x09 ∷ 0x01 ∷ []) ∷ [] }
 unfolding on_literals three_1 confirm_1 from_switch request reject serving
 rejected = refl
 
 not_rejected : switched 1 Zero (moment (Tick 1) (request ∷ []) ∷ moment confirm_1 [] ∷ moment (zero_1 (0x05 ∷ 0x02 ∷ [])) [] ∷ moment (Tick 2) (reject ∷ []) ∷ [])
-    ≡ record { requested = true; confirmed = true; received = (0x05 ∷ 0x02 ∷ []) ∷ []; handed = [] }
+    ≡ record { requested = true; confirmed = true; came = (0x05 ∷ 0x02 ∷ []) ∷ []; received = (0x05 ∷ 0x02 ∷ []) ∷ []; handed = [] }
 unfolding on_literals zero_1 confirm_1 from_switch request reject
 not_rejected = refl
+
+-- what is handed with the reject itself is none of what is left
+handed_with_reject : (switched 1 Three
+    (moment (Tick 1) (request ∷ []) ∷ moment confirm_1 []
+    ∷ moment (three_1 (0x09 ∷ 0x01 ∷ [])) []
+    ∷ moment (Tick 2) (handing serving Three (0x09 ∷ 0x01 ∷ []) ∷ reject ∷ []) ∷ [])).received ≡ []
+unfolding on_literals three_1 confirm_1 from_switch request reject serving
+handed_with_reject = refl
+
+-- ---- some of a list, in its order
+
+one : List ℕ
+one = 0x05 ∷ 0x01 ∷ []
+
+two : List ℕ
+two = 0x05 ∷ 0x02 ∷ []
+
+three : List ℕ
+three = 0x05 ∷ 0x03 ∷ []
+
+none_of_all : IsPart [] (one ∷ [])
+none_of_all = tt
+
+first_and_third : IsPart (one ∷ three ∷ []) (one ∷ two ∷ three ∷ [])
+first_and_third = inl (refl, inr (inl (refl, tt)))
+
+twice_where_it_came_twice : IsPart (one ∷ one ∷ []) (one ∷ two ∷ one ∷ [])
+twice_where_it_came_twice = inl (refl, inr (inl (refl, tt)))
+
+not_twice : IsPart (one ∷ one ∷ []) (one ∷ two ∷ []) → ⊥
+unfolding one two
+not_twice (inl first) = by first.1 where
+  by : IsPart (one ∷ []) (two ∷ []) → ⊥
+  by (inl same) = absurd (cc same.0)
+  by (inr none) = none
+not_twice (inr (inl same)) = absurd (cc same.0)
+not_twice (inr (inr none)) = none
+
+not_overtaken : IsPart (two ∷ one ∷ []) (one ∷ two ∷ []) → ⊥
+unfolding one two
+not_overtaken (inl same) = absurd (cc same.0)
+not_overtaken (inr (inl first)) = first.1
+not_overtaken (inr (inr none)) = none
+
+not_what_never_came : IsPart (three ∷ []) (one ∷ []) → ⊥
+unfolding one three
+not_what_never_came (inl same) = absurd (cc same.0)
+not_what_never_came (inr none) = none
 
 -- ---- what a step brings
 

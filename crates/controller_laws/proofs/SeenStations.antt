@@ -165,7 +165,7 @@ right_all : (sapi : Sapi) (c : Channel) (ms : List Message) → c.station ≢ SW
 right_all sapi c [] other all = tt
 right_all sapi c (m ∷ ms) other all = (right_one sapi c m other all.0, right_all sapi c ms other all.1)
 
-open_or : (state : State) → IsOpen state ⊎ (IsOpen state → ⊥)
+pub open_or : (state : State) → IsOpen state ⊎ (IsOpen state → ⊥)
 open_or WaitActivation = inl tt
 open_or WaitEstablish = inl tt
 open_or WaitConfirm = inl tt

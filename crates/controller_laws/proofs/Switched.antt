@@ -116,14 +116,18 @@ with_brought : Sapi → Brought → List Message → Switched → Switched
 with_brought sapi brought put a = record {
   requested = a.requested || requests put;
   confirmed = a.confirmed || (a.requested && is_confirming brought);
-  received = left_over sapi put (a.handed ++ handed sapi put) (a.received ++ (if a.confirmed then came sapi brought else []));
+  came = a.came ++ (if a.confirmed then came sapi brought else []);
+  received = left_over sapi put a.handed (a.received ++ (if a.confirmed then came sapi brought else []));
   handed = a.handed ++ handed sapi put;
 }
 
 by_brought : (number : ℕ) (sapi : Sapi) (a : Switched) (s : Step) (put : List Message) (brought : Brought) → SaysSo number (word_in s) brought → with_moment number sapi a (record { taken = s; messages = put }) ≡ with_brought sapi brought put a
 unfolding with_brought
 by_brought number sapi a s put brought says =
-    ap (λ (xs : List (List ℕ)). record (with_moment number sapi a (record { taken = s; messages = put })) { received = left_over sapi put (a.handed ++ handed sapi put) (a.received ++ (if a.confirmed then xs else [])) }) (says.came_is sapi)
+    ap (λ (xs : List (List ℕ)). record (with_moment number sapi a (record { taken = s; messages = put })) {
+      came = a.came ++ (if a.confirmed then xs else []);
+      received = left_over sapi put a.handed (a.received ++ (if a.confirmed then xs else []));
+    }) (says.came_is sapi)
     ∙ ap (λ (b : Bool). record (with_brought sapi brought put a) { confirmed = a.confirmed || (a.requested && b) }) says.confirms_is
 
 abbrev pub Flags : State → Switched → Type 0
@@ -199,7 +203,7 @@ rest_held s sapi brought a none flags held =
     ap (λ (xs : List (List ℕ)). xs ++ filter is_dtap (messages s.down sapi)) (append-nil a.handed)
     ∙ held ∙ sym (append-nil a.received)
     ∙ ap (λ (xs : List (List ℕ)). a.received ++ xs) (sym (none_counts s.state s refl sapi brought a none flags))
-    ∙ sym (none_left sapi (a.handed ++ []) (a.received ++ (if a.confirmed then came sapi brought else [])))
+    ∙ sym (none_left sapi a.handed (a.received ++ (if a.confirmed then came sapi brought else [])))
 
 -- ---- a row
 
@@ -292,12 +296,12 @@ still_held : (before now held after came received : List (List ℕ)) → now ++ 
 still_held before now held after came received keeps is =
     append_assoc before now after ∙ ap (λ (xs : List (List ℕ)). before ++ xs) keeps ∙ sym (append_assoc before held came) ∙ ap (λ (xs : List (List ℕ)). xs ++ came) is
 
-row_held : (sapi : Sapi) (put : List Message) (before now held after came received : List (List ℕ)) → now ++ after ≡ without_rejected sapi put (held ++ came) → before ++ held ≡ received → (before ++ now) ++ after ≡ left_over sapi put (before ++ now) (received ++ came)
+row_held : (sapi : Sapi) (put : List Message) (before now held after came received : List (List ℕ)) → now ++ after ≡ without_rejected sapi put (held ++ came) → before ++ held ≡ received → (before ++ now) ++ after ≡ left_over sapi put before (received ++ came)
 row_held Zero put before now held after came received keeps is = still_held before now held after came received keeps is
 row_held Three put before now held after came received keeps is = elim (cases_Bool (rejects put)) [
   | inl hit ↦
       let none : now ++ after ≡ [] = keeps ∙ cond-true _ _ _ hit in
-      append_assoc before now after ∙ ap (λ (xs : List (List ℕ)). before ++ xs) (none ∙ sym (first_empty now after none)) ∙ sym (cond-true _ _ _ hit)
+      append_assoc before now after ∙ ap (λ (xs : List (List ℕ)). before ++ xs) none ∙ append-nil before ∙ sym (cond-true _ _ _ hit)
   | inr miss ↦ still_held before now held after came received (keeps ∙ cond-false _ _ _ miss) is ∙ sym (cond-false _ _ _ miss)
 ]
 
@@ -310,7 +314,7 @@ row_agrees s input offer r sapi brought a stands break by fits there flags held 
       row_flags s.state r.next.state sapi brought input r.outs a (confirming_is brought input break by) goes_on flags,
       row_held sapi r.outs a.handed (handed sapi r.outs) (filter is_dtap (messages s.down sapi)) (filter is_dtap (messages r.next.down sapi)) (filter is_dtap (received_by sapi input)) a.received
           (keeps ∙ ap (without_rejected sapi r.outs) (filter_append (messages s.down sapi) (received_by sapi input))) held
-          ∙ ap (λ (xs : List (List ℕ)). left_over sapi r.outs (a.handed ++ handed sapi r.outs) (a.received ++ xs)) (sym counts),
+          ∙ ap (λ (xs : List (List ℕ)). left_over sapi r.outs a.handed (a.received ++ xs)) (sym counts),
     )
 
 -- ---- each step

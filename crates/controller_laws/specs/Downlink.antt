@@ -1,5 +1,5 @@
 -- The switch's messages of a connection: those that came, were rejected, were handed.
-use Rattle.std.specs.Prelude.{◌≡◌, ℕ, ◌==◌, ◌&&◌, ◌||◌, Bool, true, false, if◌then◌else◌, List, [], ◌∷◌, ◌++◌, filter, fold, Option, Some, None}
+use Rattle.std.specs.Prelude.{◌≡◌, ◌⊎◌, ℕ, ◌==◌, ◌&&◌, ◌||◌, Bool, true, false, if◌then◌else◌, List, [], ◌∷◌, ◌++◌, filter, fold, Option, Some, None}
 use Rattle.std.specs.List.{AllByRecursion}
 use Rattle.conn_messages.specs.declared.message.Message.{Message}
 use Rattle.conn_messages.specs.declared.message.Message.TheVariants.{Request}
@@ -53,14 +53,20 @@ pub record Switched : Type 0 where
   pub requested : Bool
   -- and CC came after it
   pub confirmed : Bool
-  -- what came after CC and wasn't rejected
+  -- what came after CC,
+  pub came : List (List ℕ)
+  -- and of it what wasn't rejected
   pub received : List (List ℕ)
   pub handed : List (List ℕ)
 
 abbrev pub nothing_switched : Switched
-nothing_switched = record { requested = false; confirmed = false; received = []; handed = [] }
+nothing_switched = record { requested = false; confirmed = false; came = []; received = []; handed = [] }
 
--- a SAPI N REJECT rejects all of SAPI 3 that came and wasn't handed
+-- what came after CC in a step
+abbrev pub counted : ℕ → Sapi → Switched → Moment → List (List ℕ)
+counted number sapi a m = if a.confirmed then comes number sapi (word_in m.taken) else []
+
+-- a SAPI N REJECT rejects all of SAPI 3 that came and wasn't handed before
 abbrev pub left_over : Sapi → List Message → List (List ℕ) → List (List ℕ) → List (List ℕ)
 left_over Zero put handed received = received
 left_over Three put handed received = if rejects put then handed else received
@@ -69,7 +75,8 @@ abbrev pub with_moment : ℕ → Sapi → Switched → Moment → Switched
 with_moment number sapi a m = record {
   requested = a.requested || requests m.messages;
   confirmed = a.confirmed || (a.requested && confirms number (word_in m.taken));
-  received = left_over sapi m.messages (a.handed ++ handed sapi m.messages) (a.received ++ (if a.confirmed then comes number sapi (word_in m.taken) else []));
+  came = a.came ++ counted number sapi a m;
+  received = left_over sapi m.messages a.handed (a.received ++ counted number sapi a m);
   handed = a.handed ++ handed sapi m.messages;
 }
 
@@ -81,12 +88,19 @@ abbrev pub ConservesDownlink : Switched → Sapi → Option Connection → Type 
 ConservesDownlink a sapi None = Unit {0}
 ConservesDownlink a sapi (Some s) = IsOpen s.state → a.handed ++ filter is_dtap (messages s.down sapi) ≡ a.received
 
+-- Some of a list, each at most once and in its order: the first of them is the first of the list, or all are of the others.
+abbrev pub IsPart : List (List ℕ) → List (List ℕ) → Type 0
+IsPart [] ys = Unit {0}
+IsPart (x ∷ xs) [] = ⊥
+IsPart (x ∷ xs) (y ∷ ys) = ((x ≡ y) × IsPart xs ys) ⊎ IsPart (x ∷ xs) ys
+
 -- There are messages, step by step, of which the connection's frames are, and over them, per SAPI, what was handed, then what
--- is held, is what came and wasn't rejected. What was handed is what is read from the frames to stations, where what came was
--- octets.
+-- is held, is what came and wasn't rejected, as long as it is open; and always what was handed is some of what came, in its
+-- order. What was handed is what is read from the frames to stations, where what came was octets.
 pub record DownlinkIsConserved (number : ℕ) (p : Parameters) (steps : List Step) (life : Turn) : Type 0 where
   pub moments : List Moment
   pub history : IsHistory number (new_controller p) steps moments
   pub frames : outs_for number life.outs ≡ outs_of number (all_messages moments)
   pub downlink : (sapi : Sapi) → ConservesDownlink (switched number sapi moments) sapi (connection_of life.next number)
+  pub in_order : (sapi : Sapi) → IsPart (switched number sapi moments).handed (switched number sapi moments).came
   pub read : AreAllowed p → AllByRecursion ComesInOctets steps → (sapi : Sapi) → handed_in life.outs number sapi ≡ (switched number sapi moments).handed

@@ -43,8 +43,9 @@ pub fn silence_is_kept()
 {}
 
 /// Of each SAPI, what was handed to the mobile of a connection, then what is held for it, is what the switch sent from CC on,
-/// without what was rejected and without messages of radio resource management, as long as the connection is open. What was
-/// handed is what is read from the frames to stations, with settings that are allowed and where what came was octets.
+/// without what was rejected and without messages of radio resource management, as long as the connection is open. Always, what
+/// was handed is some of what came, each message at most once and in its order. What was handed is what is read from the frames
+/// to stations, with settings that are allowed and where what came was octets.
 pub fn downlink_is_conserved()
     ensures { (p : Parameters) (steps : List Step) (number : ℕ) → 1 ≤ number → DownlinkIsConserved number p steps (life p steps) }
 {}

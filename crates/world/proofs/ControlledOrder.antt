@@ -12,6 +12,7 @@ use Rattle.world_table.specs.World.{new_actors}
 use Rattle.world_table.proofs.Living.{RunsByTable-new}
 use Rattle.world_order.specs.OctetEvents.{AreOctetEvents}
 use Rattle.world_order.specs.Order.{IsInOrderFor}
+use Rattle.world_order.proofs.Fairly.{ComeInOctets-new}
 use Rattle.world_order.proofs.Whole.{runs-are-in-order}
 use Rattle.world.specs.declared.world.Scene.{Scene}
 use Rattle.world.specs.declared.world.Scene.TheVariants.{Controlled}
@@ -20,11 +21,13 @@ use Rattle.world.specs.Headline.{IsInOrder}
 use Rattle.world.specs.World.{controlled_world, after_all}
 use Rattle.world.proofs.ControlledQueues.{QueuesKeepOrder-controlled, scene-after_all}
 
-IsHandedInOrder-controlled : (settings : Parameters) (events : List Event) (connection : ℕ) → 1 ≤ connection → IsHandedInOrder (new_actors settings) events connection
-IsHandedInOrder-controlled settings events connection from_one =
+IsHandedInOrder-controlled : (settings : Parameters) (events : List Event) → AreAllowed settings → AreOctetEvents events → (connection : ℕ) → 1 ≤ connection → IsHandedInOrder (new_actors settings) events connection
+IsHandedInOrder-controlled settings events allowed octets connection from_one =
     let steps : List Step = all_steps (new_actors settings) events in
     let runs = sym (RunsByTable-new settings events) in
     record {
+      allowed = allowed;
+      octets = ComeInOctets-new settings events allowed octets;
       conserved = subst (DownlinkIsConserved connection settings steps) runs (life_conserves settings steps connection from_one);
       silent = subst (SilenceIsKept connection settings steps) runs (life_is_silent settings steps connection from_one);
     }
@@ -39,6 +42,6 @@ IsInOrder-controlled settings events allowed octets =
           let first = order.in_order connection list is in
           record { mobile = first.mobile; opened = first.opened; sent = first.sent_list; is_sent = first.is_sent; is_prefix = first.is_prefix };
       no_gap = order.no_gap;
-      handed = λ connection from_one. IsHandedInOrder-controlled settings events connection from_one;
+      handed = IsHandedInOrder-controlled settings events allowed octets;
       queues = QueuesKeepOrder-controlled settings events;
     })

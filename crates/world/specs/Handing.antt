@@ -1,7 +1,10 @@
 -- The switch's messages on their way to the mobiles, over every list of events.
 use Rattle.std.specs.Prelude.{ℕ, ◌≤◌, List}
+use Rattle.std.specs.List.{AllByRecursion}
 use Rattle.controller_laws.specs.Downlink.{DownlinkIsConserved}
 use Rattle.controller_laws.specs.End.{SilenceIsKept}
+use Rattle.controller_laws.specs.Sending.{ComesInOctets}
+use Rattle.settings.specs.Parameters.{AreAllowed}
 use Rattle.world_table.specs.declared.event.Event.{Event}
 use Rattle.world_table.specs.Steps.{all_steps, controller_run}
 use Rattle.world_table.specs.World.{Actors}
@@ -10,7 +13,11 @@ use Rattle.world.specs.declared.world.Scene.TheVariants.{Fixed, Controlled}
 
 -- what holds of a connection, with what came to the controller and what it put at these events
 pub record IsHandedInOrder (begin : Actors) (events : List Event) (connection : ℕ) : Type 0 where
-  -- per SAPI, what was handed, then what is held, is what the switch sent and wasn't rejected, as long as it is open
+  -- the settings are allowed, and octets came: so what was handed is what is read from the frames that were put
+  pub allowed : AreAllowed begin.controller.settings
+  pub octets : AllByRecursion ComesInOctets (all_steps begin events)
+  -- per SAPI, what was handed is some of what the switch sent, each message at most once and in its order; as long as the
+  -- connection is open, what was handed, then what is held, is what the switch sent and wasn't rejected
   pub conserved : DownlinkIsConserved connection begin.controller.settings (all_steps begin events) (controller_run begin events)
   -- nothing is handed while its mobile changes the channel, and what is handed goes to the channel that serves; after CLEAR
   -- COMPLETE only RLC is put
