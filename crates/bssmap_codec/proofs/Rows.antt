@@ -1,8 +1,9 @@
 -- Definitions against literal octets: what is read of them, and what is written.
-use Rattle.std.proofs.Common.{◌≡◌, ℕ, Bool, List, map, [], ◌∷◌, true, false, replicate, Some, None, Ok, Err, refl}
+use Rattle.std.proofs.Common.{◌≡◌, ℕ, Bool, List, length, map, [], ◌∷◌, true, false, replicate, Some, None, Ok, Err, refl}
 use Rattle.std.specs.Prelude.{slice_index}
 use Rattle.octets.specs.Causes.{first_that_holds}
-use Rattle.octets.specs.Element.{element}
+use Rattle.octets.specs.declared.element.Format.TheVariants.{Tv, Tlv}
+use Rattle.octets.specs.Element.{element, format_in}
 use Rattle.octets.specs.Front.{octet_at, counted_at}
 use Rattle.octets.specs.Walk.{walk}
 use Rattle.bssmap_codec.specs.declared.bssap.Bssap.TheVariants.{Management, Transfer}
@@ -13,6 +14,7 @@ use Rattle.bssmap_codec.specs.declared.fault.InterfaceFault.{InterfaceFault}
 use Rattle.bssmap_codec.specs.declared.fault.InterfaceFault.TheVariants.{Short, UnknownType, MissingElement, BadPointer, TooLong}
 use Rattle.bssmap_codec.specs.declared.sccp.Sccp.TheVariants.{ConnectionRequest, ConnectionConfirm, ConnectionRefused, Released, ReleaseComplete, DataForm1}
 use Rattle.bssmap_codec.specs.declared.sccp_type.SccpType.TheVariants as sccp_kinds
+use Rattle.bssmap_codec.specs.declared.identifiers.TheConstants.{ELEMENTS}
 use Rattle.bssmap_codec.specs.BssapFaults.{element_causes, needed}
 use Rattle.bssmap_codec.specs.BssapReading.{cause_of, cell_of, channel_of, rr_cause_of, rejected_of, elements_of, breaks_off, needed_value, needed_octet, rr_cause_in, layer3_at, cause_at, assignment_request_at, assignment_complete_at, assignment_failure_at, handover_performed_at, reject_at, complete_layer3_at, content_at, message_at, management_at, transfer_at, bssap_reading}
 use Rattle.bssmap_codec.specs.BssapText.{bssap_text, bssap_write_fault}
@@ -23,6 +25,18 @@ use Rattle.bssmap_codec.specs.SccpReading.{part_at, option_at, data_in, user_dat
 use Rattle.bssmap_codec.specs.SccpText.{sccp_text, sccp_write_fault}
 use Rattle.bssmap_codec.specs.SccpType.{sccp_type}
 use Rattle.bssmap_codec.specs.Values.{dlci_of, is_dlci, is_speech_type}
+
+-- ---- the elements of BSSMAP
+
+formats : map (λ id. format_in ELEMENTS id) (0x01 ∷ 0x04 ∷ 0x05 ∷ 0x06 ∷ 0x07 ∷ 0x0b ∷ 0x15 ∷ 0x17 ∷ 0x18 ∷ 0x21 ∷ []) ≡
+    Some (Tv 2) ∷ Some Tlv ∷ Some Tlv ∷ Some Tlv ∷ Some Tlv ∷ Some Tlv ∷ Some (Tv 1) ∷ Some Tlv ∷ Some (Tv 1) ∷ Some (Tv 1) ∷ []
+formats = refl
+
+unknown_identifiers : map (λ id. format_in ELEMENTS id) (0x00 ∷ 0x02 ∷ 0x03 ∷ 0x08 ∷ 0x0a ∷ 0x14 ∷ 0x16 ∷ 0x19 ∷ 0x22 ∷ 0x7f ∷ []) ≡ replicate 10 None
+unknown_identifiers = refl
+
+no_other_element : length ELEMENTS ≡ 10
+no_other_element = refl
 
 -- ---- SCCP, read
 

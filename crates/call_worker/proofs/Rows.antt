@@ -1,6 +1,7 @@
 -- What the definitions say of literal steps and lines.
 use Rattle.std.proofs.Common.{◌≡◌, ℕ, true, false, List, [], ◌∷◌, refl}
 use Rattle.atomic_table.specs.Seated.{TableId}
+use Rattle.call_worker.specs.declared.limits.TheConstants.{TICK_MS}
 use Rattle.call_worker.specs.Links.{AreSent, AreStepped, HasDown, is_given_up, lines}
 use Rattle.call_worker.specs.Steps.{frames_to, items_of, ticked, whats_of}
 use Rattle.conn_messages.specs.declared.out.Out.{Out}
@@ -27,6 +28,10 @@ out to octet = record { to = to; conn = 9; frame = frame octet }
 
 abbrev some_steps : List Step
 some_steps = Take (of_frame 1 10) ∷ Tick 3000 ∷ Take (of_frame 0 20) ∷ Take (of_down 1) ∷ Tick 99 ∷ Take (of_down 0) ∷ []
+
+-- a tick is due once this many milliseconds have gathered
+hundred_milliseconds : TICK_MS ≡ 100
+hundred_milliseconds = refl
 
 time_of_steps : ticked some_steps ≡ 3099
 time_of_steps = refl

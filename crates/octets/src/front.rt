@@ -1,4 +1,4 @@
-ghost use Rattle.std.specs.Prelude.{◌≡◌, ◌++◌, ◌<◌, length, OnOk};
+ghost use Rattle.std.specs.Prelude.{◌≡◌, ◌++◌, ◌<◌, length, OnErr, OnOk};
 ghost use Rattle.octets.specs.Answer.{result_map};
 ghost use Rattle.octets.specs.Front.{octet_at, split_at, counted_at, counted_text};
 
@@ -34,12 +34,15 @@ pub fn counted<F: Copy>(octets: &[u8], fault: F) -> Result<(&[u8], &[u8]), F>
     split(rest, usize::from(size), fault)
 }
 
-/// Appends a value with its length octet before it.
+/// Appends a value with its length octet before it; an `Err` changes nothing.
 pub fn put_counted(text: &mut Vec<u8>, value: &[u8]) -> Result<(), Memory>
     requires { length value.now < 256 }
-    ensures { OnOk result (text.new.items ≡ text.old.items ++ counted_text value.now) }
+    ensures ok { OnOk result (text.new.items ≡ text.old.items ++ counted_text value.now) }
+    ensures err { OnErr result (text.new.items ≡ text.old.items) }
 {
-    text.push(value.len() as u8)?;
+    let size = value.len();
+    text.reserve(1 + size)?;
+    text.push_reserved(size as u8);
     text.extend_from_slice(value)?;
     Ok(())
 }

@@ -24,14 +24,18 @@ module _ {I O G : Type 0} where
   abbrev pub writings : Global → List (Link I O G) → List TakerView → List (Writing O)
   writings alloc links takers = paired (writing alloc) links takers
 
+-- how many items, or lines, wait at most in the queue of one link
+abbrev pub most_waiting : ℕ
+most_waiting = 1024
+
 -- so many new outboxes: the ends at each place are of one outbox
 abbrev pub AreNewOutboxes : ℕ → List PutterView → List TakerView → Type 0
 AreNewOutboxes count putters takers =
     (length putters ≡ count) × (length takers ≡ count) × AreNew putters × EachAt takers (λ link t. t.taken ≡ [])
-    × (map (λ (p : PutterView). p.queue) putters ≡ map (λ (t : TakerView). t.queue) takers)
+    × (map (λ (p : PutterView). p.queue) putters ≡ map (λ (t : TakerView). t.queue) takers) × EachAt takers (λ link t. t.capacity ≡ most_waiting)
 
 -- so many new queues: the ends at each place are of one queue
 abbrev pub AreNewQueues : ℕ → Row → List PassView → Type 0
 AreNewQueues count desk passes =
     (length desk ≡ count) × (length passes ≡ count) × EachAt desk (λ link e. e.seen.taken ≡ []) × EachAt passes (λ link p. p.put ≡ [])
-    × (queues_of desk ≡ map (λ (p : PassView). p.queue) passes)
+    × (queues_of desk ≡ map (λ (p : PassView). p.queue) passes) × EachAt passes (λ link p. p.capacity ≡ most_waiting)

@@ -5,4 +5,4 @@ use Rattle.station_io.proofs.queues.inbox.Goals as goal
 pub returns : goal.returns
 returns c =
     let made = c.in_ok-desk.ensures in
-    new_queues 1024 c.in-Ok.sources c.args.count c.in_ok-desk.desk c.in_ok-desk.passes.items (search rules) made.count.0 (omega arith) made.each made.queues
+    new_queues c.in-Ok.sources c.args.count c.in_ok-desk.desk c.in_ok-desk.passes.items (search rules) made.count.0 (omega arith) made.each made.queues
