@@ -1,11 +1,12 @@
 -- The definitions at literal values.
-use Rattle.std.proofs.Common.{◌≡◌, ℕ, [], ◌∷◌, map, Some, None, refl, arith}
+use Rattle.std.proofs.Common.{◌≡◌, ℕ, List, [], ◌∷◌, map, slice_index_or, Some, None, refl, ap, arith}
 use Rattle.std.specs.declared.io.ErrorKind.TheVariants as kinds
+use Rattle.std.specs.declared.net.SocketAddr.{SocketAddr}
 use Rattle.std.specs.declared.time.Instant.{Instant}
 use Rattle.link_sockets.specs.declared.fault.RunFault.TheVariants.{Memory, Device}
 use Rattle.link_sockets.specs.declared.name.LinkName.TheVariants.{Switch, Cell}
 use Rattle.link_sockets.specs.Faults.{fault_of}
-use Rattle.link_sockets.specs.Naming.{name_of}
+use Rattle.link_sockets.specs.Naming.{AreNamed, name_of}
 use Rattle.link_sockets.specs.Telling.{Tells, millis_to_tell}
 
 -- ---- faults
@@ -15,8 +16,16 @@ faults = refl
 
 -- ---- names of links
 
-names : map name_of (0 ∷ 1 ∷ 2 ∷ 32 ∷ []) ≡ Switch ∷ Cell 1 ∷ Cell 2 ∷ Cell 32 ∷ []
-names = refl
+names : (peer : SocketAddr) → map (λ place. name_of place peer) (0 ∷ 1 ∷ 2 ∷ 32 ∷ []) ≡ Switch ∷ Cell 1 peer ∷ Cell 2 peer ∷ Cell 32 peer ∷ []
+names peer = refl
+
+in_order : (one two : SocketAddr) → AreNamed (Switch ∷ Cell 1 one ∷ Cell 2 two ∷ [])
+in_order one two = refl
+
+in_other_order : (one two : SocketAddr) → AreNamed (Switch ∷ Cell 2 two ∷ Cell 1 one ∷ []) → ⊥
+in_other_order one two bad =
+    let second : 2 ≡ 1 = ap (λ (places : List ℕ). slice_index_or places 1 0) bad in
+    omega (arith, second)
 
 -- ---- a stopwatch
 

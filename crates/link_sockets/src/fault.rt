@@ -4,7 +4,7 @@ ghost use Rattle.link_sockets.specs.Faults.{fault_of};
 ghost use Rattle.link_sockets.specs.declared.fault.RunFault.TheVariants.{Memory as OutOfMemory};
 
 use octets::Memory;
-use std::alloc::AllocFailed;
+use std::alloc::{AllocError, AllocFailed};
 use std::io::{self, ErrorKind};
 use thiserror::Error;
 
@@ -22,6 +22,14 @@ impl From<Memory> for RunFault {
     ghost from_gives = { λ _ fault. fault ≡ OutOfMemory };
 
     fn from(_want: Memory) -> RunFault {
+        RunFault::Memory
+    }
+}
+
+impl From<AllocError> for RunFault {
+    ghost from_gives = { λ _ fault. fault ≡ OutOfMemory };
+
+    fn from(_want: AllocError) -> RunFault {
         RunFault::Memory
     }
 }

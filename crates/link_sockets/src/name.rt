@@ -2,24 +2,26 @@ ghost use Rattle.std.specs.Prelude.{◌≡◌};
 ghost use Rattle.link_sockets.specs.Naming.{name_of};
 
 use std::fmt;
+use std::net::SocketAddr;
 
 /// Which link a line of the log speaks of.
 #[derive(Clone, Copy)]
 pub enum LinkName {
     /// The link to the switch.
     Switch,
-    /// The link of a cell's station, by the cell's number.
-    Cell(usize),
+    /// The link of a cell's station, by the cell's number and the station's address.
+    Cell(usize, SocketAddr),
 }
 
 impl LinkName {
-    /// The name of the link at this place: the switch's comes first, then those of the cells in their order.
-    pub fn of_link(place: usize) -> LinkName
-        ensures { result ≡ name_of place }
+    /// The name of the link at this place, whose peer has this address: the switch's comes first, then those of the cells
+    /// in their order.
+    pub fn of_link(place: usize, peer: SocketAddr) -> LinkName
+        ensures { result ≡ name_of place peer }
     {
         match place {
             0 => LinkName::Switch,
-            number => LinkName::Cell(number),
+            number => LinkName::Cell(number, peer),
         }
     }
 }
@@ -28,7 +30,7 @@ impl fmt::Display for LinkName {
     fn fmt<W: fmt::Write>(&self, f: &mut fmt::Formatter<W>) -> fmt::Result {
         match self {
             LinkName::Switch => write!(f, "switch"),
-            LinkName::Cell(number) => write!(f, "cell {number}"),
+            LinkName::Cell(number, peer) => write!(f, "cell {number} ({peer})"),
         }
     }
 }

@@ -1,4 +1,6 @@
-ghost use Rattle.std.specs.Prelude.{◌≡◌, ◌+◌, length, vec_len, IfOk};
+ghost use Rattle.std.specs.Prelude.{◌≡◌, ◌+◌, length, map, vec_len, IfOk};
+ghost use Rattle.link_sockets.specs.Naming.{AreNamed, place_of};
+ghost use Rattle.link_sockets.specs.declared.name.LinkName.TheVariants.{Switch};
 
 use crate::fault::RunFault;
 use crate::gate::OpenGate;
@@ -22,14 +24,15 @@ pub fn open_links<R>(
 ) -> Result<Vec<SocketLink<R>>, RunFault>
 where
     R: Net<Listener = TcpListener, Stream = TcpStream> + Log + Copy + Drop,
-    ensures { IfOk result (λ links. vec_len links ≡ length settings.now.cells + 1) }
+    ensures count { IfOk result (λ links. vec_len links ≡ length settings.now.cells + 1) }
+    ensures names { IfOk result (λ links. AreNamed (map (λ link. link.reader.name) links.items) × AreNamed (map (λ link. link.writer.name) links.items)) }
 {
     let listeners = listen(rt, alloc, settings.cells())?;
     let mut links = Vec::new(alloc);
-    links.push(connect(rt, settings.switch_address())?)?;
+    links.push(connect(rt, alloc, settings.switch_address())?)?;
     for listener in &listeners {
-        let name = LinkName::of_link(links.len());
-        links.push(accept(rt, name, listener)?)?;
+        let place = links.len();
+        links.push(accept(rt, alloc, place, listener)?)?;
     }
     Ok(links)
 }
@@ -42,29 +45,30 @@ where
 {
     let mut listeners = Vec::new(alloc);
     for cell in cells {
-        let name = LinkName::Cell(listeners.len() + 1);
+        let number = listeners.len() + 1;
         let listener = match TcpListener::bind(rt, cell.listen()) {
             Ok(listener) => listener,
             Err(error) => {
-                error!(rt; target: "", "{name}: cannot listen at {}: {error}", cell.listen());
+                error!(rt; target: "", "cell {number}: cannot listen at {}: {error}", cell.listen());
                 return Err(RunFault::from(error));
             }
         };
-        info!(rt; target: "", "{name}: waiting at {}", cell.listen());
+        info!(rt; target: "", "cell {number}: waiting at {}", cell.listen());
         listeners.push(listener)?;
     }
     Ok(listeners)
 }
 
 /// Connects to the switch.
-fn connect<R>(rt: &R, address: &str) -> Result<SocketLink<R>, RunFault>
+fn connect<R>(rt: &R, alloc: Global, address: &str) -> Result<SocketLink<R>, RunFault>
 where
     R: Net<Listener = TcpListener, Stream = TcpStream> + Log + Copy + Drop,
+    ensures { IfOk result (λ link. (link.reader.name ≡ Switch) × (link.writer.name ≡ Switch)) }
 {
     match TcpStream::connect(rt, address) {
         Ok(stream) => {
             info!(rt; target: "", "switch: connected to {address}");
-            link_of(*rt, LinkName::Switch, stream)
+            link_of(*rt, alloc, LinkName::Switch, stream)
         }
         Err(error) => {
             error!(rt; target: "", "switch: cannot connect to {address}: {error}");
@@ -73,30 +77,36 @@ where
     }
 }
 
-/// Waits for a cell's station. Nobody else is taken there.
+/// Waits for the station of the cell whose link has this place. Nobody else is taken there.
 fn accept<R: Log + Copy + Drop>(
     rt: &R,
-    name: LinkName,
+    alloc: Global,
+    place: usize,
     listener: &TcpListener,
-) -> Result<SocketLink<R>, RunFault> {
+) -> Result<SocketLink<R>, RunFault>
+    ensures { IfOk result (λ link. (place_of link.reader.name ≡ place) × (place_of link.writer.name ≡ place)) }
+{
     let (stream, peer) = match listener.accept() {
         Ok(accepted) => accepted,
         Err(error) => {
-            error!(rt; target: "", "{name}: cannot accept a link: {error}");
+            error!(rt; target: "", "cell {place}: cannot accept a link: {error}");
             return Err(RunFault::from(error));
         }
     };
-    info!(rt; target: "", "{name}: connected from {peer}");
-    link_of(*rt, name, stream)
+    info!(rt; target: "", "cell {place}: connected from {peer}");
+    link_of(*rt, alloc, LinkName::of_link(place, peer), stream)
 }
 
 /// The link over this socket.
 fn link_of<R: Log + Copy + Drop>(
     rt: R,
+    alloc: Global,
     name: LinkName,
     stream: TcpStream,
-) -> Result<SocketLink<R>, RunFault> {
-    let (reader, writer) = ends_of(rt, name, stream)?;
+) -> Result<SocketLink<R>, RunFault>
+    ensures { IfOk result (λ link. (link.reader.name ≡ name) × (link.writer.name ≡ name)) }
+{
+    let (reader, writer) = ends_of(rt, alloc, name, stream)?;
     let gate = OpenGate;
     Ok(Link {
         reader,

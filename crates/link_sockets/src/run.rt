@@ -1,5 +1,4 @@
 use crate::fault::RunFault;
-use crate::name::LinkName;
 use crate::open::{SocketLink, open_links};
 use crate::stopwatch::Stopwatch;
 use controller::Controller;
@@ -43,8 +42,8 @@ where
 
 /// Logs how each link ended.
 fn tell<R: Log>(rt: &R, ended: &[(SocketLink<R>, Option<IoFault>)]) {
-    for (place, (_, fault)) in ended.iter().enumerate() {
-        let name = LinkName::of_link(place);
+    for (link, fault) in ended {
+        let name = link.reader.name();
         match fault {
             None => info!(rt; target: "", "{name}: ended"),
             Some(fault) => warn!(rt; target: "", "{name}: ended: {fault}"),

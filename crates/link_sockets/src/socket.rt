@@ -1,8 +1,14 @@
+ghost use Rattle.std.specs.Prelude.{◌≡◌, IfOk};
+
+use crate::fault::RunFault;
 use crate::name::LinkName;
 use link_io::{IoFault, LinkReader};
 use log::{Log, info, warn};
+use std::alloc::Global;
 use std::io::{self, ErrorKind, Read, Write};
 use std::net::{Shutdown, TcpStream};
+use std::sync::Arc;
+use std::sync::atomic::{AtomicBool, Ordering};
 use std::time::Duration;
 
 /// For how many seconds a write may wait for a peer that takes nothing.
@@ -16,46 +22,74 @@ pub struct ReadingEnd<R> {
     name: LinkName,
     stream: TcpStream,
     broken: Option<IoFault>,
+    /// Whether nothing more comes, which the writing end asks.
+    at_end: Arc<AtomicBool, Global>,
 }
 
 /// The end of a link's socket that is written. A write that fails is logged and shuts the socket both ways, so that the
-/// reader of the same link ends too; so does `flush`, since whoever flushes it has written the last frame.
+/// reader of the same link ends too. So does `flush`, since whoever flushes it has written the last frame; it warns where
+/// more could have come from the peer.
 #[derive(Drop)]
 pub struct WritingEnd<R> {
     rt: R,
     name: LinkName,
     stream: TcpStream,
+    /// Whether nothing more comes from the peer, as the reading end tells.
+    at_end: Arc<AtomicBool, Global>,
+    /// Whether the socket was shut here.
+    shut: bool,
 }
 
 /// The two ends of a link's socket. Frames go out at once, and a write waits ten seconds at most.
 pub fn ends_of<R: Log + Copy>(
     rt: R,
+    alloc: Global,
     name: LinkName,
     stream: TcpStream,
-) -> io::Result<(ReadingEnd<R>, WritingEnd<R>)> {
+) -> Result<(ReadingEnd<R>, WritingEnd<R>), RunFault>
+    ensures { IfOk result (λ ends. (ends.0.name ≡ name) × (ends.1.name ≡ name)) }
+{
     stream.set_nodelay(true)?;
     stream.set_write_timeout(Some(Duration::from_secs(WRITE_TIMEOUT)))?;
     let other = stream.try_clone()?;
+    let at_end = Arc::new(alloc, AtomicBool::new(false))?;
+    let asked = Arc::try_clone(&at_end)?;
     let reading = ReadingEnd {
         rt,
         name,
         stream,
         broken: None,
+        at_end,
     };
     let writing = WritingEnd {
         rt,
         name,
         stream: other,
+        at_end: asked,
+        shut: false,
     };
     Ok((reading, writing))
+}
+
+impl<R> ReadingEnd<R> {
+    /// The name of the link.
+    pub fn name(&self) -> LinkName
+        ensures { result ≡ self.now.name }
+    {
+        self.name
+    }
 }
 
 impl<R: Log> Read for ReadingEnd<R> {
     fn read(&mut self, buffer: &mut [u8]) -> io::Result<usize> {
         let read = self.stream.read(buffer);
         match &read {
-            Ok(0) => info!(self.rt; target: "", "{}: link closed", self.name),
+            Ok(0) => {
+                self.at_end.store(true, Ordering::SeqCst);
+                info!(self.rt; target: "", "{}: link closed", self.name);
+            }
             Err(error) if error.kind() != ErrorKind::Interrupted => {
+                self.at_end.store(true, Ordering::SeqCst);
                 warn!(self.rt; target: "", "{}: read failed: {error}", self.name);
             }
             _ => {}
@@ -69,7 +103,16 @@ impl<R: Log> LinkReader for ReadingEnd<R> {
 
     fn break_off(&mut self, fault: IoFault) {
         self.broken = Some(fault);
+        self.at_end.store(true, Ordering::SeqCst);
         warn!(self.rt; target: "", "{}: shut: {fault}", self.name);
+        let _ = self.stream.shutdown(Shutdown::Both);
+    }
+}
+
+impl<R> WritingEnd<R> {
+    /// Shuts the socket both ways. One whose peer has already closed it can't be shut, and needn't be.
+    fn shut(&mut self) {
+        self.shut = true;
         let _ = self.stream.shutdown(Shutdown::Both);
     }
 }
@@ -80,7 +123,7 @@ impl<R: Log> Write for WritingEnd<R> {
         match &written {
             Err(error) if error.kind() != ErrorKind::Interrupted => {
                 warn!(self.rt; target: "", "{}: write failed: {error}", self.name);
-                let _ = self.stream.shutdown(Shutdown::Both);
+                self.shut();
             }
             _ => {}
         }
@@ -88,8 +131,14 @@ impl<R: Log> Write for WritingEnd<R> {
     }
 
     fn flush(&mut self) -> io::Result<()> {
-        // a socket whose peer has already closed it can't be shut, and needn't be
-        let _ = self.stream.shutdown(Shutdown::Both);
+        if !self.shut {
+            if self.at_end.load(Ordering::SeqCst) {
+                info!(self.rt; target: "", "{}: shut: nothing more is written", self.name);
+            } else {
+                warn!(self.rt; target: "", "{}: shut: nothing more is written", self.name);
+            }
+            self.shut();
+        }
         Ok(())
     }
 }
