@@ -28,6 +28,37 @@ pub(crate) const ACCESS: &[Exchange] = &[
     (Comes(0, "020000018000010200"), &[]),
 ];
 
+/// What comes to nothing, on 41 of cell 1: ciphering, a link of SAPI 3 and an assignment to 0A.
+pub(crate) const REJECTED: &[Exchange] = &[
+    // CIPHER MODE COMMAND: CIPHER MODE REJECT.
+    (
+        Comes(0, "06000001000103000153"),
+        &[(0, "06800001000106000459040140")],
+    ),
+    // A short message: ESTABLISH REQUEST. RELEASE INDICATION: SAPI N REJECT, and the message is dropped.
+    (Comes(0, "060000010001050103020907"), &[(1, "020401410203")]),
+    (
+        Comes(1, "020901410203"),
+        &[(0, "068000010001080006251883040125")],
+    ),
+    // ASSIGNMENT REQUEST: CHANNEL ACTIVATION.
+    (
+        Comes(0, "060000010001080006010b03010801"),
+        &[(1, "0821010a0301060400010801")],
+    ),
+    // CHANNEL ACTIVATION ACK: ASSIGNMENT COMMAND.
+    (
+        Comes(1, "0822010a080000"),
+        &[(1, "0301014102000b0006062e0a201400")],
+    ),
+    // ASSIGNMENT FAILURE of the mobile: ASSIGNMENT FAILURE, RF CHANNEL RELEASE.
+    (
+        Comes(1, "0302014102000b0003062f03"),
+        &[(0, "0680000100010800060304010a1503"), (1, "082e010a")],
+    ),
+    (Comes(1, "0833010a"), &[]),
+];
+
 /// Messages of both SAPIs in both directions, on 41 of cell 1.
 pub(crate) const SHORT_MESSAGES: &[Exchange] = &[
     // The first short message waits until its link is established.
@@ -136,6 +167,7 @@ pub(crate) const CLEARED: &[Exchange] = &[
 /// A life from access to release.
 pub(crate) const LIFE: &[&[Exchange]] = &[
     ACCESS,
+    REJECTED,
     SHORT_MESSAGES,
     COMMANDED,
     HANDED_OVER,

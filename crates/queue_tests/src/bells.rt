@@ -8,9 +8,11 @@ use std::time::{Duration, Instant};
 const LONG: u64 = 20;
 
 #[test]
-fn every_pass_rings_the_desk(rt: HostRuntime) -> Result<(), Fail> {
+fn a_desk_waits_until_a_pass_rings(rt: HostRuntime) -> Result<(), Fail> {
     let (desk, passes) = Inbox::new(rt.alloc(), 33, 1)?;
     let begin = Instant::now(&rt)?;
+    desk.wait(&rt, Duration::from_millis(20));
+    assert!(rt; begin.elapsed(&rt)?.as_millis() >= 20);
     for pass in &passes {
         pass.ring();
         desk.wait(&rt, Duration::from_secs(LONG));
