@@ -15,7 +15,10 @@ use Rattle.msc_end.specs.SwitchState.{SwitchState}
 use Rattle.msc_end.specs.Switch.{after, replies}
 use Rattle.link_io.specs.declared.fault.IoFault.{IoFault}
 use Rattle.link_io.specs.declared.fault.IoFault.TheVariants as faults
+use Rattle.link_io.specs.declared.unread.Unread.{Unread}
+use Rattle.link_io.specs.declared.unread.Unread.TheVariants.{Endless, Device, Refused}
 use Rattle.link_io.specs.Faults.{fault_of_frame}
+use Rattle.link_io.specs.Unread.{fault_for}
 use Rattle.link_io.specs.Reading.{ReadsOn, frames_text}
 use Rattle.link_io.specs.Writing.{AppendsBeginning}
 use Rattle.link_io.specs.Switching.{Answers, AnswersFrame, IsAnswerFault, PlaysSwitch, Stops, StopsAnswering, WritesReplies, after_all, all_replies, message_in, messages, replies_text, reply_frame}
@@ -191,37 +194,36 @@ plays_broken start now end old mid new switch between after held fed fault some 
       writes = writes_fault fault old new (all_replies switch (messages all.frames)) all.is all.writes;
     }
 
-pub plays_unread : (start now end old new : Option (List ℕ)) (switch after : SwitchState) (held fed : FramerState) (fault : IoFault) → AnswersSome start now old new switch after held.octets → IsPartial held.octets
-    → ReadsOn now end held fed (Err fault) → PlaysSwitch start end old new switch after (Some fault)
-plays_unread start now end old new switch after held fed faults.ReadFailed some partial read = record {
+-- nothing more was read
+plays_endless : (start now end old new : Option (List ℕ)) (switch after : SwitchState) (held : List ℕ) → AnswersSome start now old new switch after held → IsPartial held → Consumes now end []
+    → PlaysSwitch start end old new switch after (Some faults.ReadFailed)
+plays_endless start now end old new switch after held some partial read = record {
   octets = some.0 ++ [];
   frames = some.1;
-  rest = held.octets ++ [];
-  read = Consumes-trans start now end some.0 [] some.2 read.0;
-  parts = parts_longer some.0 [] some.1 held.octets some.3.parts;
-  stops = subst IsPartial (sym (append-nil held.octets)) partial;
+  rest = held ++ [];
+  read = Consumes-trans start now end some.0 [] some.2 read;
+  parts = parts_longer some.0 [] some.1 held some.3.parts;
+  stops = subst IsPartial (sym (append-nil held)) partial;
   state = some.3.state;
   writes = some.3.writes;
 }
-plays_unread start now end old new switch after held fed faults.Memory some partial read = record {
+
+pub plays_unread : (start now end old new : Option (List ℕ)) (switch after : SwitchState) (held fed : FramerState) (unread : Unread) → AnswersSome start now old new switch after held.octets → IsPartial held.octets
+    → ReadsOn now end held fed (Err unread) → PlaysSwitch start end old new switch after (Some (fault_for unread))
+plays_unread start now end old new switch after held fed (Endless reads) some partial read = plays_endless start now end old new switch after held.octets some partial read.0
+plays_unread start now end old new switch after held fed (Device error) some partial read = plays_endless start now end old new switch after held.octets some partial read.0
+plays_unread start now end old new switch after held fed (Refused fault) some partial read = record {
   octets = some.0 ++ read.0;
   frames = some.1;
   rest = held.octets ++ read.0;
   read = Consumes-trans start now end some.0 read.0 some.2 read.1;
   parts = parts_longer some.0 read.0 some.1 held.octets some.3.parts;
-  stops = tt;
+  stops = subst (λ (f : IoFault). Stops (Some f) (held.octets ++ read.0) end) (sym read.3) tt;
   state = some.3.state;
-  writes = begins_all old new (text_to switch some.1) some.3.writes;
+  writes =
+      subst (λ (f : IoFault). WritesReplies (Some f) (all_replies switch (messages some.1)) old new) (sym read.3)
+      (begins_all old new (text_to switch some.1) some.3.writes);
 }
-plays_unread start now end old new switch after held fed faults.WriteFailed some partial read = absurd read
-plays_unread start now end old new switch after held fed faults.FrameFault some partial read = absurd read
-plays_unread start now end old new switch after held fed faults.GateShut some partial read = absurd read
-plays_unread start now end old new switch after held fed faults.GivenUp some partial read = absurd read
-
--- the bound on reads
-pub plays_endless : (start end old new : Option (List ℕ)) (switch after : SwitchState) (held : List ℕ) → AnswersSome start end old new switch after held → IsPartial held → PlaysSwitch start end old new switch after (Some faults.ReadFailed)
-plays_endless start end old new switch after held some partial =
-    record { octets = some.0; frames = some.1; rest = held; read = some.2; parts = some.3.parts; stops = partial; state = some.3.state; writes = some.3.writes }
 
 pub plays_all : (start now end old new : Option (List ℕ)) (switch after : SwitchState) (held fed : FramerState) → AnswersSome start now old new switch after held.octets → IsPartial held.octets
     → ReadsOn now end held fed (Ok false) → PlaysSwitch start end old new switch after None

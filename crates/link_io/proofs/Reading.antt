@@ -1,7 +1,7 @@
 -- How a frame, a read and the end carry on what a reader has put.
 use Rattle.std.proofs.Common.{◌≡◌, ℕ, ◌+◌, true, false, List, [], ◌∷◌, ◌++◌, Option, Some, None, Result, Ok, Err, IfSome, refl, sym, ap, subst, ◌∙◌, append_assoc, append-nil, arith, inl, inr, ◌⊎◌}
 use Rattle.std.specs.List.{AllByRecursion}
-use Rattle.std.specs.Result.{result_err, IsErrAnd}
+use Rattle.std.specs.Result.{IsErrAnd}
 use Rattle.std.specs.Io.KnownBytes.{Consumes, IsAtEnd}
 use Rattle.std.proofs.KnownBytes.{Consumes-nil, Consumes-trans}
 use Rattle.std.proofs.lemmas.List.{flat_map_more, map-append}
@@ -16,8 +16,11 @@ use Rattle.relay_items.specs.declared.What.TheVariants.{Frame as GivenFrame, Dow
 use Rattle.ruled_relay.specs.Inbox.{PassView}
 use Rattle.link_io.specs.declared.fault.IoFault.{IoFault}
 use Rattle.link_io.specs.declared.fault.IoFault.TheVariants as faults
+use Rattle.link_io.specs.declared.unread.Unread.{Unread}
+use Rattle.link_io.specs.declared.unread.Unread.TheVariants.{Endless, Device, Refused}
 use Rattle.link_io.specs.Faults.{fault_of_frame}
-use Rattle.link_io.specs.Reading.{AsksGate, BreaksOff, Ends, IsTold, Parts, Puts, PutsAll, PutsDown, ReadsOn, Serves, after_letting, frames_text, given, having_put}
+use Rattle.link_io.specs.Unread.{fault_for, fault_in}
+use Rattle.link_io.specs.Reading.{AsksGate, BreaksOff, Ends, IsTold, Parts, Puts, PutsAll, PutsDown, ReadsOn, Serves, StopsBefore, after_letting, frames_text, given, having_put, shutting}
 
 -- ---- parts of a stream
 
@@ -103,21 +106,26 @@ pub puts_longer : (octets more : List ℕ) (refused last : ℕ) (old new : PassV
 puts_longer octets more refused last old new fs held some = record { parts = parts_longer octets more fs held some.parts; put = some.put; asks = some.asks }
 
 -- a read that gave no frame, and why no more are read
-pub breaks_read : (start now end : Option (List ℕ)) (limit refused last : ℕ) (old new : PassView) (held left : FramerState) (fault : IoFault) → PutsSome start now refused last old new held.octets → IsPartial held.octets
-    → ReadsOn now end held left (Err fault) → (octets : List ℕ) × Consumes start end octets × BreaksOff octets limit refused last old new fault
-breaks_read start now end limit refused last old new held left faults.ReadFailed some partial read = (
+breaks_unread : (start now end : Option (List ℕ)) (limit refused last : ℕ) (old new : PassView) (held : List ℕ) → PutsSome start now refused last old new held → IsPartial held → Consumes now end []
+    → (octets : List ℕ) × Consumes start end octets × BreaksOff octets limit refused last old new faults.ReadFailed
+breaks_unread start now end limit refused last old new held some partial read = (
   some.0 ++ [],
-  Consumes-trans start now end some.0 [] some.2 read.0,
+  Consumes-trans start now end some.0 [] some.2 read,
   record {
     frames = some.1;
-    rest = held.octets ++ [];
+    rest = held ++ [];
     before = last;
-    puts = puts_longer some.0 [] refused last old new some.1 held.octets some.3;
+    puts = puts_longer some.0 [] refused last old new some.1 held some.3;
     asks = omega arith;
-    stops = subst IsPartial (sym (append-nil held.octets)) partial;
+    stops = subst IsPartial (sym (append-nil held)) partial;
   },
 )
-breaks_read start now end limit refused last old new held left faults.Memory some partial read = (
+
+pub breaks_read : (start now end : Option (List ℕ)) (limit refused last : ℕ) (old new : PassView) (held left : FramerState) (unread : Unread) → PutsSome start now refused last old new held.octets → IsPartial held.octets
+    → ReadsOn now end held left (Err unread) → (octets : List ℕ) × Consumes start end octets × BreaksOff octets limit refused last old new (fault_for unread)
+breaks_read start now end limit refused last old new held left (Endless reads) some partial read = breaks_unread start now end limit refused last old new held.octets some partial read.0
+breaks_read start now end limit refused last old new held left (Device error) some partial read = breaks_unread start now end limit refused last old new held.octets some partial read.0
+breaks_read start now end limit refused last old new held left (Refused fault) some partial read = (
   some.0 ++ read.0,
   Consumes-trans start now end some.0 read.0 some.2 read.1,
   record {
@@ -125,14 +133,10 @@ breaks_read start now end limit refused last old new held left faults.Memory som
     rest = held.octets ++ read.0;
     before = last;
     puts = puts_longer some.0 read.0 refused last old new some.1 held.octets some.3;
-    asks = omega arith;
-    stops = tt;
+    asks = subst (λ (f : IoFault). last ≡ last + shutting limit f) (sym read.3) (omega arith);
+    stops = subst (λ (f : IoFault). StopsBefore f (held.octets ++ read.0)) (sym read.3) tt;
   },
 )
-breaks_read start now end limit refused last old new held left faults.WriteFailed some partial read = absurd read
-breaks_read start now end limit refused last old new held left faults.FrameFault some partial read = absurd read
-breaks_read start now end limit refused last old new held left faults.GateShut some partial read = absurd read
-breaks_read start now end limit refused last old new held left faults.GivenUp some partial read = absurd read
 
 -- what was read goes behind what was held, and of both together frames are put
 breaks_behind : (octets more : List ℕ) (limit refused last now : ℕ) (old mid new : PassView) (fs : List Frame) (held : List ℕ) (fault : IoFault) → Puts octets refused last old mid fs held
@@ -273,13 +277,13 @@ serves_broken start end limit refused last now old mid new fault octets faults.M
 serves_broken start end limit refused last now old mid new fault octets faults.WriteFailed read some down = absurd some.stops
 serves_broken start end limit refused last now old mid new fault octets faults.GivenUp read some down = absurd some.stops
 
-pub serves : {X : Type 0} (start end : Option (List ℕ)) (limit refused last now : ℕ) (old mid new : PassView) (read : Result X IoFault) (before fault : Option IoFault) → PutsAll start end limit refused last old mid read
-    → before ≡ result_err read → PutsDown limit last now mid new before fault → Serves start end limit refused now old new fault
+pub serves : {X : Type 0} (start end : Option (List ℕ)) (limit refused last now : ℕ) (old mid new : PassView) (read : Result X Unread) (before fault : Option IoFault) → PutsAll start end limit refused last old mid read
+    → before ≡ fault_in read → PutsDown limit last now mid new before fault → Serves start end limit refused now old new fault
 serves start end limit refused last now old mid new (Ok done) before fault all is down =
     serves_asked start end limit refused last now old mid new None fault all.0 all.2 all.1 all.3 all.4 (all.5, all.6) (λ none. none)
     (subst (λ (b : Option IoFault). PutsDown limit last now mid new b fault) is down)
-serves start end limit refused last now old mid new (Err stop) before fault all is down =
-    serves_broken start end limit refused last now old mid new fault all.0 stop all.1 all.2 (subst (λ (b : Option IoFault). PutsDown limit last now mid new b fault) is down)
+serves start end limit refused last now old mid new (Err unread) before fault all is down =
+    serves_broken start end limit refused last now old mid new fault all.0 (fault_for unread) all.1 all.2 (subst (λ (b : Option IoFault). PutsDown limit last now mid new b fault) is down)
 
 -- ---- what the device is told
 

@@ -1,5 +1,5 @@
 -- Definitions against literal values: what a reader puts and a writer writes of the frame PING, and what the switch replies.
-use Rattle.std.proofs.Common.{◌≡◌, ℕ, List, [], ◌∷◌, ◌++◌, replicate, true, false, Some, None, refl, arith}
+use Rattle.std.proofs.Common.{◌≡◌, ℕ, ◌^◌, List, [], ◌∷◌, ◌++◌, replicate, true, false, Some, None, Ok, refl, arith}
 use Rattle.std.specs.Prelude.{◌≢◌}
 use Rattle.ipa_framing.specs.declared.frame.Frame.{Frame}
 use Rattle.ipa_framing.specs.declared.fault.FrameFault.TheVariants as framing
@@ -11,9 +11,14 @@ use Rattle.ruled_relay.specs.declared.outbox.Line.TheVariants.{Frame as FrameLin
 use Rattle.ruled_relay.specs.Inbox.{PassView}
 use Rattle.ruled_relay.specs.Outbox.{TakerView}
 use Rattle.link_io.specs.declared.fault.IoFault.TheVariants.{ReadFailed, WriteFailed, FrameFault, Memory, GateShut, GivenUp}
+use Rattle.link_io.specs.declared.read_count.TheConstants.{MOST_READS}
+use Rattle.link_io.specs.declared.read_count.ReadCount.{ReadCount}
+use Rattle.link_io.specs.declared.unread.Unread.TheVariants.{Endless, Refused}
+use Rattle.link_io.specs.declared.writing.Wrote.TheVariants.{Octets}
 use Rattle.link_io.specs.Faults.{fault_of_frame, fault_of_reply}
+use Rattle.link_io.specs.Unread.{IsUnread, fault_for}
 use Rattle.link_io.specs.Reading.{AsksGate, Ends, IsTold, Parts, Serves, after_letting, frames_text, given, having_put, shutting}
-use Rattle.link_io.specs.Writing.{Delivers, IsWriterFault, end_if, having_taken, lines}
+use Rattle.link_io.specs.Writing.{Delivers, IsWriterFault, WritesOnce, end_if, having_taken, lines}
 use Rattle.link_io.specs.Switching.{Stops, WritesReplies, after_all, all_replies, message_in, messages, replies_text}
 
 abbrev frame : ℕ → List ℕ → Frame
@@ -103,6 +108,21 @@ no_reader_gives_up bad = bad
 fails_after_a_frame : (p : PassView) → Serves (Some ping_octets) (Some []) 10000 0 0 p (having_put p (GivenFrame ping ∷ Down ∷ [])) (Some ReadFailed)
 fails_after_a_frame p = record { octets = ping_octets; frames = ping ∷ []; rest = []; read = refl; parts = record { whole = refl; each = (omega arith, tt) }; ends = tt; put = refl; asks = refl }
 
+reads : MOST_READS ≡ 2 ^ 40
+reads = refl
+
+abbrev sixteen_reads : ReadCount
+sixteen_reads = record { made = 16 }
+
+sixteen_are_too_few : IsUnread (Endless sixteen_reads) → ⊥
+sixteen_are_too_few bad = omega (arith, bad)
+
+refusal_is_no_failed_read : IsUnread (Refused ReadFailed) → ⊥
+refusal_is_no_failed_read bad = bad refl
+
+faults_of_unread : fault_for (Endless sixteen_reads) ∷ fault_for (Refused Memory) ∷ [] ≡ ReadFailed ∷ Memory ∷ []
+faults_of_unread = refl
+
 -- a gate that always refuses, with a limit of 3
 stays_shut : (p : PassView) → Serves (Some ping_octets) (Some []) 3 0 3 p (having_put p (Down ∷ [])) (Some GateShut)
 stays_shut p = record { octets = ping_octets; frames = []; rest = ping_octets; read = refl; parts = record { whole = refl; each = tt }; ends = tt; put = refl; asks = refl }
@@ -126,6 +146,12 @@ longer_is_a_fault = λ all. omega (arith, all.1.0)
 
 no_writer_reads : IsWriterFault ReadFailed (ping ∷ []) → ⊥
 no_writer_reads bad = bad
+
+takes_one : WritesOnce (Some []) (Some (0x07 ∷ [])) (0x07 ∷ 0x08 ∷ []) (Ok (Octets 1))
+takes_one = (omega arith, omega arith, refl)
+
+takes_none : WritesOnce (Some []) (Some []) (0x07 ∷ 0x08 ∷ []) (Ok (Octets 0)) → ⊥
+takes_none bad = omega (arith, bad.0)
 
 -- a device that takes one octet at a time, and fails at its fourth write
 three_octets_taken : (t : TakerView) → Delivers (Some []) (Some (0x00 ∷ 0x01 ∷ 0xfe ∷ [])) t (having_taken t (FrameLine ping ∷ End ∷ [])) (Some WriteFailed)

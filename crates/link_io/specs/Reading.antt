@@ -10,6 +10,9 @@ use Rattle.relay_items.specs.declared.What.TheVariants.{Frame as GivenFrame, Dow
 use Rattle.ruled_relay.specs.Inbox.{PassView}
 use Rattle.link_io.specs.declared.fault.IoFault.{IoFault}
 use Rattle.link_io.specs.declared.fault.IoFault.TheVariants.{ReadFailed, FrameFault, Memory, GateShut}
+use Rattle.link_io.specs.declared.unread.Unread.{Unread}
+use Rattle.link_io.specs.declared.unread.Unread.TheVariants.{Endless, Device, Refused}
+use Rattle.link_io.specs.Unread.{fault_for}
 
 -- the octets of frames, one behind the other
 abbrev pub frames_text : List Frame → List ℕ
@@ -110,17 +113,17 @@ PutsWhole held left limit refused now old new (Ok _) =
 PutsWhole held left limit refused now old new (Err fault) = BreaksOff held.octets limit refused now old new fault
 
 -- Octets were read to the end, and all their whole frames put.
-abbrev pub PutsAll : {X : Type 0} → Option (List ℕ) → Option (List ℕ) → ℕ → ℕ → ℕ → PassView → PassView → Result X IoFault → Type 0
+abbrev pub PutsAll : {X : Type 0} → Option (List ℕ) → Option (List ℕ) → ℕ → ℕ → ℕ → PassView → PassView → Result X Unread → Type 0
 PutsAll start end limit refused now old new (Ok _) =
     (octets rest : List ℕ) × (frames : List Frame) × Consumes start end octets × Puts octets refused now old new frames rest × IsPartial rest × IsAtEnd end
-PutsAll start end limit refused now old new (Err fault) =
-    (octets : List ℕ) × Consumes start end octets × BreaksOff octets limit refused now old new fault
+PutsAll start end limit refused now old new (Err unread) =
+    (octets : List ℕ) × Consumes start end octets × BreaksOff octets limit refused now old new (fault_for unread)
 
 -- Octets were read, and the framer holds them behind what it held; or nothing is left to be read. A read that fails gives
 -- none.
-abbrev pub ReadsOn : Option (List ℕ) → Option (List ℕ) → FramerState → FramerState → Result Bool IoFault → Type 0
+abbrev pub ReadsOn : Option (List ℕ) → Option (List ℕ) → FramerState → FramerState → Result Bool Unread → Type 0
 ReadsOn start now held new (Ok true) = (octets : List ℕ) × Consumes start now octets × (new ≡ record { octets = held.octets ++ octets; failed = held.failed })
 ReadsOn start now held new (Ok false) = Consumes start now [] × (new ≡ held) × IsAtEnd now
-ReadsOn start now held new (Err ReadFailed) = Consumes start now [] × (new ≡ held)
-ReadsOn start now held new (Err Memory) = (octets : List ℕ) × Consumes start now octets × (new ≡ held)
-ReadsOn start now held new (Err _) = ⊥
+ReadsOn start now held new (Err (Endless reads)) = Consumes start now [] × (new ≡ held)
+ReadsOn start now held new (Err (Device error)) = Consumes start now [] × (new ≡ held)
+ReadsOn start now held new (Err (Refused fault)) = (octets : List ℕ) × Consumes start now octets × (new ≡ held) × (fault ≡ Memory)

@@ -1,7 +1,9 @@
 -- What a writer makes of the lines of its outbox.
-use Rattle.std.specs.Prelude.{◌≡◌, ℕ, Bool, true, false, List, [], ◌∷◌, ◌++◌, Option, Some, None, Result, Ok, Err, map}
+use Rattle.std.specs.Prelude.{◌≡◌, ℕ, ◌<◌, ◌≤◌, Bool, true, false, List, [], ◌∷◌, ◌++◌, length, take, Option, Some, None, Result, Ok, Err, map}
 use Rattle.std.specs.List.{AllByRecursion}
-use Rattle.std.specs.Io.KnownBytes.{Appends}
+use Rattle.std.specs.Io.KnownBytes.{Appends, Keeps}
+use Rattle.std.specs.IoError.{error_kind}
+use Rattle.std.specs.declared.io.ErrorKind.TheVariants.{Interrupted as WasInterrupted}
 use Rattle.ipa_framing.specs.declared.frame.Frame.{Frame}
 use Rattle.ipa_framing.specs.Frame.{IsFrame}
 use Rattle.ruled_relay.specs.declared.outbox.Line.{Line}
@@ -10,6 +12,8 @@ use Rattle.ruled_relay.specs.Outbox.{TakerView}
 use Rattle.link_io.specs.declared.fault.IoFault.{IoFault}
 use Rattle.link_io.specs.declared.fault.IoFault.TheVariants.{WriteFailed, FrameFault, Memory}
 use Rattle.link_io.specs.declared.writer.Broken.{Broken}
+use Rattle.link_io.specs.declared.writing.Wrote.{Wrote}
+use Rattle.link_io.specs.declared.writing.Wrote.TheVariants.{Octets, Interrupted}
 use Rattle.link_io.specs.Reading.{frames_text}
 
 -- the lines of frames
@@ -43,6 +47,12 @@ pub record Delivers (old new : Option (List ℕ)) (taker taken : TakerView) (fau
   pub writes : WritesFrames fault frames old new
 
 -- ---- what the parts of a writer do
+
+-- The first octets were written, at least one; or the write was interrupted, or it failed, and none were.
+abbrev pub WritesOnce : Option (List ℕ) → Option (List ℕ) → List ℕ → Result Wrote IoFault → Type 0
+WritesOnce old new octets (Ok (Octets count)) = (0 < count) × (count ≤ length octets) × Appends old new (take count octets)
+WritesOnce old new octets (Ok (Interrupted error)) = (error_kind error ≡ WasInterrupted) × Keeps old new
+WritesOnce old new octets (Err fault) = (fault ≡ WriteFailed) × Keeps old new
 
 -- the text was written; where that failed, a beginning of it
 abbrev pub WritesText : {X : Type 0} → Option (List ℕ) → Option (List ℕ) → List ℕ → Result X IoFault → Type 0

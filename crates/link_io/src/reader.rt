@@ -1,10 +1,14 @@
-ghost use Rattle.std.specs.Prelude.{◌≡◌, ◌⊎◌, ◌++◌, ℕ, IfSome, List, Some};
+ghost use Rattle.std.specs.Prelude.{◌≡◌, ◌≢◌, ◌⊎◌, ◌++◌, ℕ, IfErr, IfSome, List, Some};
 ghost use Rattle.ipa_framing.specs.declared.frame.Frame.{Frame as FrameValue};
 ghost use Rattle.ipa_framing.specs.Frame.{IsPartial, IsTooLong, Splits};
+ghost use Rattle.link_io.specs.declared.fault.IoFault.TheVariants.{ReadFailed};
 ghost use Rattle.link_io.specs.Reading.{IsTold, Parts, PutsAll, PutsDown, PutsWhole, Serves};
+ghost use Rattle.link_io.specs.Unread.{IsUnread};
 
-use crate::framing::{BLOCK, MOST_READS, read_on};
+use crate::framing::{BLOCK, read_on};
 use crate::gated_pass::{GatedPass, put_once_there_is_room};
+use crate::read_count::ReadCount;
+use crate::unread::{Unread, fault_of};
 use crate::{Gate, IoFault, LinkReader};
 use ipa_framing::Framer;
 use ruled_relay::{SourcePass, What};
@@ -32,7 +36,7 @@ pub fn serve_reader<I: LinkReader, G: Gate, R: Wait>(
     ensures told { IsTold result.3 (I.told result.0) }
 {
     let mut gated = GatedPass { gate, pass, limit };
-    let fault = put_all(rt, alloc, &mut reader, &mut gated).err();
+    let fault = fault_of(put_all(rt, alloc, &mut reader, &mut gated));
     tell(&mut reader, fault);
     let fault = put_down(rt, &mut gated, fault);
     let GatedPass { gate, pass, .. } = gated;
@@ -75,20 +79,19 @@ fn put_all<I: Read, G: Gate, R: Wait>(
     alloc: Global,
     reader: &mut I,
     gated: &mut GatedPass<G>,
-) -> Result<(), IoFault>
+) -> Result<(), Unread>
     ensures puts { PutsAll (I.remaining reader.old) (I.remaining reader.new) gated.old.limit (G.refused gated.old.gate) (G.refused gated.new.gate) gated.old.pass gated.new.pass result }
+    ensures why { IfErr result (λ unread. IsUnread unread) }
     ensures same { gated.new.limit ≡ gated.old.limit }
 {
     let mut framer = Framer::new(alloc);
     let mut block = [0; BLOCK];
-    for _ in 0..MOST_READS {
-        if !read_on(reader, &mut block, &mut framer)? {
-            return Ok(());
-        }
+    let mut reads = ReadCount::none();
+    while read_on(reader, &mut reads, &mut block, &mut framer)? {
         put_frames(rt, &mut framer, gated)?;
         gated.pass.ring();
     }
-    Err(IoFault::ReadFailed)
+    Ok(())
 }
 
 /// Puts the frames that the framer holds whole.
@@ -98,6 +101,7 @@ fn put_frames<G: Gate, R: Wait>(
     gated: &mut GatedPass<G>,
 ) -> Result<(), IoFault>
     ensures puts { PutsWhole framer.old framer.new gated.old.limit (G.refused gated.old.gate) (G.refused gated.new.gate) gated.old.pass gated.new.pass result }
+    ensures unfailed { IfErr result (λ fault. fault ≢ ReadFailed) }
     ensures same { gated.new.limit ≡ gated.old.limit }
 {
     while let Some(frame) = framer.next()? {

@@ -1,10 +1,12 @@
 ghost use Rattle.std.specs.Prelude.{◌≡◌, ◌++◌, IfErr, IfOk, OnOk};
-ghost use Rattle.std.specs.Result.{result_err};
 ghost use Rattle.ipa_framing.specs.Frame.{frame_text};
 ghost use Rattle.link_io.specs.Switching.{AnswersFrame, AnswersWhole, IsAnswerFault, PlaysSwitch, message_in, replies_text, reply_frame};
+ghost use Rattle.link_io.specs.Unread.{IsUnread, fault_in};
 
 use crate::IoFault;
-use crate::framing::{BLOCK, MOST_READS, read_on};
+use crate::framing::{BLOCK, read_on};
+use crate::read_count::ReadCount;
+use crate::unread::{Unread, fault_of};
 use crate::writing::write_octets;
 use bssmap_codec::{InterfaceFault, Sccp, read_sccp, write_sccp};
 use ipa_framing::{Frame, Framer, SCCP_STREAM, write_frame};
@@ -29,7 +31,7 @@ pub fn switch_worker<I: Read, O: Write>(
     ensures { PlaysSwitch (I.remaining reader) (I.remaining result.0) (O.contents writer) (O.contents result.1) switch result.2 result.3 }
 {
     let answered = answer_all(alloc, &mut reader, &mut writer, &mut switch);
-    (reader, writer, switch, answered.err())
+    (reader, writer, switch, fault_of(answered))
 }
 
 /// Answers the frames of a link until there are no octets left to be read.
@@ -38,18 +40,17 @@ fn answer_all<I: Read, O: Write>(
     reader: &mut I,
     writer: &mut O,
     switch: &mut MscEnd,
-) -> Result<(), IoFault>
-    ensures { PlaysSwitch (I.remaining reader.old) (I.remaining reader.new) (O.contents writer.old) (O.contents writer.new) switch.old switch.new (result_err result) }
+) -> Result<(), Unread>
+    ensures plays { PlaysSwitch (I.remaining reader.old) (I.remaining reader.new) (O.contents writer.old) (O.contents writer.new) switch.old switch.new (fault_in result) }
+    ensures why { IfErr result (λ unread. IsUnread unread) }
 {
     let mut framer = Framer::new(alloc);
     let mut block = [0; BLOCK];
-    for _ in 0..MOST_READS {
-        if !read_on(reader, &mut block, &mut framer)? {
-            return Ok(());
-        }
+    let mut reads = ReadCount::none();
+    while read_on(reader, &mut reads, &mut block, &mut framer)? {
         answer_frames(alloc, &mut framer, writer, switch)?;
     }
-    Err(IoFault::ReadFailed)
+    Ok(())
 }
 
 /// Answers the frames that the framer holds whole.

@@ -1,7 +1,16 @@
-ghost use Rattle.link_io.specs.Writing.{WritesText};
+ghost use Rattle.link_io.specs.Writing.{WritesOnce, WritesText};
 
 use crate::IoFault;
-use std::io::{ErrorKind, Write};
+use std::io::{self, ErrorKind, Write};
+
+/// What a write that didn't fail came to.
+#[derive(Drop)]
+enum Wrote {
+    /// It took so many octets, at least one.
+    Octets(usize),
+    /// It was interrupted, and took none.
+    Interrupted(io::Error),
+}
 
 /// Writes the octets. Where the device fails it has taken a beginning of them, which `write_all` doesn't say. A short write
 /// goes on where it stopped, and an interrupted one is tried again.
@@ -13,12 +22,22 @@ pub(crate) fn write_octets<O: Write>(writer: &mut O, octets: &[u8]) -> Result<()
         if rest.is_empty() {
             return Ok(());
         }
-        match writer.write(rest) {
-            Ok(0) => return Err(IoFault::WriteFailed),
-            Ok(count) => rest = &rest[count..],
-            Err(error) if error.kind() == ErrorKind::Interrupted => {}
-            Err(_) => return Err(IoFault::WriteFailed),
+        match write_once(writer, rest)? {
+            Wrote::Octets(count) => rest = &rest[count..],
+            Wrote::Interrupted(_) => {}
         }
     }
     Err(IoFault::WriteFailed)
+}
+
+/// Writes some of the octets. A write that takes none of them is one that fails.
+fn write_once<O: Write>(writer: &mut O, octets: &[u8]) -> Result<Wrote, IoFault>
+    ensures { WritesOnce (O.contents writer.old) (O.contents writer.new) octets.now result }
+{
+    match writer.write(octets) {
+        Ok(0) => Err(IoFault::WriteFailed),
+        Ok(count) => Ok(Wrote::Octets(count)),
+        Err(error) if error.kind() == ErrorKind::Interrupted => Ok(Wrote::Interrupted(error)),
+        Err(_) => Err(IoFault::WriteFailed),
+    }
 }
