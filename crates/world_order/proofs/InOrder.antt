@@ -72,7 +72,7 @@ accepts-standing number c two from_one holds there (once_down down (cut mobile o
 
 -- ---- the order
 
-two-numbers : (settings : Parameters) → 2 ≤ modulus_in settings
+pub two-numbers : (settings : Parameters) → 2 ≤ modulus_in settings
 two-numbers settings = by settings.network.release98 where
   by : (b : Bool) → 2 ≤ count_of (if b then Two else Four)
   by true = omega arith

@@ -17,6 +17,7 @@ pub mod Modulus
 pub mod InOrder
 pub mod Whole
 pub mod Targets
+pub mod LineUps
 mod Rows
 pub mod Naming
 pub mod Unanswered

@@ -14,6 +14,7 @@ use Rattle.world_table.specs.World.{Actors, is_up, modulus_in, new_actors}
 use Rattle.world_laws.specs.Lives.{IsBeyondAsking, IsUnconfirmed, Lives}
 use Rattle.world_laws.specs.OthersFrame.{CameInOctets, IsHad}
 use Rattle.world_targets.specs.Fresh.{IsFreshIn}
+use Rattle.world_order.specs.LineUps.{IsComingTo, IsFresh}
 use Rattle.world_order.specs.Openers.{first_served, has_asked}
 use Rattle.world_order.specs.Standing.{Standing}
 use Rattle.world_order.specs.Standing.Standing.{while_up, once_down}
@@ -22,7 +23,7 @@ use Rattle.world_order.specs.Targets.{IsServed, TargetsAreFresh}
 use Rattle.world_order.proofs.Controllers.{none-given}
 use Rattle.world_order.proofs.Fairly.{ComeInOctets-new}
 use Rattle.world_order.proofs.Following.{NumbersStand-new}
-use Rattle.world_order.proofs.Whole.{facts, IsComingTo, IsFresh}
+use Rattle.world_order.proofs.Whole.{facts}
 
 module _ (settings : Parameters) (events : List Event) (s : Connection) (reference : ℕ) (stage : Stage) (had : IsHad (actors_after_all (new_actors settings) events) s) (live : s.state ≡ Live reference stage) where
   abbrev w : Actors

@@ -50,6 +50,7 @@ use Rattle.world_order.specs.Facts.{Begun, Came, Handled, Holds, HoldsAt, IsAski
 use Rattle.world_order.specs.Facts.Begun.{not_yet, begins}
 use Rattle.world_order.specs.Facts.Came.{comes, asks, goes}
 use Rattle.world_order.specs.Facts.Handled.{goes_on, ends}
+use Rattle.world_order.specs.LineUps.{IsComingTo, IsFresh}
 use Rattle.world_order.specs.Openers.{has_asked}
 use Rattle.world_order.specs.Order.{AllRunsAreInOrder, Facts}
 use Rattle.world_order.specs.Standing.{IsSilent}
@@ -58,14 +59,6 @@ use Rattle.world_order.proofs.Fairly.{ComeInOctets-new}
 use Rattle.world_order.proofs.InOrder.{RunsAreInOrder-new}
 
 -- ---- words
-
--- a target is fresh, as its mobile finds it
-abbrev pub IsFresh : Actors → Mobile → Connection → Type 0
-IsFresh w p s = IsFreshIn w p s.state
-
--- a connection that is coming, whose channel is quiet
-abbrev pub IsComingTo : Parameters → Actors → ℕ → Connection → Type 0
-IsComingTo settings w mobile s = IsComing (modulus_in settings) w mobile s × Quiet w (place_of s.serving)
 
 -- what comes at the last event is octets
 takes-octets : (settings : Parameters) (events : List Event) (event : Event) → CameInOctets settings (events ++ event ∷ []) → TakesOctets (actors_after_all (new_actors settings) events) event

@@ -3,6 +3,7 @@ pub mod Standing
 pub mod Facts
 pub mod Order
 pub mod Targets
+pub mod LineUps
 pub mod OctetEvents
 pub mod Unanswered
 pub mod Beginning

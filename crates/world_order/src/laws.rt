@@ -2,6 +2,7 @@ ghost use Rattle.std.specs.Prelude.{List};
 ghost use Rattle.settings.specs.Parameters.{Parameters};
 ghost use Rattle.world_table.specs.declared.event.Event.{Event as WorldEvent};
 ghost use Rattle.world_order.specs.Beginning.{ConnectionsBegin, ConnectionsBeginComing};
+ghost use Rattle.world_order.specs.LineUps.{AllNumbersStand, AllPlacesRise};
 ghost use Rattle.world_order.specs.OctetEvents.{ComeInOctets, PutsFairly, StationsGiveOctets};
 ghost use Rattle.world_order.specs.Order.{AllRunsAreInOrder, CutNumbersStay};
 ghost use Rattle.world_order.specs.QuietDown.{ChannelsBeginQuiet, ChannelsStayQuiet, QuietLetsNoneGo};
@@ -61,6 +62,19 @@ pub fn fair_frames_are_put()
 /// Law: with settings that are allowed, where events are of octets, all that comes to the controller is.
 pub fn octets_come()
     ensures { (settings : Parameters) (events : List WorldEvent) → ComeInOctets settings events }
+{}
+
+/// Law: the line-up. Whatever events happened, each connection number stands. It is still to be given; or the connection is coming
+/// to its mobile; or it lives, lined up with the mobile that it first served; or it ended in order; or the switch never hears of it.
+/// Once the link of the switch is down nothing of it waits for the switch, and what the switch took is in order. While a connection
+/// lives, take the messages of the mobile with a sequence number: those that wait for the switch; then, channel by channel in
+/// the order in which they serve, those that the controller holds and those on their way up in the inbox and at the station; then those
+/// of the mobile's link, the one in the air first. Their places in what the mobile sent begin behind what the switch accepted or one
+/// below, and rise by 1 or 0, up to the first loss; where nothing is lost, up to the last message sent. So it is with
+/// settings that are allowed, where events are of octets. It does nothing, as all here.
+pub fn line_ups_stand()
+    ensures stands { (settings : Parameters) (events : List WorldEvent) → AllNumbersStand settings events }
+    ensures rise { (settings : Parameters) (events : List WorldEvent) → AllPlacesRise settings events }
 {}
 
 /// Law: the order of a run. Whatever events happened, what the switch accepts of each connection is a prefix of what its mobile's

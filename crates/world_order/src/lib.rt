@@ -5,8 +5,8 @@
 
 pub use laws::{
     channel_of_a_coming_one_is_quiet_down, connections_begin, connections_begin_coming,
-    cut_numbers_stay, fair_frames_are_put, octets_come, runs_are_in_order, stations_give_octets,
-    switch_is_of_modulus, targets_are_fresh, unanswered_mobiles_ask,
+    cut_numbers_stay, fair_frames_are_put, line_ups_stand, octets_come, runs_are_in_order,
+    stations_give_octets, switch_is_of_modulus, targets_are_fresh, unanswered_mobiles_ask,
 };
 
 mod laws;
