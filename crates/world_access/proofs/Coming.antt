@@ -34,6 +34,7 @@ use Rattle.world_table.specs.declared.seat.Tenure.{Tenure}
 use Rattle.world_table.specs.Life.{actors_after, actors_after_all, event_after}
 use Rattle.world_table.specs.Mobiles.{brought, controlled, framed, hearing, remembering, signalling_brought}
 use Rattle.world_table.specs.World.{Actors, Link, Mobile, base_of, broken_link, has_number, is_reached, is_station_up, link_of, mobile_of, modulus_in, new_actors, put_back, spot_at, tenure_at, with_outbox}
+use Rattle.world_table.proofs.Found.{back-found, back-other, found-number}
 use Rattle.world_table.proofs.Heard.{good-all, good-new}
 use Rattle.world_table.proofs.Honesty.{up-right}
 use Rattle.world_table.proofs.Leads.{after-taken, air_up-leads}
@@ -48,7 +49,6 @@ use Rattle.world_laws.specs.Staying.{AreLinedUp}
 use Rattle.world_laws.proofs.AirUp.{Lent, all-other, frame-lent}
 use Rattle.world_laws.proofs.Framing.{all-right}
 use Rattle.world_laws.proofs.Quiet.{down-with_base}
-use Rattle.world_laws.proofs.Seeing.{back-found, back-other, found-number}
 use Rattle.world_laws.proofs.Spots.{set-apart, set-same, tenure-with_base}
 use Rattle.world_laws.proofs.Standing.{ConnectionsStand-new}
 use Rattle.world_laws.proofs.Sublists.{Sub, sub-all, sub-length, sub-nothing}

@@ -35,8 +35,8 @@ use Rattle.world_table.specs.Mobiles.{acknowledged, complete, connected, control
 use Rattle.world_table.specs.Stations.{activated, activated_unless, assigned, assigned_from, assigned_to, rsl_in, took}
 use Rattle.world_table.specs.SwitchSide.{sccp_in}
 use Rattle.world_table.specs.World.{Actors, Mobile, base_of, has_number, is_active_at, is_reached, is_station_up, mobile_of, outbox_of, put_back, spot_at, tenure_at, with_mobile, with_outbox, with_spot}
+use Rattle.world_table.proofs.Found.{back-found, back-other, found-number}
 use Rattle.world_table.proofs.Leads.{FromAir, OfTaken, air_down-leads, air_down_lost-leads, air_up-leads, arrive-leads, base_takes-leads, broken-leads, by_mobile-leads, connect-leads, does-leads, move-leads, only_if-leads, push-leads, report-leads, return-leads, switch_takes-leads, switch_took-leads, touch-leads, unless_last-leads}
-use Rattle.world_laws.proofs.Seeing.{back-found, back-other, found-number}
 use Rattle.world_access.proofs.Behind.{GivesNoMore, acked-gives, frame-gives, queue-gives}
 use Rattle.world_access.proofs.Travels.{is_passing}
 

@@ -34,6 +34,7 @@ use Rattle.world_table.specs.Mobiles.{brought, framed}
 use Rattle.world_table.specs.Relay.{target_in, with_turn}
 use Rattle.world_table.specs.Steps.{all_steps}
 use Rattle.world_table.specs.World.{Actors, Mobile, base_of, has_number, is_reached, mobile_of, new_actors, put_back}
+use Rattle.world_table.proofs.Found.{back-found, back-other, found-number}
 use Rattle.world_table.proofs.Heard.{good-all, good-new}
 use Rattle.world_table.proofs.Leads.{after-taken, air_up-leads, handle-leads, turn-leads}
 use Rattle.world_table.proofs.Living.{LivesByTable-new}
@@ -43,7 +44,6 @@ use Rattle.world_laws.specs.Handled.{awaited_in}
 use Rattle.world_laws.specs.Lives.{HasOpened, initial_by, initials_up}
 use Rattle.world_laws.specs.Seated.{IsAlone, IsElsewhere}
 use Rattle.world_laws.proofs.Others.{turn-mobiles}
-use Rattle.world_laws.proofs.Seeing.{back-found, back-other, found-number}
 use Rattle.world_laws.proofs.Standing.{ConnectionsStand-new}
 use Rattle.world_laws.proofs.Sublists.{Sub, sub-append, sub-behind, sub-flat_map, sub-itself, sub-nothing}
 use Rattle.world_access.specs.Opened.{OpenedStayOpened}

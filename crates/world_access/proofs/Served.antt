@@ -8,9 +8,9 @@ use Rattle.world_table.specs.declared.seat.Tenure.{Tenure}
 use Rattle.world_table.specs.Stations.{is_on, is_same, mobile_on}
 use Rattle.world_table.specs.Tickets.{AllSitBy, SitsBy}
 use Rattle.world_table.specs.World.{Actors, Mobile, has_number, mobile_of}
+use Rattle.world_table.proofs.Found.{found-number}
 use Rattle.world_table.proofs.Leads.{and-left, and-right}
 use Rattle.world_table.proofs.Mobility.{found-all}
-use Rattle.world_laws.proofs.Seeing.{found-number}
 
 some-same : {X : Type 0} {x y : X} → Some x ≡ Some y → x ≡ y
 some-same {X} {x} e = ap (λ (o : Option X). unwrap_or o x) e

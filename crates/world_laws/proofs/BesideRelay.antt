@@ -18,6 +18,7 @@ use Rattle.rsl_codec.specs.declared.rsl.Rsl.{Rsl}
 use Rattle.rsl_codec.specs.RslReading.{rsl_reading}
 use Rattle.rsl_codec.specs.RslText.{rsl_text}
 use Rattle.settings.specs.Parameters.{Parameters}
+use Rattle.mobile_end.specs.Calls.{Call}
 use Rattle.mobile_end.specs.Mobile.{new_mobile}
 use Rattle.mobile_end.specs.MobileState.{MobileState}
 use Rattle.mobile_end.proofs.Lives.{IsKept-calls}
@@ -29,6 +30,7 @@ use Rattle.world_table.specs.Life.{event_after, actors_after_all}
 use Rattle.world_table.specs.Relay.{station_item, switch_item, with_item, pushed_by_station, pushed_by_switch, after_base_push}
 use Rattle.world_table.specs.SwitchSide.{may_send_on, sent_on, is_layer_3, after_switch_does}
 use Rattle.world_table.specs.World.{Actors, Mobile, modulus_in, new_actors, base_of, with_base}
+use Rattle.world_table.specs.Calls.{all_calls}
 use Rattle.world_table.specs.Lives.{Lives}
 use Rattle.world_table.proofs.Heard.{Good, end-of, good-new, good-all}
 use Rattle.world_table.proofs.Leads.{OfTaken, after-taken}
@@ -176,11 +178,12 @@ beside-stays (BaseDown source) beside good h = absurd cc
 pub MobilesKeepLineUps-new : (settings : Parameters) (events : List Event) (event : Event) → MobilesKeepLineUps settings events event
 MobilesKeepLineUps-new settings events event mobile s beside alone lined =
     let w : Actors = actors_after_all (new_actors settings) events in
-    let lives : Lives (modulus_in settings) lined.one = MobilesLive-new settings events mobile lined.one lined.found in
+    let calls : List Call = all_calls (new_actors settings) events mobile in
+    let lives : Lives (modulus_in settings) calls lined.one = MobilesLive-new settings events mobile lined.one lined.found in
     after-taken (λ v. AreLinedUp (modulus_in settings) v mobile s) (event_after w event) w
     (beside-stays event beside (good-all (new_actors settings) events (good-new settings)) (record {
       found = lined.found;
-      modulus = ap (λ (e : MobileState). e.modulus) lives.is ∙ (IsKept-calls (new_mobile (modulus_in settings)) lives.calls).modulus;
+      modulus = ap (λ (e : MobileState). e.modulus) lives.is ∙ (IsKept-calls (new_mobile (modulus_in settings)) calls).modulus;
       lined = lined.lined;
       alone = alone;
     })) lined

@@ -36,6 +36,7 @@ use Rattle.world_table.specs.declared.seat.Seat.TheVariants.{Asking, On, Moving,
 use Rattle.world_table.specs.declared.seat.Tenure.{Tenure}
 use Rattle.world_table.specs.Mobiles.{may_send, sent_by, connected, channel_required, is_new, frame_in, signalling_brought, short_message_brought, reported_at, framed, brought, remembering, controlled, hearing, left, seated, complete, failure, handover_detection, measurement_result, after_upper, after_connecting, after_air_up, after_air_ack, after_air_down, after_air_down_lost, after_move, after_touch, after_arriving, after_return, after_report}
 use Rattle.world_table.specs.World.{Actors, Mobile, Spot, has_number, mobile_of, put_back, with_mobile, is_station_up, base_of, with_base, spot_at, with_spot, is_reached}
+use Rattle.world_table.proofs.Found.{back-found, back-other, found-number}
 use Rattle.world_table.proofs.Honesty.{base-with_spot, reached-up, up-right}
 use Rattle.world_table.proofs.Leads.{OfTaken, FromAir, and-left, and-right, only_if-leads, by_mobile-leads, connect-leads, air_up-leads, air_ack-leads, air_down-leads, air_down_lost-leads, move-leads, touch-leads, arrive-leads, return-leads, report-leads}
 use Rattle.world_laws.specs.ComingUp.{of_main, made_of}
@@ -46,7 +47,7 @@ use Rattle.world_laws.proofs.AirUp.{all-other, own-air_up}
 use Rattle.world_laws.proofs.OwnMobile.{own-upper, own-air_ack}
 use Rattle.world_laws.proofs.OwnMoves.{own-lost, own-heard, own-move, sees-established, own-arrive, own-return}
 use Rattle.world_laws.proofs.Quiet.{ArePlaced, down-with_base, sees-itself, sees-mobiles, sees-told, sees-spot, sees-elsewhere}
-use Rattle.world_laws.proofs.Seeing.{SameTenures, SeesSame, LinedUp-same, found-number, back-found, back-other}
+use Rattle.world_laws.proofs.Seeing.{SameTenures, SeesSame, LinedUp-same}
 use Rattle.world_laws.proofs.Spots.{spot-with_base, tenure-with_base}
 
 -- ---- whose event it is

@@ -54,6 +54,7 @@ use Rattle.rsl_codec.specs.RslText.{rsl_text}
 use Rattle.settings.specs.Parameters.{CellParameters, Parameters}
 use Rattle.world_table.specs.declared.event.Event.{Event}
 use Rattle.world_table.specs.declared.event.Event.TheVariants.{Upper, Connect, AirUp, AirAck, AirDown, AirDownLost, Move, Touch, Arrive, Return, BaseTakes, BasePush, Handle, SwitchTakes, SwitchDoes, Tick, BaseDown, Report}
+use Rattle.world_table.specs.Calls.{all_calls}
 use Rattle.world_table.specs.Life.{event_after, actors_after, actors_after_all}
 use Rattle.world_table.specs.Mobiles.{brought, connected, frame_in, short_message_brought, signalling_brought, told, after_upper, after_connecting, after_air_up, after_air_ack, after_air_down, after_air_down_lost, after_move, after_touch, after_arriving, after_return, after_report}
 use Rattle.world_table.specs.Queues.{all_popped, all_pushed, first_of, popped, pushed}
@@ -105,12 +106,13 @@ none-lent settings events number p frame found is =
     let lives = MobilesLive-new settings events number p found in
     let m : ℕ = modulus_in settings in
     let mobile : MobileState = new_mobile m in
-    let last : frame_lent (frame_answer (after_calls mobile lives.calls) Three) ≡ frame ∷ [] = ap (λ (e : MobileState). frame_lent (frame_answer e Three)) (sym lives.is) ∙ lent-in (frame_answer p.end Three) frame is in
-    beside frame (none-behind (filter is_flow_message (taken_on_three_by_calls mobile lives.calls)) (filter is_flow_message (frame ∷ []))
-    (sym (filter-append is_flow_message (taken_on_three_by_calls mobile lives.calls) (frame ∷ []))
-    ∙ ap (λ (xs : List (List ℕ)). filter is_flow_message (taken_on_three_by_calls mobile lives.calls ++ xs)) (sym last)
-    ∙ ap (filter is_flow_message) (sym (one-more mobile lives.calls))
-    ∙ takes_no_flow mobile (lives.calls ++ frames Three ∷ []) tt))
+    let calls : List Call = all_calls (new_actors settings) events number in
+    let last : frame_lent (frame_answer (after_calls mobile calls) Three) ≡ frame ∷ [] = ap (λ (e : MobileState). frame_lent (frame_answer e Three)) (sym lives.is) ∙ lent-in (frame_answer p.end Three) frame is in
+    beside frame (none-behind (filter is_flow_message (taken_on_three_by_calls mobile calls)) (filter is_flow_message (frame ∷ []))
+    (sym (filter-append is_flow_message (taken_on_three_by_calls mobile calls) (frame ∷ []))
+    ∙ ap (λ (xs : List (List ℕ)). filter is_flow_message (taken_on_three_by_calls mobile calls ++ xs)) (sym last)
+    ∙ ap (filter is_flow_message) (sym (one-more mobile calls))
+    ∙ takes_no_flow mobile (calls ++ frames Three ∷ []) tt))
 
 -- ---- what stations make
 

@@ -1,7 +1,6 @@
 -- A connection stays lined up where an event changes nothing that it is seen by.
-use Rattle.std.proofs.Common.{◌≡◌, ◌≢◌, ℕ, Bool, if◌then◌else◌, cond, List, [], ◌∷◌, find, unwrap_or, Option, Some, None, refl, sym, ap, ◌∙◌, subst, inl, inr}
+use Rattle.std.proofs.Common.{◌≡◌, ℕ, Option, Some, None, refl, sym, ap, ◌∙◌, subst}
 use Rattle.std.specs.List.{AllByRecursion}
-use Rattle.std.proofs.lemmas.Bool.{cases_Bool, eqb-true, ne_eqb, eq-eqb}
 use Rattle.conn_messages.specs.declared.channel.Channel.{Channel}
 use Rattle.conn_messages.specs.declared.channel.Place.{Place}
 use Rattle.conn_table.specs.declared.state.Target.{Target}
@@ -13,7 +12,7 @@ use Rattle.world_table.specs.declared.line.AirMessage.{AirMessage}
 use Rattle.world_table.specs.declared.seat.Command.{Command}
 use Rattle.world_table.specs.declared.seat.Seat.{Seat}
 use Rattle.world_table.specs.declared.seat.Tenure.{Tenure}
-use Rattle.world_table.specs.World.{Actors, Mobile, is_station_up, tenure_at, has_number, put_back}
+use Rattle.world_table.specs.World.{Actors, Mobile, is_station_up, tenure_at}
 use Rattle.world_laws.specs.ComingUp.{coming_up}
 use Rattle.world_laws.specs.GoingDown.{going_down}
 use Rattle.world_laws.specs.LineUps.{commanded_target, waiting_of, taken_of}
@@ -72,41 +71,3 @@ LinedUp-same {m} {w} {v} {s} p q sees sent zero seat lined = record {
   apart = lined.apart;
   placed = lined.placed;
 }
-
--- ---- mobiles by number
-
-pub found-number : (number : ℕ) (xs : List Mobile) (p : Mobile) → find (has_number number) xs ≡ Some p → p.number ≡ number
-found-number number [] p found = absurd cc
-found-number number (x ∷ xs) p found =
-    elim (cases_Bool (has_number number x)) [
-      | inl hit ↦ ap (λ (q : Mobile). q.number) (sym (some-same (sym (ap (λ (b : Bool). cond b (Some x) (find (has_number number) xs)) hit) ∙ found))) ∙ eqb-true x.number number hit
-      | inr miss ↦ found-number number xs p (sym (ap (λ (b : Bool). cond b (Some x) (find (has_number number) xs)) miss) ∙ found)
-    ] where
-      some-same : {a b : Mobile} → Some a ≡ Some b → a ≡ b
-      some-same {a} is = ap (λ (o : Option Mobile). unwrap_or o a) is
-
--- one that is put back is found
-pub back-found : (q : Mobile) (xs : List Mobile) (p : Mobile) → find (has_number q.number) xs ≡ Some p → find (has_number q.number) (put_back q xs) ≡ Some q
-back-found q [] p found = absurd cc
-back-found q (x ∷ xs) p found =
-    elim (cases_Bool (has_number q.number x)) [
-      | inl hit ↦ ap (λ (b : Bool). find (has_number q.number) (cond b (q ∷ xs) (x ∷ put_back q xs))) hit ∙ ap (λ (b : Bool). cond b (Some q) (find (has_number q.number) xs)) (eq-eqb q.number q.number refl)
-      | inr miss ↦
-          ap (λ (b : Bool). find (has_number q.number) (cond b (q ∷ xs) (x ∷ put_back q xs))) miss
-          ∙ ap (λ (b : Bool). cond b (Some x) (find (has_number q.number) (put_back q xs))) miss
-          ∙ back-found q xs p (sym (ap (λ (b : Bool). cond b (Some x) (find (has_number q.number) xs)) miss) ∙ found)
-    ]
-
--- and all others stay
-pub back-other : (q : Mobile) (xs : List Mobile) (number : ℕ) → q.number ≢ number → find (has_number number) (put_back q xs) ≡ find (has_number number) xs
-back-other q [] number differs = refl
-back-other q (x ∷ xs) number differs =
-    elim (cases_Bool (has_number q.number x)) [
-      | inl hit ↦
-          ap (λ (b : Bool). find (has_number number) (cond b (q ∷ xs) (x ∷ put_back q xs))) hit
-          ∙ ap (λ (b : Bool). cond b (Some q) (find (has_number number) xs)) (ne_eqb q.number number differs)
-          ∙ sym (ap (λ (b : Bool). cond b (Some x) (find (has_number number) xs)) (ne_eqb x.number number (λ is. differs (sym (eqb-true x.number q.number hit) ∙ is))))
-      | inr miss ↦
-          ap (λ (b : Bool). find (has_number number) (cond b (q ∷ xs) (x ∷ put_back q xs))) miss
-          ∙ ap (λ (o : Option Mobile). if has_number number x then Some x else o) (back-other q xs number differs)
-    ]

@@ -36,8 +36,8 @@ use Rattle.world_table.specs.Relay.{target_in}
 use Rattle.world_table.specs.Stations.{rsl_in, took}
 use Rattle.world_table.specs.SwitchSide.{sccp_in}
 use Rattle.world_table.specs.World.{Actors, Mobile, has_number, mobile_of, put_back, with_mobile, with_outbox, tenure_at}
+use Rattle.world_table.proofs.Found.{back-found, back-other, found-number}
 use Rattle.world_table.proofs.Leads.{FromAir, OfTaken, after-taken, only_if-leads, by_mobile-leads, connect-leads, air_up-leads, air_ack-leads, air_down-leads, air_down_lost-leads, move-leads, touch-leads, arrive-leads, return-leads, report-leads, base_takes-leads, took-leads, handle-leads, turn-leads, switch_takes-leads, switch_took-leads, push-leads, does-leads, broken-leads}
-use Rattle.world_laws.proofs.Seeing.{back-found, back-other, found-number}
 
 -- these messages were sent, and perhaps more
 pub record HasSent (mobile : ℕ) (sent : List (List ℕ)) (w : Actors) : Type 0 where

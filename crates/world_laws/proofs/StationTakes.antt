@@ -32,6 +32,7 @@ use Rattle.world_table.specs.declared.seat.Tenure.{Tenure}
 use Rattle.world_table.specs.Life.{event_after, actors_after_all}
 use Rattle.world_table.specs.Stations.{rsl_in, new_tenure, activated_unless, activated, link_answer, answered, accepts, mobile_on, released, took, after_base_takes}
 use Rattle.world_table.specs.World.{Actors, Mobile, Spot, Station, Link, new_spot, no_station, station_of, new_actors, has_number, mobile_of, with_mobile, broken_link, link_of, is_station_up, outbox_of, with_outbox, base_of, with_base, spot_at, with_spot, is_active_at, tenure_at}
+use Rattle.world_table.proofs.Found.{back-other, found-number}
 use Rattle.world_table.proofs.Honesty.{SameEnds, base-with_spot, up-right}
 use Rattle.world_table.proofs.Leads.{OfTaken, Seats, base_takes-leads, assigned-leads, unless_last-leads, after-taken}
 use Rattle.world_table.proofs.Outboxes.{changed_link}
@@ -46,7 +47,7 @@ use Rattle.world_laws.proofs.BaseTakes.Grown.{rests, ends}
 use Rattle.world_laws.proofs.Framing.{AreUp, all-right}
 use Rattle.world_laws.proofs.Projecting.{coming-quiet, coming-told-or}
 use Rattle.world_laws.proofs.Quiet.{all-of, ArePlaced, down-with_base, coming-with_spot, sees-itself, sees-mobiles}
-use Rattle.world_laws.proofs.Seeing.{LinedUp-same, found-number, back-other}
+use Rattle.world_laws.proofs.Seeing.{LinedUp-same}
 use Rattle.world_laws.proofs.Spots.{set-same, set-apart, spot-elsewhere, spot-with_base, tenure-with_base, tenure-with_spot}
 use Rattle.world_laws.proofs.Sublists.{Sub, sub-itself, sub-none, sub-front, sub-append, sub-flat_map, sub-trans, set-related}
 use Rattle.world_laws.proofs.Sublists.Sub.{drops}

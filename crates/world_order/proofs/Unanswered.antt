@@ -31,12 +31,12 @@ use Rattle.world_table.specs.Stations.{rsl_in}
 use Rattle.world_table.specs.SwitchSide.{sccp_in}
 use Rattle.world_table.specs.Steps.{all_steps, first_taken, step_at}
 use Rattle.world_table.specs.World.{Actors, Mobile, has_number, is_station_up, mobile_of, modulus_in, new_actors, outbox_of, with_outbox}
+use Rattle.world_table.proofs.Found.{back-other, found-number}
 use Rattle.world_table.proofs.Heard.{good-all, good-new}
 use Rattle.world_table.proofs.Leads.{FromAir, OfTaken, after-taken, air_ack-leads, air_down-leads, air_down_lost-leads, air_up-leads, and-right, arrive-leads, base_takes-leads, broken-leads, connect-leads, does-leads, handle-leads, move-leads, push-leads, report-leads, return-leads, switch_takes-leads, switch_took-leads, took-leads, touch-leads, turn-leads, upper-leads}
 use Rattle.world_table.proofs.Outboxes.{new_outbox}
 use Rattle.world_laws.proofs.Others.{turn-mobiles}
 use Rattle.world_laws.proofs.OwnerRun.{behind-all, front-all, snoc-actors, snoc-steps}
-use Rattle.world_laws.proofs.Seeing.{back-other, found-number}
 use Rattle.world_laws.proofs.Sublists.{sub-all}
 use Rattle.world_access.specs.Requested.{AssignsAnother, NamesAnother}
 use Rattle.world_access.proofs.Mobiles.{AllGo, Goes, IsToMove, all-same, event-goes}

@@ -2,6 +2,7 @@ pub mod Acknowledging
 mod ChangeRows
 mod ClearRows
 pub mod Counting
+mod CallRows
 mod HistoryRows
 pub mod Heard
 pub mod Honesty
@@ -11,7 +12,9 @@ pub mod Leads
 pub mod Outboxes
 pub mod Living
 mod MobileRows
+pub mod Found
 pub mod Mobility
+pub mod Repeating
 mod MoveRows
 pub mod Rows
 pub mod Piping

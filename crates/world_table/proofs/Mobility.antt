@@ -1,8 +1,8 @@
 -- The mobiles of a world live by their ends.
-use Rattle.std.proofs.Common.{◌≡◌, ℕ, ◌&&◌, not, Bool, true, false, cond, if◌then◌else◌, List, [], ◌∷◌, ◌++◌, find, unwrap_or, Option, Some, None, Result, Ok, Err, refl, sym, ap, ◌∙◌, subst, inl, inr}
+use Rattle.std.proofs.Common.{◌≡◌, ℕ, ◌==◌, ◌&&◌, nat_eq, nat_lt, not, is_some, Bool, true, false, cond, if◌then◌else◌, List, [], ◌∷◌, ◌++◌, find, unwrap_or, Option, Some, None, Result, Ok, Err, refl, sym, ap, ◌∙◌, subst, inl, inr}
 use Rattle.std.specs.List.{AllByRecursion}
 use Rattle.std.specs.Option.{is_none}
-use Rattle.std.proofs.lemmas.Bool.{cases_Bool}
+use Rattle.std.proofs.lemmas.Bool.{cases_Bool, eqb-true, eqb-false}
 use Rattle.conn_messages.specs.declared.channel.Change.{Change}
 use Rattle.conn_messages.specs.declared.channel.Change.TheVariants.{Assignment, Handover}
 use Rattle.conn_messages.specs.declared.parameters.TheConstants.{SWITCH_LINK}
@@ -22,8 +22,8 @@ use Rattle.mobile_end.specs.declared.mobile_end.Stage.{Stage}
 use Rattle.mobile_end.specs.declared.mobile_end.Stage.TheVariants.{New, Connected}
 use Rattle.mobile_end.specs.MobileState.{MobileState}
 use Rattle.mobile_end.specs.Control.{is_control}
-use Rattle.mobile_end.specs.Calls.{Call, unless_refused, after_call, after_calls}
-use Rattle.mobile_end.specs.Calls.Call.{connects, sends, frames, acknowledges, leaves, arrives}
+use Rattle.mobile_end.specs.Calls.{Call, unless_refused, may_arrive, after_call, after_calls}
+use Rattle.mobile_end.specs.Calls.Call.{connects, sends, frames, acknowledges, leaves, arrives, gives_up}
 use Rattle.mobile_end.specs.DataLink.{waits}
 use Rattle.mobile_end.specs.DataLinkState.{DataLinkState}
 use Rattle.mobile_end.specs.Mobile.{new_mobile, link_of, with_link, after_number, after_queue, after_connect, refusal_of_connect, refusal_of_send, after_frame, after_frame_at, after_acked, after_acked_at, after_leave, after_arrival, is_on_channel}
@@ -35,16 +35,18 @@ use Rattle.world_table.specs.declared.seat.Command.{Command}
 use Rattle.world_table.specs.declared.seat.Seat.{Seat}
 use Rattle.world_table.specs.declared.seat.Seat.TheVariants.{Asking, On, Moving, Gone}
 use Rattle.world_table.specs.declared.seat.Tenure.{Tenure}
+use Rattle.world_table.specs.Calls.{all_calls, calls_at, calls_to_arrive, calls_to_return, seat_of}
 use Rattle.world_table.specs.Life.{event_after, actors_after, actors_after_all}
-use Rattle.world_table.specs.Lives.{place_in, Lives, MobilesLive}
-use Rattle.world_table.specs.Mobiles.{may_send, sent_by, is_new, connected, framed, left, brought, remembering, controlled, hearing, complete, failure, after_upper, after_connecting, after_air_up, after_air_ack, after_air_down, after_air_down_lost, after_move, after_touch, after_arriving, after_return, after_report}
-use Rattle.world_table.specs.Relay.{target_in, after_base_push, after_handle, after_tick, after_break}
-use Rattle.world_table.specs.Stations.{took, rsl_in, after_base_takes}
-use Rattle.world_table.specs.SwitchSide.{sccp_in, after_switch_takes, after_switch_does}
+use Rattle.world_table.specs.Lives.{place_in, MobilesLive}
+use Rattle.world_table.specs.Mobiles.{may_send, sent_by, is_new, connected, framed, brought, remembering, controlled, hearing, complete, failure, seated}
+use Rattle.world_table.specs.Relay.{target_in}
+use Rattle.world_table.specs.Stations.{took, rsl_in}
+use Rattle.world_table.specs.SwitchSide.{sccp_in}
 use Rattle.world_table.specs.World.{Actors, Mobile, new_actors, modulus_in, has_number, mobile_of, put_back, with_mobile, with_outbox, is_station_up, tenure_at}
 use Rattle.controller_table.specs.Controller.{place_at}
 use Rattle.rsl_codec.specs.declared.rsl.Rsl.{Rsl}
-use Rattle.world_table.proofs.Leads.{OfTaken, FromAir, and-right, only_if-leads, by_mobile-leads, connect-leads, air_up-leads, air_ack-leads, air_down-leads, air_down_lost-leads, move-leads, touch-leads, arrive-leads, return-leads, report-leads, base_takes-leads, took-leads, handle-leads, turn-leads, switch_takes-leads, switch_took-leads, push-leads, does-leads, broken-leads, after-taken}
+use Rattle.world_table.proofs.Found.{back-found, back-other, found-number, new-found, new-other}
+use Rattle.world_table.proofs.Leads.{OfTaken, FromAir, and-left, and-right, only_if-leads, by_mobile-leads, connect-leads, air_up-leads, air_ack-leads, air_down-leads, air_down_lost-leads, move-leads, touch-leads, arrive-leads, return-leads, report-leads, base_takes-leads, took-leads, handle-leads, turn-leads, switch_takes-leads, switch_took-leads, push-leads, does-leads, broken-leads}
 
 -- ---- lists
 
@@ -70,27 +72,113 @@ found-all P number (x ∷ xs) p all found =
       | inr miss ↦ found-all P number xs p all.1 (sym (ap (λ (b : Bool). cond b (Some x) (find (has_number number) xs)) miss) ∙ found)
     ]
 
--- ---- calls
+-- ---- ends
 
 none-by : (o : Option MobileFault) → is_none o ≡ true → o ≡ None
 none-by None is = refl
 none-by (Some fault) is = absurd cc
 
-after_calls-append : (mobile : MobileState) (calls : List Call) (call : Call) → after_calls mobile (calls ++ call ∷ []) ≡ after_call (after_calls mobile calls) call
-after_calls-append mobile [] call = refl
-after_calls-append mobile (first ∷ calls) call = after_calls-append (after_call mobile first) calls call
+pub after_calls-append : (mobile : MobileState) (calls more : List Call) → after_calls mobile (calls ++ more) ≡ after_calls (after_calls mobile calls) more
+after_calls-append mobile [] more = refl
+after_calls-append mobile (call ∷ calls) more = after_calls-append (after_call mobile call) calls more
 
--- one more call
-called : (m : ℕ) (p q : Mobile) (call : Call) → Lives m p → q.end ≡ after_call p.end call → q.end.place ≡ place_in q.seat → Lives m q
-called m p q call lives is place = record {
-  calls = lives.calls ++ call ∷ [];
-  is = is ∙ ap (λ (e : MobileState). after_call e call) lives.is ∙ sym (after_calls-append (new_mobile m) lives.calls call);
-  place = place;
+-- one that didn't connect yet is new
+abbrev pub end_of : ℕ → Option Mobile → MobileState
+end_of m None = new_mobile m
+end_of m (Some p) = p.end
+
+-- its end is between two channels while it moves
+abbrev pub Fits : Option Mobile → Type 0
+Fits None = Unit {0}
+Fits (Some p) = p.end.place ≡ place_in p.seat
+
+-- the mobile of this number, and how many numbers there are
+pub record Stands (m number : ℕ) (w : Actors) : Type 0 where
+  pub fits : Fits (mobile_of w number)
+  pub modulus : w.modulus ≡ m
+
+-- its end takes these calls
+pub record Takes (m number : ℕ) (w : Actors) (calls : List Call) (v : Actors) : Type 0 where
+  pub ends : end_of m (mobile_of v number) ≡ after_calls (end_of m (mobile_of w number)) calls
+  pub stands : Stands m number v
+
+-- what becomes of a mobile by calls of its end
+record Becomes (p : Mobile) (calls : List Call) (q : Mobile) : Type 0 where
+  ends : q.end ≡ after_calls p.end calls
+  place : q.end.place ≡ place_in q.seat
+
+-- it is the same end, elsewhere
+record Keeps (p q : Mobile) : Type 0 where
+  number : q.number ≡ p.number
+  end : q.end ≡ p.end
+  place : place_in q.seat ≡ place_in p.seat
+
+becomes-kept : (p q : Mobile) → Keeps p q → p.end.place ≡ place_in p.seat → Becomes p [] q
+becomes-kept p q keeps place = record { ends = keeps.end; place = ap (λ (e : MobileState). e.place) keeps.end ∙ place ∙ sym keeps.place }
+
+takes-none : {m number : ℕ} {w v : Actors} → Stands m number w → v.mobiles ≡ w.mobiles → v.modulus ≡ w.modulus → Takes m number w [] v
+takes-none {m} {number} stands same numbers = record {
+  ends = ap (λ (ms : List Mobile). end_of m (find (has_number number) ms)) same;
+  stands = record { fits = subst (λ (ms : List Mobile). Fits (find (has_number number) ms)) (sym same) stands.fits; modulus = numbers ∙ stands.modulus };
 }
 
--- the same end elsewhere
-moved-seat : (m : ℕ) (p q : Mobile) → Lives m p → q.end ≡ p.end → place_in q.seat ≡ place_in p.seat → Lives m q
-moved-seat m p q lives is seats = record { calls = lives.calls; is = is ∙ lives.is; place = ap (λ (e : MobileState). e.place) is ∙ lives.place ∙ sym seats }
+-- one of them acts, and is put back
+takes-one : {m number : ℕ} {w u : Actors} (n : ℕ) (p q : Mobile) (calls : List Call) → Stands m number w → mobile_of w n ≡ Some p → u.mobiles ≡ w.mobiles → u.modulus ≡ w.modulus → q.number ≡ p.number
+    → (p.end.place ≡ place_in p.seat → Becomes p calls q) → Takes m number w (if n == number then calls else []) (with_mobile q u)
+takes-one {m} {number} {w} {u} n p q calls stands found same numbers same_number becomes = by (nat_eq n number) refl where
+  own_number : q.number ≡ n
+  own_number = same_number ∙ found-number n w.mobiles p found
+
+  by : (b : Bool) → nat_eq n number ≡ b → Takes m number w (if b then calls else []) (with_mobile q u)
+  by true hit =
+      let k_is : n ≡ number = eqb-true n number hit in
+      let here : mobile_of (with_mobile q u) number ≡ Some q =
+      ap (λ (k : ℕ). find (has_number k) (put_back q u.mobiles)) (sym (own_number ∙ k_is))
+      ∙ back-found q u.mobiles p (ap (λ (ms : List Mobile). find (has_number q.number) ms) same ∙ ap (λ (k : ℕ). find (has_number k) w.mobiles) own_number ∙ found) in
+      let there : mobile_of w number ≡ Some p = ap (mobile_of w) (sym k_is) ∙ found in
+      let new : Becomes p calls q = becomes (subst Fits there stands.fits) in
+      record {
+        ends = ap (end_of m) here ∙ new.ends ∙ sym (ap (λ (o : Option Mobile). after_calls (end_of m o) calls) there);
+        stands = record { fits = subst Fits (sym here) new.place; modulus = numbers ∙ stands.modulus };
+      }
+  by false miss =
+      let here : mobile_of (with_mobile q u) number ≡ mobile_of w number =
+      back-other q u.mobiles number (λ is. eqb-false n number miss (sym own_number ∙ is)) ∙ ap (λ (ms : List Mobile). find (has_number number) ms) same in
+      record {
+        ends = ap (end_of m) here;
+        stands = record { fits = subst Fits (sym here) stands.fits; modulus = numbers ∙ stands.modulus };
+      }
+
+abbrev no_calls : List Call
+no_calls = []
+
+-- one is the same end, elsewhere
+takes-kept : {m number : ℕ} {w u : Actors} (n : ℕ) (p q : Mobile) → Stands m number w → mobile_of w n ≡ Some p → u.mobiles ≡ w.mobiles → u.modulus ≡ w.modulus → Keeps p q → Takes m number w [] (with_mobile q u)
+takes-kept {m} {number} {w} {u} n p q stands found same numbers keeps =
+    subst (λ (calls : List Call). Takes m number w calls (with_mobile q u)) (none (n == number)) (takes-one n p q [] stands found same numbers keeps.number (becomes-kept p q keeps)) where
+      none : (b : Bool) → (if b then no_calls else no_calls) ≡ no_calls
+      none true = refl
+      none false = refl
+
+-- a new one stands behind all others
+takes-new : {m number : ℕ} {w u : Actors} (q : Mobile) (calls : List Call) → Stands m number w → mobile_of w q.number ≡ None → u.mobiles ≡ w.mobiles ++ q ∷ [] → u.modulus ≡ w.modulus
+    → q.end ≡ after_calls (new_mobile m) calls → q.end.place ≡ place_in q.seat → Takes m number w (if q.number == number then calls else []) u
+takes-new {m} {number} {w} {u} q calls stands none same numbers ends place = by (nat_eq q.number number) refl where
+  by : (b : Bool) → nat_eq q.number number ≡ b → Takes m number w (if b then calls else []) u
+  by true hit =
+      let k_is : q.number ≡ number = eqb-true q.number number hit in
+      let here : mobile_of u number ≡ Some q = ap (λ (ms : List Mobile). find (has_number number) ms) same ∙ ap (λ (k : ℕ). find (has_number k) (w.mobiles ++ q ∷ [])) (sym k_is) ∙ new-found q w.mobiles none in
+      let there : mobile_of w number ≡ None = ap (mobile_of w) (sym k_is) ∙ none in
+      record {
+        ends = ap (end_of m) here ∙ ends ∙ sym (ap (λ (o : Option Mobile). after_calls (end_of m o) calls) there);
+        stands = record { fits = subst Fits (sym here) place; modulus = numbers ∙ stands.modulus };
+      }
+  by false miss =
+      let here : mobile_of u number ≡ mobile_of w number = ap (λ (ms : List Mobile). find (has_number number) ms) same ∙ new-other q w.mobiles number (eqb-false q.number number miss) in
+      record {
+        ends = ap (end_of m) here;
+        stands = record { fits = subst Fits (sym here) stands.fits; modulus = numbers ∙ stands.modulus };
+      }
 
 -- ---- places
 
@@ -120,145 +208,178 @@ place-acked mobile sapi = by_place mobile.place where
 
 -- ---- what happens to a mobile
 
-queues : (m : ℕ) (p : Mobile) (sapi : Sapi) (message : List ℕ) → is_none (refusal_of_send p.end sapi message) ≡ true → Lives m p → Lives m (record p { end = after_queue p.end sapi message })
-queues m p sapi message may lives =
-    called m p (record p { end = after_queue p.end sapi message }) (sends sapi message) lives
-    (sym (ap (λ (o : Option MobileFault). unless_refused o p.end (after_queue p.end sapi message)) (none-by (refusal_of_send p.end sapi message) may)))
-    (place-queue p.end sapi message ∙ lives.place)
-
-begins : (m number : ℕ) (initial : List ℕ) (accepts : Bool) → is_none (refusal_of_connect (Some initial)) ≡ true → Lives m (connected m number initial accepts)
-begins m number initial accepts may = record {
-  calls = connects (Some initial) ∷ [];
-  is = sym (ap (λ (o : Option MobileFault). unless_refused o (new_mobile m) (after_connect (new_mobile m) (Some initial))) (none-by (refusal_of_connect (Some initial)) may));
-  place = place-queue (new_mobile m) Zero initial;
+sends-becomes : (p : Mobile) (sapi : Sapi) (message : List ℕ) → is_none (refusal_of_send p.end sapi message) ≡ true → p.end.place ≡ place_in p.seat → Becomes p (sends sapi message ∷ []) (record p { end = after_queue p.end sapi message })
+sends-becomes p sapi message may place = record {
+  ends = sym (ap (λ (o : Option MobileFault). unless_refused o p.end (after_queue p.end sapi message)) (none-by (refusal_of_send p.end sapi message) may));
+  place = place-queue p.end sapi message ∙ place;
 }
 
-remembers : (m : ℕ) (p : Mobile) (change : Change) (target : Tenure) (seat : Seat) → p.seat ≡ seat → Lives m p → Lives m (remembering p change target seat)
-remembers m p change target Asking is lives = lives
-remembers m p change target (On tenure command) is lives = moved-seat m p _ lives refl (sym (ap place_in is))
-remembers m p change target (Moving from command) is lives = lives
-remembers m p change target Gone is lives = lives
+remembers : (p : Mobile) (change : Change) (target : Tenure) (seat : Seat) → p.seat ≡ seat → Keeps p (remembering p change target seat)
+remembers p change target Asking is = record { number = refl; end = refl; place = refl }
+remembers p change target (On tenure command) is = record { number = refl; end = refl; place = sym (ap place_in is) }
+remembers p change target (Moving from command) is = record { number = refl; end = refl; place = refl }
+remembers p change target Gone is = record { number = refl; end = refl; place = refl }
 
-controls : (m : ℕ) (p : Mobile) (tenure : Tenure) (command : Option Command) (target : Option Tenure) (r : Result RrMessage RrFault) → p.seat ≡ On tenure command → Lives m p → Lives m (controlled p target r)
-controls m p tenure command target (Ok (ChannelRelease cause)) seat lives = moved-seat m p _ lives refl (sym (ap place_in seat))
-controls m p tenure command (Some target) (Ok (AssignmentCommand channel)) seat lives = remembers m p Assignment target p.seat refl lives
-controls m p tenure command (Some target) (Ok (HandoverCommand cell channel reference)) seat lives = remembers m p Handover target p.seat refl lives
-controls m p tenure command None (Ok (AssignmentCommand channel)) seat lives = lives
-controls m p tenure command None (Ok (HandoverCommand cell channel reference)) seat lives = lives
-controls m p tenure command target (Ok _) seat lives = lives
-controls m p tenure command target (Err fault) seat lives = lives
+controls : (p : Mobile) (tenure : Tenure) (command : Option Command) (target : Option Tenure) (r : Result RrMessage RrFault) → p.seat ≡ On tenure command → Keeps p (controlled p target r)
+controls p tenure command target (Ok (ChannelRelease cause)) seat = record { number = refl; end = refl; place = sym (ap place_in seat) }
+controls p tenure command (Some target) (Ok (AssignmentCommand channel)) seat = remembers p Assignment target p.seat refl
+controls p tenure command (Some target) (Ok (HandoverCommand cell channel reference)) seat = remembers p Handover target p.seat refl
+controls p tenure command None (Ok (AssignmentCommand channel)) seat = record { number = refl; end = refl; place = refl }
+controls p tenure command None (Ok (HandoverCommand cell channel reference)) seat = record { number = refl; end = refl; place = refl }
+controls p tenure command target (Ok _) seat = record { number = refl; end = refl; place = refl }
+controls p tenure command target (Err fault) seat = record { number = refl; end = refl; place = refl }
 
-hears : (m : ℕ) (p : Mobile) (tenure : Tenure) (command : Option Command) (a : AirMessage) → p.seat ≡ On tenure command → Lives m p → Lives m (hearing p a)
-hears m p tenure command a seat lives = by_kind (is_dtap a.message) where
-  by_kind : (b : Bool) → Lives m (if b then record p { received = p.received ++ a.message ∷ [] } else controlled p a.target (rr_reading a.message))
-  by_kind true = moved-seat m p (record p { received = p.received ++ a.message ∷ [] }) lives refl refl
-  by_kind false = controls m p tenure command a.target (rr_reading a.message) seat lives
+hears : (p : Mobile) (tenure : Tenure) (command : Option Command) (a : AirMessage) → p.seat ≡ On tenure command → Keeps p (hearing p a)
+hears p tenure command a seat = by_kind (is_dtap a.message) where
+  by_kind : (b : Bool) → Keeps p (if b then record p { received = p.received ++ a.message ∷ [] } else controlled p a.target (rr_reading a.message))
+  by_kind true = record { number = refl; end = refl; place = refl }
+  by_kind false = controls p tenure command a.target (rr_reading a.message) seat
 
-control-complete : (change : Change) → is_control (complete change) ≡ true
+pub control-complete : (change : Change) → is_control (complete change) ≡ true
 control-complete Assignment = refl
 control-complete Handover = refl
 
-control-failure : (change : Change) → is_control (failure change) ≡ true
+pub control-failure : (change : Change) → is_control (failure change) ≡ true
 control-failure Assignment = refl
 control-failure Handover = refl
 
-seats-again : (m : ℕ) (p : Mobile) (from tenure : Tenure) (command : Command) (control : List ℕ) → p.seat ≡ Moving from command → is_control control ≡ true → Lives m p → Lives m (record p { end = after_arrival p.end control; seat = On tenure None })
-seats-again m p from tenure command control seat is lives =
-    called m p (record p { end = after_arrival p.end control; seat = On tenure None }) (arrives control) lives
-    (sym (ap (λ (b : Bool). if b then after_arrival p.end control else p.end) (ap (λ (place : Place). not (is_on_channel place) && is_control control) (lives.place ∙ ap place_in seat) ∙ is)))
-    refl
+-- a mobile between two channels may come to one
+pub may-come : (e : MobileState) (from : Tenure) (command : Command) (control : List ℕ) → e.place ≡ place_in (Moving from command) → is_control control ≡ true → may_arrive e control ≡ true
+may-come e from command control place is = ap (λ (at : Place). not (is_on_channel at) && is_control control) place ∙ is
+
+comes-becomes : (p : Mobile) (from tenure : Tenure) (command : Command) (control : List ℕ) → p.seat ≡ Moving from command → is_control control ≡ true → p.end.place ≡ place_in p.seat
+    → after_arrival p.end control ≡ (if may_arrive p.end control then after_arrival p.end control else p.end)
+comes-becomes p from tenure command control seat is place =
+    sym (ap (λ (b : Bool). if b then after_arrival p.end control else p.end) (may-come p.end from command control (place ∙ ap place_in seat) is))
 
 -- ---- each event
 
--- all live, and numbers are as before
-record Live (m : ℕ) (w : Actors) : Type 0 where
-  modulus : w.modulus ≡ m
-  all : AllByRecursion (Lives m) w.mobiles
+-- what the event calls of the mobile of this number, where it is taken
+abbrev pub called : Actors → Event → ℕ → List Call
+called w (Connect mobile station initial accepts) number = if mobile == number then connects (Some initial) ∷ [] else []
+called w (Upper mobile sapi message) number = if mobile == number then sends sapi message ∷ [] else []
+called w (AirUp mobile sapi) number = if mobile == number then frames sapi ∷ [] else []
+called w (AirAck mobile sapi) number = if mobile == number then acknowledges sapi ∷ [] else []
+called w (Move mobile) number = if mobile == number then leaves ∷ [] else []
+called w (Arrive mobile) number = if mobile == number then calls_to_arrive (seat_of (mobile_of w mobile)) else []
+called w (Return mobile) number = if mobile == number then calls_to_return (seat_of (mobile_of w mobile)) else []
+called w _ number = []
 
-live-with : {m : ℕ} {w u : Actors} (p : Mobile) → Live m w → u.mobiles ≡ w.mobiles → u.modulus ≡ w.modulus → Lives m p → Live m (with_mobile p u)
-live-with {m} {w} {u} p live same numbers lives =
-    record { modulus = numbers ∙ live.modulus; all = back-all (Lives m) p u.mobiles lives (subst (AllByRecursion (Lives m)) (sym same) live.all) }
+brought-takes : {m number : ℕ} (w : Actors) (n : ℕ) (p : Mobile) (tenure : Tenure) (sapi : Sapi) (frame : List ℕ) → Stands m number w → mobile_of w n ≡ Some p
+    → Takes m number w (if n == number then frames sapi ∷ [] else []) (brought w p tenure.at sapi frame)
+brought-takes w n p tenure Zero frame stands found =
+    takes-one n p (record (framed p Zero) { opens = false }) (frames Zero ∷ []) stands found refl refl refl (λ place. record { ends = refl; place = place-frame p.end Zero ∙ place })
+brought-takes w n p tenure Three frame stands found = takes-one n p (framed p Three) (frames Three ∷ []) stands found refl refl refl (λ place. record { ends = refl; place = place-frame p.end Three ∙ place })
 
-lives-of : {m : ℕ} {w : Actors} {p : Mobile} (number : ℕ) → Live m w → mobile_of w number ≡ Some p → Lives m p
-lives-of {m} {w} {p} number live found = found-all (Lives m) number w.mobiles p live.all found
-
-brought-live : (m : ℕ) (w : Actors) (p : Mobile) (tenure : Tenure) (sapi : Sapi) (frame : List ℕ) → Live m w → Lives m p → Live m (brought w p tenure.at sapi frame)
-brought-live m w p tenure Zero frame live lives =
-    live-with (record (framed p Zero) { opens = false }) live refl refl (called m p (record (framed p Zero) { opens = false }) (frames Zero) lives refl (place-frame p.end Zero ∙ lives.place))
-brought-live m w p tenure Three frame live lives =
-    live-with (framed p Three) live refl refl (called m p (framed p Three) (frames Three) lives refl (place-frame p.end Three ∙ lives.place))
-
-same-live : {m : ℕ} {w v : Actors} → Live m w → v.mobiles ≡ w.mobiles → v.modulus ≡ w.modulus → Live m v
-same-live {m} live same numbers = record { modulus = numbers ∙ live.modulus; all = subst (AllByRecursion (Lives m)) (sym same) live.all }
-
-took-live : (m : ℕ) (w u : Actors) (station : ℕ) (target : Option Tenure) (o : Option Rsl) → Live m w → u.mobiles ≡ w.mobiles → u.modulus ≡ w.modulus → OfTaken (Live m) (took station target o u)
-took-live m w u station target o live same numbers = took-leads (Live m) station target o u (record {
-  nothing = same-live live same numbers;
-  activates = λ channel _. same-live live same numbers;
-  seats = λ p number channel found asking. live-with (record p { seat = On (tenure_at u (place_at station channel)) None }) live same numbers
-      (moved-seat m p (record p { seat = On (tenure_at u (place_at station channel)) None }) (lives-of number live (ap (find (has_number number)) (sym same) ∙ found)) refl (sym (ap place_in asking)));
-  airs = λ channel message _. same-live live same numbers;
-  answers = λ answer channel. same-live live same numbers;
-  releases = λ channel. same-live live same numbers;
+took-takes : {m number : ℕ} (w u : Actors) (station : ℕ) (target : Option Tenure) (o : Option Rsl) → Stands m number w → u.mobiles ≡ w.mobiles → u.modulus ≡ w.modulus → OfTaken (Takes m number w []) (took station target o u)
+took-takes {m} {number} w u station target o stands same numbers = took-leads (Takes m number w []) station target o u (record {
+  nothing = takes-none stands same numbers;
+  activates = λ channel _. takes-none stands same numbers;
+  seats = λ p n channel found asking. takes-kept n p (record p { seat = On (tenure_at u (place_at station channel)) None }) stands (ap (find (has_number n)) (sym same) ∙ found) same numbers
+      (record { number = refl; end = refl; place = sym (ap place_in asking) });
+  airs = λ channel message _. takes-none stands same numbers;
+  answers = λ answer channel. takes-none stands same numbers;
+  releases = λ channel. takes-none stands same numbers;
 })
 
-live-after : (m : ℕ) (w : Actors) (o : Option Actors) → Live m w → OfTaken (Live m) o → Live m (unwrap_or o w)
-live-after m w o live leads = after-taken (Live m) o w leads live
+-- no mobile of this number is there yet
+none-there : (w : Actors) (n : ℕ) → is_new w n ≡ true → mobile_of w n ≡ None
+none-there w n new = by (mobile_of w n) (and-right (nat_lt 0 n) (is_none (mobile_of w n)) new) where
+  by : (o : Option Mobile) → is_none o ≡ true → o ≡ None
+  by None is = refl
+  by (Some p) is = absurd cc
 
-sent-live : (m : ℕ) (w : Actors) (number : ℕ) (sapi : Sapi) (message : List ℕ) → Live m w → OfTaken (Live m) (after_upper w number sapi message)
-sent-live m w number sapi message live = by_mobile-leads (Live m) w number (sent_by w sapi message) (λ p found.
-    only_if-leads (Live m) (may_send p.seat && is_none (refusal_of_send p.end sapi message)) (with_mobile (record p { end = after_queue p.end sapi message }) w)
-    (λ may. live-with (record p { end = after_queue p.end sapi message }) live refl refl
-    (queues m p sapi message (and-right (may_send p.seat) (is_none (refusal_of_send p.end sapi message)) may) (lives-of number live found))))
+connects-end : (m : ℕ) (initial : List ℕ) → is_none (refusal_of_connect (Some initial)) ≡ true → after_connect (new_mobile m) (Some initial) ≡ after_calls (new_mobile m) (connects (Some initial) ∷ [])
+connects-end m initial may = sym (ap (λ (o : Option MobileFault). unless_refused o (new_mobile m) (after_connect (new_mobile m) (Some initial))) (none-by (refusal_of_connect (Some initial)) may))
 
-live-step : (m : ℕ) (w : Actors) (event : Event) → Live m w → Live m (actors_after w event)
+takes-step : (m number : ℕ) (w : Actors) (event : Event) → Stands m number w → OfTaken (Takes m number w (called w event number)) (event_after w event)
 unfolding event_after FromAir OfTaken
-live-step m w (Upper number sapi message) live = live-after m w (after_upper w number sapi message) live (sent-live m w number sapi message live)
-live-step m w (Connect number station initial accepts) live =
-    live-after m w (after_connecting w number station initial accepts) live (connect-leads (Live m) w number station initial accepts (λ may. record {
-      modulus = live.modulus;
-      all = behind-all (Lives m) (connected w.modulus number initial accepts) w.mobiles
-          (subst (λ (n : ℕ). Lives n (connected w.modulus number initial accepts)) live.modulus (begins w.modulus number initial accepts (and-right (is_new w number && is_station_up w station) (is_none (refusal_of_connect (Some initial))) may))) live.all;
-    }))
-live-step m w (AirUp number sapi) live =
-    live-after m w (after_air_up w number sapi) live (air_up-leads (Live m) w number sapi (λ p tenure command frame found _ _ _. brought-live m w p tenure sapi frame live (lives-of number live found)))
-live-step m w (AirAck number sapi) live =
-    live-after m w (after_air_ack w number sapi) live (air_ack-leads (Live m) w number sapi (λ p found. acks p (lives-of number live found))) where
-      acks : (p : Mobile) → Lives m p → Live m (with_mobile (record p { end = after_acked p.end sapi }) w)
-      acks p lives = live-with (record p { end = after_acked p.end sapi }) live refl refl (called m p (record p { end = after_acked p.end sapi }) (acknowledges sapi) lives refl (place-acked p.end sapi ∙ lives.place))
-live-step m w (AirDown number) live =
-    live-after m w (after_air_down w number) live (air_down-leads (Live m) w number (λ p tenure command found seat _ first others _. live-with (hearing p first) live refl refl (hears m p tenure command first seat (lives-of number live found))))
-live-step m w (AirDownLost number) live =
-    live-after m w (after_air_down_lost w number) live (air_down_lost-leads (Live m) w number (λ p tenure command found _ _ first others _. live-with p live refl refl (lives-of number live found)))
-live-step m w (Move number) live =
-    live-after m w (after_move w number) live (move-leads (Live m) w number (λ p tenure command found _ _. leaving p tenure command (lives-of number live found))) where
-      leaving : (p : Mobile) (tenure : Tenure) (command : Command) → Lives m p → Live m (left w p tenure command)
-      leaving p tenure command lives =
-          live-with (record p { end = after_leave p.end; seat = Moving tenure command; opens = false }) live refl refl
-          (called m p (record p { end = after_leave p.end; seat = Moving tenure command; opens = false }) leaves lives refl refl)
-live-step m w (Touch number) live = live-after m w (after_touch w number) live (touch-leads (Live m) w number (λ command _. same-live live refl refl))
-live-step m w (Arrive number) live =
-    live-after m w (after_arriving w number) live (arrive-leads (Live m) w number (λ p from command found seat _. live-with (record p { end = after_arrival p.end (complete command.change); seat = On command.target None }) live refl refl
-    (seats-again m p from command.target command (complete command.change) seat (control-complete command.change) (lives-of number live found))))
-live-step m w (Return number) live =
-    live-after m w (after_return w number) live (return-leads (Live m) w number (λ p from command found seat _. live-with (record p { end = after_arrival p.end (failure command.change); seat = On from None }) live refl refl
-    (seats-again m p from from command (failure command.change) seat (control-failure command.change) (lives-of number live found))))
-live-step m w (BaseTakes station) live =
-    live-after m w (after_base_takes w station) live (base_takes-leads (Live m) w station (λ first others _ _. took-live m w (with_outbox station others w) station first.target (rsl_in first.out.frame) live refl refl))
-live-step m w (BasePush source) live = live-after m w (after_base_push w source) live (push-leads (Live m) w source (λ first others. same-live live refl refl) (λ message _. same-live live refl refl))
-live-step m w Handle live =
-    live-after m w (after_handle w) live (handle-leads (Live m) w (λ item items _. turn-leads (Live m) (target_in w item.source item.what) (take item w.controller) (record w { inbox = items }) (λ links. same-live live refl refl)))
-live-step m w SwitchTakes live =
-    live-after m w (after_switch_takes w) live (switch_takes-leads (Live m) w (λ first others _ _. switch_took-leads (Live m) (with_outbox SWITCH_LINK others w) (sccp_in first.out.frame) (same-live live refl refl) (λ next made. same-live live refl refl)))
-live-step m w (SwitchDoes action) live = live-after m w (after_switch_does w action) live (does-leads (Live m) w action (λ next made. same-live live refl refl))
-live-step m w (Tick ms) live = live-after m w (after_tick w ms) live (turn-leads (Live m) None (tick ms w.controller) w (λ links. same-live live refl refl))
-live-step m w (BaseDown source) live = live-after m w (after_break w source) live (broken-leads (Live m) w source (λ _ _. same-live live refl refl) (λ _ _. same-live live refl refl))
-live-step m w (Report number report) live = live-after m w (after_report w number report) live (report-leads (Live m) w number report (λ tenure _. same-live live refl refl))
+takes-step m number w (Upper n sapi message) stands = by_mobile-leads (Takes m number w (called w (Upper n sapi message) number)) w n (sent_by w sapi message) (λ p found.
+    only_if-leads (Takes m number w (called w (Upper n sapi message) number)) (may_send p.seat && is_none (refusal_of_send p.end sapi message)) (with_mobile (record p { end = after_queue p.end sapi message }) w)
+    (λ may. takes-one n p (record p { end = after_queue p.end sapi message }) (sends sapi message ∷ []) stands found refl refl refl
+    (sends-becomes p sapi message (and-right (may_send p.seat) (is_none (refusal_of_send p.end sapi message)) may))))
+takes-step m number w (Connect n station initial accepts) stands = connect-leads (Takes m number w (called w (Connect n station initial accepts) number)) w n station initial accepts (λ may.
+    let of : is_none (refusal_of_connect (Some initial)) ≡ true = and-right (is_new w n && is_station_up w station) (is_none (refusal_of_connect (Some initial))) may in
+    let new : is_new w n ≡ true = and-left (is_new w n) (is_station_up w station) (and-left (is_new w n && is_station_up w station) (is_none (refusal_of_connect (Some initial))) may) in
+    takes-new (connected w.modulus n initial accepts) (connects (Some initial) ∷ []) stands (none-there w n new) refl refl
+    (ap (λ (k : ℕ). after_connect (new_mobile k) (Some initial)) stands.modulus ∙ connects-end m initial of) (place-queue (new_mobile w.modulus) Zero initial))
+takes-step m number w (AirUp n sapi) stands = air_up-leads (Takes m number w (called w (AirUp n sapi) number)) w n sapi (λ p tenure command frame found _ _ _. brought-takes w n p tenure sapi frame stands found)
+takes-step m number w (AirAck n sapi) stands = air_ack-leads (Takes m number w (called w (AirAck n sapi) number)) w n sapi (λ p found.
+    takes-one n p (record p { end = after_acked p.end sapi }) (acknowledges sapi ∷ []) stands found refl refl refl (λ place. record { ends = refl; place = place-acked p.end sapi ∙ place }))
+takes-step m number w (AirDown n) stands = air_down-leads (Takes m number w []) w n (λ p tenure command found seat _ first others _. takes-kept n p (hearing p first) stands found refl refl (hears p tenure command first seat))
+takes-step m number w (AirDownLost n) stands = air_down_lost-leads (Takes m number w []) w n (λ p tenure command found _ _ first others _. takes-kept n p p stands found refl refl (record { number = refl; end = refl; place = refl }))
+takes-step m number w (Move n) stands = move-leads (Takes m number w (called w (Move n) number)) w n (λ p tenure command found _ _.
+    takes-one n p (record p { end = after_leave p.end; seat = Moving tenure command; opens = false }) (leaves ∷ []) stands found refl refl refl (λ place. record { ends = refl; place = refl }))
+takes-step m number w (Touch n) stands = touch-leads (Takes m number w []) w n (λ command _. takes-none stands refl refl)
+takes-step m number w (Arrive n) stands = arrive-leads (Takes m number w (called w (Arrive n) number)) w n (λ p from command found seat _.
+    let calls : calls_to_arrive (seat_of (mobile_of w n)) ≡ arrives (complete command.change) ∷ [] = ap (λ (o : Option Mobile). calls_to_arrive (seat_of o)) found ∙ ap calls_to_arrive seat in
+    subst (λ (cs : List Call). Takes m number w (if n == number then cs else []) (seated w p command.target (complete command.change))) (sym calls)
+    (takes-one n p (record p { end = after_arrival p.end (complete command.change); seat = On command.target None }) (arrives (complete command.change) ∷ []) stands found refl refl refl
+    (λ place. record { ends = comes-becomes p from command.target command (complete command.change) seat (control-complete command.change) place; place = refl })))
+takes-step m number w (Return n) stands = return-leads (Takes m number w (called w (Return n) number)) w n (λ p from command found seat _.
+    let calls : calls_to_return (seat_of (mobile_of w n)) ≡ gives_up (failure command.change) ∷ [] = ap (λ (o : Option Mobile). calls_to_return (seat_of o)) found ∙ ap calls_to_return seat in
+    subst (λ (cs : List Call). Takes m number w (if n == number then cs else []) (seated w p from (failure command.change))) (sym calls)
+    (takes-one n p (record p { end = after_arrival p.end (failure command.change); seat = On from None }) (gives_up (failure command.change) ∷ []) stands found refl refl refl
+    (λ place. record { ends = comes-becomes p from from command (failure command.change) seat (control-failure command.change) place; place = refl })))
+takes-step m number w (BaseTakes station) stands = base_takes-leads (Takes m number w []) w station (λ first others _ _. took-takes w (with_outbox station others w) station first.target (rsl_in first.out.frame) stands refl refl)
+takes-step m number w (BasePush source) stands = push-leads (Takes m number w []) w source (λ first others. takes-none stands refl refl) (λ message _. takes-none stands refl refl)
+takes-step m number w Handle stands =
+    handle-leads (Takes m number w []) w (λ item items _. turn-leads (Takes m number w []) (target_in w item.source item.what) (take item w.controller) (record w { inbox = items }) (λ links. takes-none stands refl refl))
+takes-step m number w SwitchTakes stands =
+    switch_takes-leads (Takes m number w []) w (λ first others _ _. switch_took-leads (Takes m number w []) (with_outbox SWITCH_LINK others w) (sccp_in first.out.frame) (takes-none stands refl refl) (λ next made. takes-none stands refl refl))
+takes-step m number w (SwitchDoes action) stands = does-leads (Takes m number w []) w action (λ next made. takes-none stands refl refl)
+takes-step m number w (Tick ms) stands = turn-leads (Takes m number w []) None (tick ms w.controller) w (λ links. takes-none stands refl refl)
+takes-step m number w (BaseDown source) stands = broken-leads (Takes m number w []) w source (λ _ _. takes-none stands refl refl) (λ _ _. takes-none stands refl refl)
+takes-step m number w (Report n report) stands = report-leads (Takes m number w []) w n report (λ tenure _. takes-none stands refl refl)
 
-live-all : (m : ℕ) (w : Actors) (events : List Event) → Live m w → Live m (actors_after_all w events)
-live-all m w [] live = live
-live-all m w (event ∷ events) live = live-all m (actors_after w event) events (live-step m w event live)
+-- ---- whether it is taken or not
+
+by-guard : (m number : ℕ) (w : Actors) (o : Option Actors) (own : Bool) (calls : List Call) → Stands m number w → OfTaken (Takes m number w (if own then calls else [])) o → Takes m number w (if own && is_some o then calls else []) (unwrap_or o w)
+unfolding OfTaken
+by-guard m number w None true calls stands leads = takes-none stands refl refl
+by-guard m number w None false calls stands leads = takes-none stands refl refl
+by-guard m number w (Some v) true calls stands leads = leads
+by-guard m number w (Some v) false calls stands leads = leads
+
+pub takes-at : (m number : ℕ) (w : Actors) (event : Event) → Stands m number w → Takes m number w (calls_at w event number) (actors_after w event)
+takes-at m number w (Upper n sapi message) stands = by-guard m number w (event_after w (Upper n sapi message)) (n == number) (sends sapi message ∷ []) stands (takes-step m number w (Upper n sapi message) stands)
+takes-at m number w (Connect n station initial accepts) stands =
+    by-guard m number w (event_after w (Connect n station initial accepts)) (n == number) (connects (Some initial) ∷ []) stands (takes-step m number w (Connect n station initial accepts) stands)
+takes-at m number w (AirUp n sapi) stands = by-guard m number w (event_after w (AirUp n sapi)) (n == number) (frames sapi ∷ []) stands (takes-step m number w (AirUp n sapi) stands)
+takes-at m number w (AirAck n sapi) stands = by-guard m number w (event_after w (AirAck n sapi)) (n == number) (acknowledges sapi ∷ []) stands (takes-step m number w (AirAck n sapi) stands)
+takes-at m number w (Move n) stands = by-guard m number w (event_after w (Move n)) (n == number) (leaves ∷ []) stands (takes-step m number w (Move n) stands)
+takes-at m number w (Arrive n) stands = by-guard m number w (event_after w (Arrive n)) (n == number) (calls_to_arrive (seat_of (mobile_of w n))) stands (takes-step m number w (Arrive n) stands)
+takes-at m number w (Return n) stands = by-guard m number w (event_after w (Return n)) (n == number) (calls_to_return (seat_of (mobile_of w n))) stands (takes-step m number w (Return n) stands)
+takes-at m number w (AirDown n) stands = by-guard m number w (event_after w (AirDown n)) false [] stands (takes-step m number w (AirDown n) stands)
+takes-at m number w (AirDownLost n) stands = by-guard m number w (event_after w (AirDownLost n)) false [] stands (takes-step m number w (AirDownLost n) stands)
+takes-at m number w (Touch n) stands = by-guard m number w (event_after w (Touch n)) false [] stands (takes-step m number w (Touch n) stands)
+takes-at m number w (BaseTakes station) stands = by-guard m number w (event_after w (BaseTakes station)) false [] stands (takes-step m number w (BaseTakes station) stands)
+takes-at m number w (BasePush source) stands = by-guard m number w (event_after w (BasePush source)) false [] stands (takes-step m number w (BasePush source) stands)
+takes-at m number w Handle stands = by-guard m number w (event_after w Handle) false [] stands (takes-step m number w Handle stands)
+takes-at m number w SwitchTakes stands = by-guard m number w (event_after w SwitchTakes) false [] stands (takes-step m number w SwitchTakes stands)
+takes-at m number w (SwitchDoes action) stands = by-guard m number w (event_after w (SwitchDoes action)) false [] stands (takes-step m number w (SwitchDoes action) stands)
+takes-at m number w (Tick ms) stands = by-guard m number w (event_after w (Tick ms)) false [] stands (takes-step m number w (Tick ms) stands)
+takes-at m number w (BaseDown source) stands = by-guard m number w (event_after w (BaseDown source)) false [] stands (takes-step m number w (BaseDown source) stands)
+takes-at m number w (Report n report) stands = by-guard m number w (event_after w (Report n report)) false [] stands (takes-step m number w (Report n report) stands)
+
+-- ---- all these events
+
+takes-all : (m number : ℕ) (w : Actors) (events : List Event) → Stands m number w → Takes m number w (all_calls w events number) (actors_after_all w events)
+takes-all m number w [] stands = takes-none stands refl refl
+takes-all m number w (event ∷ events) stands =
+    let first : Takes m number w (calls_at w event number) (actors_after w event) = takes-at m number w event stands in
+    let others : Takes m number (actors_after w event) (all_calls (actors_after w event) events number) (actors_after_all (actors_after w event) events) = takes-all m number (actors_after w event) events first.stands in
+    record {
+      ends = others.ends ∙ ap (λ (e : MobileState). after_calls e (all_calls (actors_after w event) events number)) first.ends
+          ∙ sym (after_calls-append (end_of m (mobile_of w number)) (calls_at w event number) (all_calls (actors_after w event) events number));
+      stands = others.stands;
+    }
+
+pub stands-new : (settings : Parameters) (number : ℕ) → Stands (modulus_in settings) number (new_actors settings)
+stands-new settings number = record { fits = tt; modulus = refl }
 
 pub MobilesLive-new : (settings : Parameters) (events : List Event) → MobilesLive settings events
 MobilesLive-new settings events number p found =
-    lives-of number (live-all (modulus_in settings) (new_actors settings) events (record { modulus = refl; all = tt })) found
+    let takes : Takes (modulus_in settings) number (new_actors settings) (all_calls (new_actors settings) events number) (actors_after_all (new_actors settings) events) =
+    takes-all (modulus_in settings) number (new_actors settings) events (stands-new settings number) in
+    record { is = sym (ap (end_of (modulus_in settings)) found) ∙ takes.ends; place = subst Fits found takes.stands.fits }

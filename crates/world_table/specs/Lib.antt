@@ -9,6 +9,7 @@ pub mod Queues
 pub mod Honest
 pub mod Steps
 pub mod Pipe
+pub mod Calls
 pub mod Lives
 pub mod Reading
 pub mod Sized

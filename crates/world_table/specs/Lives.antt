@@ -8,6 +8,7 @@ use Rattle.settings.specs.Parameters.{Parameters}
 use Rattle.world_table.specs.declared.event.Event.{Event}
 use Rattle.world_table.specs.declared.seat.Seat.{Seat}
 use Rattle.world_table.specs.declared.seat.Seat.TheVariants.{Moving}
+use Rattle.world_table.specs.Calls.{all_calls}
 use Rattle.world_table.specs.Life.{actors_after_all}
 use Rattle.world_table.specs.World.{Mobile, mobile_of, modulus_in, new_actors}
 
@@ -16,12 +17,13 @@ abbrev pub place_in : Seat → Place
 place_in (Moving from command) = places.Moving
 place_in seat = places.OnChannel
 
--- all that happened to its end are calls of it, with numbers modulo m
-pub record Lives (m : ℕ) (p : Mobile) : Type 0 where
-  pub calls : List Call
+-- all that happened to its end are these calls of it, with numbers modulo m
+pub record Lives (m : ℕ) (calls : List Call) (p : Mobile) : Type 0 where
   pub is : p.end ≡ after_calls (new_mobile m) calls
   pub place : p.end.place ≡ place_in p.seat
 
+-- the calls are those of the run, in order
 abbrev pub MobilesLive : Parameters → List Event → Type 0
 MobilesLive settings events =
-    (number : ℕ) (p : Mobile) → mobile_of (actors_after_all (new_actors settings) events) number ≡ Some p → Lives (modulus_in settings) p
+    (number : ℕ) (p : Mobile) → mobile_of (actors_after_all (new_actors settings) events) number ≡ Some p
+    → Lives (modulus_in settings) (all_calls (new_actors settings) events number) p

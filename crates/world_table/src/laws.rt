@@ -1,6 +1,7 @@
 ghost use Rattle.std.specs.Prelude.{ℕ, List};
 ghost use Rattle.settings.specs.Parameters.{Parameters};
 ghost use Rattle.world_table.specs.declared.event.Event.{Event as WorldEvent};
+ghost use Rattle.world_table.specs.Calls.{MobilesRepeatAtMostOne};
 ghost use Rattle.world_table.specs.Honest.{AreHonest};
 ghost use Rattle.world_table.specs.Lives.{MobilesLive};
 ghost use Rattle.world_table.specs.Pipe.{ArePipes};
@@ -37,10 +38,17 @@ pub fn channels_are_pipes()
     ensures { (settings : Parameters) (events : List WorldEvent) → ArePipes settings events }
 {}
 
-/// Law: whatever events happen, all that happens to a mobile's end are calls of it. So what holds of a mobile end after any
-/// calls holds of the mobiles of a world: each repeats at most its one message that wasn't acknowledged.
+/// Law: whatever events happen, all that happens to a mobile's end are calls of it: those of the run's events, in order. So what holds
+/// of a mobile end after any calls holds of the mobiles of a world.
 pub fn mobiles_live_by_their_ends()
     ensures { (settings : Parameters) (events : List WorldEvent) → MobilesLive settings events }
+{}
+
+/// Law: the one-repeat rule. Whatever events happen, of each mobile: what stations take of it on SAPI 0, channel after channel, are
+/// slices of what its upper layers sent, each message of the flow with the number of its place. The first begins at the first message
+/// sent. Each next one begins where the last one ended, or at its last message: so that message alone can come again.
+pub fn mobiles_repeat_at_most_one()
+    ensures { (settings : Parameters) (events : List WorldEvent) → MobilesRepeatAtMostOne settings events }
 {}
 
 /// Law: whatever events happen, each frame that a station gives to the inbox is the text of a message that it made, and is read as

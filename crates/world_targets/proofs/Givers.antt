@@ -41,10 +41,10 @@ use Rattle.world_table.specs.Relay.{after_base_push, after_break}
 use Rattle.world_table.specs.Stations.{after_base_takes, rsl_in, took}
 use Rattle.world_table.specs.SwitchSide.{sccp_in, after_switch_takes, after_switch_does}
 use Rattle.world_table.specs.World.{Actors, Mobile, has_number, mobile_of, put_back, tenure_at, with_outbox}
+use Rattle.world_table.proofs.Found.{back-found, back-other, found-number}
 use Rattle.world_table.proofs.Leads.{OfTaken, FromAir, upper-leads, connect-leads, air_ack-leads, air_down-leads, air_down_lost-leads, move-leads, touch-leads, arrive-leads, return-leads, report-leads, base_takes-leads, took-leads, push-leads, broken-leads, switch_takes-leads, switch_took-leads, does-leads, after-taken}
 use Rattle.world_laws.specs.Seated.{Sits, command_to}
 use Rattle.world_laws.specs.Seated.Sits.{between}
-use Rattle.world_laws.proofs.Seeing.{back-found, back-other, found-number}
 use Rattle.world_targets.specs.Fresh.{IsOnPlace}
 use Rattle.world_targets.proofs.Comings.{is_frame, is_relays}
 
