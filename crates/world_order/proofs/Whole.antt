@@ -13,7 +13,7 @@ use Rattle.world_table.specs.declared.event.Event.{Event}
 use Rattle.world_table.specs.declared.event.Event.TheVariants.{Handle, Tick}
 use Rattle.world_table.specs.Life.{actors_after, actors_after_all}
 use Rattle.world_table.specs.Steps.{all_steps, step_at}
-use Rattle.world_table.specs.World.{Actors, Mobile, is_up, modulus_in, new_actors}
+use Rattle.world_table.specs.World.{Actors, is_up, modulus_in, new_actors}
 use Rattle.world_laws.specs.OthersFrame.{CameInOctets, IsHad}
 use Rattle.world_laws.specs.Seated.{IsAlone}
 use Rattle.world_laws.proofs.StationTakes.{StationsKeepLineUps-new}

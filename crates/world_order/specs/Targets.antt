@@ -1,5 +1,5 @@
--- In each run: nothing comes of the channel to which a connection changes before its mobile is commanded there, and then COMPLETE
--- comes first. That is the second thing that an honest station keeps, beside the laws of stations alone.
+-- In each run: no layer 3 message of SAPI 0 comes of the channel to which a connection changes before its mobile is commanded there,
+-- and then COMPLETE comes first. That is the second thing that an honest station keeps, beside the laws of stations alone.
 use Rattle.std.specs.Prelude.{◌≡◌, ℕ, true, Option, Some, List}
 use Rattle.conn_messages.specs.declared.parameters.TheConstants.{SWITCH_LINK}
 use Rattle.conn_table.specs.declared.state.Stage.{Stage}

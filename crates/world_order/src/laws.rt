@@ -66,12 +66,13 @@ pub fn octets_come()
 
 /// Law: the line-up. Whatever events happened, each connection number stands. It is still to be given; or the connection is coming
 /// to its mobile; or it lives, lined up with the mobile that it first served; or it ended in order; or the switch never hears of it.
-/// Once the link of the switch is down nothing of it waits for the switch, and what the switch took is in order. While a connection
-/// lives, take the messages of the mobile with a sequence number: those that wait for the switch; then, channel by channel in
-/// the order in which they serve, those that the controller holds and those on their way up in the inbox and at the station; then those
-/// of the mobile's link, the one in the air first. Their places in what the mobile sent begin behind what the switch accepted or one
-/// below, and rise by 1 or 0, up to the first loss; where nothing is lost, up to the last message sent. So it is with
-/// settings that are allowed, where events are of octets. It does nothing, as all here.
+/// Once the link of the switch is down nothing of it waits for the switch, and what the switch took is in order.
+///
+/// While a connection lives, and the link of the switch is up, line up the numbered messages of its mobile. First come those that wait
+/// for the switch. Then, channel by channel in the order in which they serve, come those that the controller holds, and those on
+/// their way up in the inbox and at the station. Last come those of the mobile's link, the one in the air first. Their places in what
+/// the mobile sent begin behind what the switch accepted, or one below, and rise by 1 or 0, up to the first loss. Where nothing is
+/// lost they go on to the last message sent. So it is with settings that are allowed, where events are of octets. It does nothing, as all here.
 pub fn line_ups_stand()
     ensures stands { (settings : Parameters) (events : List WorldEvent) → AllNumbersStand settings events }
     ensures rise { (settings : Parameters) (events : List WorldEvent) → AllPlacesRise settings events }
@@ -83,9 +84,9 @@ pub fn runs_are_in_order()
     ensures { (settings : Parameters) (events : List WorldEvent) → AllRunsAreInOrder settings events }
 {}
 
-/// Law: while the link of the switch is up, whatever events happened, the target of a change of channel is fresh: nothing comes of it
-/// before the mobile is commanded there, and from then on COMPLETE comes first. So it is for each connection that the switch confirmed,
-/// with settings that are allowed, where events are of octets. It does nothing, as all here.
+/// Law: while the link of the switch is up, whatever events happened, the target of a change of channel is fresh: no layer 3 message
+/// of SAPI 0 comes of it before the mobile is commanded there, and from then on COMPLETE is the first. So it is for each connection
+/// that the switch confirmed, with settings that are allowed, where events are of octets. It does nothing, as all here.
 pub fn targets_are_fresh()
     ensures { (settings : Parameters) (events : List WorldEvent) → TargetsAreFresh settings events }
 {}

@@ -77,8 +77,8 @@ taken_by_channel w number so_far (event ∷ events) =
 
 -- ---- the one-repeat rule
 
--- Whatever happened: of each mobile, what stations took on a channel is a slice of what its upper layers sent, and of a slice only the
--- last message comes again on the next one.
+-- Whatever happened: of each mobile, the messages of the flow that stations took on a channel are a slice of those that its upper
+-- layers sent, and of a slice only the last message comes again on the next channel.
 abbrev pub MobilesRepeatAtMostOne : Parameters → List Event → Type 0
 MobilesRepeatAtMostOne settings events =
     (number : ℕ) (p : Mobile) → mobile_of (actors_after_all (new_actors settings) events) number ≡ Some p

@@ -44,9 +44,10 @@ pub fn mobiles_live_by_their_ends()
     ensures { (settings : Parameters) (events : List WorldEvent) → MobilesLive settings events }
 {}
 
-/// Law: the one-repeat rule. Whatever events happen, of each mobile: what stations take of it on SAPI 0, channel after channel, are
-/// slices of what its upper layers sent, each message of the flow with the number of its place. The first begins at the first message
-/// sent. Each next one begins where the last one ended, or at its last message: so that message alone can come again.
+/// Law: the one-repeat rule. Whatever events happen, of each mobile: the messages of the flow that stations take of it on SAPI 0,
+/// channel after channel, are slices of those that its upper layers sent, each with the number of its place. The first slice begins
+/// at the first message sent. Each next one begins where the last one ended, or at its last message: so that message alone can come
+/// again.
 pub fn mobiles_repeat_at_most_one()
     ensures { (settings : Parameters) (events : List WorldEvent) → MobilesRepeatAtMostOne settings events }
 {}

@@ -18,9 +18,9 @@ pub fn free_channels_are_quiet()
 {}
 
 /// Law: whatever events happened, the target of a change of channel is fresh until the connection's mobile comes there, and COMPLETE
-/// comes first of it: where the connection lives, and no other mobile is on its channels. While it is prepared nothing comes of it,
-/// and no command is on its way there. Of one to which the mobile was commanded COMPLETE comes first; as long as nothing came, it is
-/// the first that the mobile gives there. So it is with settings that are allowed, where what came was octets.
+/// comes first of it: where the connection lives, and no other mobile is on its channels. While it is prepared no layer 3 message of
+/// SAPI 0 comes of it, and no command is on its way there. Of one to which the mobile was commanded COMPLETE comes first; as long as
+/// none came, it is the first that the mobile gives there. So it is with settings that are allowed, where what came was octets.
 pub fn targets_stay_fresh()
     ensures stays { (settings : Parameters) (events : List WorldEvent) (event : WorldEvent) → TargetsStayFresh settings events event }
     ensures tells { (w : Actors) (p : MobileValue) (s : Connection) → FreshTells w p s }
