@@ -180,7 +180,7 @@ pub record SameChannels (before after : Roles) : Type 0 where
   pub serving : after.serving ≡ before.serving
   pub draining : after.draining ≡ before.draining
 
-if_same : (b : Bool) (one other : RoleStep) (roles : Roles) → SameChannels roles (after_step one roles) → SameChannels roles (after_step other roles) → SameChannels roles (after_step (if b then one else other) roles)
+pub if_same : (b : Bool) (one other : RoleStep) (roles : Roles) → SameChannels roles (after_step one roles) → SameChannels roles (after_step other roles) → SameChannels roles (after_step (if b then one else other) roles)
 if_same true one other roles h k = h
 if_same false one other roles h k = k
 

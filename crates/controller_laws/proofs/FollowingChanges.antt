@@ -41,7 +41,7 @@ pub record Completes (s : Connection) (at : Place) (change : Change) (r : Row) :
   pub alike : same_change change t.target.change ≡ true
   pub performed : performs r.outs ≡ true
 
-performs_complete : (reference : ℕ) (change : Change) (channel : Channel) (cause : ℕ) (offer : Option Channel) (s : Connection) → performs (complete reference change channel cause offer s).outs ≡ true
+pub performs_complete : (reference : ℕ) (change : Change) (channel : Channel) (cause : ℕ) (offer : Option Channel) (s : Connection) → performs (complete reference change channel cause offer s).outs ≡ true
 performs_complete reference Assignment channel cause offer s = refl
 performs_complete reference Handover channel cause offer s = refl
 
@@ -70,7 +70,7 @@ pub complete_is : (s : Connection) (at : Place) (change : Change) (cause : _) (o
 unfolding row_of
 complete_is s at change cause offer r is = complete_by s.state s refl at change cause.0 offer r is
 
-completes_step : (s : Connection) (at : Place) (change : Change) (cause : _) (r : Row) → Completes s at change r → step_by (inputs.Complete at change cause) (roles_of s) ≡ completes
+pub completes_step : (s : Connection) (at : Place) (change : Change) (cause : _) (r : Row) → Completes s at change r → step_by (inputs.Complete at change cause) (roles_of s) ≡ completes
 completes_step s at change cause r c =
     ap (λ (target : Option TargetRole). if (is_target_at at target && changes_by change target) then completes else stays) c.target
     ∙ cond-true _ completes stays (ap (λ (b : Bool). b && (c.t.is_commanded && same_change change c.t.target.change)) c.here ∙ ap (λ (b : Bool). b && same_change change c.t.target.change) c.commanded ∙ c.alike)

@@ -37,7 +37,7 @@ use Rattle.hold_queue.specs.ChainState.{Tenure as HeldTenure, empty_tenure}
 use Rattle.octets.specs.declared.limits.TheConstants.{INITIAL_LIMIT}
 
 -- the table, by a state of its own
-row_by : State → Connection → Input → Option Channel → Option Row
+unfoldable pub row_by : State → Connection → Input → Option Channel → Option Row
 row_by state s (inputs.ActivationAck at) offer = on_activation_ack state s at
 row_by state s (inputs.ActivationNack at) offer = on_activation_nack state s at offer
 row_by state s (inputs.EstablishIndication at sapi message) offer = on_establish_indication state s at sapi message
@@ -62,7 +62,7 @@ row_by state s inputs.DrainExpiry offer = on_drain_expiry state s
 row_by state s (inputs.StationDown station) offer = on_station_down state s station
 row_by state s inputs.SwitchDown offer = on_switch_down state s
 
-row_is_by : (s : Connection) (input : Input) (offer : Option Channel) → row_of s input offer ≡ row_by s.state s input offer
+pub row_is_by : (s : Connection) (input : Input) (offer : Option Channel) → row_of s input offer ≡ row_by s.state s input offer
 unfolding row_of row_by
 row_is_by s _ offer = refl
 
@@ -84,7 +84,7 @@ activation_open s (inputs.StationDown station) offer r is there = absurd (shut (
 activation_open s inputs.SwitchDown offer r is there = absurd (shut true (dropping s) r (λ o. o) is there)
 activation_open s _ offer r is there = absurd cc
 
-record Accesses (s : Connection) (input : Input) (r : Row) : Type 0 where
+pub record Accesses (s : Connection) (input : Input) (r : Row) : Type 0 where
   pub at : Place
   pub initial : List ℕ
   pub comes : input ≡ inputs.EstablishIndication at Zero (Some initial)
@@ -98,7 +98,7 @@ access_by s at (Some initial) r here is there = elim (cases_Bool (nat_le (length
   | inr miss ↦ absurd (subst (λ (q : Row). IsOpen q.next.state) (sym is ∙ cond-false _ (row (complete_layer3 s.serving initial ∷ []) (enter WaitConfirm s)) (dropping s) miss) there)
 ]
 
-access_open : (s : Connection) (input : Input) (offer : Option Channel) (r : Row) → row_by WaitEstablish s input offer ≡ Some r → IsOpen r.next.state → Accesses s input r
+pub access_open : (s : Connection) (input : Input) (offer : Option Channel) (r : Row) → row_by WaitEstablish s input offer ≡ Some r → IsOpen r.next.state → Accesses s input r
 unfolding row_by
 access_open s (inputs.EstablishIndication at Zero message) offer r is there = let one = if_is (is_at at s.serving) (access message s) r is in access_by s at message r one.0 one.1 there
 access_open s (inputs.ReleaseIndication at Zero) offer r is there = absurd (shut (is_at at s.serving) (dropping s) r (λ o. o) is there)
@@ -177,7 +177,7 @@ ack_found WaitConfirm s at offer r is = absurd cc
 ack_found (Closed clearing) s at offer r is = absurd cc
 ack_found Removed s at offer r is = absurd cc
 
-going : (s : Connection) (input : Input) (offer : Option Channel) (r : Row) → Stands s → row_of s input offer ≡ Some r → IsOpen r.next.state → GoesOn (step_by input (roles_of s)) (roles_of s) s.down input offer r
+pub going : (s : Connection) (input : Input) (offer : Option Channel) (r : Row) → Stands s → row_of s input offer ≡ Some r → IsOpen r.next.state → GoesOn (step_by input (roles_of s)) (roles_of s) s.down input offer r
 going s input offer r stands is there = by (subst (ChangesRolesBy s input offer) is (ChangesRoles-row s input offer stands))
   where
     by : ChangesRoles s input offer r → GoesOn (step_by input (roles_of s)) (roles_of s) s.down input offer r

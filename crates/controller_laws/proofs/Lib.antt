@@ -57,3 +57,8 @@ pub mod Placed
 pub mod Naming
 pub mod NamingLife
 pub mod Passing
+pub mod HandingTable
+pub mod HandingPut
+pub mod HandingSteps
+pub mod HandingServing
+pub mod HandingLife

@@ -22,7 +22,7 @@ use Rattle.controller_laws.proofs.Silence.{step_silence}
 use Rattle.controller_table.specs.declared.step.Step.{Step}
 use Rattle.controller_table.specs.Controller.{Controller, is_up, new_controller}
 use Rattle.controller_table.specs.Life.{life, step}
-use Rattle.settings.specs.Parameters.{Parameters}
+use Rattle.settings.specs.Parameters.{AreAllowed, Parameters}
 
 silent_run : (number : ℕ) (c : Controller) (from_one : 1 ≤ number) (fits : Fits number c) (steps : List Step) → AllKeepSilence number c (moments_of number c from_one fits steps)
 unfolding moments_of
@@ -54,6 +54,9 @@ read_run number c from_one fits holds uses sound (s ∷ ss) octets =
       read_run number next from_one more after.holds after.uses turn_sound.sound ss octets.1,
     )
 
+pub life_reads : (p : Parameters) (steps : List Step) (number : ℕ) (from_one : 1 ≤ number) → AreAllowed p → AllByRecursion ComesInOctets steps → AllAreRead number (new_controller p) (moments_of number (new_controller p) from_one (new_fits number p) steps)
+life_reads p steps number from_one allowed octets = read_run number (new_controller p) from_one (λ n first. new_fits n p) (new_holds p allowed) (new_uses p) (new_sound p allowed) steps octets
+
 pub life_is_silent : (p : Parameters) (steps : List Step) (number : ℕ) → 1 ≤ number → SilenceIsKept number p steps (life p steps)
 unfolding life
 life_is_silent p steps number from_one = record {
@@ -61,5 +64,5 @@ life_is_silent p steps number from_one = record {
   history = history_of number (new_controller p) from_one (new_fits number p) steps;
   frames = frames_of number (new_controller p) from_one (new_fits number p) steps;
   silent = silent_run number (new_controller p) from_one (new_fits number p) steps;
-  read = λ allowed octets. read_run number (new_controller p) from_one (λ n first. new_fits n p) (new_holds p allowed) (new_uses p) (new_sound p allowed) steps octets;
+  read = λ allowed octets. life_reads p steps number from_one allowed octets;
 }

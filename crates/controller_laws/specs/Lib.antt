@@ -1,6 +1,7 @@
 pub mod Acts
 pub mod Downlink
 pub mod End
+pub mod Handing
 pub mod History
 pub mod Numbers
 pub mod Owning

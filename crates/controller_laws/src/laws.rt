@@ -3,6 +3,7 @@ ghost use Rattle.controller_laws.specs.Acts.{ActsOn};
 ghost use Rattle.controller_laws.specs.Concern.{FrameLeaves};
 ghost use Rattle.controller_laws.specs.Downlink.{DownlinkIsConserved};
 ghost use Rattle.controller_laws.specs.End.{IsThere, SilenceIsKept, StaysSilent};
+ghost use Rattle.controller_laws.specs.Handing.{HandsInPlace};
 ghost use Rattle.controller_laws.specs.History.{connection_of};
 ghost use Rattle.controller_laws.specs.Naming.{NamesItsMobile};
 ghost use Rattle.controller_laws.specs.Owning.{LinkedOf, OwnsOpen};
@@ -40,6 +41,14 @@ pub fn silence_is_kept()
     ensures steps { (p : Parameters) (steps : List Step) (number : ℕ) → 1 ≤ number → SilenceIsKept number p steps (life p steps) }
     ensures end { (p : Parameters) (steps rest : List Step) (number : ℕ) → 1 ≤ number → number < (life p steps).next.next_number
         → (IsThere (connection_of (life p steps).next number) → ⊥) → StaysSilent number (life p steps).next rest }
+{}
+
+/// The same told by what came and what was put, step by step. From the step that puts ASSIGNMENT COMMAND or HANDOVER COMMAND
+/// on nothing is handed, until the step that takes the mobile's COMPLETE or FAILURE or that clears; what a step hands goes to
+/// the channel that serves after it, the first of the service list; once CLEAR COMPLETE was put only RLC is put. What a step
+/// hands is what is read from its frames, with settings that are allowed and where what came was octets.
+pub fn messages_are_handed_in_place()
+    ensures { (p : Parameters) (steps : List Step) (number : ℕ) → 1 ≤ number → HandsInPlace number p steps (life p steps) }
 {}
 
 /// Of each SAPI, what was handed to the mobile of a connection, then what is held for it, is what the switch sent from CC on,
