@@ -62,3 +62,4 @@ pub mod HandingPut
 pub mod HandingSteps
 pub mod HandingServing
 pub mod HandingLife
+mod HandingRows
