@@ -3,11 +3,13 @@ use Rattle.std.proofs.Common.{◌≡◌, ℕ, ◌≤◌, List, Result, Ok, Err, 
 use Rattle.conn_messages.specs.declared.out.Out.{Out}
 use Rattle.controller_laws.specs.Downlink.{DownlinkIsConserved}
 use Rattle.controller_laws.specs.End.{SilenceIsKept}
+use Rattle.controller_laws.specs.Handing.{HandsInPlace}
 use Rattle.controller_laws.specs.History.{connection_of}
 use Rattle.controller_laws.specs.Owning.{OwnsOpen}
 use Rattle.controller_laws.specs.Uplink.{UplinkIsConserved}
 use Rattle.controller_laws.proofs.DownlinkLaw.{life_conserves}
 use Rattle.controller_laws.proofs.OwningLife.{life_owns}
+use Rattle.controller_laws.proofs.HandingLife.{life_hands}
 use Rattle.controller_laws.proofs.SilenceLife.{life_is_silent}
 use Rattle.controller_laws.proofs.SoundLife.{life_sends_all}
 use Rattle.controller_laws.proofs.UplinkLife.{life_conserves_up}
@@ -40,6 +42,9 @@ downlink_of p steps c outs is number from_one = subst (DownlinkIsConserved numbe
 
 pub silence_of : (p : Parameters) (steps : List Step) (c : Controller) (outs : List Out) → (c ≡ (life p steps).next) × (outs ≡ (life p steps).outs) → (number : ℕ) → 1 ≤ number → SilenceIsKept number p steps (turn outs c)
 silence_of p steps c outs is number from_one = subst (SilenceIsKept number p steps) (lived p steps c outs is) (life_is_silent p steps number from_one)
+
+pub handing_of : (p : Parameters) (steps : List Step) (c : Controller) (outs : List Out) → (c ≡ (life p steps).next) × (outs ≡ (life p steps).outs) → (number : ℕ) → 1 ≤ number → HandsInPlace number p steps (turn outs c)
+handing_of p steps c outs is number from_one = subst (HandsInPlace number p steps) (lived p steps c outs is) (life_hands p steps number from_one)
 
 pub channels_of : (p : Parameters) (steps : List Step) (c : Controller) (outs : List Out) → AreAllowed p → (c ≡ (life p steps).next) × (outs ≡ (life p steps).outs) → (number : ℕ) → OwnsOpen c.channels c.links number (connection_of c number)
 channels_of p steps c outs allowed is number = next_of (λ (d : Controller). OwnsOpen d.channels d.links number (connection_of d number)) p steps c outs is (life_owns p steps number allowed)

@@ -5,6 +5,7 @@ ghost use Rattle.controller_laws.specs.Acts.{ActsOn};
 ghost use Rattle.controller_laws.specs.Concern.{FrameLeaves};
 ghost use Rattle.controller_laws.specs.Downlink.{DownlinkIsConserved};
 ghost use Rattle.controller_laws.specs.End.{IsThere, SilenceIsKept, StaysSilent};
+ghost use Rattle.controller_laws.specs.Handing.{HandsInPlace};
 ghost use Rattle.controller_laws.specs.History.{connection_of};
 ghost use Rattle.controller_laws.specs.Naming.{NamesItsMobile};
 ghost use Rattle.controller_laws.specs.Numbers.{IsNumbered};
@@ -38,7 +39,8 @@ pub fn run(
     ensures life { IfOk result (λ both. (both.0 ≡ (words.life settings steps.items).next) × (both.1.outs ≡ (words.life settings steps.items).outs)) }
 
     // Of each connection while it is open, and of each SAPI: what was relayed to the switch, then what is held, is what came on
-    // its channels; what was handed to the mobile, then what is held, is what the switch sent and wasn't rejected.
+    // its channels; what was handed to the mobile, then what is held, is what the switch sent and wasn't rejected. Always, what
+    // was handed is some of what the switch sent, in its order.
     ensures uplink { IfOk result (λ both. (number : ℕ) → 1 ≤ number → UplinkIsConserved number settings steps.items (turn both.1.outs both.0)) }
     ensures downlink { IfOk result (λ both. (number : ℕ) → 1 ≤ number → DownlinkIsConserved number settings steps.items (turn both.1.outs both.0)) }
 
@@ -46,6 +48,10 @@ pub fn run(
     ensures silence { IfOk result (λ both. (number : ℕ) → 1 ≤ number → SilenceIsKept number settings steps.items (turn both.1.outs both.0)) }
     ensures closed { IfOk result (λ both. (rest : List StepValue) (number : ℕ) → 1 ≤ number → number < both.0.next_number
         → (IsThere (connection_of both.0 number) → ⊥) → StaysSilent number both.0 rest) }
+
+    // Told by the messages alone: nothing is handed from the COMMAND until COMPLETE, FAILURE or a clear; else it goes to the
+    // channel that serves; and once CLEAR COMPLETE was put only RLC is put.
+    ensures handing { IfOk result (λ both. (number : ℕ) → 1 ≤ number → HandsInPlace number settings steps.items (turn both.1.outs both.0)) }
 
     // Its channels are its own: a channel is in use by a connection exactly where the connection uses it.
     ensures channels { IfOk result (λ both. (number : ℕ) → OwnsOpen both.0.channels both.0.links number (connection_of both.0 number)) }

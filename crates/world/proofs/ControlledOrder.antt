@@ -2,7 +2,9 @@
 use Rattle.std.proofs.Common.{ℕ, ◌≤◌, List, refl, sym, subst}
 use Rattle.controller_laws.specs.Downlink.{DownlinkIsConserved}
 use Rattle.controller_laws.specs.End.{SilenceIsKept}
+use Rattle.controller_laws.specs.Handing.{HandsInPlace}
 use Rattle.controller_laws.proofs.DownlinkLaw.{life_conserves}
+use Rattle.controller_laws.proofs.HandingLife.{life_hands}
 use Rattle.controller_laws.proofs.SilenceLife.{life_is_silent}
 use Rattle.controller_table.specs.declared.step.Step.{Step}
 use Rattle.settings.specs.Parameters.{AreAllowed, Parameters}
@@ -29,6 +31,7 @@ IsHandedInOrder-controlled settings events allowed octets connection from_one =
       allowed = allowed;
       octets = ComeInOctets-new settings events allowed octets;
       conserved = subst (DownlinkIsConserved connection settings steps) runs (life_conserves settings steps connection from_one);
+      in_place = subst (HandsInPlace connection settings steps) runs (life_hands settings steps connection from_one);
       silent = subst (SilenceIsKept connection settings steps) runs (life_is_silent settings steps connection from_one);
     }
 

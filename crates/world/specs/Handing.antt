@@ -3,6 +3,7 @@ use Rattle.std.specs.Prelude.{ℕ, ◌≤◌, List}
 use Rattle.std.specs.List.{AllByRecursion}
 use Rattle.controller_laws.specs.Downlink.{DownlinkIsConserved}
 use Rattle.controller_laws.specs.End.{SilenceIsKept}
+use Rattle.controller_laws.specs.Handing.{HandsInPlace}
 use Rattle.controller_laws.specs.Sending.{ComesInOctets}
 use Rattle.settings.specs.Parameters.{AreAllowed}
 use Rattle.world_table.specs.declared.event.Event.{Event}
@@ -19,8 +20,10 @@ pub record IsHandedInOrder (begin : Actors) (events : List Event) (connection : 
   -- per SAPI, what was handed is some of what the switch sent, each message at most once and in its order; as long as the
   -- connection is open, what was handed, then what is held, is what the switch sent and wasn't rejected
   pub conserved : DownlinkIsConserved connection begin.controller.settings (all_steps begin events) (controller_run begin events)
-  -- nothing is handed while its mobile changes the channel, and what is handed goes to the channel that serves; after CLEAR
-  -- COMPLETE only RLC is put
+  -- from the COMMAND on nothing is handed until its mobile answers or it is cleared, and what is handed goes to the channel that
+  -- serves, the first of the service list; once CLEAR COMPLETE was put only RLC is put
+  pub in_place : HandsInPlace connection begin.controller.settings (all_steps begin events) (controller_run begin events)
+  -- and from the step that closes it on nothing is handed or relayed
   pub silent : SilenceIsKept connection begin.controller.settings (all_steps begin events) (controller_run begin events)
 
 -- each connection; in the fixed world nothing is handed, since no controller is there

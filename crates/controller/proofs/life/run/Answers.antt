@@ -1,6 +1,6 @@
 use Rattle.std.proofs.Common.{ℕ, ◌≤◌, ◌<◌, List, arith}
 use Rattle.conn_messages.specs.declared.parameters.TheConstants.{SWITCH_LINK}
-use Rattle.controller.proofs.LifeLaws.{channels_of, downlink_of, if_so, next_of, sent_of, silence_of, uplink_of, used_of}
+use Rattle.controller.proofs.LifeLaws.{channels_of, downlink_of, handing_of, if_so, next_of, sent_of, silence_of, uplink_of, used_of}
 use Rattle.controller.proofs.life.run.Goals as goal
 use Rattle.controller_laws.proofs.Concerning.{frame_leaves}
 use Rattle.controller_laws.proofs.Lives.{life_acts, life_fits}
@@ -31,6 +31,9 @@ returns-clause-downlink c = if_so _ _ c.live.result (λ both is. downlink_of c.a
 
 pub returns-clause-silence : goal.returns-clause-silence
 returns-clause-silence c = if_so _ _ c.live.result (λ both is. silence_of c.args.settings c.args.steps.items both.0 both.1.outs is) c.live.ensures.life
+
+pub returns-clause-handing : goal.returns-clause-handing
+returns-clause-handing c = if_so _ _ c.live.result (λ both is. handing_of c.args.settings c.args.steps.items both.0 both.1.outs is) c.live.ensures.life
 
 pub returns-clause-channels : goal.returns-clause-channels
 returns-clause-channels c = if_so _ _ c.live.result (λ both is. channels_of c.args.settings c.args.steps.items both.0 both.1.outs c.live.ensures.allowed is) c.live.ensures.life
