@@ -2,7 +2,9 @@
 use Rattle.std.proofs.Common.{◌≡◌, true, false, List, [], ◌∷◌, ◌++◌, None, refl}
 use Rattle.bssmap_codec.specs.declared.bssap.Bssap.TheVariants.{Management}
 use Rattle.bssmap_codec.specs.declared.bssmap.Bssmap.TheVariants.{CompleteLayer3Information}
+use Rattle.conn_messages.specs.declared.channel.Change.{Change}
 use Rattle.conn_messages.specs.declared.channel.Change.TheVariants.{Assignment, Handover}
+use Rattle.conn_messages.specs.declared.channel.Channel.{Channel}
 use Rattle.conn_messages.specs.declared.message.Message.{Message}
 use Rattle.conn_messages.specs.declared.message.Message.TheVariants.{Request}
 use Rattle.conn_messages.specs.StationMessage.{change_command, channel_release, handing, rf_channel_release}
@@ -73,6 +75,11 @@ release_is_none = refl
 dtap_is_none : is_command on_old ≡ false
 unfolding on_literals
 dtap_is_none = refl
+
+-- each that is put for a change
+each_is_one : (serving target : Channel) (change : Change) → is_command (change_command serving change target) ≡ true
+each_is_one serving target Assignment = refl
+each_is_one serving target Handover = refl
 
 -- ---- the change
 
