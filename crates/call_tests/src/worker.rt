@@ -1,8 +1,8 @@
 ghost use Rattle.std.specs.Prelude.{◌≡◌, ◌<◌, length, vec_len, IfOk};
-ghost use Rattle.call_worker.specs.Call.{AreNew};
+ghost use Rattle.call_worker.specs.Call.{AreNew, AreUnmarked};
 
 use crate::script::Script;
-use call_worker::call_worker;
+use call_worker::{Marks, call_worker};
 use controller::Controller;
 use ipa_framing::{CCM_STREAM, Frame, RSL_STREAM};
 use octets::Octets;
@@ -48,6 +48,7 @@ const PONG: Text<'_> = (CCM_STREAM, &[0x01]);
 struct Queues {
     desk: Desk,
     putters: Vec<Putter>,
+    marks: Marks,
     switch_pass: SourcePass,
     station_pass: SourcePass,
     switch_taker: Taker,
@@ -60,6 +61,7 @@ impl Queues {
         requires { 0 < room }
         ensures new { IfOk result (λ q. AreNew q.putters.items) }
         ensures sources { IfOk result (λ q. length q.desk ≡ vec_len q.putters) }
+        ensures marks { IfOk result (λ q. AreUnmarked (vec_len q.putters) q.marks) }
     {
         let (desk, mut passes) = Inbox::new(alloc, 2, 8)?;
         let (Some(station_pass), Some(switch_pass)) = (passes.pop(), passes.pop()) else {
@@ -70,9 +72,11 @@ impl Queues {
         let mut putters = Vec::with_capacity(alloc, 2)?;
         putters.push(switch)?;
         putters.push(station)?;
+        let marks = Marks::new(alloc, putters.len())?;
         Ok(Queues {
             desk,
             putters,
+            marks,
             switch_pass,
             station_pass,
             switch_taker,
@@ -151,6 +155,7 @@ fn a_timer_expires_between_two_items(rt: HostRuntime) -> Result<(), Fail> {
         controller,
         queues.desk,
         queues.putters,
+        queues.marks,
         clock,
     );
     assert!(rt; ender.join(&rt));
@@ -183,6 +188,7 @@ fn an_outbox_that_nobody_empties_is_given_up(rt: HostRuntime) -> Result<(), Fail
         controller,
         queues.desk,
         queues.putters,
+        queues.marks,
         clock,
     );
     assert!(rt; other.join(&rt));

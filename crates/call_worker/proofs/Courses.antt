@@ -1,23 +1,21 @@
 -- The call worker from state to state.
-use Rattle.std.proofs.Common.{◌≡◌, ◌≢◌, ℕ, ◌+◌, ◌<◌, ◌≤◌, nat_lt, Bool, true, false, List, [], ◌∷◌, ◌++◌, length, map, Result, Ok, Err, refl, sym, ap, ◌∙◌, subst, append-nil, append_assoc, arith}
+use Rattle.std.proofs.Common.{◌≡◌, ℕ, ◌+◌, nat_lt, List, [], ◌++◌, length, Result, Ok, Err, refl, sym, ap, ◌∙◌, subst, append-nil, append_assoc, arith}
 use Rattle.std.specs.Prelude.{MatchResult}
 use Rattle.std.proofs.lemmas.Bool.{false≢true}
 use Rattle.std.specs.Result.{IsErr}
-use mathlib.Core.Option.{some}
 use lib.ListN.{get_elem?}
 use Rattle.call_worker.specs.Going.{Fits, Goes, GoesOn, GoesPart, State, ended_of, mark_at}
-use Rattle.call_worker.specs.Steps.{frames_to, items_of, over, ticked, whats_of}
+use Rattle.call_worker.specs.Steps.{frames_to, items_of, over, whats_of}
 use Rattle.call_worker.specs.Taking.{HasTaken}
 use Rattle.call_worker.proofs.Histories.{items_both, next_both, outs_both, ticked_both, whats_both}
 use Rattle.call_worker.proofs.Outputs.{frames_both}
-use Rattle.conn_messages.specs.declared.out.Out.{Out}
 use Rattle.controller_table.specs.declared.step.Step.{Step}
 use Rattle.controller_table.specs.Controller.{Controller}
 use Rattle.ipa_framing.specs.declared.frame.Frame.{Frame}
 use Rattle.relay_items.specs.declared.Item.{Item}
 use Rattle.relay_items.specs.declared.What.{What}
 use Rattle.ruled_relay.specs.Outbox.{PutterView}
-use Rattle.ruled_relay.specs.Row.{EachAt, Row}
+use Rattle.ruled_relay.specs.Row.{Row}
 
 -- ---- the desk
 

@@ -1,13 +1,13 @@
 -- The mark behind the last frame of each outbox.
-use Rattle.std.proofs.Common.{◌≡◌, ◌≢◌, ℕ, ◌+◌, ◌<◌, nat_lt, nat_le, Bool, true, false, List, [], ◌∷◌, ◌++◌, length, refl, sym, ap, ◌∙◌, subst, append-nil, arith, set, ⊎_elim}
+use Rattle.std.proofs.Common.{◌≡◌, ◌≢◌, ℕ, ◌+◌, ◌<◌, nat_lt, nat_le, true, false, List, [], ◌∷◌, ◌++◌, refl, sym, ap, ◌∙◌, subst, append-nil, arith, set, ⊎_elim}
 use Rattle.std.proofs.lemmas.Bool.{false≢true}
 use Rattle.std.proofs.lemmas.Bool.Decides.{nat_tests}
-use mathlib.Core.Option.{some, some-injective}
+use mathlib.Core.Option.{some}
 use lib.ListN.{get_elem?}
-use Rattle.atomic_table.proofs.Lists.{at_set, set_again}
+use Rattle.atomic_table.proofs.Lists.{at_set}
 use Rattle.call_worker.specs.declared.mark.Mark.{Mark}
 use Rattle.call_worker.specs.declared.limits.TheConstants.{MAX_REFUSALS, TICK_MS}
-use Rattle.call_worker.specs.Going.{Carries, Ends, Finishes, Fits, Goes, GoesOn, GoesPart, IsSettled, PutsEnd, State, end_mark, ended_of, mark_at}
+use Rattle.call_worker.specs.Going.{Carries, Ends, Finishes, Fits, Goes, GoesOn, GoesPart, IsSettled, PutsEnd, State, mark_at}
 use Rattle.call_worker.specs.Links.{AreSent, is_given_up, lines}
 use Rattle.call_worker.specs.Steps.{frames_to, items_of, over, whats_of}
 use Rattle.call_worker.specs.Taking.{HasTaken}
@@ -17,7 +17,6 @@ use Rattle.relay_items.specs.declared.Item.{Item}
 use Rattle.relay_items.specs.declared.What.{What}
 use Rattle.ruled_relay.specs.declared.outbox.Line.TheVariants as marks
 use Rattle.ruled_relay.specs.Outbox.{PutterView}
-use Rattle.ruled_relay.specs.Row.{EachAt}
 use Rattle.ruled_relay.proofs.Places.{length_set}
 
 pub ends_none : (s : State) → Ends s s

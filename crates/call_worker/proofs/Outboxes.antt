@@ -1,10 +1,10 @@
 -- What one outbox carries, put by put.
-use Rattle.std.proofs.Common.{◌≡◌, ◌≢◌, ℕ, ◌≤◌, nat_le, Bool, true, false, List, [], ◌∷◌, ◌++◌, map, Ok, Err, refl, sym, ap, ◌∙◌, subst, append-nil, append_assoc, arith, max, min}
+use Rattle.std.proofs.Common.{◌≡◌, ℕ, ◌≤◌, nat_le, Bool, true, false, List, [], ◌∷◌, ◌++◌, Ok, Err, refl, sym, ap, ◌∙◌, subst, append-nil, append_assoc, arith}
 use Rattle.std.proofs.lemmas.List.{map-append}
 use Rattle.std.proofs.lemmas.Bool.{false≢true}
 use Rattle.std.proofs.lemmas.Bool.Decides.{nat_tests}
 use Rattle.call_worker.specs.declared.limits.TheConstants.{MAX_REFUSALS}
-use Rattle.call_worker.specs.Going.{Carries, Sends, end_mark}
+use Rattle.call_worker.specs.Going.{Sends}
 use Rattle.call_worker.specs.Links.{AreSent, is_given_up, lines}
 use Rattle.ipa_framing.specs.declared.frame.Frame.{Frame}
 use Rattle.ruled_relay.specs.declared.outbox.Line.{Line}

@@ -1,11 +1,11 @@
 -- A controller at rest puts nothing and stays at rest.
 use Rattle.std.proofs.Common.{◌≡◌, ℕ, ◌==◌, ◌&&◌, Bool, true, false, List, [], ◌∷◌, length, map, refl, sym, ap, ◌∙◌, subst, unwrap_or, slice_get, zero, suc, arith}
 use Rattle.std.proofs.lemmas.Bool.{eqb-true, false≢true}
-use Rattle.std.proofs.lemmas.Option.{slice_get_past, unwrap_or-slice_get}
+use Rattle.std.proofs.lemmas.Option.{unwrap_or-slice_get}
 use Rattle.controller.specs.Rest.{all_down, is_at_rest}
 use Rattle.controller_table.specs.declared.step.Step.{Step}
 use Rattle.controller_table.specs.declared.step.Step.TheVariants.{Take, Tick}
-use Rattle.controller_table.specs.Controller.{Controller, Entry, each, ignoring, is_up}
+use Rattle.controller_table.specs.Controller.{Controller, Entry, each, is_up}
 use Rattle.controller_table.specs.Life as words
 use Rattle.controller_table.specs.Life.{take, tick}
 

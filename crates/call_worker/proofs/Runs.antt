@@ -1,5 +1,5 @@
 -- From the way of the call worker to its whole run.
-use Rattle.std.proofs.Common.{◌≡◌, ◌≢◌, ℕ, ◌+◌, ◌<◌, ◌≤◌, nat_lt, nat_le, Bool, true, false, List, [], ◌∷◌, ◌++◌, length, replicate, Option, Some, None, refl, sym, ap, ◌∙◌, subst, append-nil, arith, zero, suc}
+use Rattle.std.proofs.Common.{◌≡◌, ℕ, ◌<◌, ◌≤◌, nat_lt, nat_le, Bool, true, false, List, [], length, replicate, Option, Some, None, refl, sym, ap, ◌∙◌, subst, arith, zero, suc}
 use Rattle.std.proofs.lemmas.Bool.{false≢true}
 use Rattle.std.proofs.lemmas.Bool.Decides.{nat_tests}
 use mathlib.Core.Option.{some}
@@ -7,17 +7,14 @@ use lib.ListN.{get_elem?}
 use Rattle.call_worker.specs.declared.mark.Mark.{Mark}
 use Rattle.call_worker.specs.Call.{AreNew, IsNew, Parts, Runs, Serves}
 use Rattle.call_worker.specs.Going.{Ends, Finishes, Fits, Goes, GoesOn, GoesPart, IsSettled, State, ended_of, mark_at, unmarked}
-use Rattle.call_worker.specs.Links.{AreSent, AreStepped, HasDown, is_given_up, lines}
-use Rattle.call_worker.specs.Steps.{frames_to, items_of, over, ticked, whats_of}
-use Rattle.call_worker.proofs.Courses.{goes_still, taken_none}
+use Rattle.call_worker.specs.Links.{AreSent, is_given_up}
+use Rattle.call_worker.specs.Steps.{frames_to, items_of, over, whats_of}
 use Rattle.call_worker.proofs.Marking.{ends_part, settled_by}
 use Rattle.controller_table.specs.declared.step.Step.{Step}
 use Rattle.ipa_framing.specs.declared.frame.Frame.{Frame}
 use Rattle.link_io.specs.declared.fault.IoFault.{IoFault}
 use Rattle.relay_items.specs.declared.Item.{Item}
-use Rattle.relay_items.specs.declared.What.{What}
 use Rattle.ruled_relay.specs.Outbox.{PutterView}
-use Rattle.ruled_relay.specs.Row.{EachAt}
 use Rattle.ruled_relay.proofs.Places.{within}
 
 abbrev pub parts_of : State → Parts
@@ -29,14 +26,6 @@ mark_of_new : (n link : ℕ) → mark_at (replicate n unmarked) link ≡ unmarke
 mark_of_new zero link = refl
 mark_of_new (suc n) zero = refl
 mark_of_new (suc n) (suc link) = mark_of_new n link
-
--- marks of no link say nothing
-goes_marked : (old : State) (n : ℕ) → old.marks ≡ [] → Goes [] old (record old { marks = replicate n unmarked })
-goes_marked old n none =
-    goes_still [] old (record old { marks = replicate n unmarked }) refl refl refl (λ link. mark_of_new n link ∙ sym (ap (λ ms. mark_at ms link) none)) (taken_none old.desk) refl
-
-pub goes_unmarked : (old : State) (ms : List Mark) (n : ℕ) → ms ≡ replicate n unmarked → old.marks ≡ [] → Goes [] old (record old { marks = ms })
-goes_unmarked old ms n is none = subst (λ y. Goes [] old (record old { marks = y })) (sym is) (goes_marked old n none)
 
 pub settled_new : (s : State) → AreNew s.putters → IsSettled s
 settled_new s new link p here up = absurd (settled_by p (new link p here).2 up)
@@ -57,7 +46,7 @@ same_bool false true f g = g refl
 same_bool false false f g = refl
 
 serves : (fault : Option IoFault) (old new : State) (link : ℕ) (steps : List Step) (frames : List Frame) (items : List Item) (p q : PutterView)
-    → IsNew p → old.marks ≡ [] → old.ended ≡ 0 → get_elem? new.putters link ≡ some q → new.ended ≡ length new.putters
+    → IsNew p → mark_at old.marks link ≡ unmarked → old.ended ≡ 0 → get_elem? new.putters link ≡ some q → new.ended ≡ length new.putters
     → (fault ≡ None → Finishes new) → GoesOn old new link frames (whats_of link (items_of steps)) (whats_of link items) p q
     → Serves fault steps frames items link p q
 serves fault old new link steps frames items p q is_new none unended here ended finishes goes =
@@ -65,7 +54,7 @@ serves fault old new link steps frames items p q is_new none unended here ended 
     let no : nat_lt link 0 ≡ false = grind (arith, nat_tests) in
     let before : Fits (ended_of old link) p (mark_at old.marks link) [] [] [] =
     subst (λ (n : ℕ). Fits (nat_lt link n) p (mark_at old.marks link) [] [] []) (sym unended)
-    (subst (λ ms. Fits (nat_lt link 0) p (mark_at ms link) [] [] []) (sym none) (subst (λ b. Fits b p unmarked [] [] []) (sym no) (fits_new p is_new))) in
+    (subst (λ m. Fits (nat_lt link 0) p m [] [] []) (sym none) (subst (λ b. Fits b p unmarked [] [] []) (sym no) (fits_new p is_new))) in
     let f = goes.fits [] [] [] before in
     let m : Mark = mark_at new.marks link in
     let all : ended_of new link ≡ true = grind (arith, nat_tests) in
@@ -81,9 +70,9 @@ serves fault old new link steps frames items p q is_new none unended here ended 
       down = λ no. c.down ((finishes no).down link room);
     }
 
-pub runs : (fault : Option IoFault) (last : List Item) (old new : State) → AreNew old.putters → old.marks ≡ [] → old.ended ≡ 0 → old.gathered ≡ 0 → Goes last old new
+pub runs : (fault : Option IoFault) (last : List Item) (old new : State) (n : ℕ) → AreNew old.putters → old.marks ≡ replicate n unmarked → old.ended ≡ 0 → old.gathered ≡ 0 → Goes last old new
     → new.ended ≡ length new.putters → length last ≤ 1 → (fault ≡ None → last ≡ []) → (fault ≡ None → Finishes new) → Runs fault (parts_of old) (parts_of new)
-runs fault last old new fresh none unended start goes ended one no_last finishes = record {
+runs fault last old new n fresh none unended start goes ended one no_last finishes = record {
   steps = goes.steps;
   controller = goes.controller;
   items = goes.items;
@@ -99,20 +88,20 @@ runs fault last old new fresh none unended start goes ended one no_last finishes
       let p = goes.links link q here in (
         p.0,
         p.1,
-        serves fault old new link goes.steps (frames_to link (over old.controller goes.steps).outs) goes.items p.0 q (fresh link p.0 p.1) none unended here ended finishes p.2,
+        serves fault old new link goes.steps (frames_to link (over old.controller goes.steps).outs) goes.items p.0 q (fresh link p.0 p.1) (ap (λ ms. mark_at ms link) none ∙ mark_of_new n link) unended here ended finishes p.2,
       );
 }
 
-pub runs_whole : (old new : State) → AreNew old.putters → old.marks ≡ [] → old.ended ≡ 0 → old.gathered ≡ 0 → Goes [] old new → Finishes new → new.ended ≡ length new.putters
+pub runs_whole : (old new : State) (n : ℕ) → AreNew old.putters → old.marks ≡ replicate n unmarked → old.ended ≡ 0 → old.gathered ≡ 0 → Goes [] old new → Finishes new → new.ended ≡ length new.putters
     → Runs None (parts_of old) (parts_of new)
-runs_whole old new fresh none unended start goes finishes ended =
-    runs None [] old new fresh none unended start goes ended (omega arith) (λ no. refl) (λ no. finishes)
+runs_whole old new n fresh none unended start goes finishes ended =
+    runs None [] old new n fresh none unended start goes ended (omega arith) (λ no. refl) (λ no. finishes)
 
 no_fault : (fault : IoFault) → Some fault ≡ None → ⊥
 no_fault fault e = cc
 
-pub runs_part : (fault : IoFault) (old mid new : State) → AreNew old.putters → old.marks ≡ [] → old.ended ≡ 0 → old.gathered ≡ 0 → GoesPart old mid → Ends mid new
+pub runs_part : (fault : IoFault) (old mid new : State) (n : ℕ) → AreNew old.putters → old.marks ≡ replicate n unmarked → old.ended ≡ 0 → old.gathered ≡ 0 → GoesPart old mid → Ends mid new
     → new.ended ≡ length new.putters → Runs (Some fault) (parts_of old) (parts_of new)
-runs_part fault old mid new fresh none unended start goes ends ended =
+runs_part fault old mid new n fresh none unended start goes ends ended =
     let p = ends_part old mid new goes ends in
-    runs (Some fault) p.0 old new fresh none unended start p.2 ended p.1 (λ no. absurd (no_fault fault no)) (λ no. absurd (no_fault fault no))
+    runs (Some fault) p.0 old new n fresh none unended start p.2 ended p.1 (λ no. absurd (no_fault fault no)) (λ no. absurd (no_fault fault no))

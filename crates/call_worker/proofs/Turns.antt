@@ -1,6 +1,5 @@
 -- Each kind of step, from state to state.
-use Rattle.std.proofs.Common.{◌≡◌, ◌≢◌, ℕ, ◌+◌, ◌==◌, ◌&&◌, not, ◌<◌, ◌≤◌, nat_lt, Bool, true, false, List, [], ◌∷◌, ◌++◌, length, map, refl, sym, ap, ◌∙◌, subst, append-nil, append_assoc, arith, set, ⊎_elim, ◌⊎◌, inl, inr, eqb, get_or, get_or-set_same, get_or-set_other}
-use Rattle.std.specs.List.{filter}
+use Rattle.std.proofs.Common.{◌≡◌, ◌≢◌, ℕ, ◌+◌, ◌&&◌, not, ◌<◌, ◌≤◌, nat_lt, Bool, true, false, List, [], ◌∷◌, ◌++◌, length, refl, sym, ap, ◌∙◌, subst, append-nil, append_assoc, arith, set, ⊎_elim, ◌⊎◌, inl, inr, eqb, get_or, get_or-set_same, get_or-set_other}
 use Rattle.std.proofs.lemmas.Bool.{eq-eqb, ne_eqb, false≢true}
 use Rattle.std.proofs.lemmas.List.{get_or_read}
 use Rattle.std.proofs.lemmas.Bool.Decides.{eqb_tells, nat_tests}
@@ -8,9 +7,9 @@ use mathlib.Core.Option.{some, some-injective}
 use lib.ListN.{get_elem?}
 use Rattle.atomic_table.proofs.Lists.{at_index, at_set}
 use Rattle.call_worker.specs.declared.mark.Mark.{Mark}
-use Rattle.call_worker.specs.Going.{DoesStep, Fits, Goes, GoesOn, GoesPart, IsPending, IsSettled, Sends, SendsAll, State, Stands, ended_of, mark_at, not_ended, noted, unmarked, with_added}
+use Rattle.call_worker.specs.Going.{DoesStep, Fits, Goes, GoesPart, IsPending, IsSettled, Sends, SendsAll, State, Stands, ended_of, mark_at, not_ended, noted, unmarked, with_added}
 use Rattle.call_worker.specs.Links.{AreStepped, HasDown, is_given_up}
-use Rattle.call_worker.specs.Steps.{frames_to, items_of, over, ticked, whats_of}
+use Rattle.call_worker.specs.Steps.{frames_to, over, whats_of}
 use Rattle.call_worker.specs.Taking.{HasTaken}
 use Rattle.call_worker.proofs.Courses.{goes_still, taken_none}
 use Rattle.call_worker.proofs.Outputs.{all_none}
@@ -29,7 +28,7 @@ use Rattle.ruled_relay.specs.Ends.{EndView}
 use Rattle.ruled_relay.specs.Inbox.{TakesItem, queues_of}
 use Rattle.ruled_relay.specs.Outbox.{PutterView}
 use Rattle.ruled_relay.specs.Row.{EachAt, Row}
-use Rattle.ruled_relay.proofs.Places.{length_set, map_set, within}
+use Rattle.ruled_relay.proofs.Places.{length_set, within}
 
 -- ---- items of one source, and what is remembered
 

@@ -1,8 +1,10 @@
 -- A run of the call worker: one list of steps, and what of it each link gave and got.
-use Rattle.std.specs.Prelude.{◌≡◌, ℕ, ◌+◌, ◌<◌, ◌≤◌, Bool, true, List, [], ◌∷◌, ◌++◌, length, Option, Some, None}
+use Rattle.std.specs.Prelude.{◌≡◌, ℕ, ◌+◌, ◌<◌, ◌≤◌, Bool, true, List, [], ◌∷◌, ◌++◌, length, replicate, Option, Some, None}
 use mathlib.Core.Option.{some}
 use lib.ListN.{get_elem?}
 use Rattle.call_worker.specs.declared.limits.TheConstants.{TICK_MS}
+use Rattle.call_worker.specs.declared.mark.Marks.{Marks}
+use Rattle.call_worker.specs.Going.{unmarked}
 use Rattle.call_worker.specs.Links.{AreSent, AreStepped, HasDown, is_given_up, lines}
 use Rattle.call_worker.specs.Steps.{frames_to, items_of, over, ticked, whats_of}
 use Rattle.call_worker.specs.Taking.{HasTaken}
@@ -22,6 +24,10 @@ IsNew p = (p.put ≡ []) × (p.refused ≡ 0) × (p.refusals ≡ 0)
 
 abbrev pub AreNew : List PutterView → Type 0
 AreNew putters = EachAt putters (λ link p. IsNew p)
+
+-- nothing is remembered of so many links
+abbrev pub AreUnmarked : ℕ → Marks → Type 0
+AreUnmarked links marks = marks.of_links.items ≡ replicate links unmarked
 
 -- One link over these steps and these items taken. What goes to it was put, then End; where its outbox was given up, the
 -- first of that, then End. Its items in the steps are what was taken of it, with one more Down where that was added: only

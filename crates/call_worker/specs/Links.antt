@@ -1,5 +1,5 @@
 -- One link: the lines that were put for it, and the steps that its items became.
-use Rattle.std.specs.Prelude.{◌≡◌, ℕ, nat_le, Bool, true, false, List, [], ◌∷◌, ◌++◌, map}
+use Rattle.std.specs.Prelude.{◌≡◌, nat_le, Bool, true, false, List, ◌∷◌, ◌++◌, map}
 use Rattle.call_worker.specs.declared.limits.TheConstants.{MAX_REFUSALS}
 use Rattle.ipa_framing.specs.declared.frame.Frame.{Frame}
 use Rattle.relay_items.specs.declared.What.{What}

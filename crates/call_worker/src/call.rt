@@ -1,11 +1,11 @@
-ghost use Rattle.std.specs.Prelude.{◌≡◌, [], ◌<◌, ◌↔◌, length, IsTrue, MatchResult, OnOk, replicate, IfOk, vec_len};
-ghost use Rattle.call_worker.specs.Call.{AreNew, IsMemory, Runs};
+ghost use Rattle.std.specs.Prelude.{◌≡◌, [], ◌<◌, ◌↔◌, length, IsTrue, MatchResult, OnOk, replicate, vec_len};
+ghost use Rattle.call_worker.specs.Call.{AreNew, AreUnmarked, IsMemory, Runs};
 ghost use Rattle.call_worker.specs.Going.{AreAllDown, Finishes, Goes, GoesPart, IsSettled, Stands, unmarked};
 ghost use Rattle.call_worker.specs.Seen.{seen};
 
 use crate::clock::Clock;
 use crate::limits::TICK_MS;
-use crate::mark::Mark;
+use crate::mark::Marks;
 use crate::worker::Worker;
 use controller::Controller;
 use link_io::IoFault;
@@ -27,10 +27,12 @@ pub fn call_worker<R: Wait, K: Clock + Drop>(
     controller: Controller,
     desk: Desk,
     putters: Vec<Putter>,
+    marks: Marks,
     clock: K,
 ) -> (Controller, Desk, Vec<Putter>, K, Option<IoFault>)
     requires new { AreNew putters.items }
     requires sources { length desk ≡ vec_len putters }
+    requires marks { AreUnmarked (vec_len putters) marks }
     ensures runs { Runs result.4 (record { controller = controller; desk = desk; putters = putters.items; told = K.told clock }) (record { controller = result.0; desk = result.1; putters = result.2.items; told = K.told result.3 }) }
     ensures fault { IsMemory result.4 }
 {
@@ -39,7 +41,7 @@ pub fn call_worker<R: Wait, K: Clock + Drop>(
         controller,
         desk,
         putters,
-        marks: Vec::new(alloc),
+        marks: marks.of_links,
         ended: 0,
         clock,
         gathered: 0,
@@ -65,12 +67,11 @@ impl<K: Clock> Worker<K> {
     fn relay<R: Wait>(&mut self, rt: &R) -> Result<(), Memory>
         requires new { AreNew self.old.putters.items }
         requires sources { length self.old.desk ≡ vec_len self.old.putters }
-        requires start { (self.old.marks.items ≡ []) × (self.old.ended ≡ 0) × (self.old.gathered ≡ 0) }
+        requires start { (self.old.marks.items ≡ replicate (vec_len self.old.putters) unmarked) × (self.old.ended ≡ 0) × (self.old.gathered ≡ 0) }
         ensures goes { MatchResult result (λ _. Goes [] (seen K.told self.old) (seen K.told self.new)) (λ _. GoesPart (seen K.told self.old) (seen K.told self.new)) }
         ensures finishes { OnOk result (Finishes (seen K.told self.new)) }
         ensures ended { OnOk result (self.new.ended ≡ vec_len self.new.putters) }
     {
-        self.marks = unmarked_links(self.alloc, self.putters.len())?;
         self.take_all(rt)?;
         self.end_meanwhile(rt)
     }
@@ -116,17 +117,4 @@ impl<K: Clock> Worker<K> {
         self.desk
             .wait(rt, Duration::from_millis(TICK_MS - self.gathered));
     }
-}
-
-fn unmarked_links(alloc: Global, links: usize) -> Result<Vec<Mark>, Memory>
-    ensures { IfOk result (λ marks. marks.items ≡ replicate links unmarked) }
-{
-    let mut marks = Vec::with_capacity(alloc, links)?;
-    for _ in 0..links {
-        marks.push(Mark {
-            added: false,
-            down: false,
-        })?;
-    }
-    Ok(marks)
 }

@@ -5,6 +5,7 @@
 pub use call::call_worker;
 pub use clock::Clock;
 pub use limits::{MAX_REFUSALS, TICK_MS};
+pub use mark::Marks;
 
 mod call;
 mod clock;

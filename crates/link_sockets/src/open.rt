@@ -106,7 +106,13 @@ fn link_of<R: Log + Copy + Drop>(
 ) -> Result<SocketLink<R>, RunFault>
     ensures { IfOk result (λ link. (link.reader.name ≡ name) × (link.writer.name ≡ name)) }
 {
-    let (reader, writer) = ends_of(rt, alloc, name, stream)?;
+    let (reader, writer) = match ends_of(rt, alloc, name, stream) {
+        Ok(ends) => ends,
+        Err(fault) => {
+            error!(rt; target: "", "{name}: cannot use its socket: {fault}");
+            return Err(fault);
+        }
+    };
     let gate = OpenGate;
     Ok(Link {
         reader,

@@ -1,6 +1,6 @@
 //! The threads of the relay: all are started, or none begins.
 ghost use Rattle.std.specs.Prelude.{◌≡◌, [], ◌++◌, length, vec_len, IfOk, IfSome, None, OnOk};
-ghost use Rattle.call_worker.specs.Call.{AreNew};
+ghost use Rattle.call_worker.specs.Call.{AreNew, AreUnmarked};
 ghost use Rattle.station_io.specs.Done.{AreRead, AreWritten, IsCalled};
 
 use crate::work::{Calling, HasCalled, HasRead, HasWritten, Reading, Writing};
@@ -142,7 +142,7 @@ pub(crate) fn run<
     K: Clock + Drop,
     R: Threads + Wait + Copy + Send + 'static,
 >(rt: R, alloc: Global, works: Works<I, O, G, K>) -> Result<Done<I, O, G>, Memory>
-    requires { AreNew works.calling.putters.items × (length works.calling.desk ≡ vec_len works.calling.putters) }
+    requires { AreNew works.calling.putters.items × (length works.calling.desk ≡ vec_len works.calling.putters) × AreUnmarked (vec_len works.calling.putters) works.calling.marks }
     ensures read { IfOk result (λ d. AreRead I.remaining G.refused works.readings.items d.read.items) }
     ensures written { IfOk result (λ d. AreWritten O.contents works.writings.items d.written.items) }
     ensures called { IfOk result (λ d. IsCalled works.calling d.called) }

@@ -9,7 +9,7 @@ use crate::link::Link;
 use crate::queues::Queues;
 use crate::work::Calling;
 use crate::works::workers;
-use call_worker::Clock;
+use call_worker::{Clock, Marks};
 use controller::Controller;
 use link_io::{Gate, IoFault, LinkReader};
 use octets::Memory;
@@ -54,7 +54,7 @@ pub fn serve_links<
     Ok(give_back(room, read, written, called))
 }
 
-/// Makes the queues of all links, and lets each thread do its work with its ends of them.
+/// Makes the queues of all links, and all that can be refused but for the threads; then it lets each thread do its work with its ends of them.
 fn relay<
     I: LinkReader + Drop + Send + 'static,
     O: Write + Drop + Send + 'static,
@@ -78,12 +78,14 @@ fn relay<
         putters,
         takers,
     } = Queues::new(alloc, count)?;
+    let marks = Marks::new(alloc, count)?;
     let (readings, writings) = workers(alloc, links, passes, takers, limit)?;
     let calling = Calling {
         alloc,
         controller,
         desk,
         putters,
+        marks,
         clock,
     };
     let works = Works {

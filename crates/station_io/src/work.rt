@@ -1,6 +1,6 @@
 //! What each thread of the relay does.
 
-use call_worker::{Clock, call_worker};
+use call_worker::{Clock, Marks, call_worker};
 use controller::Controller;
 use link_io::{Gate, IoFault, LinkReader, serve_reader, serve_writer};
 use ruled_relay::{Desk, Putter, SourcePass, Taker};
@@ -98,6 +98,7 @@ pub(crate) struct Calling<K> {
     pub controller: Controller,
     pub desk: Desk,
     pub putters: Vec<Putter>,
+    pub marks: Marks,
     pub clock: K,
 }
 
@@ -113,10 +114,10 @@ impl<K: Clock + Drop> Worker for Calling<K> {
     type Done = HasCalled;
 
     ghost use Rattle.std.specs.Prelude.{◌≡◌, length, vec_len};
-    ghost use Rattle.call_worker.specs.Call.{AreNew};
+    ghost use Rattle.call_worker.specs.Call.{AreNew, AreUnmarked};
     ghost use Rattle.station_io.specs.Calls.{Calls};
 
-    ghost can_work = { λ w. AreNew w.putters.items × (length w.desk ≡ vec_len w.putters) };
+    ghost can_work = { λ w. AreNew w.putters.items × (length w.desk ≡ vec_len w.putters) × AreUnmarked (vec_len w.putters) w.marks };
 
     ghost does = { λ w d. Calls w.controller w.desk w.putters.items d.fault d.desk d.putters.items };
 
@@ -127,6 +128,7 @@ impl<K: Clock + Drop> Worker for Calling<K> {
             self.controller,
             self.desk,
             self.putters,
+            self.marks,
             self.clock,
         );
         HasCalled {

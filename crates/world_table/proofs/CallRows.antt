@@ -1,12 +1,12 @@
 -- What happens to a mobile's end in a run, and what stations take of it on each channel.
-use Rattle.std.proofs.Common.{◌≡◌, true, List, [], ◌∷◌, Some, refl}
+use Rattle.std.proofs.Common.{◌≡◌, true, List, [], ◌∷◌, Some, None, refl}
 use Rattle.controller_table.proofs.Lives.{usual_settings}
 use Rattle.dtap_codec.specs.declared.sapi.Sapi.TheVariants.{Zero, Three}
 use Rattle.mobile_end.specs.Calls.Call.{connects, sends, frames, acknowledges, leaves, arrives, gives_up}
 use Rattle.world_table.specs.declared.event.Event.{Event}
 use Rattle.world_table.specs.declared.event.Event.TheVariants.{Upper, Connect, AirUp, AirAck, AirDown, Move, Arrive, Return, BaseTakes, BasePush, Handle, SwitchTakes, SwitchDoes}
 use Rattle.world_table.specs.declared.event.SwitchAction.TheVariants.{Assign}
-use Rattle.world_table.specs.Calls.{all_calls, taken_by_channel}
+use Rattle.world_table.specs.Calls.{all_calls, comings, taken_by_channel}
 use Rattle.world_table.specs.World.{Actors, new_actors}
 use Rattle.world_table.proofs.Worlds.{on_literals}
 
@@ -31,6 +31,15 @@ taken_of_it : taken_by_channel begin 1 [] arrives_on_target ≡ ((0x05 ∷ 0x24 
 unfolding on_literals
 taken_of_it = refl
 
+-- COMPLETE is the first on the second of them
+comings_of_it : comings begin 1 None arrives_on_target ≡ None ∷ Some (0x06 ∷ 0x29 ∷ 0x00 ∷ []) ∷ []
+unfolding on_literals
+comings_of_it = refl
+
+comings_of_another : comings begin 2 None arrives_on_target ≡ None ∷ []
+unfolding on_literals
+comings_of_another = refl
+
 taken_of_another : taken_by_channel begin 2 [] arrives_on_target ≡ [] ∷ []
 unfolding on_literals
 taken_of_another = refl
@@ -46,3 +55,7 @@ calls_back = refl
 taken_back : taken_by_channel begin 1 [] goes_back ≡ ((0x05 ∷ 0x24 ∷ 0x71 ∷ []) ∷ (0x03 ∷ 0x45 ∷ []) ∷ []) ∷ ((0x06 ∷ 0x2f ∷ 0x03 ∷ []) ∷ (0x05 ∷ 0x88 ∷ []) ∷ []) ∷ []
 unfolding on_literals
 taken_back = refl
+
+comings_back : comings begin 1 None goes_back ≡ None ∷ Some (0x06 ∷ 0x2f ∷ 0x03 ∷ []) ∷ []
+unfolding on_literals
+comings_back = refl

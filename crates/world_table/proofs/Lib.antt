@@ -15,6 +15,7 @@ mod MobileRows
 pub mod Found
 pub mod Mobility
 pub mod Repeating
+mod Completing
 mod MoveRows
 pub mod Rows
 pub mod Piping

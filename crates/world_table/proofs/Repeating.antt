@@ -47,7 +47,7 @@ turn-silent e call true begun gives = turn-one e call false [] begun gives
 turn-silent e call false begun gives = turn-none e
 
 -- a frame that a station takes
-frame-same : (m : ℕ) (o : Option Mobile) → frame_lent (frame_answer (end_of m o) Zero) ≡ frame_of o
+pub frame-same : (m : ℕ) (o : Option Mobile) → frame_lent (frame_answer (end_of m o) Zero) ≡ frame_of o
 frame-same m None = refl
 frame-same m (Some p) = refl
 
@@ -60,31 +60,31 @@ turn-frame m number w n taken false doesnt = turn-none (end_of m (mobile_of w nu
 -- ---- it comes to a channel
 
 -- between two channels, as a command told it
-record IsBetween (w : Actors) (n : ℕ) : Type 0 where
-  p : Mobile
-  found : mobile_of w n ≡ Some p
-  from : Tenure
-  command : Command
-  seat : p.seat ≡ Moving from command
+pub record IsBetween (w : Actors) (n : ℕ) : Type 0 where
+  pub p : Mobile
+  pub found : mobile_of w n ≡ Some p
+  pub from : Tenure
+  pub command : Command
+  pub seat : p.seat ≡ Moving from command
 
 taken-so : {P : Type 0} (o : Option Actors) → OfTaken (λ _. P) o → is_some o ≡ true → P
 unfolding OfTaken
 taken-so None leads is = absurd cc
 taken-so (Some v) leads is = leads
 
-arriving : (w : Actors) (n : ℕ) → is_some (event_after w (Arrive n)) ≡ true → IsBetween w n
+pub arriving : (w : Actors) (n : ℕ) → is_some (event_after w (Arrive n)) ≡ true → IsBetween w n
 unfolding event_after
 arriving w n is = taken-so (event_after w (Arrive n)) (arrive-leads (λ _. IsBetween w n) w n (λ p from command found seat _. record { p = p; found = found; from = from; command = command; seat = seat })) is
 
-returning : (w : Actors) (n : ℕ) → is_some (event_after w (Return n)) ≡ true → IsBetween w n
+pub returning : (w : Actors) (n : ℕ) → is_some (event_after w (Return n)) ≡ true → IsBetween w n
 unfolding event_after
 returning w n is = taken-so (event_after w (Return n)) (return-leads (λ _. IsBetween w n) w n (λ p from command found seat _. record { p = p; found = found; from = from; command = command; seat = seat })) is
 
 -- its end is between two channels
-place-between : {m number : ℕ} {w : Actors} (n : ℕ) → Stands m number w → n ≡ number → (between : IsBetween w n) → Fits (Some between.p)
+pub place-between : {m number : ℕ} {w : Actors} (n : ℕ) → Stands m number w → n ≡ number → (between : IsBetween w n) → Fits (Some between.p)
 place-between {w = w} n stands same between = subst Fits (ap (mobile_of w) (sym same) ∙ between.found) stands.fits
 
-end-between : (m number : ℕ) (w : Actors) (n : ℕ) → n ≡ number → (between : IsBetween w n) → end_of m (mobile_of w number) ≡ between.p.end
+pub end-between : (m number : ℕ) (w : Actors) (n : ℕ) → n ≡ number → (between : IsBetween w n) → end_of m (mobile_of w number) ≡ between.p.end
 end-between m number w n same between = ap (end_of m) (ap (mobile_of w) (sym same) ∙ between.found)
 
 turn-arrive : (m number : ℕ) (w : Actors) (n : ℕ) (b : Bool) → (n == number) && is_some (event_after w (Arrive n)) ≡ b → Stands m number w

@@ -83,3 +83,43 @@ abbrev pub MobilesRepeatAtMostOne : Parameters → List Event → Type 0
 MobilesRepeatAtMostOne settings events =
     (number : ℕ) (p : Mobile) → mobile_of (actors_after_all (new_actors settings) events) number ≡ Some p
     → OneRepeat (modulus_in settings) p.end.sent 0 (taken_by_channel (new_actors settings) number [] events)
+
+-- ---- COMPLETE comes first
+
+-- the message of radio resource management with which it comes to the target of its command
+abbrev pub complete_of : Seat → Option (List ℕ)
+complete_of (Moving from command) = Some (complete command.change)
+complete_of seat = None
+
+-- and back
+abbrev pub failure_of : Seat → Option (List ℕ)
+failure_of (Moving from command) = Some (failure command.change)
+failure_of seat = None
+
+abbrev pub comes_with : Actors → Event → Option (List ℕ)
+comes_with w (Arrive mobile) = complete_of (seat_of (mobile_of w mobile))
+comes_with w (Return mobile) = failure_of (seat_of (mobile_of w mobile))
+comes_with w _ = None
+
+-- With which it comes, each time that it comes to a channel; to the present one it came with this, to its first channel with none.
+abbrev pub comings : Actors → ℕ → Option (List ℕ) → List Event → List (Option (List ℕ))
+comings w number present [] = present ∷ []
+comings w number present (event ∷ events) =
+    if comes_at w event number
+    then present ∷ comings (actors_after w event) number (comes_with w event) events
+    else comings (actors_after w event) number present events
+
+-- what was taken begins with this message, where it isn't empty
+abbrev pub Begins : Option (List ℕ) → List (List ℕ) → Type 0
+Begins (Some control) (first ∷ others) = first ≡ control
+Begins _ _ = Unit {0}
+
+abbrev pub EachBegins : List (Option (List ℕ)) → List (List (List ℕ)) → Type 0
+EachBegins [] [] = Unit {0}
+EachBegins (control ∷ controls) (taken ∷ others) = Begins control taken × EachBegins controls others
+EachBegins _ _ = ⊥
+
+-- Whatever happened: of each mobile, stations take COMPLETE first on a channel to which it was commanded, and FAILURE first where it came
+-- back.
+abbrev pub CompleteComesFirst : Parameters → List Event → Type 0
+CompleteComesFirst settings events = (number : ℕ) → EachBegins (comings (new_actors settings) number None events) (taken_by_channel (new_actors settings) number [] events)

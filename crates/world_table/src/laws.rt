@@ -1,7 +1,7 @@
 ghost use Rattle.std.specs.Prelude.{ℕ, List};
 ghost use Rattle.settings.specs.Parameters.{Parameters};
 ghost use Rattle.world_table.specs.declared.event.Event.{Event as WorldEvent};
-ghost use Rattle.world_table.specs.Calls.{MobilesRepeatAtMostOne};
+ghost use Rattle.world_table.specs.Calls.{CompleteComesFirst, MobilesRepeatAtMostOne};
 ghost use Rattle.world_table.specs.Honest.{AreHonest};
 ghost use Rattle.world_table.specs.Lives.{MobilesLive};
 ghost use Rattle.world_table.specs.Pipe.{ArePipes};
@@ -50,6 +50,12 @@ pub fn mobiles_live_by_their_ends()
 /// again.
 pub fn mobiles_repeat_at_most_one()
     ensures { (settings : Parameters) (events : List WorldEvent) → MobilesRepeatAtMostOne settings events }
+{}
+
+/// Law: whatever events happen, of each mobile: on a channel to which it was commanded, stations take COMPLETE of it first, before all
+/// else on SAPI 0; and where it came back to the channel that it left, FAILURE.
+pub fn complete_comes_first()
+    ensures { (settings : Parameters) (events : List WorldEvent) → CompleteComesFirst settings events }
 {}
 
 /// Law: whatever events happen, each frame that a station gives to the inbox is the text of a message that it made, and is read as

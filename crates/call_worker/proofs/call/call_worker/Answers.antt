@@ -1,4 +1,4 @@
-use Rattle.std.proofs.Common.{◌≡◌, ℕ, Option, None, Some, refl, sym, subst, arith}
+use Rattle.std.proofs.Common.{◌≡◌, ℕ, vec_len, Option, None, Some, refl, sym, subst, arith}
 use Rattle.link_io.specs.declared.fault.IoFault.{IoFault}
 use Rattle.link_io.specs.declared.fault.IoFault.TheVariants as faults
 use Rattle.call_worker.specs.declared.worker.Worker.{Worker}
@@ -20,7 +20,7 @@ returns-clause-runs g c =
       controller = c.args.controller;
       desk = c.args.desk;
       putters = c.args.putters.items;
-      marks = c.new.result.items;
+      marks = c.args.marks.of_links.items;
       ended = 0;
       told = g.K.Clock.told c.args.clock;
       gathered = 0;
@@ -28,10 +28,10 @@ returns-clause-runs g c =
     elim c.match-relay.branch [
       | in-Ok w ↦
           same_run g.K.Clock.told start c.match-relay.fault None c.match-relay.worker c.relay.new.self w.fault-is w.worker-is
-          (runs_whole start (seen g.K.Clock.told c.relay.new.self) c.requires.new c.new.ensures.items refl refl w.in-Ok.ensures.goes w.in-Ok.ensures.finishes
+          (runs_whole start (seen g.K.Clock.told c.relay.new.self) (vec_len c.args.putters) c.requires.new c.requires.marks refl refl w.in-Ok.ensures.goes w.in-Ok.ensures.finishes
           (let e = w.in-Ok.ensures.ended in omega (arith, c.relay.new.self.putters.ok.0)))
       | in-Err w ↦
           same_run g.K.Clock.told start c.match-relay.fault (Some faults.Memory) c.match-relay.worker w.end_alone.new.self w.fault-is w.worker-is
-          (runs_part faults.Memory start (seen g.K.Clock.told c.relay.new.self) (seen g.K.Clock.told w.end_alone.new.self) c.requires.new c.new.ensures.items refl refl w.in-Err.ensures.goes
+          (runs_part faults.Memory start (seen g.K.Clock.told c.relay.new.self) (seen g.K.Clock.told w.end_alone.new.self) (vec_len c.args.putters) c.requires.new c.requires.marks refl refl w.in-Err.ensures.goes
           w.end_alone.ensures.ends (let e = w.end_alone.ensures.ended in omega (arith, w.end_alone.new.self.putters.ok.0)))
     ]

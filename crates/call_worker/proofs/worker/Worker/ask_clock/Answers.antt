@@ -1,5 +1,4 @@
 use Rattle.std.proofs.Common.{[], refl, arith}
-use Rattle.call_worker.specs.Seen.{seen}
 use Rattle.call_worker.proofs.Courses.{goes_still, taken_none}
 use Rattle.call_worker.proofs.worker.Worker.ask_clock.Goals as goal
 

@@ -1,7 +1,7 @@
-use Rattle.std.proofs.Common.{[], refl}
+use Rattle.std.proofs.Common.{[]}
 use Rattle.call_worker.specs.Seen.{seen}
 use Rattle.call_worker.proofs.Courses.{by_err, goes_both, goes_both_part, goes_none}
-use Rattle.call_worker.proofs.Marking.{finishes_ends, goes_ends}
+use Rattle.call_worker.proofs.Marking.{goes_ends}
 use Rattle.call_worker.proofs.worker.Worker.end_meanwhile.Goals as goal
 
 pub loop-init : goal.loop-init

@@ -1,4 +1,4 @@
-use Rattle.std.proofs.Common.{sym, ◌∙◌, arith}
+use Rattle.std.proofs.Common.{sym, arith}
 use Rattle.call_worker.specs.Seen.{seen}
 use Rattle.call_worker.proofs.Turns.{all_settled, is_pending, not_pending}
 use Rattle.call_worker.proofs.worker.Worker.pending.Goals as goal

@@ -1,4 +1,4 @@
-use Rattle.std.proofs.Common.{◌≡◌, ◌≤◌, vec_len}
+use Rattle.std.proofs.Common.{◌≡◌, vec_len}
 use Rattle.call_worker.specs.Going.{Ends}
 use Rattle.call_worker.specs.Seen.{seen}
 use Rattle.call_worker.proofs.worker.Worker.put_ends.Given as goal

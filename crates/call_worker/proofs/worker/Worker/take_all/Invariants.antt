@@ -1,4 +1,4 @@
-use Rattle.std.proofs.Common.{◌≡◌, ◌<◌, []}
+use Rattle.std.proofs.Common.{◌<◌, []}
 use Rattle.call_worker.specs.declared.limits.TheConstants.{TICK_MS}
 use Rattle.call_worker.specs.Going.{Goes, IsSettled, Stands}
 use Rattle.call_worker.specs.Seen.{seen}

@@ -1,6 +1,6 @@
 use Rattle.std.proofs.Common.{◌≡◌, replicate}
 use Rattle.call_worker.specs.Going.{unmarked}
-use Rattle.call_worker.proofs.call.unmarked_links.Given as goal
+use Rattle.call_worker.proofs.mark.Marks.new.Given as goal
 
 abbrev pub invariant-loop : goal.invariant-loop
-invariant-loop l = l.marks.items ≡ replicate l.counter unmarked
+invariant-loop l = l.of_links.items ≡ replicate l.counter unmarked
