@@ -6,7 +6,7 @@ use Rattle.mobile_end.specs.Calls.Call.{connects, sends, frames, acknowledges, l
 use Rattle.world_table.specs.declared.event.Event.{Event}
 use Rattle.world_table.specs.declared.event.Event.TheVariants.{Upper, Connect, AirUp, AirAck, AirDown, Move, Arrive, Return, BaseTakes, BasePush, Handle, SwitchTakes, SwitchDoes}
 use Rattle.world_table.specs.declared.event.SwitchAction.TheVariants.{Assign}
-use Rattle.world_table.specs.Calls.{all_calls, comings, taken_by_channel}
+use Rattle.world_table.specs.Calls.{EachBegins, all_calls, comings, taken_by_channel}
 use Rattle.world_table.specs.World.{Actors, new_actors}
 use Rattle.world_table.proofs.Worlds.{on_literals}
 
@@ -59,3 +59,15 @@ taken_back = refl
 comings_back : comings begin 1 None goes_back ≡ None ∷ Some (0x06 ∷ 0x2f ∷ 0x03 ∷ []) ∷ []
 unfolding on_literals
 comings_back = refl
+
+-- ---- what begins with its message
+
+-- the first channel may begin with any message, and nothing may be taken of a channel
+begins_so : EachBegins (None ∷ Some (0x06 ∷ 0x29 ∷ 0x00 ∷ []) ∷ Some (0x06 ∷ 0x2f ∷ 0x03 ∷ []) ∷ []) (((0x05 ∷ 0x24 ∷ 0x71 ∷ []) ∷ []) ∷ ((0x06 ∷ 0x29 ∷ 0x00 ∷ []) ∷ (0x03 ∷ 0x45 ∷ []) ∷ []) ∷ [] ∷ [])
+begins_so = (tt, (refl, (tt, tt)))
+
+begins_with_another : EachBegins (None ∷ Some (0x06 ∷ 0x29 ∷ 0x00 ∷ []) ∷ []) ([] ∷ ((0x03 ∷ 0x45 ∷ []) ∷ (0x06 ∷ 0x29 ∷ 0x00 ∷ []) ∷ []) ∷ []) → ⊥
+begins_with_another (any, (first, end)) = cc
+
+misses_a_channel : EachBegins (None ∷ Some (0x06 ∷ 0x29 ∷ 0x00 ∷ []) ∷ []) ([] ∷ []) → ⊥
+misses_a_channel (any, none) = none
