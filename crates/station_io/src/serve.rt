@@ -54,7 +54,7 @@ pub fn serve_links<
     Ok(give_back(room, read, written, called))
 }
 
-/// Makes the queues of all links, and all that can be refused but for the threads; then it lets each thread do its work with its ends of them.
+/// Makes the queues of all links and the call worker's marks, and lets each thread do its work with its ends of them.
 fn relay<
     I: LinkReader + Drop + Send + 'static,
     O: Write + Drop + Send + 'static,

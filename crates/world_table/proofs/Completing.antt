@@ -3,6 +3,7 @@ use Rattle.std.proofs.Common.{◌≡◌, ℕ, ◌==◌, ◌&&◌, is_some, Bool,
 use Rattle.std.specs.Prelude.{option_to_list}
 use Rattle.std.proofs.lemmas.Bool.{eqb-true}
 use Rattle.std.proofs.lemmas.List.{append-nil}
+use Rattle.conn_messages.specs.declared.channel.Change.{Change}
 use Rattle.dtap_codec.specs.declared.sapi.Sapi.{Sapi}
 use Rattle.dtap_codec.specs.declared.sapi.Sapi.TheVariants.{Zero, Three}
 use Rattle.dtap_codec.specs.Message.{is_flow_message}
@@ -16,6 +17,7 @@ use Rattle.mobile_end.specs.declared.mobile_end.Stage.{Stage}
 use Rattle.mobile_end.specs.declared.mobile_end.Stage.TheVariants.{New, Connected}
 use Rattle.mobile_end.specs.Calls.{Call, after_call, after_calls, begins, frame_lent, may_arrive, taken_by_call, unless_connected, unless_refused}
 use Rattle.mobile_end.specs.Calls.Call.{connects, sends, frames, acknowledges, leaves, arrives, gives_up}
+use Rattle.mobile_end.specs.Control.{is_control}
 use Rattle.mobile_end.specs.DataLink.{after_load_from, lent_message, waits}
 use Rattle.mobile_end.specs.DataLinkState.{DataLinkState}
 use Rattle.mobile_end.specs.Mobile.{after_acked_at, after_arrival, after_connect, after_frame_at, after_number, after_queue, frame_answer_at, link_of, refusal_of_connect, refusal_of_send, with_link}
@@ -23,6 +25,10 @@ use Rattle.mobile_end.specs.MobileState.{MobileState}
 use Rattle.settings.specs.Parameters.{Parameters}
 use Rattle.world_table.specs.declared.event.Event.{Event}
 use Rattle.world_table.specs.declared.event.Event.TheVariants.{Upper, Connect, AirUp, AirAck, Move, Arrive, Return}
+use Rattle.world_table.specs.declared.seat.Command.{Command}
+use Rattle.world_table.specs.declared.seat.Seat.{Seat}
+use Rattle.world_table.specs.declared.seat.Seat.TheVariants.{Moving}
+use Rattle.world_table.specs.declared.seat.Tenure.{Tenure}
 use Rattle.world_table.specs.Calls.{Begins, CompleteComesFirst, EachBegins, calls_at, calls_to_arrive, calls_to_return, comes_at, comes_with, comings, complete_of, failure_of, frame_of, seat_of, taken_at, taken_by_channel}
 use Rattle.world_table.specs.Life.{actors_after, event_after}
 use Rattle.world_table.specs.Lives.{place_in}
@@ -139,32 +145,32 @@ turns-frame m number w n done true does =
     (frame-same m (mobile_of w number) ∙ ap (λ (k : ℕ). frame_of (mobile_of w k)) (sym (eqb-true n number (and-left (n == number) done does))))
 turns-frame m number w n done false not = turns-none (end_of m (mobile_of w number)) None
 
+-- it comes to a channel with this text
+turns-come : (m number : ℕ) (w : Actors) (n : ℕ) (call : List ℕ → Call) (text : Change → List ℕ) (calls : Seat → List Call) (told : Seat → Option (List ℕ))
+    → ((from : Tenure) (command : Command) → calls (Moving from command) ≡ call (text command.change) ∷ []) → ((from : Tenure) (command : Command) → told (Moving from command) ≡ Some (text command.change))
+    → ((change : Change) → is_control (text change) ≡ true) → ((e : MobileState) (xs : List ℕ) → after_call e (call xs) ≡ (if may_arrive e xs then after_arrival e xs else e))
+    → Stands m number w → n ≡ number → (at : IsBetween w n) → Turns (end_of m (mobile_of w number)) (calls (seat_of (mobile_of w n))) true (told (seat_of (mobile_of w n))) []
+turns-come m number w n call text calls told called said control does stands same at =
+    let e : MobileState = end_of m (mobile_of w number) in
+    let xs : List ℕ = text at.command.change in
+    let seat : seat_of (mobile_of w n) ≡ Moving at.from at.command = ap (λ (o : Option Mobile). seat_of o) at.found ∙ at.seat in
+    let may : may_arrive e xs ≡ true = ap (λ (x : MobileState). may_arrive x xs) (end-between m number w n same at) ∙ may-come at.p.end at.from at.command xs (place-between n stands same at ∙ ap place_in at.seat) (control at.command.change) in
+    let air : (after_call e (call xs)).zero.air ≡ Given xs = ap (λ (x : MobileState). x.zero.air) (does e xs) ∙ air-come e (after_arrival e xs) (may_arrive e xs) may in
+    subst (λ (cs : List Call). Turns e cs true (told (seat_of (mobile_of w n))) []) (sym (ap calls seat ∙ called at.from at.command))
+    (subst (λ (o : Option (List ℕ)). Turns e (call xs ∷ []) true o []) (sym (ap told seat ∙ said at.from at.command)) (comes xs air))
+
 turns-arrive : (m number : ℕ) (w : Actors) (n : ℕ) (b : Bool) → (n == number) && is_some (event_after w (Arrive n)) ≡ b → Stands m number w
     → Turns (end_of m (mobile_of w number)) (if b then calls_to_arrive (seat_of (mobile_of w n)) else []) b (complete_of (seat_of (mobile_of w n))) []
-turns-arrive m number w n true does stands =
-    let e : MobileState = end_of m (mobile_of w number) in
-    let same : n ≡ number = eqb-true n number (and-left (n == number) (is_some (event_after w (Arrive n))) does) in
-    let at : IsBetween w n = arriving w n (and-right (n == number) (is_some (event_after w (Arrive n))) does) in
-    let text : List ℕ = complete at.command.change in
-    let calls : calls_to_arrive (seat_of (mobile_of w n)) ≡ arrives text ∷ [] = ap (λ (o : Option Mobile). calls_to_arrive (seat_of o)) at.found ∙ ap calls_to_arrive at.seat in
-    let told : complete_of (seat_of (mobile_of w n)) ≡ Some text = ap (λ (o : Option Mobile). complete_of (seat_of o)) at.found ∙ ap complete_of at.seat in
-    let may : may_arrive e text ≡ true = ap (λ (x : MobileState). may_arrive x text) (end-between m number w n same at) ∙ may-come at.p.end at.from at.command text (place-between n stands same at ∙ ap place_in at.seat) (control-complete at.command.change) in
-    subst (λ (cs : List Call). Turns e cs true (complete_of (seat_of (mobile_of w n))) []) (sym calls)
-    (subst (λ (o : Option (List ℕ)). Turns e (arrives text ∷ []) true o []) (sym told) (comes text (air-come e (after_arrival e text) (may_arrive e text) may)))
+turns-arrive m number w n true done stands =
+    turns-come m number w n (λ xs. arrives xs) complete calls_to_arrive complete_of (λ from command. refl) (λ from command. refl) control-complete (λ e xs. refl) stands
+    (eqb-true n number (and-left (n == number) (is_some (event_after w (Arrive n))) done)) (arriving w n (and-right (n == number) (is_some (event_after w (Arrive n))) done))
 turns-arrive m number w n false not stands = turns-none (end_of m (mobile_of w number)) (complete_of (seat_of (mobile_of w n)))
 
 turns-return : (m number : ℕ) (w : Actors) (n : ℕ) (b : Bool) → (n == number) && is_some (event_after w (Return n)) ≡ b → Stands m number w
     → Turns (end_of m (mobile_of w number)) (if b then calls_to_return (seat_of (mobile_of w n)) else []) b (failure_of (seat_of (mobile_of w n))) []
-turns-return m number w n true does stands =
-    let e : MobileState = end_of m (mobile_of w number) in
-    let same : n ≡ number = eqb-true n number (and-left (n == number) (is_some (event_after w (Return n))) does) in
-    let at : IsBetween w n = returning w n (and-right (n == number) (is_some (event_after w (Return n))) does) in
-    let text : List ℕ = failure at.command.change in
-    let calls : calls_to_return (seat_of (mobile_of w n)) ≡ gives_up text ∷ [] = ap (λ (o : Option Mobile). calls_to_return (seat_of o)) at.found ∙ ap calls_to_return at.seat in
-    let told : failure_of (seat_of (mobile_of w n)) ≡ Some text = ap (λ (o : Option Mobile). failure_of (seat_of o)) at.found ∙ ap failure_of at.seat in
-    let may : may_arrive e text ≡ true = ap (λ (x : MobileState). may_arrive x text) (end-between m number w n same at) ∙ may-come at.p.end at.from at.command text (place-between n stands same at ∙ ap place_in at.seat) (control-failure at.command.change) in
-    subst (λ (cs : List Call). Turns e cs true (failure_of (seat_of (mobile_of w n))) []) (sym calls)
-    (subst (λ (o : Option (List ℕ)). Turns e (gives_up text ∷ []) true o []) (sym told) (comes text (air-come e (after_arrival e text) (may_arrive e text) may)))
+turns-return m number w n true done stands =
+    turns-come m number w n (λ xs. gives_up xs) failure calls_to_return failure_of (λ from command. refl) (λ from command. refl) control-failure (λ e xs. refl) stands
+    (eqb-true n number (and-left (n == number) (is_some (event_after w (Return n))) done)) (returning w n (and-right (n == number) (is_some (event_after w (Return n))) done))
 turns-return m number w n false not stands = turns-none (end_of m (mobile_of w number)) (failure_of (seat_of (mobile_of w n)))
 
 turns-at : (m number : ℕ) (w : Actors) (event : Event) → Stands m number w → Turns (end_of m (mobile_of w number)) (calls_at w event number) (comes_at w event number) (comes_with w event) (taken_at w event number)
