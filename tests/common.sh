@@ -1,0 +1,18 @@
+# For the scripts of this folder and of bench/. Beforehand top is the repository's folder.
+
+# needs COMMAND..: where one of them isn't here the script can't be tried, and ends with 77
+needs() {
+  local command
+  for command in "$@"; do
+    command -v "$command" >/dev/null && continue
+    echo "$0: can't be tried without $command"
+    exit 77
+  done
+}
+
+# sets program to the path of the proved program, which is proved and built first where it isn't
+prove_program() {
+  program=$("$top/bsc" prove) && return
+  echo "$0: there is no proved program"
+  exit 1
+}
