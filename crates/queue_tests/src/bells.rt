@@ -1,76 +1,94 @@
-use ruled_relay::{Inbox, Line, Outbox, Putter};
+use ruled_relay::{Desk, Inbox, Line, Outbox, Putter, Taker};
+use std::process::Abort;
 use std::sync::Wait;
-use std::test::Fail;
 use std::thread;
-use std::time::{Duration, Instant};
+use std::time::{Clock, Duration, Instant};
 
 /// How many seconds a wait lasts that no bell ends.
 const LONG: u64 = 20;
 
+/// How many milliseconds a wait lasts for a bell that nobody rings.
+const SHORT: u64 = 20;
+
+fn now<R: Abort + Clock>(rt: &R) -> Instant {
+    Instant::now(rt).expect(rt, "a clock")
+}
+
+/// How long ago that was.
+fn since<R: Abort + Clock>(rt: &R, begin: Instant) -> Duration {
+    begin.elapsed(rt).expect(rt, "a clock")
+}
+
+/// Waits at a desk for which nobody rings.
+fn rests_at_desk<R: Abort + Clock + Wait>(rt: &R, desk: &Desk) -> bool {
+    let begin = now(rt);
+    desk.wait(rt, Duration::from_millis(SHORT));
+    since(rt, begin).as_millis() >= u128::from(SHORT)
+}
+
 #[test]
-fn a_desk_waits_until_a_pass_rings(rt: HostRuntime) -> Result<(), Fail> {
-    let (desk, passes) = Inbox::new(rt.alloc(), 33, 1)?;
-    let begin = Instant::now(&rt)?;
-    desk.wait(&rt, Duration::from_millis(20));
-    assert!(rt; begin.elapsed(&rt)?.as_millis() >= 20);
+fn a_desk_waits_until_a_pass_rings(rt: HostRuntime) {
+    let (desk, passes) = Inbox::new(rt.alloc(), 33, 1).expect(&rt, "an inbox");
+    assert!(rt; rests_at_desk(&rt, &desk));
+    let begin = now(&rt);
     for pass in &passes {
         pass.ring();
         desk.wait(&rt, Duration::from_secs(LONG));
     }
-    assert!(rt; begin.elapsed(&rt)?.as_secs() < LONG);
-    Ok(())
+    assert!(rt; since(&rt, begin).as_secs() < LONG);
 }
 
 /// Puts the mark that stands behind the last frame.
-fn put_end<R: Wait>(rt: &R, putter: &mut Putter) -> Result<(), Fail> {
-    match putter.put(rt, Line::End) {
-        Ok(()) => Ok(()),
-        Err(_) => Err(Fail::new("the outbox is full")),
-    }
+fn put_end<R: Abort + Wait>(rt: &R, putter: &mut Putter) {
+    assert!(rt; putter.put(rt, Line::End).is_ok());
+}
+
+/// Whether a bell ends a taker's wait.
+fn is_woken<R: Abort + Clock + Wait>(rt: &R, taker: &Taker) -> bool {
+    let begin = now(rt);
+    taker.wait(rt, Duration::from_secs(LONG));
+    since(rt, begin).as_secs() < LONG
 }
 
 #[test]
-fn a_putter_wakes_a_taker_that_sleeps(rt: HostRuntime) -> Result<(), Fail> {
-    let (mut putter, taker) = Outbox::new(rt.alloc(), 1)?;
-    put_end(&rt, &mut putter)?;
-    let begin = Instant::now(&rt)?;
+fn a_putter_wakes_a_taker_that_sleeps(rt: HostRuntime) {
+    let (mut putter, taker) = Outbox::new(rt.alloc(), 1).expect(&rt, "an outbox");
+    put_end(&rt, &mut putter);
     taker.wait(&rt, Duration::from_millis(1));
     let ringer = thread::spawn(&rt, move || {
         thread::sleep(&rt, Duration::from_millis(100));
         putter.ring();
-    })?;
-    taker.wait(&rt, Duration::from_secs(LONG));
-    assert!(rt; begin.elapsed(&rt)?.as_secs() < LONG);
+    })
+    .expect(&rt, "a thread");
+    assert!(rt; is_woken(&rt, &taker));
     ringer.join(&rt);
-    Ok(())
+}
+
+/// Whether a taker's wait lasts as long as it was told to, since nobody rings.
+fn rests<R: Abort + Clock + Wait>(rt: &R, taker: &Taker) -> bool {
+    let begin = now(rt);
+    taker.wait(rt, Duration::from_millis(SHORT));
+    since(rt, begin).as_millis() >= u128::from(SHORT)
 }
 
 #[test]
-fn each_line_that_is_put_is_rung_for_once(rt: HostRuntime) -> Result<(), Fail> {
-    let (mut putter, taker) = Outbox::new(rt.alloc(), 4)?;
-    let begin = Instant::now(&rt)?;
+fn each_line_that_is_put_is_rung_for_once(rt: HostRuntime) {
+    let (mut putter, taker) = Outbox::new(rt.alloc(), 4).expect(&rt, "an outbox");
     for _ in 0..3 {
-        put_end(&rt, &mut putter)?;
+        put_end(&rt, &mut putter);
         putter.ring();
-        taker.wait(&rt, Duration::from_secs(LONG));
-        assert!(rt; begin.elapsed(&rt)?.as_secs() < LONG);
-        let rested = Instant::now(&rt)?;
+        assert!(rt; is_woken(&rt, &taker));
         putter.ring();
-        taker.wait(&rt, Duration::from_millis(20));
-        assert!(rt; rested.elapsed(&rt)?.as_millis() >= 20);
+        assert!(rt; rests(&rt, &taker));
     }
-    Ok(())
 }
 
 #[test]
-fn a_taker_is_told_once_that_its_outbox_was_given_up(rt: HostRuntime) -> Result<(), Fail> {
-    let (putter, taker) = Outbox::new(rt.alloc(), 1)?;
-    let begin = Instant::now(&rt)?;
+fn a_taker_is_told_once_that_its_outbox_was_given_up(rt: HostRuntime) {
+    let (putter, taker) = Outbox::new(rt.alloc(), 1).expect(&rt, "an outbox");
     assert!(rt; !taker.was_given_up());
     putter.give_up();
-    taker.wait(&rt, Duration::from_secs(LONG));
-    assert!(rt; begin.elapsed(&rt)?.as_secs() < LONG);
+    assert!(rt; is_woken(&rt, &taker));
     assert!(rt; taker.was_given_up());
     assert!(rt; !taker.was_given_up());
-    Ok(())
 }

@@ -14,15 +14,23 @@ fn item(alloc: Global, source: u16, octet: u8) -> Result<Item, Memory> {
     Ok(Item { source, what })
 }
 
+/// Two such items of source 0, and one of source 1.
+fn items(alloc: Global) -> Result<(Item, Item, Item), Memory> {
+    let one = item(alloc, 0, 1)?;
+    let two = item(alloc, 0, 2)?;
+    let three = item(alloc, 1, 3)?;
+    Ok((one, two, three))
+}
+
 /// Whether this is the frame of one octet, of this source.
-fn is_item(item: Option<&Item>, source: u16, octet: u8) -> bool {
+fn is_item(item: Option<Item>, source: u16, octet: u8) -> bool {
     match item {
         Some(
             Item {
                 source: of,
                 what: What::Frame(frame),
             },
-        ) => *of == source && is_frame(frame, octet),
+        ) => of == source && is_frame(&frame, octet),
         _ => false,
     }
 }
@@ -42,7 +50,7 @@ fn put_at<R: Wait>(
 }
 
 /// Whether this item comes back, since the queue is full.
-fn is_full(put: &Result<(), PutFault>, source: u16, octet: u8) -> bool {
+fn is_full(put: Result<(), PutFault>, source: u16, octet: u8) -> bool {
     match put {
         Err(PutFault::Full(back)) => is_item(Some(back), source, octet),
         Err(PutFault::Foreign(_)) | Ok(()) => false,
@@ -50,7 +58,7 @@ fn is_full(put: &Result<(), PutFault>, source: u16, octet: u8) -> bool {
 }
 
 /// Whether this item comes back, since it is another source's.
-fn is_foreign(put: &Result<(), PutFault>, source: u16, octet: u8) -> bool {
+fn is_foreign(put: Result<(), PutFault>, source: u16, octet: u8) -> bool {
     match put {
         Err(PutFault::Foreign(back)) => is_item(Some(back), source, octet),
         Err(PutFault::Full(_)) | Ok(()) => false,
@@ -61,23 +69,17 @@ fn is_foreign(put: &Result<(), PutFault>, source: u16, octet: u8) -> bool {
 fn an_inbox_of_one_item_for_each_of_two_sources(rt: HostRuntime) -> Result<(), Fail> {
     let alloc = rt.alloc();
     let (mut desk, mut passes) = Inbox::new(alloc, 2, 1)?;
-    let one = put_at(&rt, &mut passes, 0, item(alloc, 0, 1)?);
-    assert!(rt; one.is_ok());
-    let two = put_at(&rt, &mut passes, 0, item(alloc, 0, 2)?);
-    assert!(rt; is_full(&two, 0, 2));
-    let three = put_at(&rt, &mut passes, 0, item(alloc, 1, 3)?);
-    assert!(rt; is_foreign(&three, 1, 3));
-    let taken = desk.take(&rt);
-    assert!(rt; is_item(taken.as_ref(), 0, 1));
-    let none = desk.take(&rt);
-    assert!(rt; none.is_none());
-    let four = put_at(&rt, &mut passes, 0, item(alloc, 0, 2)?);
-    assert!(rt; four.is_ok());
+    let (one, two, foreign) = items(alloc)?;
+    let again = item(alloc, 0, 2)?;
+    assert!(rt; put_at(&rt, &mut passes, 0, one).is_ok());
+    assert!(rt; is_full(put_at(&rt, &mut passes, 0, two), 0, 2));
+    assert!(rt; is_foreign(put_at(&rt, &mut passes, 0, foreign), 1, 3));
+    assert!(rt; is_item(desk.take(&rt), 0, 1));
+    assert!(rt; desk.take(&rt).is_none());
+    assert!(rt; put_at(&rt, &mut passes, 0, again).is_ok());
     let mut left = Inbox::finish(desk, passes);
-    let rest = left.next(&rt);
-    assert!(rt; is_item(rest.as_ref(), 0, 2));
-    let none = left.next(&rt);
-    assert!(rt; none.is_none());
+    assert!(rt; is_item(left.next(&rt), 0, 2));
+    assert!(rt; left.next(&rt).is_none());
     Ok(())
 }
 
@@ -85,12 +87,13 @@ fn an_inbox_of_one_item_for_each_of_two_sources(rt: HostRuntime) -> Result<(), F
 fn two_sources_take_turns(rt: HostRuntime) -> Result<(), Fail> {
     let alloc = rt.alloc();
     let (mut desk, mut passes) = Inbox::new(alloc, 2, 2)?;
-    assert!(rt; put_at(&rt, &mut passes, 0, item(alloc, 0, 1)?).is_ok());
-    assert!(rt; put_at(&rt, &mut passes, 0, item(alloc, 0, 2)?).is_ok());
-    assert!(rt; put_at(&rt, &mut passes, 1, item(alloc, 1, 3)?).is_ok());
-    assert!(rt; is_item(desk.take(&rt).as_ref(), 0, 1));
-    assert!(rt; is_item(desk.take(&rt).as_ref(), 1, 3));
-    assert!(rt; is_item(desk.take(&rt).as_ref(), 0, 2));
+    let (one, two, three) = items(alloc)?;
+    assert!(rt; put_at(&rt, &mut passes, 0, one).is_ok());
+    assert!(rt; put_at(&rt, &mut passes, 0, two).is_ok());
+    assert!(rt; put_at(&rt, &mut passes, 1, three).is_ok());
+    assert!(rt; is_item(desk.take(&rt), 0, 1));
+    assert!(rt; is_item(desk.take(&rt), 1, 3));
+    assert!(rt; is_item(desk.take(&rt), 0, 2));
     assert!(rt; desk.take(&rt).is_none());
     Ok(())
 }

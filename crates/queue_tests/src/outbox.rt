@@ -1,46 +1,55 @@
 ghost use Rattle.std.specs.Prelude.{◌≡◌};
 
 use crate::frames::{frame, is_frame};
+use octets::Memory;
 use ruled_relay::{Full, Line, Outbox, Putter};
 use std::alloc::Global;
 use std::sync::Wait;
 use std::test::Fail;
 
-/// A line of a frame of one octet.
-fn line(alloc: Global, octet: u8) -> Result<Line, Fail> {
-    Ok(Line::Frame(frame(alloc, octet)?))
+/// The lines of two frames of one octet.
+fn lines(alloc: Global, first: u8, second: u8) -> Result<(Line, Line), Memory> {
+    let first = Line::Frame(frame(alloc, first)?);
+    let second = Line::Frame(frame(alloc, second)?);
+    Ok((first, second))
 }
 
-/// Whether it is the line of this frame.
-fn is_line(line: Option<&Line>, octet: u8) -> bool {
-    match line {
-        Some(Line::Frame(frame)) => is_frame(frame, octet),
-        Some(Line::End) | None => false,
+/// Whether it is the line of this frame, or the mark where none is named.
+fn is_line(line: Option<Line>, octet: Option<u8>) -> bool {
+    match (line, octet) {
+        (Some(Line::Frame(frame)), Some(octet)) => is_frame(&frame, octet),
+        (Some(Line::End), None) => true,
+        _ => false,
     }
 }
 
-/// Whether this frame is handed back.
-fn is_refused<R: Wait>(rt: &R, alloc: Global, putter: &mut Putter, octet: u8) -> Result<bool, Fail>
+/// Whether a line is handed back, and so many frames were refused then.
+fn is_refused<R: Wait>(
+    rt: &R,
+    putter: &mut Putter,
+    line: Line,
+    octet: Option<u8>,
+    refusals: u32,
+) -> bool
     ensures { putter.new.queue ≡ putter.old.queue }
 {
-    match putter.put(rt, line(alloc, octet)?) {
-        Err(Full(back)) => Ok(is_line(Some(&back), octet)),
-        Ok(()) => Ok(false),
+    match putter.put(rt, line) {
+        Err(Full(back)) => is_line(Some(back), octet) && putter.refusals() == refusals,
+        Ok(()) => false,
     }
 }
 
 #[test]
 fn an_outbox_of_one_line(rt: HostRuntime) -> Result<(), Fail> {
     let alloc = rt.alloc();
+    let (one, two) = lines(alloc, 8, 9)?;
     let (mut putter, mut taker) = Outbox::new(alloc, 1)?;
-    assert!(rt; putter.put(&rt, line(alloc, 8)?).is_ok());
-    assert!(rt; is_refused(&rt, alloc, &mut putter, 9)?);
-    assert!(rt; putter.refusals() == 1);
-    assert!(rt; matches!(putter.put(&rt, Line::End), Err(Full(Line::End))));
-    assert!(rt; putter.refusals() == 1);
-    assert!(rt; is_line(taker.take(&rt).as_ref(), 8));
+    assert!(rt; putter.put(&rt, one).is_ok());
+    assert!(rt; is_refused(&rt, &mut putter, two, Some(9), 1));
+    assert!(rt; is_refused(&rt, &mut putter, Line::End, None, 1));
+    assert!(rt; is_line(taker.take(&rt), Some(8)));
     assert!(rt; putter.put(&rt, Line::End).is_ok());
-    assert!(rt; matches!(taker.take(&rt), Some(Line::End)));
+    assert!(rt; is_line(taker.take(&rt), None));
     assert!(rt; taker.take(&rt).is_none());
     let mut unsent = Outbox::finish(putter, taker);
     assert!(rt; unsent.next(&rt).is_none());

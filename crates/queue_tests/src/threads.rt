@@ -1,10 +1,9 @@
 use crate::frames::{frame, is_frame};
-use octets::Memory;
 use relay_items::{Item, What};
-use ruled_relay::{Desk, Full, Inbox, Line, Outbox, PutFault, Putter, SourcePass};
+use ruled_relay::{Desk, Full, Inbox, Line, Outbox, PutFault, Putter, SourcePass, Taker};
 use std::alloc::Global;
+use std::process::Abort;
 use std::sync::Wait;
-use std::test::Fail;
 use std::thread;
 use std::time::Duration;
 
@@ -26,26 +25,15 @@ fn put_when_room<R: Wait>(rt: &R, pass: &mut SourcePass, mut item: Item) {
 }
 
 /// Puts the frames 0, 1 and so on, and that the link is down.
-fn feed<R: Wait>(
-    rt: &R,
-    alloc: Global,
-    source: u16,
-    mut pass: SourcePass,
-) -> Result<SourcePass, Memory> {
+fn feed<R: Abort + Wait>(rt: &R, alloc: Global, mut pass: SourcePass) {
+    let source = pass.source();
     for octet in 0..FRAMES {
-        let what = What::Frame(frame(alloc, octet)?);
+        let what = What::Frame(frame(alloc, octet).expect(rt, "a frame"));
         put_when_room(rt, &mut pass, Item { source, what });
     }
-    put_when_room(
-        rt,
-        &mut pass,
-        Item {
-            source,
-            what: What::Down,
-        },
-    );
+    let what = What::Down;
+    put_when_room(rt, &mut pass, Item { source, what });
     pass.ring();
-    Ok(pass)
 }
 
 /// Takes until each source is down. Says whether each source's frames came in order.
@@ -76,22 +64,19 @@ fn take_all<R: Wait>(rt: &R, desk: &mut Desk) -> bool {
 }
 
 #[test]
-fn everything_comes_in_order_from_each_of_many_threads(rt: HostRuntime) -> Result<(), Fail> {
+fn everything_comes_in_order_from_each_of_many_threads(rt: HostRuntime) {
     let alloc = rt.alloc();
-    let (mut desk, passes) = Inbox::new(alloc, SOURCES, 4)?;
-    let mut threads = Vec::with_capacity(alloc, usize::from(SOURCES))?;
-    let mut source = 0u16;
+    let (mut desk, passes) = Inbox::new(alloc, SOURCES, 4).expect(&rt, "an inbox");
+    let mut threads = Vec::with_capacity(alloc, usize::from(SOURCES)).expect(&rt, "room");
     for pass in passes {
-        threads.push(thread::spawn(&rt, move || feed(&rt, alloc, source, pass))?)?;
-        source = source.saturating_add(1);
+        let thread = thread::spawn(&rt, move || feed(&rt, alloc, pass)).expect(&rt, "a thread");
+        threads.push(thread).expect(&rt, "room");
     }
     assert!(rt; take_all(&rt, &mut desk));
-    let mut passes = Vec::with_capacity(alloc, usize::from(SOURCES))?;
     for thread in threads {
-        passes.push(thread.join(&rt)?)?;
+        thread.join(&rt);
     }
     assert!(rt; desk.take(&rt).is_none());
-    Ok(())
 }
 
 /// Puts a line once there is room for it.
@@ -107,31 +92,38 @@ fn put_line_when_room<R: Wait>(rt: &R, putter: &mut Putter, mut line: Line) {
 }
 
 /// Puts the frames 0, 1 and so on, and the mark behind them.
-fn feed_outbox<R: Wait>(rt: &R, alloc: Global, putter: &mut Putter) -> Result<(), Memory> {
+fn feed_outbox<R: Abort + Wait>(rt: &R, alloc: Global, putter: &mut Putter) {
     for octet in 0..FRAMES {
-        put_line_when_room(rt, putter, Line::Frame(frame(alloc, octet)?));
+        let frame = frame(alloc, octet).expect(rt, "a frame");
+        put_line_when_room(rt, putter, Line::Frame(frame));
     }
     put_line_when_room(rt, putter, Line::End);
-    Ok(())
 }
 
-#[test]
-fn a_thread_gets_all_lines_of_an_outbox(rt: HostRuntime) -> Result<(), Fail> {
-    let alloc = rt.alloc();
-    let (mut putter, mut taker) = Outbox::new(alloc, 4)?;
-    let thread = thread::spawn(&rt, move || feed_outbox(&rt, alloc, &mut putter))?;
+/// Takes until the mark. Says whether the frames came in order.
+fn take_lines<R: Wait>(rt: &R, taker: &mut Taker) -> bool {
     let mut next = 0u8;
+    let mut in_order = true;
     for _ in rt.forever() {
-        match taker.take(&rt) {
+        match taker.take(rt) {
             Some(Line::Frame(frame)) => {
-                assert!(rt; is_frame(&frame, next));
+                in_order = in_order && is_frame(&frame, next);
                 next = next.saturating_add(1);
             }
             Some(Line::End) => break,
-            None => taker.wait(&rt, Duration::from_millis(100)),
+            None => taker.wait(rt, Duration::from_millis(100)),
         }
     }
-    assert!(rt; next == FRAMES);
-    thread.join(&rt)?;
-    Ok(())
+    in_order && next == FRAMES
+}
+
+#[test]
+fn a_thread_gets_all_lines_of_an_outbox(rt: HostRuntime) {
+    let alloc = rt.alloc();
+    let (mut putter, mut taker) = Outbox::new(alloc, 4).expect(&rt, "an outbox");
+    let thread = thread::spawn(&rt, move || feed_outbox(&rt, alloc, &mut putter)).expect(
+        &rt, "a thread",
+    );
+    assert!(rt; take_lines(&rt, &mut taker));
+    thread.join(&rt);
 }
