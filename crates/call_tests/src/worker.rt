@@ -1,18 +1,19 @@
-ghost use Rattle.std.specs.Prelude.{◌≡◌, ◌<◌, length, vec_len, IfOk};
+ghost use Rattle.std.specs.Prelude.{◌≡◌, ◌<◌, length, vec_len};
 ghost use Rattle.call_worker.specs.Call.{AreNew, AreUnmarked};
 
 use crate::script::Script;
 use call_worker::{Marks, call_worker};
 use controller::Controller;
 use ipa_framing::{CCM_STREAM, Frame, RSL_STREAM};
+use link_io::IoFault;
 use octets::Octets;
 use relay_items::{Item, What};
 use ruled_relay::{Desk, Inbox, Line, Outbox, Putter, SourcePass, Taker};
 use settings::Settings;
 use std::alloc::Global;
+use std::process::Abort;
+use std::sync::Wait;
 use std::sync::atomic::{AtomicU64, Ordering};
-use std::sync::{Arc, Wait};
-use std::test::Fail;
 use std::thread;
 use std::time::{Clock, Duration};
 
@@ -43,65 +44,113 @@ const PING: Text<'_> = (CCM_STREAM, &[0x00]);
 
 const PONG: Text<'_> = (CCM_STREAM, &[0x01]);
 
-/// The queues of a switch and of one station: the call worker's ends, and the others.
+/// The call worker's ends of the queues of a switch and of one station.
 #[derive(Drop)]
-struct Queues {
+struct Ends {
     desk: Desk,
     putters: Vec<Putter>,
     marks: Marks,
-    switch_pass: SourcePass,
-    station_pass: SourcePass,
-    switch_taker: Taker,
-    station_taker: Taker,
 }
 
-impl Queues {
-    /// New queues, of which the station's outbox has room for so many lines.
-    fn new(alloc: Global, room: usize) -> Result<Queues, Fail>
-        requires { 0 < room }
-        ensures new { IfOk result (λ q. AreNew q.putters.items) }
-        ensures sources { IfOk result (λ q. length q.desk ≡ vec_len q.putters) }
-        ensures marks { IfOk result (λ q. AreUnmarked (vec_len q.putters) q.marks) }
-    {
-        let (desk, mut passes) = Inbox::new(alloc, 2, 8)?;
-        let (Some(station_pass), Some(switch_pass)) = (passes.pop(), passes.pop()) else {
-            return Err(Fail::new("no passes"));
-        };
-        let (switch, switch_taker) = Outbox::new(alloc, 8)?;
-        let (station, station_taker) = Outbox::new(alloc, room)?;
-        let mut putters = Vec::with_capacity(alloc, 2)?;
-        putters.push(switch)?;
-        putters.push(station)?;
-        let marks = Marks::new(alloc, putters.len())?;
-        Ok(Queues {
-            desk,
-            putters,
-            marks,
-            switch_pass,
-            station_pass,
-            switch_taker,
-            station_taker,
-        })
+/// The other ends of a link's queues.
+#[derive(Drop)]
+struct Link {
+    pass: SourcePass,
+    taker: Taker,
+}
+
+/// New queues, of which the station's outbox has room for so many lines; with the link of the switch, and the station's.
+fn queues<R: Abort>(rt: &R, alloc: Global, room: usize) -> (Ends, Link, Link)
+    requires { 0 < room }
+    ensures new { AreNew result.0.putters.items }
+    ensures sources { length result.0.desk ≡ vec_len result.0.putters }
+    ensures marks { AreUnmarked (vec_len result.0.putters) result.0.marks }
+{
+    let (desk, mut passes) = Inbox::new(alloc, 2, 8).expect(rt, "an inbox");
+    let station_pass = passes.pop().expect(rt, "the station's pass");
+    let switch_pass = passes.pop().expect(rt, "the switch's pass");
+    let (switch, switch_taker) = Outbox::new(alloc, 8).expect(rt, "an outbox");
+    let (station, station_taker) = Outbox::new(alloc, room).expect(rt, "an outbox");
+    let mut putters = Vec::with_capacity(alloc, 2).expect(rt, "room for two");
+    putters.push(switch).expect(rt, "room for the switch's");
+    putters.push(station).expect(rt, "room for the station's");
+    let marks = Marks::new(alloc, putters.len()).expect(rt, "marks");
+    let ends = Ends {
+        desk,
+        putters,
+        marks,
+    };
+    let switch = Link {
+        pass: switch_pass,
+        taker: switch_taker,
+    };
+    let station = Link {
+        pass: station_pass,
+        taker: station_taker,
+    };
+    (ends, switch, station)
+}
+
+/// How a run of the call worker ended.
+#[derive(Clone, Copy)]
+struct Ended {
+    fault: Option<IoFault>,
+    ignored: u64,
+    /// Of the switch's outbox, and of the station's.
+    refusals: (u32, u32),
+}
+
+/// A controller of one cell.
+fn controller<R: Abort>(rt: &R, alloc: Global) -> Controller {
+    let settings = Settings::read(alloc, ONE_CELL).expect(rt, "the settings");
+    Controller::new(alloc, settings).expect(rt, "a controller")
+}
+
+/// Runs the call worker of a controller of one cell.
+fn run<R: Abort + Wait>(rt: &R, alloc: Global, ends: Ends, clock: Script) -> Ended
+    requires new { AreNew ends.putters.items }
+    requires sources { length ends.desk ≡ vec_len ends.putters }
+    requires marks { AreUnmarked (vec_len ends.putters) ends.marks }
+{
+    let Ends {
+        desk,
+        putters,
+        marks,
+    } = ends;
+    let controller = controller(rt, alloc);
+    let (controller, _, putters, _, fault) = call_worker(
+        rt, alloc, controller, desk, putters, marks, clock,
+    );
+    Ended {
+        fault,
+        ignored: controller.ignored(),
+        refusals: refusals(putters.as_slice()),
     }
 }
 
-/// Puts these frames, and then that the link is down. False where that was refused.
-fn put_all<R: Wait>(rt: &R, alloc: Global, pass: &mut SourcePass, texts: &[Text]) -> bool {
+/// How often the switch's outbox, and the station's, refused a frame.
+fn refusals(putters: &[Putter]) -> (u32, u32) {
+    match putters {
+        [switch, station] => (switch.refusals(), station.refusals()),
+        _ => (u32::MAX, u32::MAX),
+    }
+}
+
+/// Puts an item of this link.
+fn put<R: Abort + Wait>(rt: &R, pass: &mut SourcePass, what: What) {
     let source = pass.source();
+    assert!(rt; pass.put(rt, Item { source, what }).is_ok());
+}
+
+/// Puts these frames, and then that the link is down.
+fn put_all<R: Abort + Wait>(rt: &R, alloc: Global, pass: &mut SourcePass, texts: &[Text]) {
     for (stream, body) in texts {
-        let Ok(body) = Octets::copy(alloc, *body) else {
-            return false;
-        };
+        let body = Octets::copy(alloc, *body).expect(rt, "a body");
         let stream = *stream;
-        let what = What::Frame(Frame { stream, body });
-        if pass.put(rt, Item { source, what }).is_err() {
-            return false;
-        }
+        put(rt, pass, What::Frame(Frame { stream, body }));
     }
-    let what = What::Down;
-    let put = pass.put(rt, Item { source, what }).is_ok();
+    put(rt, pass, What::Down);
     pass.ring();
-    put
 }
 
 /// Waits until the clock was asked more than so often.
@@ -137,66 +186,46 @@ fn gives<R: Wait>(rt: &R, taker: &mut Taker, texts: &[Text]) -> bool {
 }
 
 #[test]
-fn a_timer_expires_between_two_items(rt: HostRuntime) -> Result<(), Fail> {
+fn a_timer_expires_between_two_items(rt: HostRuntime) {
     let alloc = rt.alloc();
-    let mut queues = Queues::new(alloc, 8)?;
-    assert!(rt; put_all(&rt, alloc, &mut queues.station_pass, &[CHANNEL_REQUIRED]));
-    let asked = Arc::new(alloc, AtomicU64::new(0))?;
-    let clock = Script::new(Arc::try_clone(&asked)?, 3000);
-    let controller = Controller::new(alloc, Settings::read(alloc, ONE_CELL)?)?;
-    let mut pass = queues.switch_pass;
+    let (ends, mut switch, mut station) = queues(&rt, alloc, 8);
+    put_all(&rt, alloc, &mut station.pass, &[CHANNEL_REQUIRED]);
+    let (clock, asked) = Script::counted(&rt, alloc, 3000);
     let ender = thread::spawn(&rt, move || {
         await_asked(&rt, &asked, 3);
-        put_all(&rt, alloc, &mut pass, &[])
-    })?;
-    let (_, _, _, _, fault) = call_worker(
-        &rt,
-        alloc,
-        controller,
-        queues.desk,
-        queues.putters,
-        queues.marks,
-        clock,
-    );
+        put_all(&rt, alloc, &mut switch.pass, &[]);
+        gives(&rt, &mut switch.taker, &[])
+    })
+    .expect(&rt, "a thread");
+    let ended = run(&rt, alloc, ends, clock);
+    assert!(rt; ended.fault.is_none());
+    assert!(rt; gives(&rt, &mut station.taker, &[ACTIVATION, RELEASE]));
     assert!(rt; ender.join(&rt));
-    assert!(rt; fault.is_none());
-    assert!(rt; gives(&rt, &mut queues.station_taker, &[ACTIVATION, RELEASE]));
-    assert!(rt; gives(&rt, &mut queues.switch_taker, &[]));
-    Ok(())
 }
 
 #[test]
-fn an_outbox_that_nobody_empties_is_given_up(rt: HostRuntime) -> Result<(), Fail> {
+fn an_outbox_that_nobody_empties_is_given_up(rt: HostRuntime) {
     let alloc = rt.alloc();
-    let mut queues = Queues::new(alloc, 1)?;
-    let texts = [CHANNEL_REQUIRED, ACTIVATION_ACK];
-    assert!(rt; put_all(&rt, alloc, &mut queues.station_pass, &texts));
-    let asked = Arc::new(alloc, AtomicU64::new(0))?;
-    let clock = Script::new(Arc::try_clone(&asked)?, 0);
-    let controller = Controller::new(alloc, Settings::read(alloc, ONE_CELL)?)?;
-    let mut pass = queues.switch_pass;
-    let mut taker = queues.station_taker;
-    let other = thread::spawn(&rt, move || {
-        await_asked(&rt, &asked, 5);
-        let put = put_all(&rt, alloc, &mut pass, &[PING]);
-        await_asked(&rt, &asked, 10);
-        put && taker.was_given_up() && gives(&rt, &mut taker, &[ACTIVATION])
-    })?;
-    let (controller, _, putters, _, fault) = call_worker(
+    let (ends, mut switch, mut station) = queues(&rt, alloc, 1);
+    put_all(
         &rt,
         alloc,
-        controller,
-        queues.desk,
-        queues.putters,
-        queues.marks,
-        clock,
+        &mut station.pass,
+        &[CHANNEL_REQUIRED, ACTIVATION_ACK],
     );
+    let (clock, asked) = Script::counted(&rt, alloc, 0);
+    let other = thread::spawn(&rt, move || {
+        await_asked(&rt, &asked, 5);
+        put_all(&rt, alloc, &mut switch.pass, &[PING]);
+        await_asked(&rt, &asked, 10);
+        station.taker.was_given_up()
+            && gives(&rt, &mut station.taker, &[ACTIVATION])
+            && gives(&rt, &mut switch.taker, &[PONG])
+    })
+    .expect(&rt, "a thread");
+    let ended = run(&rt, alloc, ends, clock);
+    assert!(rt; ended.fault.is_none());
+    assert!(rt; ended.ignored == 1);
+    assert!(rt; ended.refusals == (0, 1_000));
     assert!(rt; other.join(&rt));
-    assert!(rt; fault.is_none());
-    assert!(rt; controller.ignored() == 1);
-    assert!(rt;
-        matches!(putters.as_slice(), [switch, station] if switch.refusals() == 0 && station.refusals() == 1_000)
-    );
-    assert!(rt; gives(&rt, &mut queues.switch_taker, &[PONG]));
-    Ok(())
 }
