@@ -168,6 +168,15 @@ impl Write for Flushed {
 /// The frame PING.
 pub(crate) const PING: &[u8] = &[0x00, 0x01, 0xfe, 0x00];
 
+/// Whether this is the fault that was expected, or none was.
+pub(crate) fn is_fault(fault: Option<IoFault>, expected: Option<IoFault>) -> bool {
+    match (fault, expected) {
+        (None, None) => true,
+        (Some(fault), Some(expected)) => fault as u8 == expected as u8,
+        _ => false,
+    }
+}
+
 /// What a test ends with where a worker ran out of memory, and all else was right. With ample memory it doesn't come.
 pub(crate) fn ended(fault: Option<IoFault>) -> Result<(), Fail> {
     match fault {

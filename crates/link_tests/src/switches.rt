@@ -40,9 +40,8 @@ fn a_connection_request_is_confirmed(rt: HostRuntime) -> Result<(), Fail> {
 #[test]
 fn a_switch_that_wants_memory_writes_a_first_part(rt: HostRuntime) -> Result<(), Fail> {
     let alloc = rt.alloc();
-    let got = Vec::with_capacity(alloc, 12)?;
     let sink = Sink {
-        got,
+        got: Vec::with_capacity(alloc, 12)?,
         ..Sink::new(alloc)
     };
     let switch = MscEnd::new(alloc, Modulus::Four);
