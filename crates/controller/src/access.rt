@@ -1,4 +1,6 @@
-ghost use Rattle.std.specs.Prelude.{◌≡◌, ◌≢◌, ◌<◌, ◌^◌, OnOk, OnErr};
+ghost use Rattle.std.specs.Prelude.{◌≡◌, ◌≢◌, ◌<◌, ◌≤◌, ◌^◌, [], ◌∷◌, length, IfOk, OnOk, OnErr};
+ghost use Rattle.conn_messages.specs.Out.{IsLawfulMessage, outs_of};
+ghost use Rattle.conn_messages.specs.StationMessage.{access_activation};
 ghost use Rattle.connections.specs.Entries.{IsOfCell};
 ghost use Rattle.controller_table.specs.Life as words;
 ghost use Rattle.controller.specs.Doing.{Stays, Turns};
@@ -10,6 +12,7 @@ use conn_messages::{Messages, SWITCH_LINK};
 use controller_table::MAX_CONNECTION_NUMBER;
 use octets::Memory;
 use rsl_codec::RequestReference;
+use std::alloc::Global;
 
 impl Controller {
     /// CHANNEL REQUIRED of a station: the next connection gets the first free SDCCH of the cell. Without one, without a link to
@@ -58,14 +61,39 @@ impl Controller {
         ensures err { OnErr result (Stays self.old self.new outputs.old.outs outputs.new.outs) }
     {
         let number = self.next_number;
-        let mut put = Messages::new(self.alloc);
-        put.push(access_activation(self.alloc, &channel)?)?;
-        let made = Outputs::made(self.alloc, number, &put)?;
-        outputs.reserve(made.len())?;
+        let made = activation_frames(self.alloc, number, &channel, outputs)?;
         self.connections.open(number, channel, request, delay)?;
         self.channels.follow(number, made.as_slice());
         self.next_number = number + 1;
         outputs.append(made);
         Ok(())
     }
+}
+
+// The frames that activate an access channel. The outputs have room for them then.
+fn activation_frames(
+    alloc: Global,
+    number: u32,
+    channel: &Channel,
+    outputs: &mut Outputs,
+) -> Result<Outputs, Memory>
+    requires { number < 2 ^ 24 }
+    ensures made { IfOk result (λ made. made.outs ≡ outs_of number (access_activation channel.now ∷ [])) }
+    ensures lawful { IfOk result (λ _. IsLawfulMessage (access_activation channel.now)) }
+    ensures room { IfOk result (λ made. length made.outs ≤ outputs.new.spare) }
+    ensures outs { outputs.new.outs ≡ outputs.old.outs }
+{
+    outputs.reserve(1)?;
+    let messages = activation_messages(alloc, channel)?;
+    Outputs::made(alloc, number, &messages)
+}
+
+fn activation_messages(alloc: Global, channel: &Channel) -> Result<Messages, Memory>
+    ensures messages { IfOk result (λ messages. messages ≡ access_activation channel.now ∷ []) }
+    ensures lawful { IfOk result (λ _. IsLawfulMessage (access_activation channel.now)) }
+{
+    let activation = access_activation(alloc, channel)?;
+    let mut messages = Messages::new(alloc);
+    messages.push(activation)?;
+    Ok(messages)
 }

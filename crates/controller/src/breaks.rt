@@ -4,7 +4,7 @@ ghost use Rattle.controller_table.specs.Life as words;
 ghost use Rattle.controller.specs.Doing.{Stays, Turns};
 
 use crate::controller::Controller;
-use crate::many::{Cause, frames};
+use crate::many::Cause;
 use conn_fsm::Outputs;
 use conn_messages::SWITCH_LINK;
 use conn_table::Input;
@@ -16,8 +16,7 @@ impl Controller {
         ensures ok { OnOk result (Turns (words.on_break source self.old) self.old self.new outputs.old.outs outputs.new.outs) }
         ensures err { OnErr result (Stays self.old self.new outputs.old.outs outputs.new.outs) }
     {
-        let planned = self.plan_all(&Cause::Break(source))?;
-        outputs.reserve(frames(&planned)?)?;
+        let planned = self.plan_with_room(&Cause::Break(source), outputs)?;
         self.take_down(source);
         self.carry_out(planned, outputs);
         if source != SWITCH_LINK {

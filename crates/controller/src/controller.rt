@@ -1,5 +1,5 @@
-ghost use Rattle.std.specs.Prelude.{◌≡◌, IfOk, min, replicate, true};
-ghost use Rattle.controller_table.specs.Controller.{is_up, new_controller, ignoring};
+ghost use Rattle.std.specs.Prelude.{◌≡◌, ◌+◌, [], IfOk, length, replicate, true};
+ghost use Rattle.controller_table.specs.Controller.{free_channels, is_up, new_controller, ignoring};
 
 use cell_channels::Channels;
 use connections::Connections;
@@ -48,17 +48,19 @@ impl Controller {
     pub fn new(alloc: Global, settings: Settings) -> Result<Controller, Memory>
         ensures { IfOk result (λ c. c ≡ new_controller settings) }
     {
-        let links = usize::from(settings.cell_count()) + 1;
-        Ok(Controller {
-            alloc,
-            links: all_up(alloc, links)?,
-            channels: Channels::new(alloc, links)?,
-            connections: Connections::new(alloc, &settings)?,
-            settings,
-            next_number: 1,
-            handovers: 0,
-            ignored: 0,
-        })
+        match parts(alloc, &settings) {
+            Ok((links, channels, connections)) => Ok(Controller {
+                alloc,
+                settings,
+                links,
+                channels,
+                connections,
+                next_number: 1,
+                handovers: 0,
+                ignored: 0,
+            }),
+            Err(Memory) => Err(Memory),
+        }
     }
 
     /// Whether the link of this number is up; there is no link of another number.
@@ -79,12 +81,15 @@ impl Controller {
     }
 }
 
-fn all_up(alloc: Global, links: usize) -> Result<Vec<bool>, Memory>
-    ensures { IfOk result (λ up. up.items ≡ replicate links true) }
+// Links that are up, channels that are free, and no connections.
+fn parts(alloc: Global, settings: &Settings) -> Result<(Vec<bool>, Channels, Connections), Memory>
+    ensures links { IfOk result (λ parts. parts.0.items ≡ replicate (length settings.now.cells + 1) true) }
+    ensures channels { IfOk result (λ parts. parts.1 ≡ replicate (length settings.now.cells + 1) free_channels) }
+    ensures connections { IfOk result (λ parts. parts.2 ≡ record { settings = settings.now; entries = [] }) }
 {
-    let mut up = Vec::new(alloc);
-    for _ in 0..links {
-        up.push(true)?;
-    }
-    Ok(up)
+    let links = usize::from(settings.cell_count()) + 1;
+    let up = vec![in alloc; true; links]?;
+    let channels = Channels::new(alloc, links)?;
+    let connections = Connections::new(alloc, settings)?;
+    Ok((up, channels, connections))
 }

@@ -77,14 +77,13 @@ fn put_pong(alloc: Global, source: u16, outputs: &mut Outputs) -> Result<(), Mem
     ensures ok { OnOk result (outputs.new.outs ≡ outputs.old.outs ++ words.pong source ∷ []) }
     ensures err { OnErr result (outputs.new.outs ≡ outputs.old.outs) }
 {
-    let mut body = Vec::new(alloc);
-    body.push(PONG)?;
+    let body = Octets::copy(alloc, &[PONG])?;
     outputs.push(Out {
         to: source,
         conn: 0,
         frame: Frame {
             stream: CCM_STREAM,
-            body: Octets::new(body),
+            body,
         },
     })
 }

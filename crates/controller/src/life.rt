@@ -88,10 +88,10 @@ fn live(
 {
     let mut controller = Controller::new(alloc, settings)?;
     let mut outputs = Outputs::new(alloc);
-    for step in steps {
-        controller.run_one(step, &mut outputs)?;
+    match controller.run_all(steps, &mut outputs) {
+        Ok(()) => Ok((controller, outputs)),
+        Err(Memory) => Err(Memory),
     }
-    Ok((controller, outputs))
 }
 
 impl Controller {
@@ -104,5 +104,15 @@ impl Controller {
             Step::Take(item) => self.step(item, outputs).map_err(|_| Memory),
             Step::Tick(ms) => self.tick(ms, outputs),
         }
+    }
+
+    // Does these steps, one after the other. What they put is appended to the outputs.
+    fn run_all(&mut self, steps: Vec<Step>, outputs: &mut Outputs) -> Result<(), Memory>
+        ensures { OnOk result (Turns (each words.step self.old steps.items) self.old self.new outputs.old.outs outputs.new.outs) }
+    {
+        for step in steps {
+            self.run_one(step, outputs)?;
+        }
+        Ok(())
     }
 }

@@ -1,9 +1,9 @@
-ghost use Rattle.std.specs.Prelude.{◌≡◌, ◌+◌, ◌≤◌, ◌++◌, map, sum_by, IfOk, IfSome, OnOk};
+ghost use Rattle.std.specs.Prelude.{◌≡◌, ◌+◌, ◌≤◌, ◌++◌, map, sum_by, IfOk, IfSome, OnOk, Some};
 ghost use Rattle.conn_fsm.specs.Doing.{IsPlanned};
 ghost use Rattle.connections.specs.Entries.{AreRising};
 ghost use Rattle.controller_table.specs.Controller.{each, entry_of};
 ghost use Rattle.controller.specs.Doing.{Turns};
-ghost use Rattle.controller.specs.Many.{AreReady, IsReadyFor, all_due, due as due_input, due_of, carried_out, frames_of, planned_for};
+ghost use Rattle.controller.specs.Many.{AreReady, IsReadyFor, all_due, due as due_input, due_of, due_with, carried_out, frames_of, planned_for};
 
 use crate::breaks::break_of;
 use crate::controller::Controller;
@@ -42,7 +42,7 @@ impl Model for Planned {
 impl Controller {
     /// Plans the steps of all connections that do one, by rising number. It takes all memory that they want but that of the
     /// outputs.
-    pub(crate) fn plan_all(&self, cause: &Cause) -> Result<Vec<Planned>, Memory>
+    fn plan_all(&self, cause: &Cause) -> Result<Vec<Planned>, Memory>
         ensures planned { IfOk result (λ planned. map planned_for planned.items ≡ all_due cause.now self.now.settings.timers self.now.entries) }
         ensures rising { AreRising self.now.entries }
     {
@@ -56,15 +56,31 @@ impl Controller {
         Ok(planned)
     }
 
+    /// The same, and makes room in the outputs for the frames of all.
+    pub(crate) fn plan_with_room(
+        &self,
+        cause: &Cause,
+        outputs: &mut Outputs,
+    ) -> Result<Vec<Planned>, Memory>
+        ensures planned { IfOk result (λ planned. map planned_for planned.items ≡ all_due cause.now self.now.settings.timers self.now.entries) }
+        ensures rising { AreRising self.now.entries }
+        ensures room { IfOk result (λ planned. sum_by frames_of planned.items ≤ outputs.new.spare) }
+        ensures outs { outputs.new.outs ≡ outputs.old.outs }
+    {
+        let planned = self.plan_all(cause)?;
+        match make_room(planned.as_slice(), outputs) {
+            Ok(()) => Ok(planned),
+            Err(Memory) => Err(Memory),
+        }
+    }
+
     fn plan_one(&self, conn: &Conn, cause: &Cause, planned: &mut Vec<Planned>) -> Result<(), Memory>
         ensures { OnOk result (map planned_for planned.new.items ≡ map planned_for planned.old.items ++ due_of cause.now self.now.settings.timers conn.now) }
     {
-        if let Some(input) = self.due(cause, conn) {
-            let plan = conn.plan(input)?;
-            let number = conn.number();
-            planned.push(Planned { number, plan })?;
+        match self.due(cause, conn) {
+            Some(input) => plan_step(conn, input, planned),
+            None => Ok(()),
         }
-        Ok(())
     }
 
     // What comes to a connection.
@@ -102,8 +118,31 @@ impl Controller {
     }
 }
 
-/// How many frames the steps put. An `Err` says that memory ran out: no memory has so many.
-pub(crate) fn frames(planned: &[Planned]) -> Result<usize, Memory>
+// The step of a connection with this input is planned behind the others.
+fn plan_step(conn: &Conn, input: Input, planned: &mut Vec<Planned>) -> Result<(), Memory>
+    requires { IsPlanned input }
+    ensures { OnOk result (map planned_for planned.new.items ≡ map planned_for planned.old.items ++ due_with (Some input) conn.now) }
+{
+    let plan = conn.plan(input)?;
+    planned.reserve(1)?;
+    planned.push_reserved(Planned {
+        number: conn.number(),
+        plan,
+    });
+    Ok(())
+}
+
+// Makes room for the frames of the steps.
+fn make_room(planned: &[Planned], outputs: &mut Outputs) -> Result<(), Memory>
+    ensures room { OnOk result (sum_by frames_of planned.now ≤ outputs.new.spare) }
+    ensures outs { outputs.new.outs ≡ outputs.old.outs }
+{
+    let count = frames(planned)?;
+    outputs.reserve(count)
+}
+
+// How many frames the steps put. An `Err` says that memory ran out: no memory has so many.
+fn frames(planned: &[Planned]) -> Result<usize, Memory>
     ensures { IfOk result (λ count. count ≡ sum_by frames_of planned.now) }
 {
     let mut count: usize = 0;

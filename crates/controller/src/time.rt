@@ -4,7 +4,7 @@ ghost use Rattle.controller_table.specs.Life as words;
 ghost use Rattle.controller.specs.Doing.{Stays, Turns};
 
 use crate::controller::Controller;
-use crate::many::{Cause, frames};
+use crate::many::Cause;
 use conn_fsm::{Conn, Outputs};
 use conn_messages::Change;
 use conn_table::{Input, Stage, State};
@@ -18,8 +18,7 @@ impl Controller {
         ensures ok { OnOk result (Turns (words.tick ms self.old) self.old self.new outputs.old.outs outputs.new.outs) }
         ensures err { OnErr result (Stays self.old self.new outputs.old.outs outputs.new.outs) }
     {
-        let planned = self.plan_all(&Cause::Time(ms))?;
-        outputs.reserve(frames(&planned)?)?;
+        let planned = self.plan_with_room(&Cause::Time(ms), outputs)?;
         self.connections.age(ms);
         self.carry_out(planned, outputs);
         Ok(())

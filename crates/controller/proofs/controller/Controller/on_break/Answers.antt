@@ -14,12 +14,12 @@ carry_out-requires-clause-ready c =
 pub returns-then-source-ne-SWITCH_LINK-clause-ok : goal.returns-then-source-ne-SWITCH_LINK-clause-ok
 returns-then-source-ne-SWITCH_LINK-clause-ok c =
     on_station c.args.source c.args.self.now c.carry_out.new.self (the_view (record c.self.inside { channels = c.free_station.new.self })) c.args.outputs.now.outs c.carry_out.new.outputs.outs c.if-source-ne-SWITCH_LINK.true
-    (break_done c.args.source c.args.self.now c.take_down.new.self c.carry_out.new.self (map planned_for c.in_ok-planned.planned.items) c.args.outputs.now.outs c.reserve.new.self.outs c.carry_out.new.outputs.outs
-    c.in_ok-planned.ensures.rising c.in_ok-planned.ensures.planned c.take_down.ensures c.in_ok-reserve.ensures.outs c.carry_out.ensures)
+    (break_done c.args.source c.args.self.now c.take_down.new.self c.carry_out.new.self (map planned_for c.in_ok-planned.planned.items) c.args.outputs.now.outs c.plan_with_room.new.outputs.outs c.carry_out.new.outputs.outs
+    c.in_ok-planned.ensures.rising c.in_ok-planned.ensures.planned c.take_down.ensures c.plan_with_room.ensures.outs c.carry_out.ensures)
     (ap (λ (channels : List (List ChannelState)). the_view (record c.self.inside { channels = channels })) c.free_station.ensures ∙ ap (freed_station c.args.source) c.self.view_is)
 
 pub returns-else-source-ne-SWITCH_LINK-clause-ok : goal.returns-else-source-ne-SWITCH_LINK-clause-ok
 returns-else-source-ne-SWITCH_LINK-clause-ok c =
     on_switch c.args.source c.args.self.now c.carry_out.new.self c.args.outputs.now.outs c.carry_out.new.outputs.outs c.if-source-ne-SWITCH_LINK.false
-    (break_done c.args.source c.args.self.now c.take_down.new.self c.carry_out.new.self (map planned_for c.in_ok-planned.planned.items) c.args.outputs.now.outs c.reserve.new.self.outs c.carry_out.new.outputs.outs
-    c.in_ok-planned.ensures.rising c.in_ok-planned.ensures.planned c.take_down.ensures c.in_ok-reserve.ensures.outs c.carry_out.ensures)
+    (break_done c.args.source c.args.self.now c.take_down.new.self c.carry_out.new.self (map planned_for c.in_ok-planned.planned.items) c.args.outputs.now.outs c.plan_with_room.new.outputs.outs c.carry_out.new.outputs.outs
+    c.in_ok-planned.ensures.rising c.in_ok-planned.ensures.planned c.take_down.ensures c.plan_with_room.ensures.outs c.carry_out.ensures)

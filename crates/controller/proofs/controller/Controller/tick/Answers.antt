@@ -28,5 +28,5 @@ pub returns-clause-ok : goal.returns-clause-ok
 returns-clause-ok c =
     let aged : the_view (record c.self.inside { connections = c.age.new.self }) ≡ all_aged c.args.ms c.args.self.now =
     ap (λ (s : ConnectionsState). the_view (record c.self.inside { connections = s })) c.age.ensures ∙ ap (all_aged c.args.ms) c.self.view_is in
-    tick_done c.args.ms c.args.self.now (the_view (record c.self.inside { connections = c.age.new.self })) c.carry_out.new.self (map planned_for c.in_ok-planned.planned.items) c.args.outputs.now.outs c.reserve.new.self.outs c.carry_out.new.outputs.outs
-    c.in_ok-planned.ensures.rising c.in_ok-planned.ensures.planned aged c.in_ok-reserve.ensures.outs c.carry_out.ensures
+    tick_done c.args.ms c.args.self.now (the_view (record c.self.inside { connections = c.age.new.self })) c.carry_out.new.self (map planned_for c.in_ok-planned.planned.items) c.args.outputs.now.outs c.plan_with_room.new.outputs.outs c.carry_out.new.outputs.outs
+    c.in_ok-planned.ensures.rising c.in_ok-planned.ensures.planned aged c.plan_with_room.ensures.outs c.carry_out.ensures
