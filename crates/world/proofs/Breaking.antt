@@ -1,5 +1,5 @@
 -- Events with the break of a link among them.
-use Rattle.std.proofs.Common.{◌≡◌, ℕ, min, List, ◌∷◌, length, take, drop, sym, ap, ◌∙◌}
+use Rattle.std.proofs.Common.{◌≡◌, ℕ, min, List, ◌∷◌, Result, Ok, Err, OnOk, length, take, drop, sym, ap, ◌∙◌}
 use Rattle.std.proofs.lemmas.List.{take_min, drop_min}
 use Rattle.world_table.specs.declared.event.Event.{Event}
 use Rattle.world_table.specs.declared.event.Event.TheVariants.{BaseDown}
@@ -15,3 +15,8 @@ after_all-broken world events before others place source front back =
     ap (λ (xs : List Event). after_all (after (after_all world xs) (BaseDown source)) others) (front ∙ take_min place events)
     ∙ ap (λ (xs : List Event). after_all (after (after_all world (take place events)) (BaseDown source)) xs) (back ∙ drop_min place events)
     ∙ sym (after_all-append world (take place events) (BaseDown source ∷ drop place events))
+
+-- what the last events make is what they were to make
+pub run_last : {X E : Type 0} {made next : WorldState} (result : Result X E) (new : WorldState) → made ≡ next → OnOk result (new ≡ made) → OnOk result (new ≡ next)
+run_last (Ok x) new same is = is ∙ same
+run_last (Err e) new same is = tt

@@ -83,11 +83,23 @@ impl World {
         ensures world { IfOk result (λ world. world ≡ after_all (controlled_world settings) (broken events.now place source)) }
     {
         let mut world = World::new(alloc, settings)?;
+        match world.run_to_break(events, place, source) {
+            Ok(()) => Ok(world),
+            Err(Memory) => {
+                drop(world);
+                Err(Memory)
+            }
+        }
+    }
+
+    // Lets the actors of these events act, in order, with the break of a link among them.
+    fn run_to_break(&mut self, events: &[Event], place: usize, source: u16) -> Result<(), Memory>
+        ensures { OnOk result (self.new ≡ after_all self.old (broken events.now place source)) }
+    {
         let (before, others) = events.split_at(place.min(events.len()));
-        world.run(before)?;
-        world.step(Event::BaseDown(source))?;
-        world.run(others)?;
-        Ok(world)
+        self.run(before)?;
+        self.step(Event::BaseDown(source))?;
+        self.run(others)
     }
 
     /// Lets the event's actor act, and says whether it could. An event that its actor can't take is counted, and changes
