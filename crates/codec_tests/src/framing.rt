@@ -18,18 +18,24 @@ fn long_stream(alloc: Global) -> Result<Vec<u8>, FrameFault> {
     Ok(stream)
 }
 
+/// Writes the frames that are whole, 4,096 at most.
+fn write_all(framer: &mut Framer, stream: &mut Vec<u8>) -> Result<(), FrameFault> {
+    for _ in 0..4096u32 {
+        let Some(frame) = framer.next()? else {
+            break;
+        };
+        write_frame(&frame, stream)?;
+    }
+    Ok(())
+}
+
 /// The frames of a stream that is fed in pieces of this size, written again.
 fn in_pieces(alloc: Global, stream: &[u8], size: usize) -> Result<Vec<u8>, FrameFault> {
     let mut framer = Framer::new(alloc);
     let mut again = Vec::new(alloc);
     for piece in stream.chunks(size.max(1)) {
         framer.feed(piece)?;
-        for _ in 0..4096u32 {
-            let Some(frame) = framer.next()? else {
-                break;
-            };
-            write_frame(&frame, &mut again)?;
-        }
+        write_all(&mut framer, &mut again)?;
     }
     Ok(again)
 }
