@@ -1,19 +1,12 @@
 //! The program `bsc`: a relay of the signalling between the stations and the switch of a GSM network.
 #![tactic(auto)]
 
-use crate::command_line::{complaint, task};
-use crate::relaying::relay;
-use crate::settings_file::settings_text;
-use crate::words::{Task, TaskFault};
 use bsc_program::{Failure, ProgramFault, decode, replay};
-use std::env;
-use std::io::{BufWriter, ErrorKind};
+use command_line::{Task, TaskFault, asked};
+use program_base::settings_text;
+use run_command::relay;
+use std::io::BufWriter;
 use std::process::ExitCode;
-
-mod command_line;
-mod relaying;
-mod settings_file;
-mod words;
 
 const USAGE: &str = "\
 usage: bsc COMMAND
@@ -52,30 +45,6 @@ fn main(rt: HostRuntime) -> ExitCode {
         }
     };
     ExitCode::from(status)
-}
-
-/// Reads what the words behind the program's name ask for. A word that isn't UTF-8 is a fault of words.
-fn asked(rt: &HostRuntime) -> Result<Task, TaskFault> {
-    let words: Vec<String> = match env::args(rt) {
-        Ok(words) => words.skip(1).collect(rt.alloc())?,
-        Err(error) if error.kind() == ErrorKind::OutOfMemory => return Err(TaskFault::Memory),
-        Err(_) => return Err(TaskFault::Words),
-    };
-    let texts: Vec<&str> = words.iter().map(|word| word.as_str()).collect(rt.alloc())?;
-    let task = task(rt.alloc(), &texts);
-    if let Err(TaskFault::Words) = task {
-        complain(rt, &texts);
-    }
-    task
-}
-
-/// Tells what `clap` finds wrong with the words. Its help is left out, since the program has a usage of its own.
-fn complain(rt: &HostRuntime, words: &[&str]) {
-    if let Some(error) = complaint(rt.alloc(), words) {
-        if error.use_stderr() {
-            let _ = eprint!(rt; "{error}");
-        }
-    }
 }
 
 /// Replays the script on standard input, with the settings in this file, if there is one, and gives the status that the

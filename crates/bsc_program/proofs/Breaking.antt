@@ -6,9 +6,9 @@ use Rattle.std.proofs.KnownBytes.{Appends-nil, Appends-trans, Appends-kept}
 use Rattle.settings.specs.Parameters.{Parameters}
 use Rattle.world_table.specs.declared.event.Event.{Event}
 use Rattle.world.specs.World.{controlled_world}
-use Rattle.bsc_program.specs.Asked.{settings_of}
+use Rattle.program_base.specs.SettingsText.{settings_of}
 use Rattle.bsc_program.specs.Breaks.{break_line, break_lines, broken_world, texts_below}
-use Rattle.bsc_program.specs.declared.fault.ProgramFault.{ProgramFault}
+use Rattle.program_base.specs.declared.fault.ProgramFault.{ProgramFault}
 
 abbrev pub line_at : Parameters → List Event → ℕ → ℕ → List ℕ
 line_at settings events source place = break_line place (broken_world (controlled_world settings) events source place).scene

@@ -1,7 +1,3 @@
-pub mod Ends
-pub mod Putting
-pub mod Feeding
-pub mod Decoding
 pub mod Reporting
 pub mod Scripts
 pub mod ScriptOrder

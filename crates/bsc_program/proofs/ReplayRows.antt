@@ -11,7 +11,7 @@ use Rattle.world_table.specs.declared.event.Event.TheVariants.{Upper, AirUp, Swi
 use Rattle.world.specs.Views.{accepted_list}
 use Rattle.world.specs.World.{after_all, fixed_world}
 use Rattle.world.specs.WorldState.{WorldState}
-use Rattle.bsc_program.specs.declared.fault.ProgramFault.TheVariants.{BadBreak, Settings}
+use Rattle.program_base.specs.declared.fault.ProgramFault.TheVariants.{BadBreak, Settings}
 use Rattle.bsc_program.specs.Asked.{asked, asked_with, breaking, cells_of, controlled, fixed}
 use Rattle.bsc_program.specs.Breaks.{accepted_by_all, break_line, break_lines, count_from, count_to, sent_by_all, texts_below}
 use Rattle.bsc_program.proofs.Counting.{counted_end, counted_more}

@@ -10,16 +10,17 @@ use Rattle.settings.specs.declared.fault.SettingsFault.{SettingsFault}
 use Rattle.settings.specs.Parameters.{Parameters}
 use Rattle.settings.specs.Tables.{settings_in}
 use Rattle.world.specs.Words.{source_in}
-use Rattle.bsc_program.specs.Asked.{Asked, asked, asked_of_source, asked_with, breaking, cells_of, controlled, fixed, settings_of, settings_or_fault}
+use Rattle.bsc_program.specs.Asked.{Asked, asked, asked_of_source, asked_with, breaking, cells_of, controlled, fixed}
+use Rattle.program_base.specs.SettingsText.{settings_of, settings_or_fault}
 use Rattle.bsc_program.specs.Breaks.{break_lines}
 use Rattle.bsc_program.specs.Replayed.{Fails, HasBadLine, IsPrinted, Replays}
 use Rattle.bsc_program.specs.Report.{IsReport}
 use Rattle.bsc_program.specs.Script.{IsBadScript, IsScript}
-use Rattle.bsc_program.specs.Status.{status_of_fault}
-use Rattle.bsc_program.specs.declared.failure.Failure.{Failure}
-use Rattle.bsc_program.specs.declared.failure.Failure.TheVariants.{BadEvent, Device, Memory}
-use Rattle.bsc_program.specs.declared.fault.ProgramFault.{ProgramFault}
-use Rattle.bsc_program.specs.declared.fault.ProgramFault.TheVariants.{BadBreak, Failed, Settings, UnreadSettings}
+use Rattle.program_base.specs.Status.{status_of_fault}
+use Rattle.program_base.specs.declared.failure.Failure.{Failure}
+use Rattle.program_base.specs.declared.failure.Failure.TheVariants.{BadEvent, Device, Memory}
+use Rattle.program_base.specs.declared.fault.ProgramFault.{ProgramFault}
+use Rattle.program_base.specs.declared.fault.ProgramFault.TheVariants.{BadBreak, Failed, Settings, UnreadSettings}
 
 -- a text that the script's events give was written
 pub replays_by : (asked : Asked) (start old new : Option (List ℕ)) (events : List Event) (text : List ℕ) → IfSome start (λ octets. IsScript (cells_of asked) octets events) → IsPrinted asked events text → Appends old new text

@@ -1,12 +1,36 @@
 -- What is written of a world so far, and how a mobile and a connection carry it on.
-use Rattle.std.proofs.Common.{◌≡◌, ℕ, suc, ◌+◌, ◌-◌, ◌<◌, ◌≤◌, true, false, List, [], ◌++◌, Option, Some, None, refl, sym, ap, subst, ◌∙◌, append_assoc, append-nil, arith, inl, inr}
+use Rattle.std.proofs.Common.{◌≡◌, ℕ, suc, ◌+◌, ◌-◌, ◌<◌, ◌≤◌, true, false, List, [], ◌∷◌, ◌++◌, get_or, length, take, Option, Some, None, refl, sym, ap, subst, ◌∙◌, append_assoc, append-nil, arith, inl, inr}
 use Rattle.std.proofs.lemmas.Bool.{cases_lt}
-use Rattle.std.specs.Prelude.{◌^◌, IsSome, unwrap_or}
+use Rattle.std.specs.Prelude.{◌^◌, IsSome, codes, decimal, unwrap_or}
+use Rattle.std.proofs.lemmas.List.{flat_map_more, take_all, take_more}
+use Rattle.hex.specs.Hex.{encode_lower}
 use Rattle.std.specs.Io.KnownBytes.{Appends, Keeps}
 use Rattle.std.proofs.KnownBytes.{Appends-nil, Appends-trans, Appends-kept}
 use Rattle.world.specs.declared.world.Scene.{Scene}
 use Rattle.world.specs.WorldState.{WorldState}
-use Rattle.bsc_program.specs.Report.{AreConnections, IsReport, WritesIfSome, connection_text, mobile_text, not_taken_line, texts_to}
+use Rattle.bsc_program.specs.Report.{AreConnections, IsReport, WritesIfSome, connection_text, counted_lines, message_lines, mobile_text, not_taken_line, texts_to}
+
+-- the count was written, and the messages before the next one
+abbrev pub WritesMessages : List (List ℕ) → ℕ → Option (List ℕ) → Option (List ℕ) → Type 0
+WritesMessages messages next old new = Appends old new (decimal (length messages) ++ codes "\n" ++ message_lines (take next messages))
+
+pub messages_none : (messages : List (List ℕ)) (old new : Option (List ℕ)) → Appends old new (decimal (length messages) ++ codes "\n") → WritesMessages messages 0 old new
+messages_none messages old new count = subst (Appends old new) (sym (append-nil (decimal (length messages) ++ codes "\n"))) count
+
+pub messages_more : (messages : List (List ℕ)) (next : ℕ) (message : List ℕ) (old mid new : Option (List ℕ)) → WritesMessages messages next old mid → next < length messages → message ≡ get_or messages next message
+    → Appends mid new (encode_lower message ++ codes "\n") → WritesMessages messages (next + 1) old new
+messages_more messages next message old mid new some less is line =
+    let head : List ℕ = decimal (length messages) ++ codes "\n" in
+    let front : List (List ℕ) = take next messages in
+    let longer : front ++ message ∷ [] ≡ take (next + 1) messages = ap (λ (m : List ℕ). front ++ m ∷ []) is ∙ sym (take_more messages next message less) in
+    subst (Appends old new)
+    (append_assoc head (message_lines front) (encode_lower message ++ codes "\n")
+    ∙ ap (λ (xs : List ℕ). head ++ xs) (flat_map_more (λ (m : List ℕ). encode_lower m ++ codes "\n") [] front message ∙ ap message_lines longer))
+    (Appends-trans old mid new (head ++ message_lines front) (encode_lower message ++ codes "\n") some line)
+
+pub messages_all : (messages : List (List ℕ)) (next : ℕ) (old new : Option (List ℕ)) → WritesMessages messages next old new → length messages ≤ next → Appends old new (counted_lines messages)
+messages_all messages next old new some all =
+    subst (λ (xs : List (List ℕ)). Appends old new (decimal (length messages) ++ codes "\n" ++ message_lines xs)) (take_all next messages all) some
 
 abbrev pub some_connection : Scene → ℕ → List ℕ
 some_connection scene number = unwrap_or (connection_text scene number) []

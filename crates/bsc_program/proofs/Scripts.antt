@@ -1,7 +1,7 @@
 -- What is read of a script so far, and how a line, a piece and the end carry it on.
-use Rattle.std.proofs.Common.{◌≡◌, ◌≢◌, ◌⊎◌, ℕ, suc, ◌+◌, ◌<◌, List, [], ◌∷◌, ◌++◌, length, take, drop, get_or, Option, Some, None, Result, Ok, Err, refl, sym, ap, subst, ◌∙◌, append_assoc, append-nil, arith, eq-eqb, inl, inr, ◌-◌, take-append-drop}
+use Rattle.std.proofs.Common.{◌≡◌, ◌≢◌, ◌⊎◌, ℕ, suc, ◌+◌, ◌<◌, List, [], ◌∷◌, ◌++◌, length, take, drop, get_or, Option, Some, None, Result, Ok, Err, refl, sym, ap, subst, ◌∙◌, append_assoc, append-nil, arith, eq-eqb, inl, inr, take-append-drop}
 use Rattle.std.proofs.lemmas.Bool.{eqb-true}
-use Rattle.std.proofs.lemmas.List.{drop_more, flat_map_more, get_or-take, length-append, length-drop, length-take, take_all}
+use Rattle.std.proofs.lemmas.List.{drop_more, flat_map_more, get_or-take, length-append, length-take}
 use Rattle.std.specs.Prelude.{codes}
 use Rattle.std.specs.List.{AllByRecursion}
 use Rattle.std.specs.Prelude.{IfSome}
@@ -15,14 +15,14 @@ use Rattle.world.specs.declared.line_fault.LineFault.TheVariants.{BadEvent, Memo
 use Rattle.std.specs.IoError.{error_kind}
 use Rattle.std.specs.declared.io.ErrorKind.{ErrorKind}
 use Rattle.std.specs.declared.io.ErrorKind.TheVariants as kinds
-use Rattle.bsc_program.specs.declared.failure.Failure.{Failure}
-use Rattle.bsc_program.specs.declared.failure.Failure.TheVariants as failures
-use Rattle.bsc_program.specs.declared.input.Unread.{Unread}
-use Rattle.bsc_program.specs.declared.input.Unread.TheVariants.{Endless, Device, Refused}
-use Rattle.bsc_program.specs.Input.{ReadsInput}
-use Rattle.bsc_program.specs.Status.{failure_of, failure_unread}
+use Rattle.program_base.specs.declared.failure.Failure.{Failure}
+use Rattle.program_base.specs.declared.failure.Failure.TheVariants as failures
+use Rattle.program_base.specs.declared.input.Unread.{Unread}
+use Rattle.program_base.specs.declared.input.Unread.TheVariants.{Endless, Device, Refused}
+use Rattle.program_base.specs.Input.{ReadsInput}
+use Rattle.program_base.specs.Status.{failure_of, failure_unread}
 use Rattle.bsc_program.specs.declared.script.Script.{Script}
-use Rattle.bsc_program.specs.Pieces.{all_both}
+use Rattle.program_base.specs.Pieces.{all_both}
 use Rattle.bsc_program.specs.ScriptLaws.{lines_both, texts_both}
 use Rattle.bsc_program.specs.Script.{AddsLine, AreTexts, Finishes, HasNoFeed, IsBadLine, IsBadScript, IsScript, Reads, RefusesAt, RefusesLine, line_count, lines_text}
 
@@ -57,9 +57,6 @@ parted_at xs n found =
           sym (take-append-drop n xs) ∙ ap (λ (ys : List ℕ). take n xs ++ ys) (drop_more xs n 0 found.0.high ∙ ap (λ (x : ℕ). x ∷ drop (n + 1) xs) feed)
           ∙ sym (append_assoc (take n xs) (codes "\n") (drop (n + 1) xs));
     }
-
-pub all_of : (xs : List ℕ) (k n : ℕ) → n ≡ length xs → take (n - k) (drop k xs) ≡ drop k xs
-all_of xs k n is = take_all (n - k) (drop k xs) (omega (arith, is, length-drop k xs))
 
 -- ---- counts
 

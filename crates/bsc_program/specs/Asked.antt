@@ -1,26 +1,16 @@
 -- What the options of `replay` ask for.
 use Rattle.std.specs.Prelude.{ℕ, List, length, Option, Some, None, Result, Ok, Err}
-use Rattle.toml.specs.Parse.{parse_document}
-use Rattle.settings.specs.declared.fault.SettingsFault.{SettingsFault}
 use Rattle.settings.specs.Parameters.{Parameters}
-use Rattle.settings.specs.Tables.{settings_in}
 use Rattle.world.specs.Words.{source_in}
-use Rattle.bsc_program.specs.declared.fault.ProgramFault.{ProgramFault}
-use Rattle.bsc_program.specs.declared.fault.ProgramFault.TheVariants.{Settings, BadBreak}
+use Rattle.program_base.specs.declared.fault.ProgramFault.{ProgramFault}
+use Rattle.program_base.specs.declared.fault.ProgramFault.TheVariants.{BadBreak}
+use Rattle.program_base.specs.SettingsText.{settings_of}
 
 -- the report of the fixed world, that of the world of settings, or a line for each place at which the link of a source breaks
 pub data Asked : Type 0 where
   fixed : Asked
   controlled : Parameters → Asked
   breaking : Parameters → ℕ → Asked
-
-abbrev pub settings_or_fault : Result Parameters SettingsFault → Result Parameters ProgramFault
-settings_or_fault (Ok settings) = Ok settings
-settings_or_fault (Err fault) = Err (Settings fault)
-
--- the settings in a text, or their first fault
-abbrev pub settings_of : List ℕ → Result Parameters ProgramFault
-settings_of text = settings_or_fault (settings_in (parse_document text))
 
 abbrev pub asked_of_source : Parameters → Option ℕ → Result Asked ProgramFault
 asked_of_source settings None = Err BadBreak

@@ -1,14 +1,7 @@
-pub mod Status
-pub mod Input
-pub mod Output
-pub mod Names
-pub mod Decoded
 pub mod Report
 pub mod Script
 pub mod ScriptOrder
 pub mod Breaks
 pub mod Asked
 pub mod Replayed
-pub mod Pieces
 pub mod ScriptLaws
-pub mod NamingLaws

@@ -7,9 +7,9 @@ use Rattle.bsc_program.specs.Asked.{Asked, fixed, controlled, breaking, cells_of
 use Rattle.bsc_program.specs.Breaks.{break_lines}
 use Rattle.bsc_program.specs.Report.{IsReport}
 use Rattle.bsc_program.specs.Script.{IsBadScript, IsScript}
-use Rattle.bsc_program.specs.declared.fault.ProgramFault.{ProgramFault}
-use Rattle.bsc_program.specs.declared.fault.ProgramFault.TheVariants.{Failed}
-use Rattle.bsc_program.specs.declared.failure.Failure.TheVariants.{BadEvent, Memory, Device}
+use Rattle.program_base.specs.declared.fault.ProgramFault.{ProgramFault}
+use Rattle.program_base.specs.declared.fault.ProgramFault.TheVariants.{Failed}
+use Rattle.program_base.specs.declared.failure.Failure.TheVariants.{BadEvent, Memory, Device}
 
 -- The text is what these events give: the report of what they make of the fixed world, whose mobile numbers modulo 4, or of
 -- the world of the settings; or the lines of all places at which the link of the source breaks in that world.

@@ -5,7 +5,7 @@ use Rattle.std.specs.Prelude.{codes}
 use Rattle.std.proofs.lemmas.Grind.{flat_map-append}
 use Rattle.world_table.specs.declared.event.Event.{Event}
 use Rattle.bsc_program.specs.declared.script.Script.{Script}
-use Rattle.bsc_program.specs.Pieces.{all_both}
+use Rattle.program_base.specs.Pieces.{all_both}
 use Rattle.bsc_program.specs.Script.{AreTexts, HasNoFeed, IsBadLine, Reads, RefusesAt, line_count, lines_text}
 
 pub texts_both : (cells : ℕ) (es fs : List Event) (ls ms : List (List ℕ)) → AreTexts cells es ls → AreTexts cells fs ms → AreTexts cells (es ++ fs) (ls ++ ms)

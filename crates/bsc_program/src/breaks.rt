@@ -2,12 +2,11 @@ ghost use Rattle.std.specs.Prelude.{◌≡◌, [], IfErr, IfOk, OnOk, length, un
 ghost use Rattle.std.specs.Io.KnownBytes.{Appends};
 ghost use Rattle.world.specs.Views.{sent_list};
 ghost use Rattle.world.specs.World.{controlled_world};
-ghost use Rattle.bsc_program.specs.Asked.{settings_of};
+ghost use Rattle.program_base.specs.SettingsText.{settings_of};
 ghost use Rattle.bsc_program.specs.Breaks.{accepted_by_all, break_line, break_lines, broken_world, sent_by_all};
-ghost use Rattle.bsc_program.specs.Status.{status_of};
+ghost use Rattle.program_base.specs.Status.{status_of};
 
-use crate::failure::Failure;
-use crate::settings_text::read_settings;
+use program_base::{Failure, read_settings};
 use std::alloc::Global;
 use std::io::Write;
 use world::{Event, World};

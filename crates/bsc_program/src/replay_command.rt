@@ -2,21 +2,20 @@ ghost use Rattle.std.specs.Prelude.{◌≡◌, ◌≢◌, ◌⊎◌, ℕ, List, 
 ghost use Rattle.std.specs.Io.KnownBytes.{Appends, IsAtEnd};
 ghost use Rattle.world.specs.World.{after_all};
 ghost use Rattle.world.specs.Words.{source_in};
-ghost use Rattle.bsc_program.specs.Asked.{asked, asked_with, breaking, controlled, fixed, settings_of};
+ghost use Rattle.bsc_program.specs.Asked.{asked, asked_with, breaking, controlled, fixed};
 ghost use Rattle.bsc_program.specs.Replayed.{Fails, HasBadLine, Replays};
 ghost use Rattle.bsc_program.specs.Report.{IsReport};
 ghost use Rattle.bsc_program.specs.Script.{IsBadScript};
-ghost use Rattle.bsc_program.specs.Status.{status_of, status_of_fault};
-ghost use Rattle.bsc_program.specs.declared.failure.Failure.TheVariants.{BadEvent};
-ghost use Rattle.bsc_program.specs.declared.fault.ProgramFault.TheVariants.{BadBreak};
+ghost use Rattle.program_base.specs.SettingsText.{settings_of};
+ghost use Rattle.program_base.specs.Status.{status_of, status_of_fault};
+ghost use Rattle.program_base.specs.declared.failure.Failure.TheVariants.{BadEvent};
+ghost use Rattle.program_base.specs.declared.fault.ProgramFault.TheVariants.{BadBreak};
 
 use crate::breaks::write_breaks;
-use crate::failure::Failure;
-use crate::fault::ProgramFault;
 use crate::report::write_report;
 use crate::script::read_script;
-use crate::settings_text::read_settings;
 use dtap_codec::Modulus;
+use program_base::{Failure, ProgramFault, read_settings};
 use settings::Settings;
 use std::alloc::Global;
 use std::io::{Read, Write};

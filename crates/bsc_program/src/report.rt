@@ -1,10 +1,10 @@
 ghost use Rattle.std.specs.Prelude.{◌≡◌, List, ℕ, IfErr, IfOk, OnOk};
 ghost use Rattle.std.specs.Io.KnownBytes.{Appends};
-ghost use Rattle.bsc_program.specs.Status.{status_of};
-ghost use Rattle.bsc_program.specs.Report.{IsReport, WritesIfSome, connection_text, counted_lines, mobile_text};
+ghost use Rattle.program_base.specs.Status.{status_of};
+ghost use Rattle.bsc_program.specs.Report.{IsReport, WritesIfSome, connection_text, counted_lines, list_text, mobile_text};
 
-use crate::failure::Failure;
 use octets::{Memory, Octets};
+use program_base::Failure;
 use std::alloc::Global;
 use std::io::Write;
 use world::World;
@@ -47,10 +47,9 @@ fn write_mobile<W: Write>(
     let (Some(sent), Some(received)) = (world.sent(mobile), world.received(mobile)) else {
         return Ok(());
     };
-    write!(output, "mobile {mobile} sent ")?;
-    write_messages(alloc, sent, output)?;
-    write!(output, "mobile {mobile} received ")?;
-    write_messages(alloc, received, output)
+    let number = u32::from(mobile);
+    write_list(alloc, "mobile ", number, " sent ", sent, output)?;
+    write_list(alloc, "mobile ", number, " received ", received, output)
 }
 
 /// Writes the lists of a connection, and says whether there is one with this number.
@@ -70,13 +69,33 @@ fn write_connection<W: Write>(
     ) else {
         return Ok(false);
     };
-    write!(output, "conn {connection} taken ")?;
-    write_messages(alloc, taken, output)?;
-    write!(output, "conn {connection} accepted ")?;
-    write_messages(alloc, accepted, output)?;
-    write!(output, "conn {connection} unnumbered ")?;
-    write_messages(alloc, unnumbered, output)?;
+    write_list(alloc, "conn ", connection, " taken ", taken, output)?;
+    write_list(alloc, "conn ", connection, " accepted ", accepted, output)?;
+    write_list(
+        alloc,
+        "conn ",
+        connection,
+        " unnumbered ",
+        unnumbered,
+        output,
+    )?;
     Ok(true)
+}
+
+/// Writes a list: whose it is, what it is, and the messages.
+fn write_list<W: Write>(
+    alloc: Global,
+    whose: &str,
+    number: u32,
+    what: &str,
+    messages: &[Octets],
+    output: &mut W,
+) -> Result<(), Failure>
+    ensures ok { OnOk result (Appends (W.contents output.old) (W.contents output.new) (list_text whose.now number what.now messages.now)) }
+    ensures err { IfErr result (λ failure. status_of failure ≡ 3) }
+{
+    write!(output, "{whose}{number}{what}")?;
+    write_messages(alloc, messages, output)
 }
 
 /// Ends a line with the count of the messages, and writes each as a line of lower-case hexadecimal digits.

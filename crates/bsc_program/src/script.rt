@@ -1,12 +1,11 @@
 ghost use Rattle.std.specs.Prelude.{◌≡◌, ◌≢◌, ℕ, ◌++◌, [], Err, IfOk, IfSome, OnOk};
 ghost use Rattle.std.specs.Io.KnownBytes.{IsAtEnd};
 ghost use Rattle.bsc_program.specs.Script.{AddsLine, Finishes, IsBadScript, IsScript, RefusesLine};
-ghost use Rattle.bsc_program.specs.declared.failure.Failure.TheVariants.{BadEvent};
+ghost use Rattle.program_base.specs.declared.failure.Failure.TheVariants.{BadEvent};
 
-use crate::failure::Failure;
-use crate::input::{Sink, read_all, room_for};
 use memchr::memchr;
 use octets::Memory;
+use program_base::{Failure, Sink, read_all, room_for};
 use std::alloc::Global;
 use std::io::Read;
 use std::{mem, str};
@@ -94,7 +93,7 @@ impl Script {
 impl Sink for Script {
     ghost use Rattle.std.specs.Prelude.{◌≡◌, ℕ};
     ghost use Rattle.bsc_program.specs.Script.{Reads, RefusesAt};
-    ghost use Rattle.bsc_program.specs.declared.failure.Failure.TheVariants.{BadEvent};
+    ghost use Rattle.program_base.specs.declared.failure.Failure.TheVariants.{BadEvent};
     ghost use Rattle.bsc_program.specs.ScriptLaws.{reads_nothing, reads_both, refuses_behind};
 
     type Fault = Failure;

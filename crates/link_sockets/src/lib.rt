@@ -11,6 +11,7 @@ pub use stopwatch::Stopwatch;
 
 mod fault;
 mod gate;
+mod line;
 mod name;
 mod open;
 mod run;

@@ -4,9 +4,10 @@ ghost use Rattle.link_sockets.specs.declared.name.LinkName.TheVariants.{Switch};
 
 use crate::fault::RunFault;
 use crate::gate::OpenGate;
+use crate::line::log_line;
 use crate::name::LinkName;
 use crate::socket::{ReadingEnd, WritingEnd, ends_of};
-use log::{Log, error, info};
+use log::{Level, Log};
 use settings::{Cell, Settings};
 use station_io::Link;
 use std::alloc::Global;
@@ -46,17 +47,35 @@ where
     let mut listeners = Vec::new(alloc);
     for cell in cells {
         let number = listeners.len() + 1;
-        let listener = match TcpListener::bind(rt, cell.listen()) {
-            Ok(listener) => listener,
-            Err(error) => {
-                error!(rt; target: "", "cell {number}: cannot listen at {}: {error}", cell.listen());
-                return Err(RunFault::from(error));
-            }
-        };
-        info!(rt; target: "", "cell {number}: waiting at {}", cell.listen());
+        let listener = listener_at(rt, number, cell.listen())?;
         listeners.push(listener)?;
     }
     Ok(listeners)
+}
+
+/// Listens for the station of the cell with this number.
+fn listener_at<R>(rt: &R, number: usize, address: &str) -> Result<TcpListener, RunFault>
+where
+    R: Net<Listener = TcpListener, Stream = TcpStream> + Log,
+{
+    match TcpListener::bind(rt, address) {
+        Ok(listener) => {
+            log_line(
+                rt,
+                Level::Info,
+                format_args!("cell {number}: waiting at {address}"),
+            );
+            Ok(listener)
+        }
+        Err(error) => {
+            log_line(
+                rt,
+                Level::Error,
+                format_args!("cell {number}: cannot listen at {address}: {error}"),
+            );
+            Err(RunFault::from(error))
+        }
+    }
 }
 
 /// Connects to the switch.
@@ -67,11 +86,19 @@ where
 {
     match TcpStream::connect(rt, address) {
         Ok(stream) => {
-            info!(rt; target: "", "switch: connected to {address}");
+            log_line(
+                rt,
+                Level::Info,
+                format_args!("switch: connected to {address}"),
+            );
             link_of(*rt, alloc, LinkName::Switch, stream)
         }
         Err(error) => {
-            error!(rt; target: "", "switch: cannot connect to {address}: {error}");
+            log_line(
+                rt,
+                Level::Error,
+                format_args!("switch: cannot connect to {address}: {error}"),
+            );
             Err(RunFault::from(error))
         }
     }
@@ -89,11 +116,19 @@ fn accept<R: Log + Copy + Drop>(
     let (stream, peer) = match listener.accept() {
         Ok(accepted) => accepted,
         Err(error) => {
-            error!(rt; target: "", "cell {place}: cannot accept a link: {error}");
+            log_line(
+                rt,
+                Level::Error,
+                format_args!("cell {place}: cannot accept a link: {error}"),
+            );
             return Err(RunFault::from(error));
         }
     };
-    info!(rt; target: "", "cell {place}: connected from {peer}");
+    log_line(
+        rt,
+        Level::Info,
+        format_args!("cell {place}: connected from {peer}"),
+    );
     link_of(*rt, alloc, LinkName::of_link(place, peer), stream)
 }
 
@@ -109,7 +144,11 @@ fn link_of<R: Log + Copy + Drop>(
     let (reader, writer) = match ends_of(rt, alloc, name, stream) {
         Ok(ends) => ends,
         Err(fault) => {
-            error!(rt; target: "", "{name}: cannot use its socket: {fault}");
+            log_line(
+                &rt,
+                Level::Error,
+                format_args!("{name}: cannot use its socket: {fault}"),
+            );
             return Err(fault);
         }
     };

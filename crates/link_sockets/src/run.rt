@@ -1,9 +1,10 @@
 use crate::fault::RunFault;
+use crate::line::log_line;
 use crate::open::{SocketLink, open_links};
 use crate::stopwatch::Stopwatch;
 use controller::Controller;
 use link_io::IoFault;
-use log::{Log, info, warn};
+use log::{Level, Log};
 use settings::Settings;
 use station_io::serve_links;
 use std::alloc::Global;
@@ -45,8 +46,8 @@ fn tell<R: Log>(rt: &R, ended: &[(SocketLink<R>, Option<IoFault>)]) {
     for (link, fault) in ended {
         let name = link.reader.name();
         match fault {
-            None => info!(rt; target: "", "{name}: ended"),
-            Some(fault) => warn!(rt; target: "", "{name}: ended: {fault}"),
+            None => log_line(rt, Level::Info, format_args!("{name}: ended")),
+            Some(fault) => log_line(rt, Level::Warn, format_args!("{name}: ended: {fault}")),
         }
     }
 }

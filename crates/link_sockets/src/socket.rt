@@ -1,9 +1,10 @@
 ghost use Rattle.std.specs.Prelude.{◌≡◌, IfOk};
 
 use crate::fault::RunFault;
+use crate::line::log_line;
 use crate::name::LinkName;
 use link_io::{IoFault, LinkReader};
-use log::{Log, info, warn};
+use log::{Level, Log};
 use std::alloc::Global;
 use std::io::{self, ErrorKind, Read, Write};
 use std::net::{Shutdown, TcpStream};
@@ -86,11 +87,19 @@ impl<R: Log> Read for ReadingEnd<R> {
         match &read {
             Ok(0) => {
                 self.at_end.store(true, Ordering::SeqCst);
-                info!(self.rt; target: "", "{}: link closed", self.name);
+                log_line(
+                    &self.rt,
+                    Level::Info,
+                    format_args!("{}: link closed", self.name),
+                );
             }
             Err(error) if error.kind() != ErrorKind::Interrupted => {
                 self.at_end.store(true, Ordering::SeqCst);
-                warn!(self.rt; target: "", "{}: read failed: {error}", self.name);
+                log_line(
+                    &self.rt,
+                    Level::Warn,
+                    format_args!("{}: read failed: {error}", self.name),
+                );
             }
             _ => {}
         }
@@ -104,7 +113,11 @@ impl<R: Log> LinkReader for ReadingEnd<R> {
     fn break_off(&mut self, fault: IoFault) {
         self.broken = Some(fault);
         self.at_end.store(true, Ordering::SeqCst);
-        warn!(self.rt; target: "", "{}: shut: {fault}", self.name);
+        log_line(
+            &self.rt,
+            Level::Warn,
+            format_args!("{}: shut: {fault}", self.name),
+        );
         let _ = self.stream.shutdown(Shutdown::Both);
     }
 }
@@ -122,7 +135,11 @@ impl<R: Log> Write for WritingEnd<R> {
         let written = self.stream.write(octets);
         match &written {
             Err(error) if error.kind() != ErrorKind::Interrupted => {
-                warn!(self.rt; target: "", "{}: write failed: {error}", self.name);
+                log_line(
+                    &self.rt,
+                    Level::Warn,
+                    format_args!("{}: write failed: {error}", self.name),
+                );
                 self.shut();
             }
             _ => {}
@@ -132,11 +149,16 @@ impl<R: Log> Write for WritingEnd<R> {
 
     fn flush(&mut self) -> io::Result<()> {
         if !self.shut {
-            if self.at_end.load(Ordering::SeqCst) {
-                info!(self.rt; target: "", "{}: shut: nothing more is written", self.name);
+            let level = if self.at_end.load(Ordering::SeqCst) {
+                Level::Info
             } else {
-                warn!(self.rt; target: "", "{}: shut: nothing more is written", self.name);
-            }
+                Level::Warn
+            };
+            log_line(
+                &self.rt,
+                level,
+                format_args!("{}: shut: nothing more is written", self.name),
+            );
             self.shut();
         }
         Ok(())

@@ -1,7 +1,7 @@
 use Rattle.std.proofs.Common.{◌+◌, arith, rules, subst, sym}
 use Rattle.std.specs.Prelude.{IfOk}
 use Rattle.std.specs.Io.KnownBytes.{Appends}
-use Rattle.bsc_program.specs.Asked.{settings_of}
+use Rattle.program_base.specs.SettingsText.{settings_of}
 use Rattle.bsc_program.proofs.Breaking.{line_at, breaks_all, breaks_more, breaks_none}
 use Rattle.bsc_program.proofs.breaks.write_breaks.Goals.{else-loop-place-test, then-loop-place-test+in_ok-write_broken+else-place-place-end}
 use Rattle.bsc_program.proofs.breaks.write_breaks.Goals as goal

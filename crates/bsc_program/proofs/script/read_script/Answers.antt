@@ -1,8 +1,8 @@
 use Rattle.std.proofs.Common.{sym}
 use Rattle.std.proofs.lemmas.Result.{IfOk-weaker}
-use Rattle.bsc_program.specs.declared.failure.Failure.TheVariants.{BadEvent}
-use Rattle.bsc_program.specs.declared.input.TheConstants.{MOST_READS}
-use Rattle.bsc_program.proofs.Ends.{error_as}
+use Rattle.program_base.specs.declared.failure.Failure.TheVariants.{BadEvent}
+use Rattle.program_base.specs.declared.input.TheConstants.{MOST_READS}
+use Rattle.program_base.proofs.Ends.{error_as}
 use Rattle.bsc_program.proofs.Scripts.{refuses_unread, script_all, script_bad_at, script_bad_last, script_more, script_none}
 use Rattle.bsc_program.proofs.script.read_script.Goals as goal
 

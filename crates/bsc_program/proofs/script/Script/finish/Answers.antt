@@ -1,7 +1,7 @@
 use Rattle.std.proofs.Common.{append-nil, rules, subst}
 use Rattle.bsc_program.specs.Script.{RefusesLine}
-use Rattle.bsc_program.specs.declared.failure.Failure.TheVariants.{BadEvent}
-use Rattle.bsc_program.proofs.Ends.{error_as}
+use Rattle.program_base.specs.declared.failure.Failure.TheVariants.{BadEvent}
+use Rattle.program_base.proofs.Ends.{error_as}
 use Rattle.bsc_program.proofs.Scripts.{has_octets}
 use Rattle.bsc_program.proofs.script.Script.finish.Goals as goal
 

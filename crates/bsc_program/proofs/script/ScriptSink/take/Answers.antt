@@ -1,5 +1,6 @@
-use Rattle.bsc_program.proofs.Scripts.{all_of, no_feed, reads_all, reads_more, reads_none, refuses_at}
-use Rattle.bsc_program.proofs.Ends.{said_of}
+use Rattle.program_base.proofs.Lists.{all_of}
+use Rattle.bsc_program.proofs.Scripts.{no_feed, reads_all, reads_more, reads_none, refuses_at}
+use Rattle.program_base.proofs.Ends.{said_of}
 use Rattle.std.proofs.Common.{◌≡◌, ◌++◌, refl, rules}
 use Rattle.bsc_program.proofs.script.ScriptSink.take.Goals as goal
 

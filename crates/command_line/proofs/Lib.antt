@@ -1,0 +1,3 @@
+mod Rows
+pub mod Taking
+pub mod Commanding

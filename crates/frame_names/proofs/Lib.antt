@@ -1,0 +1,3 @@
+pub mod FrameLine
+pub mod Decoding
+mod Rows

@@ -1,0 +1,4 @@
+pub mod Stopping
+pub mod Names
+pub mod Decoded
+pub mod NamingLaws

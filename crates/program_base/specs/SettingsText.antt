@@ -1,0 +1,16 @@
+-- The settings that a text has.
+use Rattle.std.specs.Prelude.{ℕ, List, Result, Ok, Err}
+use Rattle.toml.specs.Parse.{parse_document}
+use Rattle.settings.specs.declared.fault.SettingsFault.{SettingsFault}
+use Rattle.settings.specs.Parameters.{Parameters}
+use Rattle.settings.specs.Tables.{settings_in}
+use Rattle.program_base.specs.declared.fault.ProgramFault.{ProgramFault}
+use Rattle.program_base.specs.declared.fault.ProgramFault.TheVariants.{Settings}
+
+abbrev pub settings_or_fault : Result Parameters SettingsFault → Result Parameters ProgramFault
+settings_or_fault (Ok settings) = Ok settings
+settings_or_fault (Err fault) = Err (Settings fault)
+
+-- the settings in a text, or their first fault
+abbrev pub settings_of : List ℕ → Result Parameters ProgramFault
+settings_of text = settings_or_fault (settings_in (parse_document text))

@@ -1,0 +1,45 @@
+ghost use Rattle.std.specs.Prelude.{◌≡◌};
+ghost use Rattle.program_base.specs.Status.{status_of_fault};
+ghost use Rattle.program_base.specs.declared.fault.ProgramFault.TheVariants.{Failed};
+
+use crate::failure::Failure;
+use settings::SettingsFault;
+use thiserror::Error;
+
+/// Why the program ends with a status above 0. Its text goes to standard error behind `bsc: `.
+#[derive(Debug, Drop, Error)]
+pub enum ProgramFault {
+    /// The file of the settings can't be read, or isn't UTF-8.
+    #[error("settings: cannot read")]
+    UnreadSettings,
+    /// The settings have this fault, which isn't that memory ran out.
+    #[error("settings: {0}")]
+    Settings(SettingsFault),
+    /// There are no settings, or none of their sources has the number behind `--break`.
+    #[error("--break wants --config, and a number from 0 to that of the cells")]
+    BadBreak,
+    /// What was asked for couldn't be done.
+    #[error("{0}")]
+    Failed(Failure),
+}
+
+impl ProgramFault {
+    /// The status that the program ends with.
+    pub fn status(&self) -> u8
+        ensures { result ≡ status_of_fault self.now }
+    {
+        match self {
+            ProgramFault::UnreadSettings | ProgramFault::Settings(_) => 1,
+            ProgramFault::BadBreak => 2,
+            ProgramFault::Failed(failure) => failure.status(),
+        }
+    }
+}
+
+impl From<Failure> for ProgramFault {
+    ghost from_gives = { λ failure fault. fault ≡ Failed failure };
+
+    fn from(failure: Failure) -> ProgramFault {
+        ProgramFault::Failed(failure)
+    }
+}

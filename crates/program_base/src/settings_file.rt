@@ -1,0 +1,34 @@
+ghost use Rattle.std.specs.Prelude.{◌≡◌, ◌≢◌, Err};
+ghost use Rattle.program_base.specs.SettingsText.{settings_of};
+ghost use Rattle.program_base.specs.declared.failure.Failure.TheVariants.{Memory as OutOfMemory};
+ghost use Rattle.program_base.specs.declared.fault.ProgramFault.TheVariants.{Failed};
+
+use crate::failure::Failure;
+use crate::fault::ProgramFault;
+use settings::{Settings, SettingsFault};
+use std::alloc::Global;
+use std::fs;
+use std::io::ErrorKind;
+use std::rt::Runtime;
+
+/// The text of the settings' file.
+pub fn settings_text<R: Runtime + AllocGlobal>(rt: &R, file: &str) -> Result<String, ProgramFault> {
+    match fs::read_to_string(rt, file) {
+        Ok(text) => Ok(text),
+        Err(error) if error.kind() == ErrorKind::OutOfMemory => {
+            Err(ProgramFault::Failed(Failure::Memory))
+        }
+        Err(_) => Err(ProgramFault::UnreadSettings),
+    }
+}
+
+/// The settings in the text of their file, or their first fault. It may answer `Memory` for any text.
+pub fn read_settings(alloc: Global, text: &str) -> Result<Settings, ProgramFault>
+    ensures { result ≢ Err (Failed OutOfMemory) → result ≡ settings_of text.now }
+{
+    match Settings::read(alloc, text) {
+        Ok(settings) => Ok(settings),
+        Err(SettingsFault::Memory) => Err(ProgramFault::Failed(Failure::Memory)),
+        Err(fault) => Err(ProgramFault::Settings(fault)),
+    }
+}
