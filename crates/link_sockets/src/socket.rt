@@ -5,7 +5,7 @@ use crate::line::log_line;
 use crate::name::LinkName;
 use link_io::{IoFault, LinkReader};
 use log::{Level, Log};
-use std::alloc::Global;
+use std::alloc::{AllocError, Global};
 use std::io::{self, ErrorKind, Read, Write};
 use std::net::{Shutdown, TcpStream};
 use std::sync::Arc;
@@ -50,11 +50,8 @@ pub fn ends_of<R: Log + Copy>(
 ) -> Result<(ReadingEnd<R>, WritingEnd<R>), RunFault>
     ensures { IfOk result (λ ends. (ends.0.name ≡ name) × (ends.1.name ≡ name)) }
 {
-    stream.set_nodelay(true)?;
-    stream.set_write_timeout(Some(Duration::from_secs(WRITE_TIMEOUT)))?;
-    let other = stream.try_clone()?;
-    let at_end = Arc::new(alloc, AtomicBool::new(false))?;
-    let asked = Arc::try_clone(&at_end)?;
+    let other = other_of(&stream)?;
+    let (at_end, asked) = shared_flag(alloc)?;
     let reading = ReadingEnd {
         rt,
         name,
@@ -70,6 +67,22 @@ pub fn ends_of<R: Log + Copy>(
         shut: false,
     };
     Ok((reading, writing))
+}
+
+/// Sets what a link's socket needs, and gives a second one for its other end.
+fn other_of(stream: &TcpStream) -> io::Result<TcpStream> {
+    stream.set_nodelay(true)?;
+    stream.set_write_timeout(Some(Duration::from_secs(WRITE_TIMEOUT)))?;
+    stream.try_clone()
+}
+
+/// A flag that isn't set, for both ends of a link.
+fn shared_flag(
+    alloc: Global,
+) -> Result<(Arc<AtomicBool, Global>, Arc<AtomicBool, Global>), AllocError> {
+    let flag = Arc::new(alloc, AtomicBool::new(false))?;
+    let other = Arc::try_clone(&flag)?;
+    Ok((flag, other))
 }
 
 impl<R> ReadingEnd<R> {
