@@ -2,6 +2,7 @@ use crate::relay::{Ended, IDLE, Play, serve};
 use crate::texts::{answered, answers, first, released, requested, requests, whole_frames};
 use link_io::IoFault;
 use std::alloc::{AllocError, Global};
+use std::process::Abort;
 use std::sync::Wait;
 use std::test::Fail;
 use std::thread::Threads;
@@ -123,23 +124,28 @@ impl Failure {
     }
 }
 
+/// Whether the links of the switch and of both stations ended as they should where this device fails.
+fn are_right<R, A: Abort>(rt: &A, alloc: Global, failure: Failure, ended: &[Ended<R>]) -> bool {
+    let requests = failure.requests(alloc).expect(rt, "octets");
+    let one = answers(alloc, 1, failure.frames(1)).expect(rt, "octets");
+    let second = answers(alloc, 2, failure.frames(2)).expect(rt, "octets");
+    match ended {
+        [a, b, c] => {
+            failure.is_right(0, a, requests)
+                && failure.is_right(1, b, one)
+                && failure.is_right(2, c, second)
+        }
+        _ => false,
+    }
+}
+
 /// Whether all links end as they should where this device fails.
 fn all_right<R>(rt: R, alloc: Global, failure: Failure) -> Result<bool, Fail>
 where
-    R: Clock + Threads + Wait + Copy + Drop + Send + 'static,
+    R: Abort + Clock + Threads + Wait + Copy + Drop + Send + 'static,
 {
-    let requests = failure.requests(alloc)?;
-    let one = answers(alloc, 1, failure.frames(1))?;
-    let second = answers(alloc, 2, failure.frames(2))?;
     let ended = serve(rt, alloc, &failure.plays(), LIMIT)?;
-    match ended.as_slice() {
-        [a, b, c] => Ok(
-            failure.is_right(0, a, requests)
-                && failure.is_right(1, b, one)
-                && failure.is_right(2, c, second),
-        ),
-        _ => Ok(false),
-    }
+    Ok(are_right(&rt, alloc, failure, ended.as_slice()))
 }
 
 /// The first of so many places at which this device can't fail without harm to the other links, if there is one.
@@ -151,7 +157,7 @@ fn first_harm<R>(
     places: usize,
 ) -> Result<Option<usize>, Fail>
 where
-    R: Clock + Threads + Wait + Copy + Drop + Send + 'static,
+    R: Abort + Clock + Threads + Wait + Copy + Drop + Send + 'static,
 {
     for place in 0..places {
         let failure = Failure {

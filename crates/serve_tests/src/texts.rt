@@ -73,21 +73,19 @@ pub(crate) fn released(frames: u32) -> u64 {
 
 /// What the station of this cell gets for so many of its frames, with what comes when the switch goes down.
 pub(crate) fn answers(alloc: Global, cell: u8, frames: u32) -> Result<Vec<u8>, AllocError> {
+    let assign = immediate_assign(cell);
+    let parts: [(bool, &[u8]); 5] = [
+        (frames > 0, &CHANNEL_ACTIVATION),
+        (frames > 1, &assign),
+        (frames > 3, &PONG),
+        (frames > 2, &CHANNEL_RELEASE),
+        (frames > 0, &RF_CHANNEL_RELEASE),
+    ];
     let mut text = Vec::with_capacity(alloc, 80)?;
-    if frames > 0 {
-        text.extend_from_slice(&CHANNEL_ACTIVATION)?;
-    }
-    if frames > 1 {
-        text.extend_from_slice(&immediate_assign(cell))?;
-    }
-    if frames > 3 {
-        text.extend_from_slice(&PONG)?;
-    }
-    if frames > 2 {
-        text.extend_from_slice(&CHANNEL_RELEASE)?;
-    }
-    if frames > 0 {
-        text.extend_from_slice(&RF_CHANNEL_RELEASE)?;
+    for (is_due, part) in parts {
+        if is_due {
+            text.extend_from_slice(part)?;
+        }
     }
     Ok(text)
 }
