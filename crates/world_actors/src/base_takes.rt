@@ -99,7 +99,10 @@ impl Network {
                 self.answer(Place { station, number })
             }
             Rsl::RfChannelRelease(number) => self.release(&Place { station, number }),
-            _ => Ok(()),
+            other => {
+                drop(other);
+                Ok(())
+            }
         }
     }
 

@@ -50,14 +50,20 @@ impl Network {
         ensures { IfOk result (λ target. target ≡ acknowledged_tenure self.now station (message_in frame.now)) }
     {
         let message = rsl_in(self.alloc, frame)?;
-        match &message {
-            Some(Rsl::ChannelActivationAck(acknowledged)) => {
-                Ok(Some(self.last_tenure(Place {
-                    station,
-                    number: acknowledged.channel,
-                })))
-            }
-            _ => Ok(None),
+        let target = self.tenure_in(station, &message);
+        drop(message);
+        Ok(target)
+    }
+
+    fn tenure_in(&self, station: u16, message: &Option<Rsl>) -> Option<Tenure>
+        ensures { result ≡ acknowledged_tenure self.now station message.now }
+    {
+        match message {
+            Some(Rsl::ChannelActivationAck(acknowledged)) => Some(self.last_tenure(Place {
+                station,
+                number: acknowledged.channel,
+            })),
+            _ => None,
         }
     }
 }

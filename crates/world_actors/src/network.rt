@@ -1,6 +1,6 @@
 ghost use Rattle.std.specs.Prelude.{◌≡◌, IfOk, if◌then◌else◌};
 ghost use Rattle.dtap_codec.specs.Number.{count_of};
-ghost use Rattle.world_table.specs.World.{is_reached, is_station_up, is_up, modulus_in, new_actors, tenure_at};
+ghost use Rattle.world_table.specs.World.{is_reached, is_station_up, is_up, modulus_in, new_actors, stations_from, tenure_at};
 
 use conn_messages::{Place, SWITCH_LINK};
 use dtap_codec::Modulus;
@@ -47,16 +47,38 @@ impl Network {
     pub fn new(alloc: Global, settings: Settings) -> Result<Network, Memory>
         ensures { IfOk result (λ n. n ≡ new_actors settings) }
     {
+        match Stations::new(alloc, &settings) {
+            Ok(stations) => Network::with_stations(alloc, stations, settings),
+            Err(Memory) => {
+                drop(settings);
+                Err(Memory)
+            }
+        }
+    }
+
+    // The same with these stations.
+    fn with_stations(
+        alloc: Global,
+        stations: Stations,
+        settings: Settings,
+    ) -> Result<Network, Memory>
+        requires { stations ≡ stations_from 1 settings.cells }
+        ensures { IfOk result (λ n. n ≡ new_actors settings) }
+    {
         let modulus = modulus_of(&settings);
-        let stations = Stations::new(alloc, &settings)?;
-        let relay = Relay::new(alloc, settings)?;
-        Ok(Network {
-            alloc,
-            mobiles: Mobiles::new(alloc, modulus),
-            stations,
-            switch: Switch::new(alloc, modulus),
-            relay,
-        })
+        match Relay::new(alloc, settings) {
+            Ok(relay) => Ok(Network {
+                alloc,
+                mobiles: Mobiles::new(alloc, modulus),
+                stations,
+                switch: Switch::new(alloc, modulus),
+                relay,
+            }),
+            Err(Memory) => {
+                drop(stations);
+                Err(Memory)
+            }
+        }
     }
 
     /// Whether the link of a source is up.

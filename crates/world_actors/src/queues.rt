@@ -35,8 +35,12 @@ impl Network {
     {
         match self.switch.next() {
             Some(message) => {
-                self.relay.push_from_switch(&message)?;
-                Ok(true)
+                let pushed = self.relay.push_from_switch(&message);
+                drop(message);
+                match pushed {
+                    Ok(()) => Ok(true),
+                    Err(Memory) => Err(Memory),
+                }
             }
             None => Ok(false),
         }
@@ -48,8 +52,12 @@ impl Network {
     {
         match self.stations.next(station) {
             Some(message) => {
-                self.relay.push_from_station(station, &message)?;
-                Ok(true)
+                let pushed = self.relay.push_from_station(station, &message);
+                drop(message);
+                match pushed {
+                    Ok(()) => Ok(true),
+                    Err(Memory) => Err(Memory),
+                }
             }
             None => Ok(false),
         }
