@@ -30,29 +30,12 @@ impl Controller {
         ensures err { OnErr result (Stays self.old self.new outputs.old.outs outputs.new.outs) }
     {
         let state = self.channels.state(*at);
-        match holder(&state) {
-            Some(number) => self.on_held_channel(&state, number, at, input, outputs),
-            None => {
-                self.ignore();
-                Ok(())
-            }
-        }
-    }
-
-    // The same, on a channel in this state, of the connection that has it, or had it.
-    fn on_held_channel(
-        &mut self,
-        state: &ChannelState,
-        number: u32,
-        at: &Place,
-        input: Input,
-        outputs: &mut Outputs,
-    ) -> Result<(), Memory>
-        requires { IsCarried input }
-        ensures ok { OnOk result (Turns (on_state state.now at.now input self.old (words.entry_of self.old number)) self.old self.new outputs.old.outs outputs.new.outs) }
-        ensures err { OnErr result (Stays self.old self.new outputs.old.outs outputs.new.outs) }
-    {
-        if self.frees(state, number, &input) {
+        let Some(number) = holder(&state) else {
+            drop(input);
+            self.ignore();
+            return Ok(());
+        };
+        if self.frees(&state, number, &input) {
             self.on_freed(at, number, input, outputs)
         } else {
             self.concern(number, input, outputs)

@@ -59,7 +59,10 @@ impl Controller {
                 handovers: 0,
                 ignored: 0,
             }),
-            Err(Memory) => Err(Memory),
+            Err(Memory) => {
+                drop(settings);
+                Err(Memory)
+            }
         }
     }
 

@@ -90,7 +90,10 @@ fn live(
     let mut outputs = Outputs::new(alloc);
     match controller.run_all(steps, &mut outputs) {
         Ok(()) => Ok((controller, outputs)),
-        Err(Memory) => Err(Memory),
+        Err(Memory) => {
+            drop(controller);
+            Err(Memory)
+        }
     }
 }
 

@@ -1,9 +1,9 @@
-ghost use Rattle.std.specs.Prelude.{◌≡◌, ◌+◌, ◌≤◌, ◌++◌, map, sum_by, IfOk, IfSome, OnOk, Some};
+ghost use Rattle.std.specs.Prelude.{◌≡◌, ◌+◌, ◌≤◌, ◌++◌, map, sum_by, IfOk, IfSome, OnOk};
 ghost use Rattle.conn_fsm.specs.Doing.{IsPlanned};
 ghost use Rattle.connections.specs.Entries.{AreRising};
 ghost use Rattle.controller_table.specs.Controller.{each, entry_of};
 ghost use Rattle.controller.specs.Doing.{Turns};
-ghost use Rattle.controller.specs.Many.{AreReady, IsReadyFor, all_due, due as due_input, due_of, due_with, carried_out, frames_of, planned_for};
+ghost use Rattle.controller.specs.Many.{AreReady, IsReadyFor, all_due, due as due_input, due_of, carried_out, frames_of, planned_for};
 
 use crate::breaks::break_of;
 use crate::controller::Controller;
@@ -77,10 +77,12 @@ impl Controller {
     fn plan_one(&self, conn: &Conn, cause: &Cause, planned: &mut Vec<Planned>) -> Result<(), Memory>
         ensures { OnOk result (map planned_for planned.new.items ≡ map planned_for planned.old.items ++ due_of cause.now self.now.settings.timers conn.now) }
     {
-        match self.due(cause, conn) {
-            Some(input) => plan_step(conn, input, planned),
-            None => Ok(()),
+        if let Some(input) = self.due(cause, conn) {
+            let plan = conn.plan(input)?;
+            let number = conn.number();
+            planned.push(Planned { number, plan })?;
         }
+        Ok(())
     }
 
     // What comes to a connection.
@@ -116,20 +118,6 @@ impl Controller {
         self.follow(number, made.as_slice());
         outputs.append(made);
     }
-}
-
-// The step of a connection with this input is planned behind the others.
-fn plan_step(conn: &Conn, input: Input, planned: &mut Vec<Planned>) -> Result<(), Memory>
-    requires { IsPlanned input }
-    ensures { OnOk result (map planned_for planned.new.items ≡ map planned_for planned.old.items ++ due_with (Some input) conn.now) }
-{
-    let plan = conn.plan(input)?;
-    planned.reserve(1)?;
-    planned.push_reserved(Planned {
-        number: conn.number(),
-        plan,
-    });
-    Ok(())
 }
 
 // Makes room for the frames of the steps.
