@@ -36,7 +36,16 @@ pub(crate) fn entry_of(
 fn commands(alloc: Global, frame: &Frame) -> Result<bool, Memory>
     ensures { IfOk result (λ is. is ≡ commands_by (message_in frame.now)) }
 {
-    match rsl_in(alloc, frame)? {
+    let message = rsl_in(alloc, frame)?;
+    let answer = commands_in(alloc, &message);
+    drop(message);
+    answer
+}
+
+fn commands_in(alloc: Global, message: &Option<Rsl>) -> Result<bool, Memory>
+    ensures { IfOk result (λ is. is ≡ commands_by message.now) }
+{
+    match message {
         Some(Rsl::DataRequest(data)) => is_change_command(alloc, data.l3.as_slice()),
         _ => Ok(false),
     }

@@ -46,13 +46,31 @@ impl Relay {
     pub fn new(alloc: Global, settings: Settings) -> Result<Relay, Memory>
         ensures { IfOk result (λ r. r ≡ record { inbox = []; controller = new_controller settings; links = replicate (length settings.cells + 1) new_link }) }
     {
-        let links = Links::new(alloc, usize::from(settings.cell_count()) + 1)?;
-        Ok(Relay {
-            alloc,
-            inbox: VecDeque::new(alloc),
-            controller: Controller::new(alloc, settings)?,
-            links,
-        })
+        match Links::new(alloc, usize::from(settings.cell_count()) + 1) {
+            Ok(links) => Relay::with_links(alloc, links, settings),
+            Err(Memory) => {
+                drop(settings);
+                Err(Memory)
+            }
+        }
+    }
+
+    // The same with these links.
+    fn with_links(alloc: Global, links: Links, settings: Settings) -> Result<Relay, Memory>
+        ensures { IfOk result (λ r. r ≡ record { inbox = []; controller = new_controller settings; links = links }) }
+    {
+        match Controller::new(alloc, settings) {
+            Ok(controller) => Ok(Relay {
+                alloc,
+                inbox: VecDeque::new(alloc),
+                controller,
+                links,
+            }),
+            Err(Memory) => {
+                drop(links);
+                Err(Memory)
+            }
+        }
     }
 
     /// Whether a link is up.
