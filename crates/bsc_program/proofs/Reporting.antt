@@ -7,8 +7,9 @@ use Rattle.hex.specs.Hex.{encode_lower}
 use Rattle.std.specs.Io.KnownBytes.{Appends, Keeps}
 use Rattle.std.proofs.KnownBytes.{Appends-nil, Appends-trans, Appends-kept}
 use Rattle.world.specs.declared.world.Scene.{Scene}
+use Rattle.world.specs.Views.{sent_list, received_list, taken_list, accepted_list, unnumbered_list}
 use Rattle.world.specs.WorldState.{WorldState}
-use Rattle.bsc_program.specs.Report.{AreConnections, IsReport, WritesIfSome, connection_text, counted_lines, message_lines, mobile_text, not_taken_line, texts_to}
+use Rattle.bsc_program.specs.Report.{AreConnections, IsReport, WritesIfSome, connection_by, connection_text, counted_lines, list_text, message_lines, mobile_by, mobile_text, not_taken_line, texts_to}
 
 -- the count was written, and the messages before the next one
 abbrev pub WritesMessages : List (List ℕ) → ℕ → Option (List ℕ) → Option (List ℕ) → Type 0
@@ -31,6 +32,29 @@ messages_more messages next message old mid new some less is line =
 pub messages_all : (messages : List (List ℕ)) (next : ℕ) (old new : Option (List ℕ)) → WritesMessages messages next old new → length messages ≤ next → Appends old new (counted_lines messages)
 messages_all messages next old new some all =
     subst (λ (xs : List (List ℕ)). Appends old new (decimal (length messages) ++ codes "\n" ++ message_lines xs)) (take_all next messages all) some
+
+-- both lists of a mobile
+pub mobile_is : (scene : Scene) (mobile number : ℕ) (sent received : List (List ℕ)) (old mid new : Option (List ℕ)) → number ≡ mobile → sent_list scene mobile ≡ Some sent → received_list scene mobile ≡ Some received
+    → Appends old mid (list_text (codes "mobile ") number (codes " sent ") sent) → Appends mid new (list_text (codes "mobile ") number (codes " received ") received) → Appends old new (mobile_text scene mobile)
+mobile_is scene mobile number sent received old mid new same is had first second =
+    let lists : ℕ → List ℕ = λ n. list_text (codes "mobile ") n (codes " sent ") sent ++ list_text (codes "mobile ") n (codes " received ") received in
+    subst (λ (o : Option (List (List ℕ))). Appends old new (mobile_by mobile o (received_list scene mobile))) (sym is)
+    (subst (λ (o : Option (List (List ℕ))). Appends old new (mobile_by mobile (Some sent) o)) (sym had)
+    (subst (λ (n : ℕ). Appends old new (lists n)) same
+    (Appends-trans old mid new (list_text (codes "mobile ") number (codes " sent ") sent) (list_text (codes "mobile ") number (codes " received ") received) first second)))
+
+-- the three lists of a connection
+pub connection_is : (scene : Scene) (number : ℕ) (taken accepted unnumbered : List (List ℕ)) (old first second new : Option (List ℕ)) → taken_list scene number ≡ Some taken → accepted_list scene number ≡ Some accepted → unnumbered_list scene number ≡ Some unnumbered
+    → Appends old first (list_text (codes "conn ") number (codes " taken ") taken) → Appends first second (list_text (codes "conn ") number (codes " accepted ") accepted)
+    → Appends second new (list_text (codes "conn ") number (codes " unnumbered ") unnumbered) → WritesIfSome true (connection_text scene number) old new
+connection_is scene number taken accepted unnumbered old first second new is was had one two three =
+    let some : List ℕ = list_text (codes "conn ") number (codes " taken ") taken in
+    let more : List ℕ = list_text (codes "conn ") number (codes " accepted ") accepted in
+    let last : List ℕ = list_text (codes "conn ") number (codes " unnumbered ") unnumbered in
+    subst (λ (o : Option (List (List ℕ))). WritesIfSome true (connection_by number o (accepted_list scene number) (unnumbered_list scene number)) old new) (sym is)
+    (subst (λ (o : Option (List (List ℕ))). WritesIfSome true (connection_by number (Some taken) o (unnumbered_list scene number)) old new) (sym was)
+    (subst (λ (o : Option (List (List ℕ))). WritesIfSome true (connection_by number (Some taken) (Some accepted) o) old new) (sym had)
+    (Appends-trans old second new (some ++ more) last (Appends-trans old first second some more one two) three)))
 
 abbrev pub some_connection : Scene → ℕ → List ℕ
 some_connection scene number = unwrap_or (connection_text scene number) []

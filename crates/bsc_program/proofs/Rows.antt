@@ -1,5 +1,5 @@
 -- Definitions against literal scripts and worlds.
-use Rattle.std.proofs.Common.{◌≡◌, List, [], ◌∷◌, ◌++◌, map, Some, None, refl}
+use Rattle.std.proofs.Common.{◌≡◌, [], ◌∷◌, ◌++◌, map, Some, None, refl}
 use Rattle.std.specs.Prelude.{codes, decimal}
 use Rattle.hex.proofs.OnLiterals.{hex_on_literals}
 use Rattle.dtap_codec.specs.declared.sapi.Sapi.TheVariants.{Zero}
