@@ -10,59 +10,81 @@ use std::process::Abort;
 use std::test::Fail;
 use world::LineFault;
 
-/// Asserts what is said of a fault.
-fn tells(
-    rt: &(impl Abort + AllocGlobal),
-    fault: impl Display + Drop,
-    wanted: &str,
-) -> Result<(), Fail> {
-    let text = format!(in rt.alloc(); "{fault}")?;
-    assert!(rt; text.as_str() == wanted);
+/// Asserts what is said of each fault of the table.
+fn tells<F: Display>(rt: &(impl Abort + AllocGlobal), table: &[(F, &str)]) -> Result<(), Fail> {
+    for (fault, text) in table {
+        let told = format!(in rt.alloc(); "{fault}")?;
+        assert!(rt; told.as_str() == *text);
+    }
     Ok(())
 }
 
 #[test]
 fn faults_of_the_models_are_told(rt: HostRuntime) -> Result<(), Fail> {
-    let none = Vec::new(rt.alloc());
-    tells(&rt, HoldFault::Full(none), "the hold is full")?;
-    tells(&rt, LinkFault::NotActive, "the channel is not active")?;
-    tells(&rt, LinkFault::Busy, "the channel is active")?;
     tells(
         &rt,
-        MobileFault::NotConnected,
-        "the mobile is not connected",
+        &[
+            (HoldFault::Full(Vec::new(rt.alloc())), "the hold is full"),
+            (HoldFault::Memory(Vec::new(rt.alloc())), "out of memory"),
+        ],
     )?;
-    tells(&rt, MobileFault::BadMessage, "the message may not be sent")?;
-    tells(&rt, MscFault::NoConnection, "no such connection")?;
-    tells(&rt, MscFault::Closed, "connection closed")
+    tells(
+        &rt,
+        &[
+            (LinkFault::NotActive, "the channel is not active"),
+            (LinkFault::Busy, "the channel is active"),
+            (LinkFault::Memory, "out of memory"),
+        ],
+    )?;
+    tells(
+        &rt,
+        &[
+            (MobileFault::NotConnected, "the mobile is not connected"),
+            (MobileFault::BadMessage, "the message may not be sent"),
+            (MobileFault::Memory, "out of memory"),
+        ],
+    )?;
+    tells(
+        &rt,
+        &[
+            (MscFault::NoConnection, "no such connection"),
+            (MscFault::Closed, "connection closed"),
+            (MscFault::Memory, "out of memory"),
+        ],
+    )?;
+    tells(
+        &rt,
+        &[
+            (LineFault::BadEvent, "bad event"),
+            (LineFault::Memory, "out of memory"),
+        ],
+    )?;
+    tells(&rt, &[(Memory, "out of memory")])
 }
 
 #[test]
 fn faults_of_the_program_are_told(rt: HostRuntime) -> Result<(), Fail> {
-    tells(&rt, LineFault::BadEvent, "bad event")?;
-    tells(&rt, ProgramFault::UnreadSettings, "settings: cannot read")?;
-    let fault = SettingsFault::NotToml;
-    tells(&rt, ProgramFault::Settings(fault), "settings: not TOML")?;
     tells(
         &rt,
-        ProgramFault::BadBreak,
-        "--break wants --config, and a number from 0 to that of the cells",
+        &[
+            (ProgramFault::UnreadSettings, "settings: cannot read"),
+            (
+                ProgramFault::Settings(SettingsFault::NotToml),
+                "settings: not TOML",
+            ),
+            (
+                ProgramFault::BadBreak,
+                "--break wants --config, and a number from 0 to that of the cells",
+            ),
+            (ProgramFault::Failed(Failure::Device), "device failed"),
+        ],
     )?;
-    tells(&rt, Failure::BadEvent(7), "line 7: bad event")?;
-    let failed = ProgramFault::Failed(Failure::Device);
-    tells(&rt, failed, "device failed")?;
-    tells(&rt, Failure::Device, "device failed")
-}
-
-#[test]
-fn want_of_memory_is_told(rt: HostRuntime) -> Result<(), Fail> {
-    let none = Vec::new(rt.alloc());
-    let text = "out of memory";
-    tells(&rt, Memory, text)?;
-    tells(&rt, HoldFault::Memory(none), text)?;
-    tells(&rt, LinkFault::Memory, text)?;
-    tells(&rt, MobileFault::Memory, text)?;
-    tells(&rt, MscFault::Memory, text)?;
-    tells(&rt, LineFault::Memory, text)?;
-    tells(&rt, Failure::Memory, text)
+    tells(
+        &rt,
+        &[
+            (Failure::BadEvent(7), "line 7: bad event"),
+            (Failure::Device, "device failed"),
+            (Failure::Memory, "out of memory"),
+        ],
+    )
 }

@@ -13,6 +13,8 @@ mod fault_texts;
 #[cfg(test)]
 mod fixed_world;
 #[cfg(test)]
+mod frames;
+#[cfg(test)]
 mod hold;
 #[cfg(test)]
 mod mobile;

@@ -1,6 +1,7 @@
 use dtap_codec::{Modulus, Sapi};
 use mobile_end::MobileEnd;
 use std::alloc::Global;
+use std::process::Abort;
 use std::test::Fail;
 
 /// What a mobile or its station does.
@@ -18,8 +19,9 @@ enum Step {
 
 /// A mobile that connects with a message.
 fn connect(alloc: Global, initial: &[u8]) -> Result<MobileEnd, Fail> {
+    let initial = initial.to_vec(alloc)?;
     let mut mobile = MobileEnd::new(alloc, Modulus::Four);
-    mobile.connect(Some(initial.to_vec(alloc)?))?;
+    mobile.connect(Some(initial))?;
     Ok(mobile)
 }
 
@@ -63,29 +65,36 @@ fn frame_of(alloc: Global, mobile: &mut MobileEnd, step: Step) -> Result<Vec<u8>
     Ok(Vec::new(alloc))
 }
 
+/// Steps, and the octets of the frame that each takes.
+const STEPS: &[(Step, &[u8])] = &[
+    (Step::Send([0x03, 0x05]), &[]),
+    (Step::AckedFrame, &[0x05, 0x24, 0x71]),
+    (Step::Frame, &[0x03, 0x45]),
+    (Step::Leave, &[]),
+    (Step::Frame, &[]),
+    (Step::Arrive, &[]),
+    (Step::AckedFrame, &[0x06, 0x29, 0x00]),
+    (Step::AckedFrame, &[0x03, 0x45]),
+    (Step::Send([0x03, 0x0f]), &[]),
+    (Step::Frame, &[0x03, 0x8f]),
+    (Step::GiveUp, &[]),
+    (Step::AckedFrame, &[0x06, 0x28, 0x03]),
+    (Step::Frame, &[0x03, 0x8f]),
+];
+
+/// Asserts which frame each step takes.
+fn all_take(rt: &(impl Abort + AllocGlobal), mobile: &mut MobileEnd) -> Result<(), Fail> {
+    for (step, expected) in STEPS {
+        let found = frame_of(rt.alloc(), mobile, *step)?;
+        assert!(rt; found.as_slice() == *expected);
+    }
+    Ok(())
+}
+
 #[test]
 fn an_unacknowledged_message_is_sent_again(rt: HostRuntime) -> Result<(), Fail> {
-    let alloc = rt.alloc();
-    let mut mobile = connect(alloc, &[0x05, 0x24, 0x71])?;
-    let steps: [(Step, &[u8]); 13] = [
-        (Step::Send([0x03, 0x05]), &[]),
-        (Step::AckedFrame, &[0x05, 0x24, 0x71]),
-        (Step::Frame, &[0x03, 0x45]),
-        (Step::Leave, &[]),
-        (Step::Frame, &[]),
-        (Step::Arrive, &[]),
-        (Step::AckedFrame, &[0x06, 0x29, 0x00]),
-        (Step::AckedFrame, &[0x03, 0x45]),
-        (Step::Send([0x03, 0x0f]), &[]),
-        (Step::Frame, &[0x03, 0x8f]),
-        (Step::GiveUp, &[]),
-        (Step::AckedFrame, &[0x06, 0x28, 0x03]),
-        (Step::Frame, &[0x03, 0x8f]),
-    ];
-    for (step, expected) in steps {
-        let found = frame_of(alloc, &mut mobile, step)?;
-        assert!(rt; found.as_slice() == expected);
-    }
+    let mut mobile = connect(rt.alloc(), &[0x05, 0x24, 0x71])?;
+    let took = all_take(&rt, &mut mobile);
     assert!(rt; mobile.sent().len() == 3);
-    Ok(())
+    took
 }

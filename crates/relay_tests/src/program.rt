@@ -1,10 +1,31 @@
 use bsc_program::{decode, replay};
+use std::alloc::Global;
 use std::io::{self, ErrorKind, Read, Write};
 use std::process::Abort;
 use std::test::Fail;
 
 /// An input, and the status, the output and the errors that are wanted of it.
 type Row<'a> = (&'a [u8], u8, &'a str, &'a str);
+
+const SCRIPTS: &[Row] = &[
+    (THREE_MESSAGES, 0, THREE_REPORTED, ""),
+    (SIX_MESSAGES, 0, SIX_REPORTED, ""),
+    (
+        b"upper 1 0 0305\nswitchtakes\nairack 1 0\nbasetakes 1",
+        0,
+        "mobile 1 sent 1\n0305\nmobile 1 received 0\nconn 1 taken 0\nconn 1 accepted 0\n\
+            conn 1 unnumbered 0\nevents not taken 3\n",
+        "",
+    ),
+    (b"airup 1", 2, "", "bsc: line 1: bad event\n"),
+    (b"handle\n\nairup 1\n", 2, "", "bsc: line 2: bad event\n"),
+    (
+        b"handle\nhandle\nupper \xff 0 0305\n",
+        2,
+        "",
+        "bsc: line 3: bad event\n",
+    ),
+];
 
 const THREE_MESSAGES: &[u8] = b"upper 1 0 052471\nupper 1 0 0305\nupper 1 0 030f\n\
     airup 1 0\nairack 1 0\nswitchtakes\nairup 1 0\nairack 1 0\nswitchtakes\nairup 1 0\nairack 1 0\nswitchtakes\n";
@@ -23,6 +44,17 @@ const SIX_REPORTED: &str =
     conn 1 taken 6\n0301\n0341\n0381\n03c1\n0301\n0341\n\
     conn 1 accepted 6\n0301\n0301\n0301\n0301\n0301\n0301\nconn 1 unnumbered 0\nevents not taken 0\n";
 
+const STREAMS: &[Row] = &[
+    (FRAMES, 0, FRAMES_NAMED, ""),
+    (b"", 0, "", ""),
+    (
+        &[0x00, 0x01, 0xfe, 0x01, 0x08, 0x01, 0x00],
+        3,
+        "fe PONG\nfault F1\n",
+        "",
+    ),
+];
+
 /// Frames of each stream, and the beginning of one.
 const FRAMES: &[u8] = &[
     0x00, 0x01, 0xfe, 0x00, 0x00, 0x00, 0xfe, 0x00, 0x0b, 0x00, 0x03, 0x02, 0x01, 0x41, 0x02, 0x00,
@@ -34,16 +66,35 @@ const FRAMES_NAMED: &str =
     "fe PING\nfe CCM\n00 DATA INDICATION\nfd RLC\nfd fault A1\nff OML\n01 unknown\n\
     00 fault S1\nrest 3\n";
 
-/// A reader that gives its octets some at a time, and at their end gives none or fails.
+/// A reader that gives its octets some at a time, and at their end gives none or fails. Where it is interrupted, every second
+/// read is.
 #[derive(Drop)]
 struct Pieces<'a> {
     octets: &'a [u8],
     size: usize,
     fails: bool,
+    is_interrupted: bool,
+    is_next: bool,
+}
+
+impl<'a> Pieces<'a> {
+    fn new(octets: &'a [u8], size: usize) -> Pieces<'a> {
+        Pieces {
+            octets,
+            size,
+            fails: false,
+            is_interrupted: false,
+            is_next: false,
+        }
+    }
 }
 
 impl Read for Pieces<'_> {
     fn read(&mut self, buf: &mut [u8]) -> io::Result<usize> {
+        self.is_next = self.is_interrupted && !self.is_next;
+        if self.is_next {
+            return Err(io::Error::from(ErrorKind::Interrupted));
+        }
         if self.octets.is_empty() && self.fails {
             return Err(io::Error::from(ErrorKind::BrokenPipe));
         }
@@ -55,217 +106,155 @@ impl Read for Pieces<'_> {
     }
 }
 
-/// A reader of which every second read is interrupted.
+/// A writer that takes some octets, and then fails or takes none. It counts how often it was flushed, and the octets that
+/// came behind the last time.
 #[derive(Drop)]
-struct Interrupted<'a> {
-    pieces: Pieces<'a>,
-    next: bool,
-}
-
-impl Read for Interrupted<'_> {
-    fn read(&mut self, buf: &mut [u8]) -> io::Result<usize> {
-        self.next = !self.next;
-        if self.next {
-            return Err(io::Error::from(ErrorKind::Interrupted));
-        }
-        self.pieces.read(buf)
-    }
-}
-
-/// A writer that counts how often it was flushed, and the octets that came behind the last time.
-#[derive(Drop)]
-struct Flushed {
-    times: usize,
+struct Paper {
+    taken: Vec<u8>,
+    room: usize,
+    fails: bool,
+    flushes: usize,
     waiting: usize,
 }
 
-impl Write for Flushed {
-    fn write(&mut self, buf: &[u8]) -> io::Result<usize> {
-        self.waiting = self.waiting.saturating_add(buf.len());
-        Ok(buf.len())
-    }
-
-    fn flush(&mut self) -> io::Result<()> {
-        self.times = self.times.saturating_add(1);
-        self.waiting = 0;
-        Ok(())
+impl Paper {
+    fn new(alloc: Global, room: usize, fails: bool) -> Paper {
+        Paper {
+            taken: Vec::new(alloc),
+            room,
+            fails,
+            flushes: 0,
+            waiting: 0,
+        }
     }
 }
 
-/// A writer that takes some octets, and then fails or takes none.
-#[derive(Drop)]
-struct Full {
-    room: usize,
-    fails: bool,
-}
-
-impl Write for Full {
+impl Write for Paper {
     fn write(&mut self, buf: &[u8]) -> io::Result<usize> {
         let count = self.room.min(buf.len());
         if count == 0 && self.fails {
             return Err(io::Error::from(ErrorKind::StorageFull));
         }
+        self.taken.extend_from_slice(&buf[..count])?;
         self.room -= count;
+        self.waiting = self.waiting.saturating_add(count);
         Ok(count)
     }
 
     fn flush(&mut self) -> io::Result<()> {
+        self.flushes = self.flushes.saturating_add(1);
+        self.waiting = 0;
         Ok(())
     }
 }
 
-/// Asserts the status, the output and the errors of `replay` or `decode` over a row's input, in pieces of this size.
-fn answers(rt: &(impl Abort + AllocGlobal), replays: bool, row: Row<'_>, size: usize, fails: bool) {
-    let (octets, wanted, text, told) = row;
-    let mut input = Pieces {
-        octets,
-        size,
-        fails,
-    };
-    let mut output = Vec::new(rt.alloc());
-    let mut errors = Vec::new(rt.alloc());
+/// What a command made of an input: its status, its output and its errors.
+#[derive(Drop)]
+struct Answer {
+    status: u8,
+    output: Paper,
+    errors: Vec<u8>,
+}
+
+/// Runs `replay` in the fixed world, or `decode`.
+fn run(alloc: Global, replays: bool, mut input: Pieces<'_>, mut output: Paper) -> Answer {
+    let mut errors = Vec::new(alloc);
     let status = if replays {
-        replay(rt.alloc(), None, None, &mut input, &mut output, &mut errors)
+        replay(alloc, None, None, &mut input, &mut output, &mut errors)
     } else {
-        decode(rt.alloc(), &mut input, &mut output, &mut errors)
+        decode(alloc, &mut input, &mut output, &mut errors)
     };
-    assert!(rt; status == wanted, "{octets:?}: status {status}");
-    assert!(rt; output.as_slice() == text.as_bytes(), "{octets:?}");
-    assert!(rt; errors.as_slice() == told.as_bytes(), "{octets:?}");
+    Answer {
+        status,
+        output,
+        errors,
+    }
+}
+
+/// Asserts the status, the output and the errors of a row.
+fn answers(rt: &(impl Abort + AllocGlobal), replays: bool, row: Row<'_>, input: Pieces<'_>) {
+    let (_, status, text, told) = row;
+    let output = Paper::new(rt.alloc(), usize::MAX, false);
+    let found = run(rt.alloc(), replays, input, output);
+    assert!(rt; found.status == status, "status {}", found.status);
+    assert!(rt; found.output.taken.as_slice() == text.as_bytes());
+    assert!(rt; found.errors.as_slice() == told.as_bytes());
+    assert!(rt; found.output.waiting == 0);
+}
+
+/// Asserts the rows over inputs in pieces of several sizes.
+fn answers_in_pieces(rt: &(impl Abort + AllocGlobal), replays: bool, rows: &[Row<'_>]) {
+    for row in rows {
+        for size in [1, 7, 65536] {
+            answers(rt, replays, *row, Pieces::new(row.0, size));
+        }
+    }
 }
 
 #[test]
 fn scripts_are_reported_however_they_come(rt: HostRuntime) {
-    let rows: [Row<'_>; 6] = [
-        (THREE_MESSAGES, 0, THREE_REPORTED, ""),
-        (SIX_MESSAGES, 0, SIX_REPORTED, ""),
-        (
-            b"upper 1 0 0305\nswitchtakes\nairack 1 0\nbasetakes 1",
-            0,
-            "mobile 1 sent 1\n0305\nmobile 1 received 0\nconn 1 taken 0\nconn 1 accepted 0\n\
-                conn 1 unnumbered 0\nevents not taken 3\n",
-            "",
-        ),
-        (b"airup 1", 2, "", "bsc: line 1: bad event\n"),
-        (b"handle\n\nairup 1\n", 2, "", "bsc: line 2: bad event\n"),
-        (
-            b"handle\nhandle\nupper \xff 0 0305\n",
-            2,
-            "",
-            "bsc: line 3: bad event\n",
-        ),
-    ];
-    for row in rows {
-        for size in [1, 7, 65536] {
-            answers(&rt, true, row, size, false);
-        }
-    }
+    answers_in_pieces(&rt, true, SCRIPTS);
 }
 
 #[test]
 fn frames_are_named_however_they_come(rt: HostRuntime) {
-    let rows: [Row<'_>; 3] = [
-        (FRAMES, 0, FRAMES_NAMED, ""),
-        (b"", 0, "", ""),
-        (
-            &[0x00, 0x01, 0xfe, 0x01, 0x08, 0x01, 0x00],
-            3,
-            "fe PONG\nfault F1\n",
-            "",
-        ),
-    ];
-    for row in rows {
-        for size in [1, 7, 65536] {
-            answers(&rt, false, row, size, false);
-        }
+    answers_in_pieces(&rt, false, STREAMS);
+}
+
+/// Whether it replays, and what comes of an input whose reader fails at its end: what was read is named before the break,
+/// and a bad line before it comes first.
+const BROKEN: &[(bool, Row)] = &[
+    (true, (THREE_MESSAGES, 3, "", FAILED)),
+    (true, (b"bad\nhandle\n", 2, "", "bsc: line 1: bad event\n")),
+    (
+        false,
+        (&[0x00, 0x01, 0xfe, 0x00, 0x00], 3, "fe PING\n", FAILED),
+    ),
+];
+
+const FAILED: &str = "bsc: device failed\n";
+
+#[test]
+fn a_reader_that_fails_in_mid_stream_is_told(rt: HostRuntime) {
+    for (replays, row) in BROKEN {
+        let mut input = Pieces::new(row.0, 3);
+        input.fails = true;
+        answers(&rt, *replays, *row, input);
     }
 }
 
-#[test]
-fn a_device_that_fails_in_mid_stream_is_told(rt: HostRuntime) {
-    let failed = "bsc: device failed\n";
-    // what was read is printed before the break, and a bad line before it comes first
-    answers(&rt, true, (THREE_MESSAGES, 3, "", failed), 3, true);
-    answers(
-        &rt,
-        true,
-        (b"bad\nhandle\n", 2, "", "bsc: line 1: bad event\n"),
-        3,
-        true,
-    );
-    answers(&rt, false, (&FRAMES[..5], 3, "fe PING\n", failed), 3, true);
-    for fails in [true, false] {
-        let mut full = Full { room: 10, fails };
-        let mut errors = Vec::new(rt.alloc());
-        let status = replay(
-            rt.alloc(),
-            None,
-            None,
-            &mut &*THREE_MESSAGES,
-            &mut full,
-            &mut errors,
-        );
-        assert!(rt; status == 3 && errors.as_slice() == failed.as_bytes());
-        let mut full = Full { room: 10, fails };
-        errors.clear();
-        let status = decode(rt.alloc(), &mut &*FRAMES, &mut full, &mut errors);
-        assert!(rt; status == 3 && errors.as_slice() == failed.as_bytes());
-    }
-}
+/// Whether it replays, and what comes of an input that has to be read to its end.
+const WHOLE: [(bool, Row<'static>); 2] = [
+    (true, (THREE_MESSAGES, 0, THREE_REPORTED, "")),
+    (false, (FRAMES, 0, FRAMES_NAMED, "")),
+];
 
 #[test]
 fn an_interrupted_read_is_tried_again(rt: HostRuntime) {
-    for (octets, replays, text) in [
-        (THREE_MESSAGES, true, THREE_REPORTED),
-        (FRAMES, false, FRAMES_NAMED),
-    ] {
-        let pieces = Pieces {
-            octets,
-            size: 7,
-            fails: false,
-        };
-        let mut input = Interrupted {
-            pieces,
-            next: false,
-        };
-        let mut output = Vec::new(rt.alloc());
-        let mut errors = Vec::new(rt.alloc());
-        let status = if replays {
-            replay(rt.alloc(), None, None, &mut input, &mut output, &mut errors)
-        } else {
-            decode(rt.alloc(), &mut input, &mut output, &mut errors)
-        };
-        assert!(rt; status == 0 && errors.is_empty());
-        assert!(rt; output.as_slice() == text.as_bytes());
+    for (replays, row) in WHOLE {
+        let mut input = Pieces::new(row.0, 7);
+        input.is_interrupted = true;
+        answers(&rt, replays, row, input);
+    }
+}
+
+#[test]
+fn a_writer_that_fails_in_mid_stream_is_told(rt: HostRuntime) {
+    for (replays, row) in WHOLE {
+        for fails in [true, false] {
+            let output = Paper::new(rt.alloc(), 10, fails);
+            let found = run(rt.alloc(), replays, Pieces::new(row.0, 65536), output);
+            assert!(rt; found.status == 3 && found.errors.as_slice() == FAILED.as_bytes());
+        }
     }
 }
 
 #[test]
 fn output_is_flushed_at_the_end_and_by_decode_after_each_read(rt: HostRuntime) {
-    let mut errors = Vec::new(rt.alloc());
-    let mut reported = Flushed {
-        times: 0,
-        waiting: 0,
-    };
-    let mut input = &*THREE_MESSAGES;
-    let status = replay(
-        rt.alloc(),
-        None,
-        None,
-        &mut input,
-        &mut reported,
-        &mut errors,
-    );
-    assert!(rt; status == 0 && reported.times > 0 && reported.waiting == 0);
-    let mut named = Flushed {
-        times: 0,
-        waiting: 0,
-    };
-    let mut input = Pieces {
-        octets: FRAMES,
-        size: 1,
-        fails: false,
-    };
-    let status = decode(rt.alloc(), &mut input, &mut named, &mut errors);
-    assert!(rt; status == 0 && named.times >= FRAMES.len() && named.waiting == 0);
+    for (replays, (octets, ..)) in WHOLE {
+        let output = Paper::new(rt.alloc(), usize::MAX, false);
+        let found = run(rt.alloc(), replays, Pieces::new(octets, 1), output);
+        assert!(rt; found.status == 0 && found.output.waiting == 0 && found.output.flushes > 0);
+        assert!(rt; replays || found.output.flushes >= octets.len());
+    }
 }

@@ -1,98 +1,106 @@
+use crate::frames::{Line, frame};
 use conn_messages::{Out, Outputs};
 use conn_table::Input;
 use controller_table::Word;
 use dtap_codec::Sapi;
 use frame_reading::{forwarded, handed, read_word};
-use ipa_framing::{CCM_STREAM, Frame, MAX_BODY, RSL_STREAM, SCCP_STREAM};
+use ipa_framing::{CCM_STREAM, Frame, MAX_BODY};
 use octets::Octets;
 use std::alloc::Global;
 use std::test::Fail;
 
 /// What a frame of a link says.
-fn word(alloc: Global, source: u16, stream: u8, body: &[u8]) -> Result<Word, Fail> {
-    let body = Octets::copy(alloc, body)?;
-    Ok(read_word(alloc, source, &Frame { stream, body })?)
+fn word(alloc: Global, line: Line) -> Result<Word, Fail> {
+    let frame = frame(alloc, line)?;
+    Ok(read_word(alloc, line.0, &frame)?)
+}
+
+/// The station, or 0, the number of the channel or of the connection, and the message that a word brings from the mobile or
+/// for it.
+fn message_of(word: &Word) -> Option<(u16, u32, &[u8])> {
+    match word {
+        Word::OnChannel(at, Input::Dtap { message, .. }) => {
+            Some((at.station, u32::from(at.number.octet()), message.as_slice()))
+        }
+        Word::OnConnection(number, Input::Downlink { message, .. }) => {
+            Some((0, *number, message.as_slice()))
+        }
+        _ => None,
+    }
+}
+
+/// The station, the number, the level and the quality of a report.
+fn report_of(word: &Word) -> Option<(u16, u8, u8, u8)> {
+    match word {
+        Word::Reports(at, number, report) => {
+            Some((at.station, *number, report.rxlev_full, report.rxqual_sub))
+        }
+        _ => None,
+    }
 }
 
 #[test]
 fn frames_of_every_link_are_read(rt: HostRuntime) -> Result<(), Fail> {
-    let alloc = rt.alloc();
-    let ping = word(alloc, 2, CCM_STREAM, &[0x00])?;
-    assert!(rt; matches!(&ping, Word::Ping));
-    let body = [
-        0x03, 0x02, 0x01, 0x41, 0x02, 0x00, 0x0b, 0x00, 0x02, 0x03, 0x45,
+    let messages: [(Line, u16, u32, [u8; 2]); 2] = [
+        ((1, "0302014102000b00020345"), 1, 0x41, [0x03, 0x45]),
+        ((0, "060000010001050103020902"), 0, 1, [0x09, 0x02]),
     ];
-    match &word(alloc, 1, RSL_STREAM, &body)? {
-        Word::OnChannel(at, Input::Dtap { message, .. }) => {
-            assert!(rt; at.station == 1 && at.number.octet() == 0x41);
-            assert_eq!(rt; message.as_slice(), [0x03, 0x45].as_slice());
-        }
-        _ => return Err("no DTAP".into()),
+    for (line, station, number, message) in messages {
+        let word = word(rt.alloc(), line)?;
+        assert!(rt;
+            message_of(&word).is_some_and(|found| {
+                found.0 == station && found.1 == number && found.2 == message.as_slice()
+            })
+        );
     }
-    let body = [
-        0x06, 0x00, 0x00, 0x01, 0x00, 0x01, 0x05, 0x01, 0x03, 0x02, 0x09, 0x02,
-    ];
-    match &word(alloc, 0, SCCP_STREAM, &body)? {
-        Word::OnConnection(number, Input::Downlink { message, .. }) => {
-            assert!(rt; *number == 1);
-            assert_eq!(rt; message.as_slice(), [0x09, 0x02].as_slice());
-        }
-        _ => return Err("nothing for the mobile".into()),
-    }
+    // Number 5, and a report of level 20 and quality 0.
+    let report = "082801411b050b0012061514140057024000000000000000000000";
+    let word = word(rt.alloc(), (1, report))?;
+    assert!(rt; report_of(&word) == Some((1, 5, 20, 0)));
     Ok(())
 }
 
 #[test]
-fn a_report_in_a_measurement_result_is_read(rt: HostRuntime) -> Result<(), Fail> {
-    // Number 5, and a report of level 20 and quality 0.
-    let body = [
-        0x08, 0x28, 0x01, 0x41, 0x1b, 0x05, 0x0b, 0x00, 0x12, 0x06, 0x15, 0x14, 0x14, 0x00, 0x57,
-        0x02, 0x40, 0x00, 0x00, 0x00, 0x00, 0x00, 0x00, 0x00, 0x00, 0x00, 0x00,
-    ];
-    match &word(rt.alloc(), 1, RSL_STREAM, &body)? {
-        Word::Reports(at, number, report) => {
-            assert!(rt; at.station == 1 && *number == 5);
-            assert!(rt; report.rxlev_full == 20 && report.rxqual_sub == 0);
-        }
-        _ => return Err("no report".into()),
-    }
+fn a_ping_is_read(rt: HostRuntime) -> Result<(), Fail> {
+    let frame = Frame {
+        stream: CCM_STREAM,
+        body: Octets::copy(rt.alloc(), &[0x00])?,
+    };
+    let word = read_word(rt.alloc(), 2, &frame)?;
+    assert!(rt; matches!(word, Word::Ping));
     Ok(())
 }
 
-/// Puts a frame.
-fn put(outputs: &mut Outputs, alloc: Global, to: u16, stream: u8, body: &[u8]) -> Result<(), Fail> {
-    if body.len() > MAX_BODY {
-        return Err("no frame".into());
+/// The outputs that are these frames of connection 1.
+fn put(alloc: Global, lines: &[Line]) -> Result<Outputs, Fail> {
+    let mut outputs = Outputs::new(alloc);
+    for line in lines {
+        let frame = frame(alloc, *line)?;
+        if frame.body.len() > MAX_BODY {
+            return Err("no frame".into());
+        }
+        outputs.push(Out {
+            to: line.0,
+            conn: 1,
+            frame,
+        })?;
     }
-    let body = Octets::copy(alloc, body)?;
-    let frame = Frame { stream, body };
-    outputs.push(Out { to, conn: 1, frame })?;
-    Ok(())
+    Ok(outputs)
 }
+
+/// DTAP of SAPI 3 to the switch, and of SAPI 0 to the mobile.
+const PASSED: &[Line] = &[
+    (0, "068000010001050183020901"),
+    (1, "0201014102000b00028302"),
+];
 
 #[test]
 fn what_passed_a_connection_is_seen(rt: HostRuntime) -> Result<(), Fail> {
-    let alloc = rt.alloc();
-    let mut outputs = Outputs::new(alloc);
-    // DTAP of SAPI 3 to the switch, and of SAPI 0 to the mobile.
-    let up = [
-        0x06, 0x80, 0x00, 0x01, 0x00, 0x01, 0x05, 0x01, 0x83, 0x02, 0x09, 0x01,
-    ];
-    let down = [
-        0x02, 0x01, 0x01, 0x41, 0x02, 0x00, 0x0b, 0x00, 0x02, 0x83, 0x02,
-    ];
-    put(&mut outputs, alloc, 0, SCCP_STREAM, &up)?;
-    put(&mut outputs, alloc, 1, RSL_STREAM, &down)?;
-    let passed = forwarded(alloc, &outputs, 1)?;
-    assert!(rt; passed.len() == 1);
-    for message in &passed {
-        assert!(rt; matches!(&message.sapi, Sapi::Three));
-        assert_eq!(rt; message.message.as_slice(), [0x09, 0x01].as_slice());
-    }
-    let given = handed(alloc, &outputs, 1, Sapi::Zero)?;
-    assert!(rt; given.len() == 1);
-    for message in &given {
-        assert_eq!(rt; message.as_slice(), [0x83, 0x02].as_slice());
-    }
+    let outputs = put(rt.alloc(), PASSED)?;
+    let passed = forwarded(rt.alloc(), &outputs, 1)?;
+    assert!(rt; passed.len() == 1 && passed[0].message.as_slice() == [0x09, 0x01].as_slice());
+    assert!(rt; matches!(passed[0].sapi, Sapi::Three));
+    let given = handed(rt.alloc(), &outputs, 1, Sapi::Zero)?;
+    assert!(rt; given.len() == 1 && given[0].as_slice() == [0x83, 0x02].as_slice());
     Ok(())
 }

@@ -1,4 +1,7 @@
+ghost use Rattle.std.specs.Prelude.{◌≤◌, length};
+
 use ho_decision::Averages;
+use octets::Memory;
 use settings::{Settings, SettingsFault};
 use std::alloc::Global;
 use std::test::Fail;
@@ -18,24 +21,37 @@ fn fault_of(alloc: Global, text: &str) -> Result<String, Fail> {
     }
 }
 
-#[test]
-fn settings_are_read_and_faults_are_told(rt: HostRuntime) -> Result<(), Fail> {
-    let alloc = rt.alloc();
-    let settings = Settings::read(alloc, TWO_CELLS)?;
-    assert!(rt; settings.cell_count() == 2 && settings.t3101_ms() == 3000);
+/// The average quality that the handover decision of cell 1 begins with.
+fn first_quality(alloc: Global, settings: &Settings) -> Result<Option<u8>, Memory>
+    requires { 1 ≤ length settings.now.cells }
+{
     let decision = settings.handover_settings(alloc, 1)?;
-    assert!(rt; Averages::new(alloc, &decision)?.rxqual().is_none());
-    let faults = [
-        (TWO_CELLS, ""),
-        ("", "missing network"),
-        ("x =", "not TOML"),
-        ("x = 1", "unknown key x"),
-        ("network = 1", "bad type network"),
-        ("[network]\nmcc = \"1\"", "bad value network.mcc"),
-    ];
-    for (text, expected) in faults {
-        let told = fault_of(alloc, text)?;
-        assert_eq!(rt; told.as_str(), expected);
+    Ok(Averages::new(alloc, &decision)?.rxqual())
+}
+
+#[test]
+fn settings_are_read(rt: HostRuntime) -> Result<(), Fail> {
+    let settings = Settings::read(rt.alloc(), TWO_CELLS)?;
+    assert!(rt; settings.cell_count() == 2 && settings.t3101_ms() == 3000);
+    assert!(rt; matches!(first_quality(rt.alloc(), &settings), Ok(None)));
+    Ok(())
+}
+
+/// Texts, and what is said of the fault of each.
+const FAULTS: &[(&str, &str)] = &[
+    (TWO_CELLS, ""),
+    ("", "missing network"),
+    ("x =", "not TOML"),
+    ("x = 1", "unknown key x"),
+    ("network = 1", "bad type network"),
+    ("[network]\nmcc = \"1\"", "bad value network.mcc"),
+];
+
+#[test]
+fn faults_of_settings_are_told(rt: HostRuntime) -> Result<(), Fail> {
+    for (text, expected) in FAULTS {
+        let told = fault_of(rt.alloc(), text)?;
+        assert!(rt; told.as_str() == *expected);
     }
     Ok(())
 }

@@ -1,55 +1,117 @@
-use bssmap_codec::{Sccp, read_sccp, write_sccp};
+use bssmap_codec::{InterfaceFault, Sccp, read_sccp, write_sccp};
 use dtap_codec::{Modulus, Sapi};
 use msc_end::MscEnd;
 use octets::Octets;
+use std::alloc::Global;
 use std::process::Abort;
 use std::test::Fail;
 
-/// The connection request with the initial message 05 24 71.
-const REQUEST: [u8; 31] = [
-    0x01, 0x00, 0x00, 0x01, 0x02, 0x02, 0x04, 0x02, 0x42, 0xfe, 0x0f, 0x12, 0x00, 0x10, 0x57, 0x05,
-    0x08, 0x00, 0x00, 0xf1, 0x10, 0x00, 0x01, 0x00, 0x01, 0x17, 0x03, 0x05, 0x24, 0x71, 0x00,
+/// What comes to the switch, or what it does on connection 1.
+#[derive(Clone, Copy)]
+enum Event<'a> {
+    Takes(&'a [u8]),
+    Hands(Sapi, [u8; 2]),
+    Assigns,
+    Clears,
+}
+
+/// What happens, and the octets of what is replied or sent then.
+const LIFE: &[(Event, &[u8])] = &[
+    // The connection request with the initial message 05 24 71.
+    (
+        Event::Takes(&[
+            0x01, 0x00, 0x00, 0x01, 0x02, 0x02, 0x04, 0x02, 0x42, 0xfe, 0x0f, 0x12, 0x00, 0x10,
+            0x57, 0x05, 0x08, 0x00, 0x00, 0xf1, 0x10, 0x00, 0x01, 0x00, 0x01, 0x17, 0x03, 0x05,
+            0x24, 0x71, 0x00,
+        ]),
+        &[0x02, 0x00, 0x00, 0x01, 0x80, 0x00, 0x01, 0x02, 0x00],
+    ),
+    (
+        Event::Takes(&[
+            0x06, 0x80, 0x00, 0x01, 0x00, 0x01, 0x05, 0x01, 0x80, 0x02, 0x03, 0x45,
+        ]),
+        &[],
+    ),
+    (
+        Event::Takes(&[
+            0x06, 0x80, 0x00, 0x01, 0x00, 0x01, 0x05, 0x01, 0x83, 0x02, 0x09, 0x01,
+        ]),
+        &[],
+    ),
+    (
+        Event::Hands(Sapi::Zero, [0x83, 0x02]),
+        &[
+            0x06, 0x00, 0x00, 0x01, 0x00, 0x01, 0x05, 0x01, 0x00, 0x02, 0x83, 0x02,
+        ],
+    ),
+    (
+        Event::Assigns,
+        &[
+            0x06, 0x00, 0x00, 0x01, 0x00, 0x01, 0x08, 0x00, 0x06, 0x01, 0x0b, 0x03, 0x01, 0x08,
+            0x01,
+        ],
+    ),
+    (
+        Event::Clears,
+        &[
+            0x06, 0x00, 0x00, 0x01, 0x00, 0x01, 0x06, 0x00, 0x04, 0x20, 0x04, 0x01, 0x09,
+        ],
+    ),
+    (
+        Event::Takes(&[0x06, 0x80, 0x00, 0x01, 0x00, 0x01, 0x03, 0x00, 0x01, 0x21]),
+        &[0x04, 0x00, 0x00, 0x01, 0x80, 0x00, 0x01, 0x00, 0x00],
+    ),
 ];
 
-/// Takes messages of the base station controller.
-fn take(
-    rt: &impl AllocGlobal,
+fn takes(alloc: Global, switch: &mut MscEnd, text: &[u8], out: &mut Vec<Sccp>) -> Result<(), Fail> {
+    let message = read_sccp(alloc, text)?;
+    Ok(switch.on_message(&message, out)?)
+}
+
+fn happens(
+    alloc: Global,
     switch: &mut MscEnd,
-    texts: &[&[u8]],
+    event: Event,
     out: &mut Vec<Sccp>,
 ) -> Result<(), Fail> {
-    for text in texts {
-        let message = read_sccp(rt.alloc(), text)?;
-        switch.on_message(&message, out)?;
+    match event {
+        Event::Takes(text) => takes(alloc, switch, text, out),
+        Event::Hands(sapi, message) => Ok(switch.send_dtap(1, sapi, &message, out)?),
+        Event::Assigns => Ok(switch.assign(1, out)?),
+        Event::Clears => Ok(switch.clear(1, out)?),
     }
-    Ok(())
 }
 
-/// Asserts what was replied and sent.
-fn are_written(
-    rt: &(impl Abort + AllocGlobal),
-    out: &[Sccp],
-    expected: &[&[u8]],
-) -> Result<(), Fail> {
-    assert!(rt; out.len() == expected.len());
-    for (message, expected) in out.iter().zip(expected.iter()) {
-        let mut text = Vec::new(rt.alloc());
-        write_sccp(rt.alloc(), message, &mut text)?;
-        assert_eq!(rt; text.as_slice(), *expected);
+/// The octets of these messages.
+fn written(alloc: Global, messages: &[Sccp]) -> Result<Vec<u8>, InterfaceFault> {
+    let mut text = Vec::new(alloc);
+    for message in messages {
+        write_sccp(alloc, message, &mut text)?;
     }
-    Ok(())
+    Ok(text)
 }
 
-/// Asserts that a list of messages is as expected.
-fn are(
-    rt: &(impl Abort + AllocGlobal),
-    found: Option<&[Octets]>,
-    expected: &[&[u8]],
-) -> Result<(), Fail> {
-    let found = found.ok_or("no connection")?;
+/// The octets of what is replied or sent at an event.
+fn sent(alloc: Global, switch: &mut MscEnd, event: Event) -> Result<Vec<u8>, Fail> {
+    let mut out = Vec::new(alloc);
+    happens(alloc, switch, event, &mut out)?;
+    Ok(written(alloc, out.as_slice())?)
+}
+
+/// Asserts that a list of messages is there and as expected.
+fn are(rt: &impl Abort, found: Option<&[Octets]>, expected: &[&[u8]]) {
+    let found = found.unwrap_or(&[]);
     assert!(rt; found.len() == expected.len());
     for (found, expected) in found.iter().zip(expected.iter()) {
-        assert_eq!(rt; found.as_slice(), *expected);
+        assert!(rt; found.as_slice() == *expected);
+    }
+}
+
+/// Asserts what is replied or sent at each event.
+fn all_happen(rt: &(impl Abort + AllocGlobal), switch: &mut MscEnd) -> Result<(), Fail> {
+    for (event, expected) in LIFE {
+        let found = sent(rt.alloc(), switch, *event)?;
+        assert!(rt; found.as_slice() == *expected);
     }
     Ok(())
 }
@@ -57,46 +119,17 @@ fn are(
 #[test]
 fn a_connection_is_confirmed_used_assigned_and_cleared(rt: HostRuntime) -> Result<(), Fail> {
     let mut switch = MscEnd::new(rt.alloc(), Modulus::Four);
-    let mut out = Vec::new(rt.alloc());
-    let begun: [&[u8]; 3] = [
-        &REQUEST,
-        &[
-            0x06, 0x80, 0x00, 0x01, 0x00, 0x01, 0x05, 0x01, 0x80, 0x02, 0x03, 0x45,
-        ],
-        &[
-            0x06, 0x80, 0x00, 0x01, 0x00, 0x01, 0x05, 0x01, 0x83, 0x02, 0x09, 0x01,
-        ],
-    ];
-    take(&rt, &mut switch, &begun, &mut out)?;
-    switch.send_dtap(1, Sapi::Zero, &[0x83, 0x02], &mut out)?;
-    switch.assign(1, &mut out)?;
-    switch.clear(1, &mut out)?;
-    let cleared: [u8; 10] = [0x06, 0x80, 0x00, 0x01, 0x00, 0x01, 0x03, 0x00, 0x01, 0x21];
-    take(&rt, &mut switch, &[&cleared], &mut out)?;
-    let expected: [&[u8]; 5] = [
-        &[0x02, 0x00, 0x00, 0x01, 0x80, 0x00, 0x01, 0x02, 0x00],
-        &[
-            0x06, 0x00, 0x00, 0x01, 0x00, 0x01, 0x05, 0x01, 0x00, 0x02, 0x83, 0x02,
-        ],
-        &[
-            0x06, 0x00, 0x00, 0x01, 0x00, 0x01, 0x08, 0x00, 0x06, 0x01, 0x0b, 0x03, 0x01, 0x08,
-            0x01,
-        ],
-        &[
-            0x06, 0x00, 0x00, 0x01, 0x00, 0x01, 0x06, 0x00, 0x04, 0x20, 0x04, 0x01, 0x09,
-        ],
-        &[0x04, 0x00, 0x00, 0x01, 0x80, 0x00, 0x01, 0x00, 0x00],
-    ];
-    are_written(&rt, &out, &expected)?;
+    let happened = all_happen(&rt, &mut switch);
     are(
         &rt,
         switch.taken(1),
         &[&[0x05, 0x24, 0x71], &[0x03, 0x45], &[0x09, 0x01]],
-    )?;
+    );
     are(
         &rt,
         switch.accepted(1),
         &[&[0x05, 0x24, 0x71], &[0x03, 0x05]],
-    )?;
-    are(&rt, switch.unnumbered(1), &[&[0x09, 0x01]])
+    );
+    are(&rt, switch.unnumbered(1), &[&[0x09, 0x01]]);
+    happened
 }
