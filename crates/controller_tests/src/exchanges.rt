@@ -66,13 +66,13 @@ pub(crate) fn are(
     for (out, (link, digits)) in outputs.as_slice().iter().zip(expected.iter()) {
         assert!(rt; out.to == *link && out.frame.stream == stream_of(*link));
         let found = hex::encode(rt.alloc(), out.frame.body.as_slice())?;
-        assert_eq!(rt; found.as_str(), *digits);
+        assert!(rt; found.as_str() == *digits);
     }
     Ok(())
 }
 
 /// Asserts what the controller puts at each of these events, one after the other.
-pub(crate) fn plays(
+fn plays(
     rt: &(impl Abort + AllocGlobal),
     controller: &mut Controller,
     exchanges: &[Exchange],
@@ -86,16 +86,28 @@ pub(crate) fn plays(
     Ok(())
 }
 
-/// A controller after these parts of a life, of which it has put what is expected.
-pub(crate) fn lived(
+/// The same of the events of these parts of a life.
+pub(crate) fn lives(
+    rt: &(impl Abort + AllocGlobal),
+    controller: &mut Controller,
+    parts: &[&[Exchange]],
+) -> Result<(), Fail> {
+    for part in parts {
+        plays(rt, controller, part)?;
+    }
+    Ok(())
+}
+
+/// Asserts what a new controller puts over these parts of a life, and how often it ignored something.
+pub(crate) fn lives_ignoring(
     rt: &(impl Abort + AllocGlobal),
     parts: &[&[Exchange]],
-) -> Result<Controller, Fail> {
+    ignored: u64,
+) -> Result<(), Fail> {
     let mut controller = opened(rt.alloc())?;
-    for part in parts {
-        plays(rt, &mut controller, part)?;
-    }
-    Ok(controller)
+    let lived = lives(rt, &mut controller, parts);
+    assert!(rt; controller.ignored() == ignored && controller.links() == 3);
+    lived
 }
 
 /// All frames of these parts of a life, in order.

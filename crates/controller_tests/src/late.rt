@@ -1,5 +1,5 @@
 use crate::exchanges::Event::Comes;
-use crate::exchanges::{Exchange, lived};
+use crate::exchanges::{Exchange, lives_ignoring};
 use crate::parts::{ACCESS, COMMANDED};
 use std::test::Fail;
 
@@ -352,35 +352,25 @@ const CHAIN: &[Exchange] = &[
 
 #[test]
 fn late_messages_around_a_handover_that_completes(rt: HostRuntime) -> Result<(), Fail> {
-    let controller = lived(&rt, &[ACCESS, COMPLETES])?;
-    assert!(rt; controller.ignored() == 3);
-    Ok(())
+    lives_ignoring(&rt, &[ACCESS, COMPLETES], 3)
 }
 
 #[test]
 fn late_messages_around_a_handover_that_fails(rt: HostRuntime) -> Result<(), Fail> {
-    let controller = lived(&rt, &[ACCESS, FAILS])?;
-    assert!(rt; controller.ignored() == 4);
-    Ok(())
+    lives_ignoring(&rt, &[ACCESS, FAILS], 4)
 }
 
 #[test]
 fn late_messages_around_a_clear_within_a_handover(rt: HostRuntime) -> Result<(), Fail> {
-    let controller = lived(&rt, &[ACCESS, COMMANDED, IS_CLEARED])?;
-    assert!(rt; controller.ignored() == 16);
-    Ok(())
+    lives_ignoring(&rt, &[ACCESS, COMMANDED, IS_CLEARED], 16)
 }
 
 #[test]
 fn late_messages_on_a_channel_that_is_released(rt: HostRuntime) -> Result<(), Fail> {
-    let controller = lived(&rt, &[ACCESS, IS_RELEASED])?;
-    assert!(rt; controller.ignored() == 13);
-    Ok(())
+    lives_ignoring(&rt, &[ACCESS, IS_RELEASED], 13)
 }
 
 #[test]
 fn late_messages_on_three_channels(rt: HostRuntime) -> Result<(), Fail> {
-    let controller = lived(&rt, &[ACCESS, CHAIN])?;
-    assert!(rt; controller.ignored() == 0);
-    Ok(())
+    lives_ignoring(&rt, &[ACCESS, CHAIN], 0)
 }

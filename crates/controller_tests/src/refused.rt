@@ -1,4 +1,4 @@
-use crate::exchanges::{Exchange, Line, are, lines_of, opened, step_of, two_cells};
+use crate::exchanges::{Exchange, are, lines_of, opened, step_of, two_cells};
 use crate::parts::{ACCESS, COMMANDED, EXPIRES_AND_BREAKS, LIFE};
 use controller::{Controller, Item, Outputs, Step};
 use octets::Memory;
@@ -61,26 +61,36 @@ impl Life {
         }
         Ok(())
     }
-}
 
-/// Asserts what the controller has put. Where memory ran out on the way, that is told; with ample memory it doesn't come.
-fn ends(rt: &(impl Abort + AllocGlobal), life: Life, expected: &[Line]) -> Result<(), Fail> {
-    are(rt, &life.outputs, expected)?;
-    assert!(rt; life.controller.ignored() == 0);
-    if life.refusals > 0 {
-        return Err(Fail::new("the controller wanted memory, and lived on"));
+    fn plays_all(
+        &mut self,
+        rt: &(impl Abort + AllocGlobal),
+        parts: &[&[Exchange]],
+    ) -> Result<(), Fail> {
+        for part in parts {
+            self.plays(rt, part)?;
+        }
+        Ok(())
     }
-    Ok(())
+
+    /// Plays these parts of a life, and asserts what the controller has put. Where memory ran out on the way, that is told;
+    /// with ample memory it doesn't come.
+    fn ends(&mut self, rt: &(impl Abort + AllocGlobal), parts: &[&[Exchange]]) -> Result<(), Fail> {
+        self.plays_all(rt, parts)?;
+        let lines = lines_of(rt.alloc(), parts)?;
+        are(rt, &self.outputs, lines.as_slice())?;
+        assert!(rt; self.controller.ignored() == 0);
+        if self.refusals > 0 {
+            return Err(Fail::new("the controller wanted memory, and lived on"));
+        }
+        Ok(())
+    }
 }
 
 /// Plays these parts of a life.
 fn lives(rt: &(impl Abort + AllocGlobal), parts: &[&[Exchange]]) -> Result<(), Fail> {
     let mut life = begun(rt)?;
-    for part in parts {
-        life.plays(rt, part)?;
-    }
-    let lines = lines_of(rt.alloc(), parts)?;
-    ends(rt, life, lines.as_slice())
+    life.ends(rt, parts)
 }
 
 #[test]

@@ -1,5 +1,5 @@
 use crate::exchanges::Event::Comes;
-use crate::exchanges::{Exchange, are, lines_of, lived, step_of, two_cells};
+use crate::exchanges::{Exchange, are, lines_of, lives, opened, step_of, two_cells};
 use crate::parts::{ACCESS, COMMANDED, EXPIRES_AND_BREAKS, LIFE};
 use controller::{Controller, Outputs, Step, run};
 use dtap_codec::Sapi;
@@ -60,7 +60,7 @@ fn are_messages(
     assert!(rt; messages.len() == expected.len());
     for (message, digits) in messages.iter().zip(expected.iter()) {
         let found = hex::encode(rt.alloc(), message.as_slice())?;
-        assert_eq!(rt; found.as_str(), *digits);
+        assert!(rt; found.as_str() == *digits);
     }
     Ok(())
 }
@@ -77,6 +77,36 @@ fn held_are(
     are_messages(rt, messages.as_slice(), down)?;
     let messages = controller.held_up(1, sapi)?;
     are_messages(rt, messages.as_slice(), up)
+}
+
+/// Messages that are held of a SAPI, for the mobile and of it.
+type Held<'a> = (Sapi, &'a [&'a str], &'a [&'a str]);
+
+/// Asserts what a controller puts over these parts of a life, and then the average quality and what is held of connection 1.
+fn are_seen(
+    rt: &(impl Abort + AllocGlobal),
+    controller: &mut Controller,
+    parts: &[&[Exchange]],
+    quality: Option<u8>,
+    held: &[Held],
+) -> Result<(), Fail> {
+    lives(rt, controller, parts)?;
+    assert!(rt; controller.rxqual(1) == quality);
+    for (sapi, down, up) in held {
+        held_are(rt, controller, *sapi, down, up)?;
+    }
+    Ok(())
+}
+
+/// The same of a new controller.
+fn waits(
+    rt: &(impl Abort + AllocGlobal),
+    parts: &[&[Exchange]],
+    quality: Option<u8>,
+    held: &[Held],
+) -> Result<(), Fail> {
+    let mut controller = opened(rt.alloc())?;
+    are_seen(rt, &mut controller, parts, quality, held)
 }
 
 /// What a controller puts over these parts of a life.
@@ -101,15 +131,15 @@ fn lives_are_run(rt: HostRuntime) -> Result<(), Fail> {
 
 #[test]
 fn what_waits_within_a_handover_is_seen(rt: HostRuntime) -> Result<(), Fail> {
-    let controller = lived(&rt, &[ACCESS, COMMANDED, WAIT_DOWN])?;
-    assert!(rt; controller.rxqual(1) == Some(0));
-    held_are(&rt, &controller, Sapi::Zero, &["8302", "8306"], &[])
+    let held: &[Held] = &[(Sapi::Zero, &["8302", "8306"], &[])];
+    waits(&rt, &[ACCESS, COMMANDED, WAIT_DOWN], Some(0), held)
 }
 
 #[test]
 fn what_waits_after_a_handover_is_seen(rt: HostRuntime) -> Result<(), Fail> {
-    let controller = lived(&rt, &[ACCESS, COMMANDED, WAIT_DOWN, WAIT_UP])?;
-    assert!(rt; controller.rxqual(1).is_none());
-    held_are(&rt, &controller, Sapi::Zero, &[], &["0345", "038f"])?;
-    held_are(&rt, &controller, Sapi::Three, &["0901"], &["0904"])
+    let held: &[Held] = &[
+        (Sapi::Zero, &[], &["0345", "038f"]),
+        (Sapi::Three, &["0901"], &["0904"]),
+    ];
+    waits(&rt, &[ACCESS, COMMANDED, WAIT_DOWN, WAIT_UP], None, held)
 }
