@@ -1,4 +1,5 @@
 use dtap_codec::Modulus;
+use octets::Octets;
 use std::alloc::Global;
 use std::process::Abort;
 use std::test::Fail;
@@ -34,10 +35,26 @@ fn all_act(rt: &(impl Abort + AllocGlobal), world: &mut World) -> Result<(), Fai
     Ok(())
 }
 
+/// Asserts that a list of messages is there and as expected.
+fn are(rt: &(impl Abort + AllocGlobal), found: Option<&[Octets]>, expected: &[&[u8]]) {
+    let found = found.unwrap_or(&[]);
+    assert!(rt; found.len() == expected.len());
+    for (found, expected) in found.iter().zip(expected.iter()) {
+        assert!(rt; found.as_slice() == *expected);
+    }
+}
+
 #[test]
 fn events_act_one_by_one(rt: HostRuntime) -> Result<(), Fail> {
     let mut world = World::fixed(rt.alloc(), Modulus::Four);
     let acted = all_act(&rt, &mut world);
     assert!(rt; world.not_taken() == 4);
+    are(&rt, world.sent(1), &[&[0x05, 0x24, 0x71], &[0x03, 0x05]]);
+    are(&rt, world.taken(1), &[&[0x05, 0x24, 0x71], &[0x03, 0x45]]);
+    are(
+        &rt,
+        world.accepted(1),
+        &[&[0x05, 0x24, 0x71], &[0x03, 0x05]],
+    );
     acted
 }
