@@ -1,6 +1,6 @@
 -- How many messages of a world were counted so far, and how a connection and a mobile carry it on.
-use Rattle.std.proofs.Common.{◌≡◌, ℕ, suc, ◌+◌, ◌-◌, ◌*◌, ◌<◌, ◌≤◌, List, [], length, Option, Some, None, refl, sym, ap, ◌∙◌, arith, add_assoc, unwrap_or}
-use Rattle.std.specs.Prelude.{◌^◌}
+use Rattle.std.proofs.Common.{◌≡◌, ℕ, zero, suc, ◌+◌, ◌-◌, ◌*◌, ◌<◌, ◌≤◌, List, [], length, Option, Some, None, refl, sym, ap, ◌∙◌, arith, add_assoc, unwrap_or}
+use Rattle.std.specs.Prelude.{◌^◌, Bool, true, false, if◌then◌else◌}
 use Rattle.bsc_program.specs.Breaks.{count_from, count_to, count_with}
 
 -- ---- up to the first number that has no list
@@ -87,3 +87,16 @@ pub up_to_all : (list : ℕ → Option (List (List ℕ))) (next count : ℕ) →
 up_to_all list next count some is =
     let same : some.below ≡ 255 = omega (arith, some.up_to, is) in
     some.total ∙ ap (count_to list) same
+
+-- numbers without a list add nothing
+pub counted_past : (list : ℕ → Option (List (List ℕ))) (n k : ℕ) → ((m : ℕ) → n < m → list m ≡ None) → count_to list (n + k) ≡ count_to list n
+unfolding count_to
+counted_past list n zero none = ap (count_to list) (let same : n + 0 ≡ n = omega arith in same)
+counted_past list n (suc k) none =
+    ap (count_to list) (let next : n + suc k ≡ suc (n + k) = omega arith in next)
+    ∙ ap (λ (there : Option (List (List ℕ))). count_to list (n + k) + length (unwrap_or there [])) (none (suc (n + k)) (omega arith))
+    ∙ (let same : count_to list (n + k) + 0 ≡ count_to list (n + k) = omega arith in same) ∙ counted_past list n k none
+
+pub nothing_if : {X : Type 0} (b : Bool) (x : X) → b ≡ false → (if b then Some x else None) ≡ None
+nothing_if true x is = absurd (cc is)
+nothing_if false x is = refl

@@ -1,5 +1,5 @@
 -- What options ask for, and the lines of breaks, against literal words, settings and worlds.
-use Rattle.std.proofs.Common.{◌≡◌, ℕ, List, [], ◌∷◌, ◌++◌, ◌+◌, ◌-◌, suc, map, false, Option, Some, None, Ok, Err, refl, ap, arith, ◌∙◌}
+use Rattle.std.proofs.Common.{◌≡◌, ℕ, List, [], ◌∷◌, ◌++◌, ◌+◌, ◌-◌, ◌<◌, suc, map, false, Option, Some, None, Ok, Err, refl, ap, arith, ◌∙◌}
 use Rattle.std.specs.Prelude.{codes, decimal, ◌^◌, ◌==◌, if◌then◌else◌}
 use Rattle.toml.proofs.OnLiterals.{toml_on_literals}
 use Rattle.settings.specs.declared.fault.SettingsFault.TheVariants.{NotToml, Missing}
@@ -8,13 +8,14 @@ use Rattle.settings.specs.Parameters.{Parameters}
 use Rattle.dtap_codec.specs.declared.sapi.Sapi.TheVariants.{Zero}
 use Rattle.world_table.specs.declared.event.Event.{Event}
 use Rattle.world_table.specs.declared.event.Event.TheVariants.{Upper, AirUp, SwitchTakes, BaseDown, Handle}
-use Rattle.world.specs.Views.{accepted_list}
+use Rattle.world.specs.Views.{accepted_list, sent_list}
 use Rattle.world.specs.World.{after_all, fixed_world}
 use Rattle.world.specs.WorldState.{WorldState}
 use Rattle.program_base.specs.declared.fault.ProgramFault.TheVariants.{BadBreak, Settings}
 use Rattle.bsc_program.specs.Asked.{asked, asked_with, breaking, cells_of, controlled, fixed}
 use Rattle.bsc_program.specs.Breaks.{accepted_by_all, break_line, break_lines, count_from, count_to, sent_by_all, texts_below}
-use Rattle.bsc_program.proofs.Counting.{counted_end, counted_more}
+use Rattle.std.proofs.lemmas.Bool.Decides.{nat_tests}
+use Rattle.bsc_program.proofs.Counting.{counted_end, counted_more, counted_past, nothing_if}
 
 -- ---- options
 
@@ -96,9 +97,18 @@ one_accepted =
     ap (count_from list 1) (let e : 2 ^ 32 - 1 ≡ suc (2 ^ 32 - 2) = omega arith in e) ∙ counted_more list 1 (2 ^ 32 - 2) ((0x03 ∷ 0x0f ∷ []) ∷ []) refl
     ∙ ap (λ (n : ℕ). 1 + n) (ap (count_from list 2) (let e : 2 ^ 32 - 2 ≡ suc (2 ^ 32 - 3) = omega arith in e) ∙ counted_end list 2 (2 ^ 32 - 3) refl)
 
-two_sent : sent_by_all one_of_two.scene ≡ 2
+sent_by_the_first : count_to (sent_list one_of_two.scene) 1 ≡ 2
 unfolding count_to
-two_sent = refl
+sent_by_the_first = refl
+
+-- the fixed world has one mobile
+no_second : (mobile : ℕ) → 1 < mobile → sent_list one_of_two.scene mobile ≡ None
+no_second mobile second =
+    let other : (mobile == 1) ≡ false = grind (arith, nat_tests) in
+    nothing_if (mobile == 1) _ other
+
+two_sent : sent_by_all one_of_two.scene ≡ 2
+two_sent = counted_past (sent_list one_of_two.scene) 1 254 no_second ∙ sent_by_the_first
 
 its_line : break_line 4 one_of_two.scene ≡ codes "break " ++ decimal 4 ++ codes " accepted " ++ decimal 1 ++ codes " sent " ++ decimal 2 ++ codes "\n"
 its_line =

@@ -1,5 +1,6 @@
-ghost use Rattle.std.specs.Prelude.{◌≡◌, List, ℕ, IfErr, IfOk, OnOk};
+ghost use Rattle.std.specs.Prelude.{◌≡◌, ◌++◌, List, ℕ, IfErr, IfOk, OnOk, codes};
 ghost use Rattle.std.specs.Io.KnownBytes.{Appends};
+ghost use Rattle.hex.specs.Hex.{encode_lower};
 ghost use Rattle.program_base.specs.Status.{status_of};
 ghost use Rattle.bsc_program.specs.Report.{IsReport, WritesIfSome, connection_text, counted_lines, list_text, mobile_text};
 
@@ -109,8 +110,17 @@ fn write_messages<W: Write>(
 {
     writeln!(output, "{}", messages.len())?;
     for message in messages {
-        let digits = hex::encode(alloc, message.as_slice()).map_err(Memory::from)?;
-        writeln!(output, "{digits}")?;
+        write_message(alloc, message, output)?;
     }
+    Ok(())
+}
+
+/// Writes a message as a line of lower-case hexadecimal digits.
+fn write_message<W: Write>(alloc: Global, message: &Octets, output: &mut W) -> Result<(), Failure>
+    ensures ok { OnOk result (Appends (W.contents output.old) (W.contents output.new) (encode_lower message.now ++ codes "\n")) }
+    ensures err { IfErr result (λ failure. status_of failure ≡ 3) }
+{
+    let digits = hex::encode(alloc, message.as_slice()).map_err(Memory::from)?;
+    writeln!(output, "{digits}")?;
     Ok(())
 }

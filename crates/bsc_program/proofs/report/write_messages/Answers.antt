@@ -1,7 +1,6 @@
-use Rattle.std.proofs.Common.{◌++◌, codes, length, rules}
+use Rattle.std.proofs.Common.{◌++◌, codes, length}
 use Rattle.std.specs.Prelude.{decimal}
 use Rattle.std.specs.Io.KnownBytes.{Appends}
-use Rattle.hex.specs.Hex.{encode_lower}
 use Rattle.bsc_program.proofs.Reporting.{messages_all, messages_more, messages_none}
 use Rattle.bsc_program.proofs.report.write_messages.Goals as goal
 
@@ -12,10 +11,8 @@ loop-message-init g c =
 
 pub loop-message-preserved : goal.loop-message-preserved
 loop-message-preserved g c =
-    let mid = g.W.Write.contents c.loop-message.output in
-    let new = g.W.Write.contents c.writeln-in-loop-message.new.self in
-    let line : Appends mid new (encode_lower c.message-item.result ++ codes "\n") = search rules in
-    messages_more c.args.messages.now c.loop-message.message-index c.message-item.result (g.W.Write.contents c.args.output.now) mid new c.loop-message.invariant c.loop-message-test.true c.message-item.is line
+    messages_more c.args.messages.now c.loop-message.message-index c.message-item.result (g.W.Write.contents c.args.output.now) (g.W.Write.contents c.loop-message.output) (g.W.Write.contents c.write_message.new.output) c.loop-message.invariant
+    c.loop-message-test.true c.message-item.is c.in_ok-write_message.ensures.ok
 
 pub returns-clause-ok : goal.returns-clause-ok
 returns-clause-ok g c =
