@@ -2,9 +2,8 @@
 #![tactic(auto)]
 
 use bsc_program::{Failure, ProgramFault, decode, replay};
-use command_line::{Task, TaskFault, asked};
-use program_base::settings_text;
-use run_command::relay;
+use link_sockets::relay;
+use program_base::{Task, TaskFault, asked, settings_text};
 use std::io::BufWriter;
 use std::process::ExitCode;
 

@@ -6,3 +6,4 @@ pub mod Counting
 pub mod Breaking
 mod Rows
 mod ReplayRows
+pub mod LineOctets

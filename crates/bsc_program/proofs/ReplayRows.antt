@@ -6,8 +6,8 @@ use Rattle.settings.specs.declared.fault.SettingsFault.TheVariants.{NotToml, Mis
 use Rattle.settings.specs.declared.key.Key.TheVariants as keys
 use Rattle.settings.specs.Parameters.{Parameters}
 use Rattle.dtap_codec.specs.declared.sapi.Sapi.TheVariants.{Zero}
-use Rattle.world_table.specs.declared.event.Event.{Event}
-use Rattle.world_table.specs.declared.event.Event.TheVariants.{Upper, AirUp, SwitchTakes, BaseDown, Handle}
+use Rattle.world_model.specs.declared.event.Event.{Event}
+use Rattle.world_model.specs.declared.event.Event.TheVariants.{Upper, AirUp, SwitchTakes, BaseDown, Handle}
 use Rattle.world.specs.Views.{accepted_list, sent_list}
 use Rattle.world.specs.World.{after_all, fixed_world}
 use Rattle.world.specs.WorldState.{WorldState}

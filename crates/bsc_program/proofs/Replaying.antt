@@ -2,14 +2,14 @@
 use Rattle.std.proofs.Common.{◌≡◌, ◌≢◌, ◌⊎◌, List, ℕ, length, Option, Some, None, Result, Ok, Err, refl, sym, ap, subst, ◌∙◌, inl, inr}
 use Rattle.std.specs.Prelude.{IfErr, IfOk, IfSome, IsErrAnd, IsOkAnd, MatchResult}
 use Rattle.std.specs.Io.KnownBytes.{Appends}
-use Rattle.world_table.specs.declared.event.Event.{Event}
+use Rattle.world_model.specs.declared.event.Event.{Event}
 use Rattle.world.specs.World.{after_all, controlled_world}
 use Rattle.world.specs.WorldState.{WorldState}
 use Rattle.toml.specs.Parse.{parse_document}
 use Rattle.settings.specs.declared.fault.SettingsFault.{SettingsFault}
 use Rattle.settings.specs.Parameters.{Parameters}
 use Rattle.settings.specs.Tables.{settings_in}
-use Rattle.world.specs.Words.{source_in}
+use Rattle.program_base.specs.Words.{source_in}
 use Rattle.bsc_program.specs.Asked.{Asked, asked, asked_of_source, asked_with, breaking, cells_of, controlled, fixed}
 use Rattle.program_base.specs.SettingsText.{settings_of, settings_or_fault}
 use Rattle.bsc_program.specs.Breaks.{break_lines}

@@ -1,11 +1,11 @@
 -- The events of a script are of octets, and so its run is in order.
 use Rattle.std.proofs.Common.{ℕ, List, [], ◌∷◌}
 use Rattle.settings.specs.Parameters.{Parameters}
-use Rattle.world_table.specs.declared.event.Event.{Event}
+use Rattle.world_model.specs.declared.event.Event.{Event}
 use Rattle.world.specs.Headline.{AreEventsFor}
 use Rattle.world.specs.Headline.Begins.{controlled}
 use Rattle.world.specs.World.{controlled_world}
-use Rattle.world.proofs.LineOctets.{line-is-of-octets}
+use Rattle.bsc_program.proofs.LineOctets.{line-is-of-octets}
 use Rattle.world.proofs.Order.{IsInOrder-reached}
 use Rattle.bsc_program.specs.Script.{AreTexts}
 use Rattle.bsc_program.specs.ScriptOrder.{ScriptsRunInOrder}

@@ -8,10 +8,10 @@ use Rattle.std.specs.Prelude.{IfSome}
 use Rattle.std.specs.Io.KnownBytes.{Consumes, IsAtEnd}
 use Rattle.std.proofs.KnownBytes.{Consumes-nil, Consumes-trans, Consumes-whole}
 use Rattle.memchr.specs.Find.{IsFirstByte, is_byte}
-use Rattle.world_table.specs.declared.event.Event.{Event}
-use Rattle.world.specs.Script.{IsLine}
-use Rattle.world.specs.declared.line_fault.LineFault.{LineFault}
-use Rattle.world.specs.declared.line_fault.LineFault.TheVariants.{BadEvent, Memory}
+use Rattle.world_model.specs.declared.event.Event.{Event}
+use Rattle.program_base.specs.Script.{IsLine}
+use Rattle.program_base.specs.declared.line_fault.LineFault.{LineFault}
+use Rattle.program_base.specs.declared.line_fault.LineFault.TheVariants.{BadEvent, Memory}
 use Rattle.std.specs.IoError.{error_kind}
 use Rattle.std.specs.declared.io.ErrorKind.{ErrorKind}
 use Rattle.std.specs.declared.io.ErrorKind.TheVariants as kinds

@@ -1,7 +1,7 @@
 -- What the options of `replay` ask for.
 use Rattle.std.specs.Prelude.{ℕ, List, length, Option, Some, None, Result, Ok, Err}
 use Rattle.settings.specs.Parameters.{Parameters}
-use Rattle.world.specs.Words.{source_in}
+use Rattle.program_base.specs.Words.{source_in}
 use Rattle.program_base.specs.declared.fault.ProgramFault.{ProgramFault}
 use Rattle.program_base.specs.declared.fault.ProgramFault.TheVariants.{BadBreak}
 use Rattle.program_base.specs.SettingsText.{settings_of}

@@ -1,6 +1,6 @@
 -- The lines of a script that is broken at each place.
 use Rattle.std.specs.Prelude.{ℕ, zero, suc, ◌+◌, ◌-◌, ◌^◌, List, [], ◌++◌, length, codes, decimal, Option, Some, None, unwrap_or}
-use Rattle.world_table.specs.declared.event.Event.{Event}
+use Rattle.world_model.specs.declared.event.Event.{Event}
 use Rattle.world.specs.declared.world.Scene.{Scene}
 use Rattle.world.specs.Views.{sent_list, accepted_list}
 use Rattle.world.specs.World.{after_all, broken}

@@ -1,7 +1,7 @@
 -- What `replay` prints of a script.
 use Rattle.std.specs.Prelude.{◌≡◌, ◌⊎◌, ℕ, List, Option, Result, Ok, Err, IfSome}
 use Rattle.std.specs.Io.KnownBytes.{Appends}
-use Rattle.world_table.specs.declared.event.Event.{Event}
+use Rattle.world_model.specs.declared.event.Event.{Event}
 use Rattle.world.specs.World.{after_all, controlled_world, fixed_world}
 use Rattle.bsc_program.specs.Asked.{Asked, fixed, controlled, breaking, cells_of}
 use Rattle.bsc_program.specs.Breaks.{break_lines}

@@ -2,8 +2,8 @@
 use Rattle.std.specs.Prelude.{◌≡◌, ◌≢◌, ◌⊎◌, ℕ, ◌+◌, ◌-◌, ◌^◌, min, List, [], ◌∷◌, ◌++◌, length, codes}
 use Rattle.std.specs.List.{flat_map, AllByRecursion}
 use Rattle.std.specs.Str.{IsUtf8}
-use Rattle.world_table.specs.declared.event.Event.{Event}
-use Rattle.world.specs.Script.{IsLine}
+use Rattle.world_model.specs.declared.event.Event.{Event}
+use Rattle.program_base.specs.Script.{IsLine}
 use Rattle.bsc_program.specs.declared.script.Script.{Script}
 
 abbrev pub HasNoFeed : List ℕ → Type 0

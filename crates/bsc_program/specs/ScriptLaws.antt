@@ -3,7 +3,7 @@ use Rattle.std.proofs.Common.{◌≡◌, ℕ, ◌+◌, List, [], ◌∷◌, ◌+
 use Rattle.std.proofs.lemmas.List.{length-append}
 use Rattle.std.specs.Prelude.{codes}
 use Rattle.std.proofs.lemmas.Grind.{flat_map-append}
-use Rattle.world_table.specs.declared.event.Event.{Event}
+use Rattle.world_model.specs.declared.event.Event.{Event}
 use Rattle.bsc_program.specs.declared.script.Script.{Script}
 use Rattle.program_base.specs.Pieces.{all_both}
 use Rattle.bsc_program.specs.Script.{AreTexts, HasNoFeed, IsBadLine, Reads, RefusesAt, line_count, lines_text}

@@ -1,7 +1,7 @@
 -- The order of messages in the world that a script's events make.
 use Rattle.std.specs.Prelude.{ℕ, List, length}
 use Rattle.settings.specs.Parameters.{AreAllowed, Parameters}
-use Rattle.world_table.specs.declared.event.Event.{Event}
+use Rattle.world_model.specs.declared.event.Event.{Event}
 use Rattle.world.specs.Headline.{IsInOrder}
 use Rattle.world.specs.World.{after_all, controlled_world}
 use Rattle.bsc_program.specs.Script.{IsScript}

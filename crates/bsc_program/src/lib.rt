@@ -1,9 +1,8 @@
 //! What the program `bsc` does, over any reader and writers: a script is replayed, and the frames of a link are named.
 #![tactic(auto)]
 
-pub use frame_names::decode;
-pub use laws::scripts_run_in_order;
-pub use program_base::{Failure, ProgramFault, read_settings};
+pub use laws::{lines_are_of_octets, scripts_run_in_order};
+pub use program_base::{Failure, ProgramFault, decode, read_settings};
 pub use replay_command::replay;
 
 mod breaks;

@@ -1,7 +1,7 @@
 ghost use Rattle.std.specs.Prelude.{◌≡◌, ◌≢◌, ◌⊎◌, ℕ, List, Some, None, Err, IfErr, IfOk, IfSome, IsErrAnd, IsOkAnd, MatchResult, OnOk, option_map, length};
 ghost use Rattle.std.specs.Io.KnownBytes.{Appends, IsAtEnd};
 ghost use Rattle.world.specs.World.{after_all};
-ghost use Rattle.world.specs.Words.{source_in};
+ghost use Rattle.program_base.specs.Words.{source_in};
 ghost use Rattle.bsc_program.specs.Asked.{asked, asked_with, breaking, controlled, fixed};
 ghost use Rattle.bsc_program.specs.Replayed.{Fails, HasBadLine, Replays};
 ghost use Rattle.bsc_program.specs.Report.{IsReport};
@@ -15,11 +15,11 @@ use crate::breaks::write_breaks;
 use crate::report::write_report;
 use crate::script::read_script;
 use dtap_codec::Modulus;
-use program_base::{Failure, ProgramFault, read_settings};
+use program_base::{Failure, ProgramFault, read_settings, read_source};
 use settings::Settings;
 use std::alloc::Global;
 use std::io::{Read, Write};
-use world::{Event, World, read_source};
+use world::{Event, World};
 
 /// The number of cells that a script of the fixed world counts with.
 const FIXED_CELLS: u16 = 1;

@@ -5,11 +5,11 @@ ghost use Rattle.program_base.specs.declared.failure.Failure.TheVariants.{BadEve
 
 use memchr::memchr;
 use octets::Memory;
-use program_base::{Failure, Sink, read_all, room_for};
+use program_base::{Failure, LineFault, Sink, read_all, read_line, room_for};
 use std::alloc::Global;
 use std::io::Read;
 use std::{mem, str};
-use world::{Event, LineFault, read_line};
+use world::Event;
 
 /// The octets that one read asks for.
 const BLOCK: usize = 65536;

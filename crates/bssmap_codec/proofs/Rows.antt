@@ -1,6 +1,7 @@
 -- Definitions against literal octets: what is read of them, and what is written.
 use Rattle.std.proofs.Common.{◌≡◌, ℕ, Bool, List, length, map, [], ◌∷◌, true, false, replicate, Some, None, Ok, Err, refl}
 use Rattle.std.specs.Prelude.{slice_index}
+use Rattle.octets.proofs.Hex.{hex}
 use Rattle.octets.specs.Causes.{first_that_holds}
 use Rattle.octets.specs.declared.element.Format.TheVariants.{Tv, Tlv}
 use Rattle.octets.specs.Element.{element, format_in}
@@ -28,11 +29,11 @@ use Rattle.bssmap_codec.specs.Values.{dlci_of, is_dlci, is_speech_type}
 
 -- ---- the elements of BSSMAP
 
-formats : map (λ id. format_in ELEMENTS id) (0x01 ∷ 0x04 ∷ 0x05 ∷ 0x06 ∷ 0x07 ∷ 0x0b ∷ 0x15 ∷ 0x17 ∷ 0x18 ∷ 0x21 ∷ []) ≡
+formats : map (λ id. format_in ELEMENTS id) (hex "01 04 05 06 07 0b 15 17 18 21") ≡
     Some (Tv 2) ∷ Some Tlv ∷ Some Tlv ∷ Some Tlv ∷ Some Tlv ∷ Some Tlv ∷ Some (Tv 1) ∷ Some Tlv ∷ Some (Tv 1) ∷ Some (Tv 1) ∷ []
 formats = refl
 
-unknown_identifiers : map (λ id. format_in ELEMENTS id) (0x00 ∷ 0x02 ∷ 0x03 ∷ 0x08 ∷ 0x0a ∷ 0x14 ∷ 0x16 ∷ 0x19 ∷ 0x22 ∷ 0x7f ∷ []) ≡ replicate 10 None
+unknown_identifiers : map (λ id. format_in ELEMENTS id) (hex "00 02 03 08 0a 14 16 19 22 7f") ≡ replicate 10 None
 unknown_identifiers = refl
 
 no_other_element : length ELEMENTS ≡ 10
@@ -40,170 +41,173 @@ no_other_element = refl
 
 -- ---- SCCP, read
 
-request : sccp_reading (0x01 ∷ 0x01 ∷ 0x02 ∷ 0x03 ∷ 0x02 ∷ 0x02 ∷ 0x04 ∷ 0x02 ∷ 0x42 ∷ 0xfe ∷ 0x0f ∷ 0x03 ∷ 0x00 ∷ 0x01 ∷ 0x21 ∷ 0x00 ∷ []) ≡ Ok (ConnectionRequest 0x010203 (Some (0x00 ∷ 0x01 ∷ 0x21 ∷ [])))
+request : sccp_reading (hex "01 01 02 03 02 02 04 02 42 fe 0f 03 00 01 21 00") ≡ Ok (ConnectionRequest 0x010203 (Some (hex "00 01 21")))
 unfolding sccp_reading octet_at sccp_type reference_at references_at fixed_references_at refused_at request_at part_at counted_at user_data_at data_in option_at data_behind_at data_form_at
 request = refl
 
 -- a pointer 0 to the options
-request_without_options : sccp_reading (0x01 ∷ 0x01 ∷ 0x02 ∷ 0x03 ∷ 0x02 ∷ 0x02 ∷ 0x00 ∷ 0x02 ∷ 0x42 ∷ 0xfe ∷ []) ≡ Ok (ConnectionRequest 0x010203 None)
+request_without_options : sccp_reading (hex "01 01 02 03 02 02 00 02 42 fe") ≡ Ok (ConnectionRequest 0x010203 None)
 unfolding sccp_reading octet_at sccp_type reference_at references_at fixed_references_at refused_at request_at part_at counted_at user_data_at data_in option_at data_behind_at data_form_at
 request_without_options = refl
 
-request_of_another_class : sccp_reading (0x01 ∷ 0x01 ∷ 0x02 ∷ 0x03 ∷ 0x03 ∷ 0x02 ∷ 0x00 ∷ 0x02 ∷ 0x42 ∷ 0xfe ∷ []) ≡ Ok (ConnectionRequest 0x010203 None)
+request_of_another_class : sccp_reading (hex "01 01 02 03 03 02 00 02 42 fe") ≡ Ok (ConnectionRequest 0x010203 None)
 unfolding sccp_reading octet_at sccp_type reference_at references_at fixed_references_at refused_at request_at part_at counted_at user_data_at data_in option_at data_behind_at data_form_at
 request_of_another_class = refl
 
 -- the options before the called address
-request_with_parts_exchanged : sccp_reading (0x01 ∷ 0x01 ∷ 0x02 ∷ 0x03 ∷ 0x02 ∷ 0x06 ∷ 0x01 ∷ 0x0f ∷ 0x01 ∷ 0x05 ∷ 0x00 ∷ 0x01 ∷ 0xfe ∷ []) ≡ Ok (ConnectionRequest 0x010203 (Some (0x05 ∷ [])))
+request_with_parts_exchanged : sccp_reading (hex "01 01 02 03 02 06 01 0f 01 05 00 01 fe")
+    ≡ Ok (ConnectionRequest 0x010203 (Some (hex "05")))
 unfolding sccp_reading octet_at sccp_type reference_at references_at fixed_references_at refused_at request_at part_at counted_at user_data_at data_in option_at data_behind_at data_form_at
 request_with_parts_exchanged = refl
 
-another_option_before_data : sccp_reading (0x01 ∷ 0x01 ∷ 0x02 ∷ 0x03 ∷ 0x02 ∷ 0x02 ∷ 0x04 ∷ 0x02 ∷ 0x42 ∷ 0xfe ∷ 0x04 ∷ 0x01 ∷ 0x77 ∷ 0x0f ∷ 0x02 ∷ 0x05 ∷ 0x24 ∷ 0x00 ∷ []) ≡ Ok (ConnectionRequest 0x010203 (Some (0x05 ∷ 0x24 ∷ [])))
+another_option_before_data : sccp_reading (hex "01 01 02 03 02 02 04 02 42 fe 04 01 77 0f 02 05 24 00")
+    ≡ Ok (ConnectionRequest 0x010203 (Some (hex "05 24")))
 unfolding sccp_reading octet_at sccp_type reference_at references_at fixed_references_at refused_at request_at part_at counted_at user_data_at data_in option_at data_behind_at data_form_at
 another_option_before_data = refl
 
-nothing_is_looked_at_behind_data : sccp_reading (0x01 ∷ 0x01 ∷ 0x02 ∷ 0x03 ∷ 0x02 ∷ 0x02 ∷ 0x04 ∷ 0x02 ∷ 0x42 ∷ 0xfe ∷ 0x0f ∷ 0x01 ∷ 0x05 ∷ 0x04 ∷ 0x09 ∷ []) ≡ Ok (ConnectionRequest 0x010203 (Some (0x05 ∷ [])))
+nothing_is_looked_at_behind_data : sccp_reading (hex "01 01 02 03 02 02 04 02 42 fe 0f 01 05 04 09")
+    ≡ Ok (ConnectionRequest 0x010203 (Some (hex "05")))
 unfolding sccp_reading octet_at sccp_type reference_at references_at fixed_references_at refused_at request_at part_at counted_at user_data_at data_in option_at data_behind_at data_form_at
 nothing_is_looked_at_behind_data = refl
 
-data_of_no_octets : sccp_reading (0x01 ∷ 0x01 ∷ 0x02 ∷ 0x03 ∷ 0x02 ∷ 0x02 ∷ 0x04 ∷ 0x02 ∷ 0x42 ∷ 0xfe ∷ 0x0f ∷ 0x00 ∷ 0x00 ∷ []) ≡ Ok (ConnectionRequest 0x010203 (Some []))
+data_of_no_octets : sccp_reading (hex "01 01 02 03 02 02 04 02 42 fe 0f 00 00") ≡ Ok (ConnectionRequest 0x010203 (Some []))
 unfolding sccp_reading octet_at sccp_type reference_at references_at fixed_references_at refused_at request_at part_at counted_at user_data_at data_in option_at data_behind_at data_form_at
 data_of_no_octets = refl
 
-options_end_with_the_octets : sccp_reading (0x01 ∷ 0x01 ∷ 0x02 ∷ 0x03 ∷ 0x02 ∷ 0x02 ∷ 0x04 ∷ 0x02 ∷ 0x42 ∷ 0xfe ∷ 0x04 ∷ 0x01 ∷ 0x77 ∷ []) ≡ Ok (ConnectionRequest 0x010203 None)
+options_end_with_the_octets : sccp_reading (hex "01 01 02 03 02 02 04 02 42 fe 04 01 77") ≡ Ok (ConnectionRequest 0x010203 None)
 unfolding sccp_reading octet_at sccp_type reference_at references_at fixed_references_at refused_at request_at part_at counted_at user_data_at data_in option_at data_behind_at data_form_at
 options_end_with_the_octets = refl
 
-options_end_before_data : sccp_reading (0x01 ∷ 0x01 ∷ 0x02 ∷ 0x03 ∷ 0x02 ∷ 0x02 ∷ 0x04 ∷ 0x02 ∷ 0x42 ∷ 0xfe ∷ 0x04 ∷ 0x01 ∷ 0x77 ∷ 0x00 ∷ 0x0f ∷ 0x01 ∷ 0x05 ∷ []) ≡ Ok (ConnectionRequest 0x010203 None)
+options_end_before_data : sccp_reading (hex "01 01 02 03 02 02 04 02 42 fe 04 01 77 00 0f 01 05") ≡ Ok (ConnectionRequest 0x010203 None)
 unfolding sccp_reading octet_at sccp_type reference_at references_at fixed_references_at refused_at request_at part_at counted_at user_data_at data_in option_at data_behind_at data_form_at
 options_end_before_data = refl
 
-pointer_to_the_end_of_options : sccp_reading (0x01 ∷ 0x01 ∷ 0x02 ∷ 0x03 ∷ 0x02 ∷ 0x02 ∷ 0x04 ∷ 0x02 ∷ 0x42 ∷ 0xfe ∷ 0x00 ∷ []) ≡ Ok (ConnectionRequest 0x010203 None)
+pointer_to_the_end_of_options : sccp_reading (hex "01 01 02 03 02 02 04 02 42 fe 00") ≡ Ok (ConnectionRequest 0x010203 None)
 unfolding sccp_reading octet_at sccp_type reference_at references_at fixed_references_at refused_at request_at part_at counted_at user_data_at data_in option_at data_behind_at data_form_at
 pointer_to_the_end_of_options = refl
 
-option_cut : sccp_reading (0x01 ∷ 0x01 ∷ 0x02 ∷ 0x03 ∷ 0x02 ∷ 0x02 ∷ 0x04 ∷ 0x02 ∷ 0x42 ∷ 0xfe ∷ 0x04 ∷ 0x03 ∷ 0x77 ∷ []) ≡ Err Short
+option_cut : sccp_reading (hex "01 01 02 03 02 02 04 02 42 fe 04 03 77") ≡ Err Short
 unfolding sccp_reading octet_at sccp_type reference_at references_at fixed_references_at refused_at request_at part_at counted_at user_data_at data_in option_at data_behind_at data_form_at
 option_cut = refl
 
-option_without_length : sccp_reading (0x01 ∷ 0x01 ∷ 0x02 ∷ 0x03 ∷ 0x02 ∷ 0x02 ∷ 0x04 ∷ 0x02 ∷ 0x42 ∷ 0xfe ∷ 0x04 ∷ []) ≡ Err Short
+option_without_length : sccp_reading (hex "01 01 02 03 02 02 04 02 42 fe 04") ≡ Err Short
 unfolding sccp_reading octet_at sccp_type reference_at references_at fixed_references_at refused_at request_at part_at counted_at user_data_at data_in option_at data_behind_at data_form_at
 option_without_length = refl
 
-data_cut : sccp_reading (0x01 ∷ 0x01 ∷ 0x02 ∷ 0x03 ∷ 0x02 ∷ 0x02 ∷ 0x04 ∷ 0x02 ∷ 0x42 ∷ 0xfe ∷ 0x0f ∷ 0x03 ∷ 0x05 ∷ []) ≡ Err Short
+data_cut : sccp_reading (hex "01 01 02 03 02 02 04 02 42 fe 0f 03 05") ≡ Err Short
 unfolding sccp_reading octet_at sccp_type reference_at references_at fixed_references_at refused_at request_at part_at counted_at user_data_at data_in option_at data_behind_at data_form_at
 data_cut = refl
 
-options_pointer_past_the_end : sccp_reading (0x01 ∷ 0x01 ∷ 0x02 ∷ 0x03 ∷ 0x02 ∷ 0x02 ∷ 0x04 ∷ 0x02 ∷ 0x42 ∷ 0xfe ∷ []) ≡ Err BadPointer
+options_pointer_past_the_end : sccp_reading (hex "01 01 02 03 02 02 04 02 42 fe") ≡ Err BadPointer
 unfolding sccp_reading octet_at sccp_type reference_at references_at fixed_references_at refused_at request_at part_at counted_at user_data_at data_in option_at data_behind_at data_form_at
 options_pointer_past_the_end = refl
 
-address_pointer_0 : sccp_reading (0x01 ∷ 0x01 ∷ 0x02 ∷ 0x03 ∷ 0x02 ∷ 0x00 ∷ 0x00 ∷ 0x02 ∷ 0x42 ∷ 0xfe ∷ []) ≡ Err BadPointer
+address_pointer_0 : sccp_reading (hex "01 01 02 03 02 00 00 02 42 fe") ≡ Err BadPointer
 unfolding sccp_reading octet_at sccp_type reference_at references_at fixed_references_at refused_at request_at part_at counted_at user_data_at data_in option_at data_behind_at data_form_at
 address_pointer_0 = refl
 
-address_pointer_past_the_end : sccp_reading (0x01 ∷ 0x01 ∷ 0x02 ∷ 0x03 ∷ 0x02 ∷ 0x05 ∷ 0x00 ∷ 0x02 ∷ 0x42 ∷ 0xfe ∷ []) ≡ Err BadPointer
+address_pointer_past_the_end : sccp_reading (hex "01 01 02 03 02 05 00 02 42 fe") ≡ Err BadPointer
 unfolding sccp_reading octet_at sccp_type reference_at references_at fixed_references_at refused_at request_at part_at counted_at user_data_at data_in option_at data_behind_at data_form_at
 address_pointer_past_the_end = refl
 
-address_cut : sccp_reading (0x01 ∷ 0x01 ∷ 0x02 ∷ 0x03 ∷ 0x02 ∷ 0x04 ∷ 0x00 ∷ 0x02 ∷ 0x42 ∷ 0xfe ∷ []) ≡ Err Short
+address_cut : sccp_reading (hex "01 01 02 03 02 04 00 02 42 fe") ≡ Err Short
 unfolding sccp_reading octet_at sccp_type reference_at references_at fixed_references_at refused_at request_at part_at counted_at user_data_at data_in option_at data_behind_at data_form_at
 address_cut = refl
 
-address_cut_before_options_pointer : sccp_reading (0x01 ∷ 0x01 ∷ 0x02 ∷ 0x03 ∷ 0x02 ∷ 0x04 ∷ 0x09 ∷ 0x02 ∷ 0x42 ∷ 0xfe ∷ []) ≡ Err Short
+address_cut_before_options_pointer : sccp_reading (hex "01 01 02 03 02 04 09 02 42 fe") ≡ Err Short
 unfolding sccp_reading octet_at sccp_type reference_at references_at fixed_references_at refused_at request_at part_at counted_at user_data_at data_in option_at data_behind_at data_form_at
 address_cut_before_options_pointer = refl
 
-address_pointer_before_option_cut : sccp_reading (0x01 ∷ 0x01 ∷ 0x02 ∷ 0x03 ∷ 0x02 ∷ 0x09 ∷ 0x04 ∷ 0x02 ∷ 0x42 ∷ 0xfe ∷ 0x04 ∷ 0x03 ∷ []) ≡ Err BadPointer
+address_pointer_before_option_cut : sccp_reading (hex "01 01 02 03 02 09 04 02 42 fe 04 03") ≡ Err BadPointer
 unfolding sccp_reading octet_at sccp_type reference_at references_at fixed_references_at refused_at request_at part_at counted_at user_data_at data_in option_at data_behind_at data_form_at
 address_pointer_before_option_cut = refl
 
-request_without_options_pointer : sccp_reading (0x01 ∷ 0x01 ∷ 0x02 ∷ 0x03 ∷ 0x02 ∷ 0x00 ∷ []) ≡ Err Short
+request_without_options_pointer : sccp_reading (hex "01 01 02 03 02 00") ≡ Err Short
 unfolding sccp_reading octet_at sccp_type reference_at references_at fixed_references_at refused_at request_at part_at counted_at user_data_at data_in option_at data_behind_at data_form_at
 request_without_options_pointer = refl
 
-confirm : sccp_reading (0x02 ∷ 0x01 ∷ 0x02 ∷ 0x03 ∷ 0x80 ∷ 0x00 ∷ 0x04 ∷ 0x02 ∷ 0x00 ∷ []) ≡ Ok (ConnectionConfirm 0x010203 0x800004)
+confirm : sccp_reading (hex "02 01 02 03 80 00 04 02 00") ≡ Ok (ConnectionConfirm 0x010203 0x800004)
 unfolding sccp_reading octet_at sccp_type reference_at references_at fixed_references_at refused_at request_at part_at counted_at user_data_at data_in option_at data_behind_at data_form_at
 confirm = refl
 
-confirm_of_another_class : sccp_reading (0x02 ∷ 0x01 ∷ 0x02 ∷ 0x03 ∷ 0x80 ∷ 0x00 ∷ 0x04 ∷ 0x03 ∷ 0x09 ∷ 0x77 ∷ []) ≡ Ok (ConnectionConfirm 0x010203 0x800004)
+confirm_of_another_class : sccp_reading (hex "02 01 02 03 80 00 04 03 09 77") ≡ Ok (ConnectionConfirm 0x010203 0x800004)
 unfolding sccp_reading octet_at sccp_type reference_at references_at fixed_references_at refused_at request_at part_at counted_at user_data_at data_in option_at data_behind_at data_form_at
 confirm_of_another_class = refl
 
-confirm_without_pointer : sccp_reading (0x02 ∷ 0x01 ∷ 0x02 ∷ 0x03 ∷ 0x80 ∷ 0x00 ∷ 0x04 ∷ 0x02 ∷ []) ≡ Err Short
+confirm_without_pointer : sccp_reading (hex "02 01 02 03 80 00 04 02") ≡ Err Short
 unfolding sccp_reading octet_at sccp_type reference_at references_at fixed_references_at refused_at request_at part_at counted_at user_data_at data_in option_at data_behind_at data_form_at
 confirm_without_pointer = refl
 
-refused : sccp_reading (0x03 ∷ 0x01 ∷ 0x02 ∷ 0x03 ∷ 0x00 ∷ 0x00 ∷ []) ≡ Ok (ConnectionRefused 0x010203)
+refused : sccp_reading (hex "03 01 02 03 00 00") ≡ Ok (ConnectionRefused 0x010203)
 unfolding sccp_reading octet_at sccp_type reference_at references_at fixed_references_at refused_at request_at part_at counted_at user_data_at data_in option_at data_behind_at data_form_at
 refused = refl
 
-refused_for_another_cause : sccp_reading (0x03 ∷ 0x01 ∷ 0x02 ∷ 0x03 ∷ 0x05 ∷ 0x09 ∷ []) ≡ Ok (ConnectionRefused 0x010203)
+refused_for_another_cause : sccp_reading (hex "03 01 02 03 05 09") ≡ Ok (ConnectionRefused 0x010203)
 unfolding sccp_reading octet_at sccp_type reference_at references_at fixed_references_at refused_at request_at part_at counted_at user_data_at data_in option_at data_behind_at data_form_at
 refused_for_another_cause = refl
 
-refused_without_pointer : sccp_reading (0x03 ∷ 0x01 ∷ 0x02 ∷ 0x03 ∷ 0x00 ∷ []) ≡ Err Short
+refused_without_pointer : sccp_reading (hex "03 01 02 03 00") ≡ Err Short
 unfolding sccp_reading octet_at sccp_type reference_at references_at fixed_references_at refused_at request_at part_at counted_at user_data_at data_in option_at data_behind_at data_form_at
 refused_without_pointer = refl
 
-released : sccp_reading (0x04 ∷ 0x01 ∷ 0x02 ∷ 0x03 ∷ 0x80 ∷ 0x00 ∷ 0x04 ∷ 0x00 ∷ 0x00 ∷ []) ≡ Ok (Released 0x010203 0x800004)
+released : sccp_reading (hex "04 01 02 03 80 00 04 00 00") ≡ Ok (Released 0x010203 0x800004)
 unfolding sccp_reading octet_at sccp_type reference_at references_at fixed_references_at refused_at request_at part_at counted_at user_data_at data_in option_at data_behind_at data_form_at
 released = refl
 
-released_for_another_cause : sccp_reading (0x04 ∷ 0x01 ∷ 0x02 ∷ 0x03 ∷ 0x80 ∷ 0x00 ∷ 0x04 ∷ 0x05 ∷ 0x09 ∷ []) ≡ Ok (Released 0x010203 0x800004)
+released_for_another_cause : sccp_reading (hex "04 01 02 03 80 00 04 05 09") ≡ Ok (Released 0x010203 0x800004)
 unfolding sccp_reading octet_at sccp_type reference_at references_at fixed_references_at refused_at request_at part_at counted_at user_data_at data_in option_at data_behind_at data_form_at
 released_for_another_cause = refl
 
-released_without_pointer : sccp_reading (0x04 ∷ 0x01 ∷ 0x02 ∷ 0x03 ∷ 0x80 ∷ 0x00 ∷ 0x04 ∷ 0x00 ∷ []) ≡ Err Short
+released_without_pointer : sccp_reading (hex "04 01 02 03 80 00 04 00") ≡ Err Short
 unfolding sccp_reading octet_at sccp_type reference_at references_at fixed_references_at refused_at request_at part_at counted_at user_data_at data_in option_at data_behind_at data_form_at
 released_without_pointer = refl
 
-complete : sccp_reading (0x05 ∷ 0x80 ∷ 0x00 ∷ 0x04 ∷ 0x01 ∷ 0x02 ∷ 0x03 ∷ []) ≡ Ok (ReleaseComplete 0x800004 0x010203)
+complete : sccp_reading (hex "05 80 00 04 01 02 03") ≡ Ok (ReleaseComplete 0x800004 0x010203)
 unfolding sccp_reading octet_at sccp_type reference_at references_at fixed_references_at refused_at request_at part_at counted_at user_data_at data_in option_at data_behind_at data_form_at
 complete = refl
 
-complete_with_more : sccp_reading (0x05 ∷ 0x80 ∷ 0x00 ∷ 0x04 ∷ 0x01 ∷ 0x02 ∷ 0x03 ∷ 0x00 ∷ []) ≡ Ok (ReleaseComplete 0x800004 0x010203)
+complete_with_more : sccp_reading (hex "05 80 00 04 01 02 03 00") ≡ Ok (ReleaseComplete 0x800004 0x010203)
 unfolding sccp_reading octet_at sccp_type reference_at references_at fixed_references_at refused_at request_at part_at counted_at user_data_at data_in option_at data_behind_at data_form_at
 complete_with_more = refl
 
-complete_cut : sccp_reading (0x05 ∷ 0x80 ∷ 0x00 ∷ 0x04 ∷ 0x01 ∷ 0x02 ∷ []) ≡ Err Short
+complete_cut : sccp_reading (hex "05 80 00 04 01 02") ≡ Err Short
 unfolding sccp_reading octet_at sccp_type reference_at references_at fixed_references_at refused_at request_at part_at counted_at user_data_at data_in option_at data_behind_at data_form_at
 complete_cut = refl
 
-data_form : sccp_reading (0x06 ∷ 0x01 ∷ 0x02 ∷ 0x03 ∷ 0x00 ∷ 0x01 ∷ 0x02 ∷ 0x05 ∷ 0x24 ∷ 0x99 ∷ []) ≡ Ok (DataForm1 0x010203 (0x05 ∷ 0x24 ∷ []))
+data_form : sccp_reading (hex "06 01 02 03 00 01 02 05 24 99") ≡ Ok (DataForm1 0x010203 (hex "05 24"))
 unfolding sccp_reading octet_at sccp_type reference_at references_at fixed_references_at refused_at request_at part_at counted_at user_data_at data_in option_at data_behind_at data_form_at
 data_form = refl
 
-data_form_with_octets_between : sccp_reading (0x06 ∷ 0x01 ∷ 0x02 ∷ 0x03 ∷ 0x00 ∷ 0x03 ∷ 0x99 ∷ 0x99 ∷ 0x02 ∷ 0x05 ∷ 0x24 ∷ []) ≡ Ok (DataForm1 0x010203 (0x05 ∷ 0x24 ∷ []))
+data_form_with_octets_between : sccp_reading (hex "06 01 02 03 00 03 99 99 02 05 24") ≡ Ok (DataForm1 0x010203 (hex "05 24"))
 unfolding sccp_reading octet_at sccp_type reference_at references_at fixed_references_at refused_at request_at part_at counted_at user_data_at data_in option_at data_behind_at data_form_at
 data_form_with_octets_between = refl
 
-data_form_of_no_octets : sccp_reading (0x06 ∷ 0x01 ∷ 0x02 ∷ 0x03 ∷ 0x00 ∷ 0x01 ∷ 0x00 ∷ []) ≡ Ok (DataForm1 0x010203 [])
+data_form_of_no_octets : sccp_reading (hex "06 01 02 03 00 01 00") ≡ Ok (DataForm1 0x010203 [])
 unfolding sccp_reading octet_at sccp_type reference_at references_at fixed_references_at refused_at request_at part_at counted_at user_data_at data_in option_at data_behind_at data_form_at
 data_form_of_no_octets = refl
 
 -- before its pointer is looked at
-data_form_segmented : sccp_reading (0x06 ∷ 0x01 ∷ 0x02 ∷ 0x03 ∷ 0x01 ∷ 0x00 ∷ []) ≡ Err UnknownType
+data_form_segmented : sccp_reading (hex "06 01 02 03 01 00") ≡ Err UnknownType
 unfolding sccp_reading octet_at sccp_type reference_at references_at fixed_references_at refused_at request_at part_at counted_at user_data_at data_in option_at data_behind_at data_form_at
 data_form_segmented = refl
 
-data_form_segmented_without_pointer : sccp_reading (0x06 ∷ 0x01 ∷ 0x02 ∷ 0x03 ∷ 0x01 ∷ []) ≡ Err Short
+data_form_segmented_without_pointer : sccp_reading (hex "06 01 02 03 01") ≡ Err Short
 unfolding sccp_reading octet_at sccp_type reference_at references_at fixed_references_at refused_at request_at part_at counted_at user_data_at data_in option_at data_behind_at data_form_at
 data_form_segmented_without_pointer = refl
 
-data_pointer_0 : sccp_reading (0x06 ∷ 0x01 ∷ 0x02 ∷ 0x03 ∷ 0x00 ∷ 0x00 ∷ 0x00 ∷ []) ≡ Err BadPointer
+data_pointer_0 : sccp_reading (hex "06 01 02 03 00 00 00") ≡ Err BadPointer
 unfolding sccp_reading octet_at sccp_type reference_at references_at fixed_references_at refused_at request_at part_at counted_at user_data_at data_in option_at data_behind_at data_form_at
 data_pointer_0 = refl
 
-data_pointer_past_the_end : sccp_reading (0x06 ∷ 0x01 ∷ 0x02 ∷ 0x03 ∷ 0x00 ∷ 0x03 ∷ 0x01 ∷ 0x05 ∷ []) ≡ Err BadPointer
+data_pointer_past_the_end : sccp_reading (hex "06 01 02 03 00 03 01 05") ≡ Err BadPointer
 unfolding sccp_reading octet_at sccp_type reference_at references_at fixed_references_at refused_at request_at part_at counted_at user_data_at data_in option_at data_behind_at data_form_at
 data_pointer_past_the_end = refl
 
-data_form_without_data : sccp_reading (0x06 ∷ 0x01 ∷ 0x02 ∷ 0x03 ∷ 0x00 ∷ 0x01 ∷ []) ≡ Err BadPointer
+data_form_without_data : sccp_reading (hex "06 01 02 03 00 01") ≡ Err BadPointer
 unfolding sccp_reading octet_at sccp_type reference_at references_at fixed_references_at refused_at request_at part_at counted_at user_data_at data_in option_at data_behind_at data_form_at
 data_form_without_data = refl
 
-data_form_cut : sccp_reading (0x06 ∷ 0x01 ∷ 0x02 ∷ 0x03 ∷ 0x00 ∷ 0x01 ∷ 0x03 ∷ 0x05 ∷ 0x24 ∷ []) ≡ Err Short
+data_form_cut : sccp_reading (hex "06 01 02 03 00 01 03 05 24") ≡ Err Short
 unfolding sccp_reading octet_at sccp_type reference_at references_at fixed_references_at refused_at request_at part_at counted_at user_data_at data_in option_at data_behind_at data_form_at
 data_form_cut = refl
 
@@ -211,15 +215,15 @@ nothing : sccp_reading [] ≡ Err Short
 unfolding sccp_reading octet_at sccp_type reference_at references_at fixed_references_at refused_at request_at part_at counted_at user_data_at data_in option_at data_behind_at data_form_at
 nothing = refl
 
-type_0_alone : sccp_reading (0x00 ∷ []) ≡ Err UnknownType
+type_0_alone : sccp_reading (hex "00") ≡ Err UnknownType
 unfolding sccp_reading octet_at sccp_type reference_at references_at fixed_references_at refused_at request_at part_at counted_at user_data_at data_in option_at data_behind_at data_form_at
 type_0_alone = refl
 
-type_7_alone : sccp_reading (0x07 ∷ []) ≡ Err UnknownType
+type_7_alone : sccp_reading (hex "07") ≡ Err UnknownType
 unfolding sccp_reading octet_at sccp_type reference_at references_at fixed_references_at refused_at request_at part_at counted_at user_data_at data_in option_at data_behind_at data_form_at
 type_7_alone = refl
 
-request_alone : sccp_reading (0x01 ∷ []) ≡ Err Short
+request_alone : sccp_reading (hex "01") ≡ Err Short
 unfolding sccp_reading octet_at sccp_type reference_at references_at fixed_references_at refused_at request_at part_at counted_at user_data_at data_in option_at data_behind_at data_form_at
 request_alone = refl
 
@@ -231,7 +235,9 @@ with_parts : map has_parts (sccp_kinds.ConnectionRequest ∷ sccp_kinds.Connecti
 with_parts = refl
 
 -- a pointer to a value: itself, past the end, to a value that is cut, to a whole one
-parts : map (λ (octets : List ℕ). first_that_holds (part_causes (slice_index octets 0) octets)) ((0x00 ∷ 0x00 ∷ []) ∷ (0x02 ∷ 0x00 ∷ []) ∷ (0x01 ∷ 0x01 ∷ []) ∷ (0x01 ∷ 0x01 ∷ 0x05 ∷ []) ∷ []) ≡ Some BadPointer ∷ Some BadPointer ∷ Some Short ∷ None ∷ []
+parts : map (λ (octets : List ℕ). first_that_holds (part_causes (slice_index octets 0) octets)) (hex "00 00"
+    ∷ hex "02 00" ∷ hex "01 01" ∷ hex "01 01 05" ∷ [])
+    ≡ Some BadPointer ∷ Some BadPointer ∷ Some Short ∷ None ∷ []
 parts = refl
 
 -- a pointer to options: none, past the end, to options that are cut, to whole ones
@@ -240,25 +246,25 @@ options = refl
 
 -- ---- SCCP, written
 
-request_written : sccp_text (ConnectionRequest 0x010203 (Some (0x00 ∷ 0x01 ∷ 0x21 ∷ []))) ≡ 0x01 ∷ 0x01 ∷ 0x02 ∷ 0x03 ∷ 0x02 ∷ 0x02 ∷ 0x04 ∷ 0x02 ∷ 0x42 ∷ 0xfe ∷ 0x0f ∷ 0x03 ∷ 0x00 ∷ 0x01 ∷ 0x21 ∷ 0x00 ∷ []
+request_written : sccp_text (ConnectionRequest 0x010203 (Some (hex "00 01 21"))) ≡ hex "01 01 02 03 02 02 04 02 42 fe 0f 03 00 01 21 00"
 request_written = refl
 
-request_without_data_written : sccp_text (ConnectionRequest 0x010203 None) ≡ 0x01 ∷ 0x01 ∷ 0x02 ∷ 0x03 ∷ 0x02 ∷ 0x02 ∷ 0x00 ∷ 0x02 ∷ 0x42 ∷ 0xfe ∷ []
+request_without_data_written : sccp_text (ConnectionRequest 0x010203 None) ≡ hex "01 01 02 03 02 02 00 02 42 fe"
 request_without_data_written = refl
 
-confirm_written : sccp_text (ConnectionConfirm 0x010203 0x800004) ≡ 0x02 ∷ 0x01 ∷ 0x02 ∷ 0x03 ∷ 0x80 ∷ 0x00 ∷ 0x04 ∷ 0x02 ∷ 0x00 ∷ []
+confirm_written : sccp_text (ConnectionConfirm 0x010203 0x800004) ≡ hex "02 01 02 03 80 00 04 02 00"
 confirm_written = refl
 
-refused_written : sccp_text (ConnectionRefused 0x010203) ≡ 0x03 ∷ 0x01 ∷ 0x02 ∷ 0x03 ∷ 0x00 ∷ 0x00 ∷ []
+refused_written : sccp_text (ConnectionRefused 0x010203) ≡ hex "03 01 02 03 00 00"
 refused_written = refl
 
-released_written : sccp_text (Released 0x010203 0x800004) ≡ 0x04 ∷ 0x01 ∷ 0x02 ∷ 0x03 ∷ 0x80 ∷ 0x00 ∷ 0x04 ∷ 0x00 ∷ 0x00 ∷ []
+released_written : sccp_text (Released 0x010203 0x800004) ≡ hex "04 01 02 03 80 00 04 00 00"
 released_written = refl
 
-complete_written : sccp_text (ReleaseComplete 0x800004 0x010203) ≡ 0x05 ∷ 0x80 ∷ 0x00 ∷ 0x04 ∷ 0x01 ∷ 0x02 ∷ 0x03 ∷ []
+complete_written : sccp_text (ReleaseComplete 0x800004 0x010203) ≡ hex "05 80 00 04 01 02 03"
 complete_written = refl
 
-data_form_written : sccp_text (DataForm1 0x010203 (0x05 ∷ 0x24 ∷ [])) ≡ 0x06 ∷ 0x01 ∷ 0x02 ∷ 0x03 ∷ 0x00 ∷ 0x01 ∷ 0x02 ∷ 0x05 ∷ 0x24 ∷ []
+data_form_written : sccp_text (DataForm1 0x010203 (hex "05 24")) ≡ hex "06 01 02 03 00 01 02 05 24"
 data_form_written = refl
 
 request_of_255_octets : sccp_write_fault (ConnectionRequest 1 (Some (replicate 255 7))) ≡ None
@@ -278,84 +284,91 @@ data_of_256_octets = refl
 
 -- ---- BSSAP, read
 
-assignment_request : bssap_reading (0x00 ∷ 0x06 ∷ 0x01 ∷ 0x0b ∷ 0x03 ∷ 0x01 ∷ 0x08 ∷ 0x02 ∷ []) ≡ Ok (Management (AssignmentRequest (channel_of (0x01 ∷ 0x08 ∷ 0x02 ∷ []))))
+assignment_request : bssap_reading (hex "00 06 01 0b 03 01 08 02") ≡ Ok (Management (AssignmentRequest (channel_of (hex "01 08 02"))))
 unfolding bssap_reading octet_at management_at transfer_at bssmap_type message_at breaks_off elements_of walk needed_value needed_octet rr_cause_in layer3_at cause_at assignment_request_at assignment_complete_at assignment_failure_at handover_performed_at reject_at complete_layer3_at
 assignment_request = refl
 
-assignment_complete : bssap_reading (0x00 ∷ 0x03 ∷ 0x02 ∷ 0x15 ∷ 0x07 ∷ []) ≡ Ok (Management (AssignmentComplete (Some (rr_cause_of 0x07))))
+assignment_complete : bssap_reading (hex "00 03 02 15 07") ≡ Ok (Management (AssignmentComplete (Some (rr_cause_of 0x07))))
 unfolding bssap_reading octet_at management_at transfer_at bssmap_type message_at breaks_off elements_of walk needed_value needed_octet rr_cause_in layer3_at cause_at assignment_request_at assignment_complete_at assignment_failure_at handover_performed_at reject_at complete_layer3_at
 assignment_complete = refl
 
-assignment_complete_without_cause : bssap_reading (0x00 ∷ 0x01 ∷ 0x02 ∷ []) ≡ Ok (Management (AssignmentComplete None))
+assignment_complete_without_cause : bssap_reading (hex "00 01 02") ≡ Ok (Management (AssignmentComplete None))
 unfolding bssap_reading octet_at management_at transfer_at bssmap_type message_at breaks_off elements_of walk needed_value needed_octet rr_cause_in layer3_at cause_at assignment_request_at assignment_complete_at assignment_failure_at handover_performed_at reject_at complete_layer3_at
 assignment_complete_without_cause = refl
 
-assignment_failure : bssap_reading (0x00 ∷ 0x06 ∷ 0x03 ∷ 0x04 ∷ 0x01 ∷ 0x0a ∷ 0x15 ∷ 0x03 ∷ []) ≡ Ok (Management (AssignmentFailure (cause_of (0x0a ∷ [])) (Some (rr_cause_of 0x03))))
+assignment_failure : bssap_reading (hex "00 06 03 04 01 0a 15 03")
+    ≡ Ok (Management (AssignmentFailure (cause_of (hex "0a")) (Some (rr_cause_of 0x03))))
 unfolding bssap_reading octet_at management_at transfer_at bssmap_type message_at breaks_off elements_of walk needed_value needed_octet rr_cause_in layer3_at cause_at assignment_request_at assignment_complete_at assignment_failure_at handover_performed_at reject_at complete_layer3_at
 assignment_failure = refl
 
-assignment_failure_without_rr_cause : bssap_reading (0x00 ∷ 0x05 ∷ 0x03 ∷ 0x04 ∷ 0x02 ∷ 0x0a ∷ 0x0b ∷ []) ≡ Ok (Management (AssignmentFailure (cause_of (0x0a ∷ 0x0b ∷ [])) None))
+assignment_failure_without_rr_cause : bssap_reading (hex "00 05 03 04 02 0a 0b")
+    ≡ Ok (Management (AssignmentFailure (cause_of (hex "0a 0b")) None))
 unfolding bssap_reading octet_at management_at transfer_at bssmap_type message_at breaks_off elements_of walk needed_value needed_octet rr_cause_in layer3_at cause_at assignment_request_at assignment_complete_at assignment_failure_at handover_performed_at reject_at complete_layer3_at
 assignment_failure_without_rr_cause = refl
 
-handover_performed : bssap_reading (0x00 ∷ 0x0e ∷ 0x17 ∷ 0x04 ∷ 0x01 ∷ 0x0c ∷ 0x05 ∷ 0x08 ∷ 0x00 ∷ 0x00 ∷ 0xf1 ∷ 0x10 ∷ 0x00 ∷ 0x01 ∷ 0x00 ∷ 0x02 ∷ []) ≡ Ok (Management (HandoverPerformed (cause_of (0x0c ∷ [])) (cell_of (0x00 ∷ 0x00 ∷ 0xf1 ∷ 0x10 ∷ 0x00 ∷ 0x01 ∷ 0x00 ∷ 0x02 ∷ []))))
+handover_performed : bssap_reading (hex "00 0e 17 04 01 0c 05 08 00 00 f1 10 00 01 00 02")
+    ≡ Ok (Management (HandoverPerformed (cause_of (hex "0c")) (cell_of (hex "00 00 f1 10 00 01 00 02"))))
 unfolding bssap_reading octet_at management_at transfer_at bssmap_type message_at breaks_off elements_of walk needed_value needed_octet rr_cause_in layer3_at cause_at assignment_request_at assignment_complete_at assignment_failure_at handover_performed_at reject_at complete_layer3_at
 handover_performed = refl
 
-clear_command : bssap_reading (0x00 ∷ 0x04 ∷ 0x20 ∷ 0x04 ∷ 0x01 ∷ 0x09 ∷ []) ≡ Ok (Management (ClearCommand (cause_of (0x09 ∷ []))))
+clear_command : bssap_reading (hex "00 04 20 04 01 09") ≡ Ok (Management (ClearCommand (cause_of (hex "09"))))
 unfolding bssap_reading octet_at management_at transfer_at bssmap_type message_at breaks_off elements_of walk needed_value needed_octet rr_cause_in layer3_at cause_at assignment_request_at assignment_complete_at assignment_failure_at handover_performed_at reject_at complete_layer3_at
 clear_command = refl
 
-clear_complete : bssap_reading (0x00 ∷ 0x01 ∷ 0x21 ∷ 0x99 ∷ []) ≡ Ok (Management ClearComplete)
+clear_complete : bssap_reading (hex "00 01 21 99") ≡ Ok (Management ClearComplete)
 unfolding bssap_reading octet_at management_at transfer_at bssmap_type message_at breaks_off elements_of walk needed_value needed_octet rr_cause_in layer3_at cause_at assignment_request_at assignment_complete_at assignment_failure_at handover_performed_at reject_at complete_layer3_at
 clear_complete = refl
 
-clear_request : bssap_reading (0x00 ∷ 0x04 ∷ 0x22 ∷ 0x04 ∷ 0x01 ∷ 0x20 ∷ []) ≡ Ok (Management (ClearRequest (cause_of (0x20 ∷ []))))
+clear_request : bssap_reading (hex "00 04 22 04 01 20") ≡ Ok (Management (ClearRequest (cause_of (hex "20"))))
 unfolding bssap_reading octet_at management_at transfer_at bssmap_type message_at breaks_off elements_of walk needed_value needed_octet rr_cause_in layer3_at cause_at assignment_request_at assignment_complete_at assignment_failure_at handover_performed_at reject_at complete_layer3_at
 clear_request = refl
 
-reject : bssap_reading (0x00 ∷ 0x06 ∷ 0x25 ∷ 0x18 ∷ 0x83 ∷ 0x04 ∷ 0x01 ∷ 0x25 ∷ []) ≡ Ok (Management (SapiNReject (rejected_of 0x83) (cause_of (0x25 ∷ []))))
+reject : bssap_reading (hex "00 06 25 18 83 04 01 25") ≡ Ok (Management (SapiNReject (rejected_of 0x83) (cause_of (hex "25"))))
 unfolding bssap_reading octet_at management_at transfer_at bssmap_type message_at breaks_off elements_of walk needed_value needed_octet rr_cause_in layer3_at cause_at assignment_request_at assignment_complete_at assignment_failure_at handover_performed_at reject_at complete_layer3_at
 reject = refl
 
-cipher_mode_command : bssap_reading (0x00 ∷ 0x01 ∷ 0x53 ∷ []) ≡ Ok (Management CipherModeCommand)
+cipher_mode_command : bssap_reading (hex "00 01 53") ≡ Ok (Management CipherModeCommand)
 unfolding bssap_reading octet_at management_at transfer_at bssmap_type message_at breaks_off elements_of walk needed_value needed_octet rr_cause_in layer3_at cause_at assignment_request_at assignment_complete_at assignment_failure_at handover_performed_at reject_at complete_layer3_at
 cipher_mode_command = refl
 
-complete_layer3 : bssap_reading (0x00 ∷ 0x10 ∷ 0x57 ∷ 0x05 ∷ 0x08 ∷ 0x00 ∷ 0x00 ∷ 0xf1 ∷ 0x10 ∷ 0x00 ∷ 0x01 ∷ 0x00 ∷ 0x02 ∷ 0x17 ∷ 0x03 ∷ 0x05 ∷ 0x24 ∷ 0x71 ∷ []) ≡ Ok (Management (CompleteLayer3Information (cell_of (0x00 ∷ 0x00 ∷ 0xf1 ∷ 0x10 ∷ 0x00 ∷ 0x01 ∷ 0x00 ∷ 0x02 ∷ [])) (0x05 ∷ 0x24 ∷ 0x71 ∷ [])))
+complete_layer3 : bssap_reading (hex "00 10 57 05 08 00 00 f1 10 00 01 00 02 17 03 05 24 71")
+    ≡ Ok (Management (CompleteLayer3Information (cell_of (hex "00 00 f1 10 00 01 00 02")) (hex "05 24 71")))
 unfolding bssap_reading octet_at management_at transfer_at bssmap_type message_at breaks_off elements_of walk needed_value needed_octet rr_cause_in layer3_at cause_at assignment_request_at assignment_complete_at assignment_failure_at handover_performed_at reject_at complete_layer3_at
 complete_layer3 = refl
 
-cipher_mode_reject : bssap_reading (0x00 ∷ 0x04 ∷ 0x59 ∷ 0x04 ∷ 0x01 ∷ 0x40 ∷ []) ≡ Ok (Management (CipherModeReject (cause_of (0x40 ∷ []))))
+cipher_mode_reject : bssap_reading (hex "00 04 59 04 01 40") ≡ Ok (Management (CipherModeReject (cause_of (hex "40"))))
 unfolding bssap_reading octet_at management_at transfer_at bssmap_type message_at breaks_off elements_of walk needed_value needed_octet rr_cause_in layer3_at cause_at assignment_request_at assignment_complete_at assignment_failure_at handover_performed_at reject_at complete_layer3_at
 cipher_mode_reject = refl
 
-elements_in_another_order : bssap_reading (0x00 ∷ 0x06 ∷ 0x25 ∷ 0x04 ∷ 0x01 ∷ 0x25 ∷ 0x18 ∷ 0x82 ∷ []) ≡ Ok (Management (SapiNReject (rejected_of 0x82) (cause_of (0x25 ∷ []))))
+elements_in_another_order : bssap_reading (hex "00 06 25 04 01 25 18 82")
+    ≡ Ok (Management (SapiNReject (rejected_of 0x82) (cause_of (hex "25"))))
 unfolding bssap_reading octet_at management_at transfer_at bssmap_type message_at breaks_off elements_of walk needed_value needed_octet rr_cause_in layer3_at cause_at assignment_request_at assignment_complete_at assignment_failure_at handover_performed_at reject_at complete_layer3_at
 elements_in_another_order = refl
 
-first_of_repeated_elements : bssap_reading (0x00 ∷ 0x08 ∷ 0x20 ∷ 0x04 ∷ 0x01 ∷ 0x09 ∷ 0x04 ∷ 0x02 ∷ 0x0a ∷ 0x0b ∷ []) ≡ Ok (Management (ClearCommand (cause_of (0x09 ∷ []))))
+first_of_repeated_elements : bssap_reading (hex "00 08 20 04 01 09 04 02 0a 0b") ≡ Ok (Management (ClearCommand (cause_of (hex "09"))))
 unfolding bssap_reading octet_at management_at transfer_at bssmap_type message_at breaks_off elements_of walk needed_value needed_octet rr_cause_in layer3_at cause_at assignment_request_at assignment_complete_at assignment_failure_at handover_performed_at reject_at complete_layer3_at
 first_of_repeated_elements = refl
 
 -- each format of the table
-other_elements_are_passed_over : bssap_reading (0x00 ∷ 0x1d ∷ 0x20 ∷ 0x01 ∷ 0xaa ∷ 0xbb ∷ 0x06 ∷ 0x01 ∷ 0xcc ∷ 0x07 ∷ 0x02 ∷ 0xdd ∷ 0xee ∷ 0x0b ∷ 0x01 ∷ 0xa0 ∷ 0x05 ∷ 0x01 ∷ 0xa1 ∷ 0x17 ∷ 0x01 ∷ 0xa2 ∷ 0x18 ∷ 0xa3 ∷ 0x15 ∷ 0xa4 ∷ 0x21 ∷ 0xff ∷ 0x04 ∷ 0x01 ∷ 0x09 ∷ []) ≡ Ok (Management (ClearCommand (cause_of (0x09 ∷ []))))
+other_elements_are_passed_over : bssap_reading (hex "00 1d 20 01 aa bb 06 01 cc 07 02 dd ee 0b 01 a0 05 01 a1 17 01 a2 18 a3 15 a4 21 ff 04 01 09")
+    ≡ Ok (Management (ClearCommand (cause_of (hex "09"))))
 unfolding bssap_reading octet_at management_at transfer_at bssmap_type message_at breaks_off elements_of walk needed_value needed_octet rr_cause_in layer3_at cause_at assignment_request_at assignment_complete_at assignment_failure_at handover_performed_at reject_at complete_layer3_at
 other_elements_are_passed_over = refl
 
-nothing_is_looked_at_behind_unknown_element : bssap_reading (0x00 ∷ 0x06 ∷ 0x20 ∷ 0x04 ∷ 0x01 ∷ 0x09 ∷ 0x7f ∷ 0x04 ∷ []) ≡ Ok (Management (ClearCommand (cause_of (0x09 ∷ []))))
+nothing_is_looked_at_behind_unknown_element : bssap_reading (hex "00 06 20 04 01 09 7f 04")
+    ≡ Ok (Management (ClearCommand (cause_of (hex "09"))))
 unfolding bssap_reading octet_at management_at transfer_at bssmap_type message_at breaks_off elements_of walk needed_value needed_octet rr_cause_in layer3_at cause_at assignment_request_at assignment_complete_at assignment_failure_at handover_performed_at reject_at complete_layer3_at
 nothing_is_looked_at_behind_unknown_element = refl
 
-unknown_element_hides_what_follows : bssap_reading (0x00 ∷ 0x05 ∷ 0x20 ∷ 0x7f ∷ 0x04 ∷ 0x01 ∷ 0x09 ∷ []) ≡ Err (MissingElement 0x04)
+unknown_element_hides_what_follows : bssap_reading (hex "00 05 20 7f 04 01 09") ≡ Err (MissingElement 0x04)
 unfolding bssap_reading octet_at management_at transfer_at bssmap_type message_at breaks_off elements_of walk needed_value needed_octet rr_cause_in layer3_at cause_at assignment_request_at assignment_complete_at assignment_failure_at handover_performed_at reject_at complete_layer3_at
 unknown_element_hides_what_follows = refl
 
-element_of_length_0 : bssap_reading (0x00 ∷ 0x03 ∷ 0x20 ∷ 0x04 ∷ 0x00 ∷ []) ≡ Ok (Management (ClearCommand (cause_of [])))
+element_of_length_0 : bssap_reading (hex "00 03 20 04 00") ≡ Ok (Management (ClearCommand (cause_of [])))
 unfolding bssap_reading octet_at management_at transfer_at bssmap_type message_at breaks_off elements_of walk needed_value needed_octet rr_cause_in layer3_at cause_at assignment_request_at assignment_complete_at assignment_failure_at handover_performed_at reject_at complete_layer3_at
 element_of_length_0 = refl
 
-what_follows_the_length_is_no_element : bssap_reading (0x00 ∷ 0x01 ∷ 0x20 ∷ 0x04 ∷ 0x01 ∷ 0x09 ∷ []) ≡ Err (MissingElement 0x04)
+what_follows_the_length_is_no_element : bssap_reading (hex "00 01 20 04 01 09") ≡ Err (MissingElement 0x04)
 unfolding bssap_reading octet_at management_at transfer_at bssmap_type message_at breaks_off elements_of walk needed_value needed_octet rr_cause_in layer3_at cause_at assignment_request_at assignment_complete_at assignment_failure_at handover_performed_at reject_at complete_layer3_at
 what_follows_the_length_is_no_element = refl
 
@@ -363,91 +376,91 @@ no_first_octet : bssap_reading [] ≡ Err Short
 unfolding bssap_reading octet_at management_at transfer_at bssmap_type message_at breaks_off elements_of walk needed_value needed_octet rr_cause_in layer3_at cause_at assignment_request_at assignment_complete_at assignment_failure_at handover_performed_at reject_at complete_layer3_at
 no_first_octet = refl
 
-first_octet_02 : bssap_reading (0x02 ∷ []) ≡ Err UnknownType
+first_octet_02 : bssap_reading (hex "02") ≡ Err UnknownType
 unfolding bssap_reading octet_at management_at transfer_at bssmap_type message_at breaks_off elements_of walk needed_value needed_octet rr_cause_in layer3_at cause_at assignment_request_at assignment_complete_at assignment_failure_at handover_performed_at reject_at complete_layer3_at
 first_octet_02 = refl
 
-management_alone : bssap_reading (0x00 ∷ []) ≡ Err Short
+management_alone : bssap_reading (hex "00") ≡ Err Short
 unfolding bssap_reading octet_at management_at transfer_at bssmap_type message_at breaks_off elements_of walk needed_value needed_octet rr_cause_in layer3_at cause_at assignment_request_at assignment_complete_at assignment_failure_at handover_performed_at reject_at complete_layer3_at
 management_alone = refl
 
-management_without_type : bssap_reading (0x00 ∷ 0x01 ∷ []) ≡ Err Short
+management_without_type : bssap_reading (hex "00 01") ≡ Err Short
 unfolding bssap_reading octet_at management_at transfer_at bssmap_type message_at breaks_off elements_of walk needed_value needed_octet rr_cause_in layer3_at cause_at assignment_request_at assignment_complete_at assignment_failure_at handover_performed_at reject_at complete_layer3_at
 management_without_type = refl
 
-management_of_length_0 : bssap_reading (0x00 ∷ 0x00 ∷ 0x20 ∷ []) ≡ Err Short
+management_of_length_0 : bssap_reading (hex "00 00 20") ≡ Err Short
 unfolding bssap_reading octet_at management_at transfer_at bssmap_type message_at breaks_off elements_of walk needed_value needed_octet rr_cause_in layer3_at cause_at assignment_request_at assignment_complete_at assignment_failure_at handover_performed_at reject_at complete_layer3_at
 management_of_length_0 = refl
 
-unknown_type_with_too_few_octets : bssap_reading (0x00 ∷ 0x02 ∷ 0x77 ∷ []) ≡ Err UnknownType
+unknown_type_with_too_few_octets : bssap_reading (hex "00 02 77") ≡ Err UnknownType
 unfolding bssap_reading octet_at management_at transfer_at bssmap_type message_at breaks_off elements_of walk needed_value needed_octet rr_cause_in layer3_at cause_at assignment_request_at assignment_complete_at assignment_failure_at handover_performed_at reject_at complete_layer3_at
 unknown_type_with_too_few_octets = refl
 
-known_type_with_too_few_octets : bssap_reading (0x00 ∷ 0x02 ∷ 0x20 ∷ []) ≡ Err Short
+known_type_with_too_few_octets : bssap_reading (hex "00 02 20") ≡ Err Short
 unfolding bssap_reading octet_at management_at transfer_at bssmap_type message_at breaks_off elements_of walk needed_value needed_octet rr_cause_in layer3_at cause_at assignment_request_at assignment_complete_at assignment_failure_at handover_performed_at reject_at complete_layer3_at
 known_type_with_too_few_octets = refl
 
-element_cut : bssap_reading (0x00 ∷ 0x03 ∷ 0x20 ∷ 0x04 ∷ 0x01 ∷ []) ≡ Err Short
+element_cut : bssap_reading (hex "00 03 20 04 01") ≡ Err Short
 unfolding bssap_reading octet_at management_at transfer_at bssmap_type message_at breaks_off elements_of walk needed_value needed_octet rr_cause_in layer3_at cause_at assignment_request_at assignment_complete_at assignment_failure_at handover_performed_at reject_at complete_layer3_at
 element_cut = refl
 
-element_cut_behind_the_needed : bssap_reading (0x00 ∷ 0x07 ∷ 0x20 ∷ 0x04 ∷ 0x01 ∷ 0x09 ∷ 0x05 ∷ 0x02 ∷ 0x00 ∷ []) ≡ Err Short
+element_cut_behind_the_needed : bssap_reading (hex "00 07 20 04 01 09 05 02 00") ≡ Err Short
 unfolding bssap_reading octet_at management_at transfer_at bssmap_type message_at breaks_off elements_of walk needed_value needed_octet rr_cause_in layer3_at cause_at assignment_request_at assignment_complete_at assignment_failure_at handover_performed_at reject_at complete_layer3_at
 element_cut_behind_the_needed = refl
 
-element_cut_before_missing : bssap_reading (0x00 ∷ 0x04 ∷ 0x57 ∷ 0x17 ∷ 0x02 ∷ 0x05 ∷ []) ≡ Err Short
+element_cut_before_missing : bssap_reading (hex "00 04 57 17 02 05") ≡ Err Short
 unfolding bssap_reading octet_at management_at transfer_at bssmap_type message_at breaks_off elements_of walk needed_value needed_octet rr_cause_in layer3_at cause_at assignment_request_at assignment_complete_at assignment_failure_at handover_performed_at reject_at complete_layer3_at
 element_cut_before_missing = refl
 
-assignment_request_missing : bssap_reading (0x00 ∷ 0x01 ∷ 0x01 ∷ []) ≡ Err (MissingElement 0x0b)
+assignment_request_missing : bssap_reading (hex "00 01 01") ≡ Err (MissingElement 0x0b)
 unfolding bssap_reading octet_at management_at transfer_at bssmap_type message_at breaks_off elements_of walk needed_value needed_octet rr_cause_in layer3_at cause_at assignment_request_at assignment_complete_at assignment_failure_at handover_performed_at reject_at complete_layer3_at
 assignment_request_missing = refl
 
-assignment_failure_missing : bssap_reading (0x00 ∷ 0x01 ∷ 0x03 ∷ []) ≡ Err (MissingElement 0x04)
+assignment_failure_missing : bssap_reading (hex "00 01 03") ≡ Err (MissingElement 0x04)
 unfolding bssap_reading octet_at management_at transfer_at bssmap_type message_at breaks_off elements_of walk needed_value needed_octet rr_cause_in layer3_at cause_at assignment_request_at assignment_complete_at assignment_failure_at handover_performed_at reject_at complete_layer3_at
 assignment_failure_missing = refl
 
-handover_performed_missing : bssap_reading (0x00 ∷ 0x01 ∷ 0x17 ∷ []) ≡ Err (MissingElement 0x04)
+handover_performed_missing : bssap_reading (hex "00 01 17") ≡ Err (MissingElement 0x04)
 unfolding bssap_reading octet_at management_at transfer_at bssmap_type message_at breaks_off elements_of walk needed_value needed_octet rr_cause_in layer3_at cause_at assignment_request_at assignment_complete_at assignment_failure_at handover_performed_at reject_at complete_layer3_at
 handover_performed_missing = refl
 
-handover_performed_cell_missing : bssap_reading (0x00 ∷ 0x03 ∷ 0x17 ∷ 0x04 ∷ 0x00 ∷ []) ≡ Err (MissingElement 0x05)
+handover_performed_cell_missing : bssap_reading (hex "00 03 17 04 00") ≡ Err (MissingElement 0x05)
 unfolding bssap_reading octet_at management_at transfer_at bssmap_type message_at breaks_off elements_of walk needed_value needed_octet rr_cause_in layer3_at cause_at assignment_request_at assignment_complete_at assignment_failure_at handover_performed_at reject_at complete_layer3_at
 handover_performed_cell_missing = refl
 
-clear_command_missing : bssap_reading (0x00 ∷ 0x01 ∷ 0x20 ∷ []) ≡ Err (MissingElement 0x04)
+clear_command_missing : bssap_reading (hex "00 01 20") ≡ Err (MissingElement 0x04)
 unfolding bssap_reading octet_at management_at transfer_at bssmap_type message_at breaks_off elements_of walk needed_value needed_octet rr_cause_in layer3_at cause_at assignment_request_at assignment_complete_at assignment_failure_at handover_performed_at reject_at complete_layer3_at
 clear_command_missing = refl
 
-clear_request_missing : bssap_reading (0x00 ∷ 0x01 ∷ 0x22 ∷ []) ≡ Err (MissingElement 0x04)
+clear_request_missing : bssap_reading (hex "00 01 22") ≡ Err (MissingElement 0x04)
 unfolding bssap_reading octet_at management_at transfer_at bssmap_type message_at breaks_off elements_of walk needed_value needed_octet rr_cause_in layer3_at cause_at assignment_request_at assignment_complete_at assignment_failure_at handover_performed_at reject_at complete_layer3_at
 clear_request_missing = refl
 
-reject_missing : bssap_reading (0x00 ∷ 0x01 ∷ 0x25 ∷ []) ≡ Err (MissingElement 0x18)
+reject_missing : bssap_reading (hex "00 01 25") ≡ Err (MissingElement 0x18)
 unfolding bssap_reading octet_at management_at transfer_at bssmap_type message_at breaks_off elements_of walk needed_value needed_octet rr_cause_in layer3_at cause_at assignment_request_at assignment_complete_at assignment_failure_at handover_performed_at reject_at complete_layer3_at
 reject_missing = refl
 
-reject_cause_missing : bssap_reading (0x00 ∷ 0x03 ∷ 0x25 ∷ 0x18 ∷ 0x83 ∷ []) ≡ Err (MissingElement 0x04)
+reject_cause_missing : bssap_reading (hex "00 03 25 18 83") ≡ Err (MissingElement 0x04)
 unfolding bssap_reading octet_at management_at transfer_at bssmap_type message_at breaks_off elements_of walk needed_value needed_octet rr_cause_in layer3_at cause_at assignment_request_at assignment_complete_at assignment_failure_at handover_performed_at reject_at complete_layer3_at
 reject_cause_missing = refl
 
-complete_layer3_both_missing : bssap_reading (0x00 ∷ 0x01 ∷ 0x57 ∷ []) ≡ Err (MissingElement 0x05)
+complete_layer3_both_missing : bssap_reading (hex "00 01 57") ≡ Err (MissingElement 0x05)
 unfolding bssap_reading octet_at management_at transfer_at bssmap_type message_at breaks_off elements_of walk needed_value needed_octet rr_cause_in layer3_at cause_at assignment_request_at assignment_complete_at assignment_failure_at handover_performed_at reject_at complete_layer3_at
 complete_layer3_both_missing = refl
 
-complete_layer3_missing : bssap_reading (0x00 ∷ 0x03 ∷ 0x57 ∷ 0x17 ∷ 0x00 ∷ []) ≡ Err (MissingElement 0x05)
+complete_layer3_missing : bssap_reading (hex "00 03 57 17 00") ≡ Err (MissingElement 0x05)
 unfolding bssap_reading octet_at management_at transfer_at bssmap_type message_at breaks_off elements_of walk needed_value needed_octet rr_cause_in layer3_at cause_at assignment_request_at assignment_complete_at assignment_failure_at handover_performed_at reject_at complete_layer3_at
 complete_layer3_missing = refl
 
-complete_layer3_information_missing : bssap_reading (0x00 ∷ 0x03 ∷ 0x57 ∷ 0x05 ∷ 0x00 ∷ []) ≡ Err (MissingElement 0x17)
+complete_layer3_information_missing : bssap_reading (hex "00 03 57 05 00") ≡ Err (MissingElement 0x17)
 unfolding bssap_reading octet_at management_at transfer_at bssmap_type message_at breaks_off elements_of walk needed_value needed_octet rr_cause_in layer3_at cause_at assignment_request_at assignment_complete_at assignment_failure_at handover_performed_at reject_at complete_layer3_at
 complete_layer3_information_missing = refl
 
-cipher_mode_reject_missing : bssap_reading (0x00 ∷ 0x01 ∷ 0x59 ∷ []) ≡ Err (MissingElement 0x04)
+cipher_mode_reject_missing : bssap_reading (hex "00 01 59") ≡ Err (MissingElement 0x04)
 unfolding bssap_reading octet_at management_at transfer_at bssmap_type message_at breaks_off elements_of walk needed_value needed_octet rr_cause_in layer3_at cause_at assignment_request_at assignment_complete_at assignment_failure_at handover_performed_at reject_at complete_layer3_at
 cipher_mode_reject_missing = refl
 
-empty_layer3_information : bssap_reading (0x00 ∷ 0x05 ∷ 0x57 ∷ 0x05 ∷ 0x00 ∷ 0x17 ∷ 0x00 ∷ []) ≡ Err Short
+empty_layer3_information : bssap_reading (hex "00 05 57 05 00 17 00") ≡ Err Short
 unfolding bssap_reading octet_at management_at transfer_at bssmap_type message_at breaks_off elements_of walk needed_value needed_octet rr_cause_in layer3_at cause_at assignment_request_at assignment_complete_at assignment_failure_at handover_performed_at reject_at complete_layer3_at
 empty_layer3_information = refl
 
@@ -463,11 +476,11 @@ layer3_information_of_252_octets_without_cell : content_at kinds.CompleteLayer3I
 unfolding bssap_reading octet_at management_at transfer_at bssmap_type message_at breaks_off elements_of walk needed_value needed_octet rr_cause_in layer3_at cause_at assignment_request_at assignment_complete_at assignment_failure_at handover_performed_at reject_at complete_layer3_at
 layer3_information_of_252_octets_without_cell = refl
 
-transfer : bssap_reading (0x01 ∷ 0xc3 ∷ 0x02 ∷ 0x09 ∷ 0x01 ∷ 0x99 ∷ []) ≡ Ok (Transfer 0xc3 (0x09 ∷ 0x01 ∷ []))
+transfer : bssap_reading (hex "01 c3 02 09 01 99") ≡ Ok (Transfer 0xc3 (hex "09 01"))
 unfolding bssap_reading octet_at management_at transfer_at bssmap_type message_at breaks_off elements_of walk needed_value needed_octet rr_cause_in layer3_at cause_at assignment_request_at assignment_complete_at assignment_failure_at handover_performed_at reject_at complete_layer3_at
 transfer = refl
 
-transfer_on_sapi_0 : bssap_reading (0x01 ∷ 0x80 ∷ 0x01 ∷ 0x05 ∷ []) ≡ Ok (Transfer 0x80 (0x05 ∷ []))
+transfer_on_sapi_0 : bssap_reading (hex "01 80 01 05") ≡ Ok (Transfer 0x80 (hex "05"))
 unfolding bssap_reading octet_at management_at transfer_at bssmap_type message_at breaks_off elements_of walk needed_value needed_octet rr_cause_in layer3_at cause_at assignment_request_at assignment_complete_at assignment_failure_at handover_performed_at reject_at complete_layer3_at
 transfer_on_sapi_0 = refl
 
@@ -483,27 +496,27 @@ transfer_of_252_octets_cut : bssap_reading (0x01 ∷ 0x00 ∷ 0xfc ∷ replicate
 unfolding bssap_reading octet_at management_at transfer_at bssmap_type message_at breaks_off elements_of walk needed_value needed_octet rr_cause_in layer3_at cause_at assignment_request_at assignment_complete_at assignment_failure_at handover_performed_at reject_at complete_layer3_at
 transfer_of_252_octets_cut = refl
 
-transfer_of_no_octets : bssap_reading (0x01 ∷ 0x00 ∷ 0x00 ∷ []) ≡ Err Short
+transfer_of_no_octets : bssap_reading (hex "01 00 00") ≡ Err Short
 unfolding bssap_reading octet_at management_at transfer_at bssmap_type message_at breaks_off elements_of walk needed_value needed_octet rr_cause_in layer3_at cause_at assignment_request_at assignment_complete_at assignment_failure_at handover_performed_at reject_at complete_layer3_at
 transfer_of_no_octets = refl
 
-transfer_cut : bssap_reading (0x01 ∷ 0x00 ∷ 0x02 ∷ 0x05 ∷ []) ≡ Err Short
+transfer_cut : bssap_reading (hex "01 00 02 05") ≡ Err Short
 unfolding bssap_reading octet_at management_at transfer_at bssmap_type message_at breaks_off elements_of walk needed_value needed_octet rr_cause_in layer3_at cause_at assignment_request_at assignment_complete_at assignment_failure_at handover_performed_at reject_at complete_layer3_at
 transfer_cut = refl
 
-transfer_alone : bssap_reading (0x01 ∷ []) ≡ Err Short
+transfer_alone : bssap_reading (hex "01") ≡ Err Short
 unfolding bssap_reading octet_at management_at transfer_at bssmap_type message_at breaks_off elements_of walk needed_value needed_octet rr_cause_in layer3_at cause_at assignment_request_at assignment_complete_at assignment_failure_at handover_performed_at reject_at complete_layer3_at
 transfer_alone = refl
 
-sapi_2 : bssap_reading (0x01 ∷ 0x02 ∷ 0x01 ∷ 0x05 ∷ []) ≡ Err UnknownType
+sapi_2 : bssap_reading (hex "01 02 01 05") ≡ Err UnknownType
 unfolding bssap_reading octet_at management_at transfer_at bssmap_type message_at breaks_off elements_of walk needed_value needed_octet rr_cause_in layer3_at cause_at assignment_request_at assignment_complete_at assignment_failure_at handover_performed_at reject_at complete_layer3_at
 sapi_2 = refl
 
-sapi_2_with_too_few_octets : bssap_reading (0x01 ∷ 0x02 ∷ 0x01 ∷ []) ≡ Err UnknownType
+sapi_2_with_too_few_octets : bssap_reading (hex "01 02 01") ≡ Err UnknownType
 unfolding bssap_reading octet_at management_at transfer_at bssmap_type message_at breaks_off elements_of walk needed_value needed_octet rr_cause_in layer3_at cause_at assignment_request_at assignment_complete_at assignment_failure_at handover_performed_at reject_at complete_layer3_at
 sapi_2_with_too_few_octets = refl
 
-sapi_2_without_length : bssap_reading (0x01 ∷ 0x02 ∷ []) ≡ Err Short
+sapi_2_without_length : bssap_reading (hex "01 02") ≡ Err Short
 unfolding bssap_reading octet_at management_at transfer_at bssmap_type message_at breaks_off elements_of walk needed_value needed_octet rr_cause_in layer3_at cause_at assignment_request_at assignment_complete_at assignment_failure_at handover_performed_at reject_at complete_layer3_at
 sapi_2_without_length = refl
 
@@ -512,7 +525,7 @@ abbrev all_types : List BssmapType
 all_types = kinds.AssignmentRequest ∷ kinds.AssignmentComplete ∷ kinds.AssignmentFailure ∷ kinds.HandoverPerformed ∷ kinds.ClearCommand ∷ kinds.ClearComplete ∷ kinds.ClearRequest ∷ kinds.SapiNReject ∷ kinds.CipherModeCommand ∷ kinds.CompleteLayer3Information ∷ kinds.CipherModeReject ∷ []
 
 needed_elements : map needed all_types ≡
-    (0x0b ∷ []) ∷ [] ∷ (0x04 ∷ []) ∷ (0x04 ∷ 0x05 ∷ []) ∷ (0x04 ∷ []) ∷ [] ∷ (0x04 ∷ []) ∷ (0x18 ∷ 0x04 ∷ []) ∷ [] ∷ (0x05 ∷ 0x17 ∷ []) ∷ (0x04 ∷ []) ∷ []
+    hex "0b" ∷ [] ∷ hex "04" ∷ hex "04 05" ∷ hex "04" ∷ [] ∷ hex "04" ∷ hex "18 04" ∷ [] ∷ hex "05 17" ∷ hex "04" ∷ []
 needed_elements = refl
 
 -- the faults of elements, in the order in which they are looked for
@@ -522,46 +535,50 @@ order_of_faults = refl
 
 -- ---- BSSAP, written
 
-assignment_request_written : bssap_text (Management (AssignmentRequest (channel_of (0x01 ∷ 0x08 ∷ 0x02 ∷ [])))) ≡ 0x00 ∷ 0x06 ∷ 0x01 ∷ 0x0b ∷ 0x03 ∷ 0x01 ∷ 0x08 ∷ 0x02 ∷ []
+assignment_request_written : bssap_text (Management (AssignmentRequest (channel_of (hex "01 08 02")))) ≡ hex "00 06 01 0b 03 01 08 02"
 assignment_request_written = refl
 
-assignment_complete_written : bssap_text (Management (AssignmentComplete (Some (rr_cause_of 0x07)))) ≡ 0x00 ∷ 0x03 ∷ 0x02 ∷ 0x15 ∷ 0x07 ∷ []
+assignment_complete_written : bssap_text (Management (AssignmentComplete (Some (rr_cause_of 0x07)))) ≡ hex "00 03 02 15 07"
 assignment_complete_written = refl
 
-assignment_complete_without_cause_written : bssap_text (Management (AssignmentComplete None)) ≡ 0x00 ∷ 0x01 ∷ 0x02 ∷ []
+assignment_complete_without_cause_written : bssap_text (Management (AssignmentComplete None)) ≡ hex "00 01 02"
 assignment_complete_without_cause_written = refl
 
-assignment_failure_written : bssap_text (Management (AssignmentFailure (cause_of (0x0a ∷ [])) (Some (rr_cause_of 0x03)))) ≡ 0x00 ∷ 0x06 ∷ 0x03 ∷ 0x04 ∷ 0x01 ∷ 0x0a ∷ 0x15 ∷ 0x03 ∷ []
+assignment_failure_written : bssap_text (Management (AssignmentFailure (cause_of (hex "0a")) (Some (rr_cause_of 0x03))))
+    ≡ hex "00 06 03 04 01 0a 15 03"
 assignment_failure_written = refl
 
-assignment_failure_without_rr_cause_written : bssap_text (Management (AssignmentFailure (cause_of (0x0a ∷ 0x0b ∷ [])) None)) ≡ 0x00 ∷ 0x05 ∷ 0x03 ∷ 0x04 ∷ 0x02 ∷ 0x0a ∷ 0x0b ∷ []
+assignment_failure_without_rr_cause_written : bssap_text (Management (AssignmentFailure (cause_of (hex "0a 0b")) None))
+    ≡ hex "00 05 03 04 02 0a 0b"
 assignment_failure_without_rr_cause_written = refl
 
-handover_performed_written : bssap_text (Management (HandoverPerformed (cause_of (0x0c ∷ [])) (cell_of (0x00 ∷ 0x00 ∷ 0xf1 ∷ 0x10 ∷ 0x00 ∷ 0x01 ∷ 0x00 ∷ 0x02 ∷ [])))) ≡ 0x00 ∷ 0x0e ∷ 0x17 ∷ 0x04 ∷ 0x01 ∷ 0x0c ∷ 0x05 ∷ 0x08 ∷ 0x00 ∷ 0x00 ∷ 0xf1 ∷ 0x10 ∷ 0x00 ∷ 0x01 ∷ 0x00 ∷ 0x02 ∷ []
+handover_performed_written : bssap_text (Management (HandoverPerformed (cause_of (hex "0c")) (cell_of (hex "00 00 f1 10 00 01 00 02"))))
+    ≡ hex "00 0e 17 04 01 0c 05 08 00 00 f1 10 00 01 00 02"
 handover_performed_written = refl
 
-clear_command_written : bssap_text (Management (ClearCommand (cause_of (0x09 ∷ [])))) ≡ 0x00 ∷ 0x04 ∷ 0x20 ∷ 0x04 ∷ 0x01 ∷ 0x09 ∷ []
+clear_command_written : bssap_text (Management (ClearCommand (cause_of (hex "09")))) ≡ hex "00 04 20 04 01 09"
 clear_command_written = refl
 
-clear_complete_written : bssap_text (Management ClearComplete) ≡ 0x00 ∷ 0x01 ∷ 0x21 ∷ []
+clear_complete_written : bssap_text (Management ClearComplete) ≡ hex "00 01 21"
 clear_complete_written = refl
 
-clear_request_written : bssap_text (Management (ClearRequest (cause_of (0x20 ∷ [])))) ≡ 0x00 ∷ 0x04 ∷ 0x22 ∷ 0x04 ∷ 0x01 ∷ 0x20 ∷ []
+clear_request_written : bssap_text (Management (ClearRequest (cause_of (hex "20")))) ≡ hex "00 04 22 04 01 20"
 clear_request_written = refl
 
-reject_written : bssap_text (Management (SapiNReject (rejected_of 0x83) (cause_of (0x25 ∷ [])))) ≡ 0x00 ∷ 0x06 ∷ 0x25 ∷ 0x18 ∷ 0x83 ∷ 0x04 ∷ 0x01 ∷ 0x25 ∷ []
+reject_written : bssap_text (Management (SapiNReject (rejected_of 0x83) (cause_of (hex "25")))) ≡ hex "00 06 25 18 83 04 01 25"
 reject_written = refl
 
-cipher_mode_command_written : bssap_text (Management CipherModeCommand) ≡ 0x00 ∷ 0x01 ∷ 0x53 ∷ []
+cipher_mode_command_written : bssap_text (Management CipherModeCommand) ≡ hex "00 01 53"
 cipher_mode_command_written = refl
 
-complete_layer3_written : bssap_text (Management (CompleteLayer3Information (cell_of (0x00 ∷ 0x00 ∷ 0xf1 ∷ 0x10 ∷ 0x00 ∷ 0x01 ∷ 0x00 ∷ 0x02 ∷ [])) (0x05 ∷ 0x24 ∷ 0x71 ∷ []))) ≡ 0x00 ∷ 0x10 ∷ 0x57 ∷ 0x05 ∷ 0x08 ∷ 0x00 ∷ 0x00 ∷ 0xf1 ∷ 0x10 ∷ 0x00 ∷ 0x01 ∷ 0x00 ∷ 0x02 ∷ 0x17 ∷ 0x03 ∷ 0x05 ∷ 0x24 ∷ 0x71 ∷ []
+complete_layer3_written : bssap_text (Management (CompleteLayer3Information (cell_of (hex "00 00 f1 10 00 01 00 02")) (hex "05 24 71")))
+    ≡ hex "00 10 57 05 08 00 00 f1 10 00 01 00 02 17 03 05 24 71"
 complete_layer3_written = refl
 
-cipher_mode_reject_written : bssap_text (Management (CipherModeReject (cause_of (0x40 ∷ [])))) ≡ 0x00 ∷ 0x04 ∷ 0x59 ∷ 0x04 ∷ 0x01 ∷ 0x40 ∷ []
+cipher_mode_reject_written : bssap_text (Management (CipherModeReject (cause_of (hex "40")))) ≡ hex "00 04 59 04 01 40"
 cipher_mode_reject_written = refl
 
-transfer_written : bssap_text (Transfer 0xc3 (0x09 ∷ 0x01 ∷ [])) ≡ 0x01 ∷ 0xc3 ∷ 0x02 ∷ 0x09 ∷ 0x01 ∷ []
+transfer_written : bssap_text (Transfer 0xc3 (hex "09 01")) ≡ hex "01 c3 02 09 01"
 transfer_written = refl
 
 no_layer3_message : bssap_write_fault (Transfer 0x00 []) ≡ Some Short
@@ -603,7 +620,7 @@ dlci_sapi_1 : dlci_of 0x01 ≡ None
 dlci_sapi_1 = refl
 
 -- of the eight SAPIs 0 and 3
-sapis : map is_dlci (0x00 ∷ 0x01 ∷ 0x02 ∷ 0x03 ∷ 0x04 ∷ 0x05 ∷ 0x06 ∷ 0x07 ∷ []) ≡ true ∷ false ∷ false ∷ true ∷ false ∷ false ∷ false ∷ false ∷ []
+sapis : map is_dlci (hex "00 01 02 03 04 05 06 07") ≡ true ∷ false ∷ false ∷ true ∷ false ∷ false ∷ false ∷ false ∷ []
 sapis = refl
 
 dlci_sapi_4 : dlci_of 0x04 ≡ None
@@ -612,16 +629,16 @@ dlci_sapi_4 = refl
 dlci_sapi_7 : dlci_of 0x87 ≡ None
 dlci_sapi_7 = refl
 
-asks_for_speech : is_speech_type (0x01 ∷ 0x08 ∷ 0x01 ∷ []) ≡ true
+asks_for_speech : is_speech_type (hex "01 08 01") ≡ true
 asks_for_speech = refl
 
-asks_for_speech_with_high_bits : is_speech_type (0xf1 ∷ []) ≡ true
+asks_for_speech_with_high_bits : is_speech_type (hex "f1") ≡ true
 asks_for_speech_with_high_bits = refl
 
-asks_for_data : is_speech_type (0x02 ∷ 0x08 ∷ 0x01 ∷ []) ≡ false
+asks_for_data : is_speech_type (hex "02 08 01") ≡ false
 asks_for_data = refl
 
-asks_for_nine : is_speech_type (0x09 ∷ []) ≡ false
+asks_for_nine : is_speech_type (hex "09") ≡ false
 asks_for_nine = refl
 
 asks_for_nothing : is_speech_type [] ≡ false

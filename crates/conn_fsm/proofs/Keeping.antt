@@ -3,20 +3,20 @@ use Rattle.std.proofs.Common.{◌≡◌, ◌++◌, refl, ℕ, Bool, true, false,
 use Rattle.std.proofs.lemmas.List.{append-nil}
 use Rattle.conn_messages.specs.declared.channel.Channel.{Channel}
 use Rattle.conn_messages.specs.declared.out.Out.{Out}
-use Rattle.conn_table.specs.declared.input.Input.{Input}
-use Rattle.conn_table.specs.declared.input.Input.TheVariants as inputs
-use Rattle.conn_table.specs.declared.state.State.{State}
-use Rattle.conn_table.specs.declared.state.Drain.{Drain}
-use Rattle.conn_table.specs.Connection.{Connection, new_connection}
-use Rattle.conn_table.specs.Standing.{DrainTime, IsCarried, Stands}
-use Rattle.conn_table.specs.Steps.{Row}
-use Rattle.conn_table.specs.Streams.{OfRow}
-use Rattle.conn_table.specs.Table.{row_if, row_of}
-use Rattle.conn_table.proofs.StandingTable.{Stands-row}
-use Rattle.conn_table.proofs.StandingSteps.{Stands-new}
+use Rattle.conn_rules.specs.declared.input.Input.{Input}
+use Rattle.conn_rules.specs.declared.input.Input.TheVariants as inputs
+use Rattle.conn_rules.specs.declared.state.State.{State}
+use Rattle.conn_rules.specs.declared.state.Drain.{Drain}
+use Rattle.conn_rules.specs.Connection.{Connection, new_connection}
+use Rattle.conn_rules.specs.Standing.{DrainTime, IsCarried, Stands}
+use Rattle.conn_rules.specs.Steps.{Row}
+use Rattle.conn_rules.specs.Streams.{OfRow}
+use Rattle.conn_rules.specs.Table.{row_if, row_of}
+use Rattle.conn_rules.proofs.StandingTable.{Stands-row}
+use Rattle.conn_rules.proofs.StandingSteps.{Stands-new}
 use Rattle.rsl_codec.specs.declared.values.RequestReference.{RequestReference}
 use Rattle.conn_fsm.specs.Doing.{Closes, Commits, Does, Finishes, IsPlanned, Plans, Stays, Steps}
-use Rattle.conn_table.specs.Timers.{after_pass, drained_after}
+use Rattle.conn_rules.specs.Timers.{after_pass, drained_after}
 
 stands_by : (r : Option Row) (fits : Bool) (old new : Connection) (outs outs_after : List Out) →
     Stands old → OfRow (λ r. Stands r.next) r → Steps r fits old new outs outs_after → Stands new

@@ -1,14 +1,14 @@
 -- A plan is done after time has passed: the row that was planned doesn't read the timers.
 use Rattle.std.proofs.Common.{◌≡◌, ℕ, List, Option, Some, None, refl, sym, subst, ap}
 use Rattle.conn_messages.specs.declared.out.Out.{Out}
-use Rattle.conn_table.specs.declared.input.Input.{Input}
-use Rattle.conn_table.specs.declared.input.Input.TheVariants as inputs
-use Rattle.conn_table.specs.declared.state.Stage.TheVariants.{Active, Preparing, Changing, Draining}
-use Rattle.conn_table.specs.declared.state.State.{State}
-use Rattle.conn_table.specs.declared.state.State.TheVariants.{WaitActivation, WaitEstablish, WaitConfirm, Live, Closed, Removed}
-use Rattle.conn_table.specs.Connection.{Connection}
-use Rattle.conn_table.specs.Steps.{Row}
-use Rattle.conn_table.specs.Table.{row_of, on_expiry, on_drain_expiry, on_station_down, on_switch_down}
+use Rattle.conn_rules.specs.declared.input.Input.{Input}
+use Rattle.conn_rules.specs.declared.input.Input.TheVariants as inputs
+use Rattle.conn_rules.specs.declared.state.Stage.TheVariants.{Active, Preparing, Changing, Draining}
+use Rattle.conn_rules.specs.declared.state.State.{State}
+use Rattle.conn_rules.specs.declared.state.State.TheVariants.{WaitActivation, WaitEstablish, WaitConfirm, Live, Closed, Removed}
+use Rattle.conn_rules.specs.Connection.{Connection}
+use Rattle.conn_rules.specs.Steps.{Row}
+use Rattle.conn_rules.specs.Table.{row_of, on_expiry, on_drain_expiry, on_station_down, on_switch_down}
 use Rattle.conn_fsm.specs.Doing.{Closes, Commits, IsAsPlanned, IsPlanned, Plans, outs_in}
 use Rattle.conn_fsm.proofs.Keeping.{committed}
 

@@ -4,14 +4,14 @@ use Rattle.std.proofs.lemmas.Bool.{cases_Bool, cond-true, cond-false}
 use Rattle.std.proofs.lemmas.List.{append-nil, drop_all, length-drop}
 use Rattle.conn_messages.specs.declared.channel.Channel.{Channel}
 use Rattle.conn_messages.specs.declared.message.Message.{Message}
-use Rattle.conn_table.specs.declared.limits.TheConstants.{DRAIN_LIMIT}
-use Rattle.conn_table.specs.declared.state.Drain.{Drain}
-use Rattle.conn_table.specs.declared.state.Stage.{Stage}
-use Rattle.conn_table.specs.declared.state.Stage.TheVariants.{Draining}
-use Rattle.conn_table.specs.Connection.{Connection, first_channel}
-use Rattle.conn_table.specs.Standing.{FirstIsEmpty}
-use Rattle.conn_table.specs.Steps.{Row, row, ◌then◌, after_waiting, done_at, leave, may_begin, relay_held, settled, settled_stage, shifted, tenure_outs, waiting_outs}
-use Rattle.conn_table.specs.Table.{release}
+use Rattle.conn_rules.specs.declared.limits.TheConstants.{DRAIN_LIMIT}
+use Rattle.conn_rules.specs.declared.state.Drain.{Drain}
+use Rattle.conn_rules.specs.declared.state.Stage.{Stage}
+use Rattle.conn_rules.specs.declared.state.Stage.TheVariants.{Draining}
+use Rattle.conn_rules.specs.Connection.{Connection, first_channel}
+use Rattle.conn_rules.specs.Standing.{FirstIsEmpty}
+use Rattle.conn_rules.specs.Steps.{Row, row, ◌then◌, after_waiting, done_at, leave, may_begin, relay_held, settled, settled_stage, shifted, tenure_outs, waiting_outs}
+use Rattle.conn_rules.specs.Table.{release}
 use Rattle.hold_queue.specs.ChainState.{Tenure, empty_tenure, first_cleared}
 use Rattle.conn_fsm.specs.Leaving.{leaving, left, left_outs, oldest_left}
 

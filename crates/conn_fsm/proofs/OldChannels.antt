@@ -3,10 +3,10 @@ use Rattle.std.proofs.Common.{◌≡◌, ◌<◌, ◌+◌, ℕ, zero, suc, List,
 use Rattle.std.specs.List.{list_any, position, position_from}
 use Rattle.std.proofs.lemmas.Iterator.Adapters.{position_from-zero}
 use Rattle.conn_messages.specs.declared.channel.Place.{Place}
-use Rattle.conn_table.specs.declared.state.Drain.{Drain}
-use Rattle.conn_table.specs.Connection.{is_at, drain_at}
-use Rattle.conn_table.specs.Steps.{done_at}
-use Rattle.conn_table.specs.Table.{drains_at}
+use Rattle.conn_rules.specs.declared.state.Drain.{Drain}
+use Rattle.conn_rules.specs.Connection.{is_at, drain_at}
+use Rattle.conn_rules.specs.Steps.{done_at}
+use Rattle.conn_rules.specs.Table.{drains_at}
 
 -- ---- some channel of a station
 

@@ -2,14 +2,14 @@
 use Rattle.std.proofs.Common.{◌≡◌, ◌≤◌, ◌<◌, ◌+◌, ℕ, zero, suc, List, [], ◌∷◌, ◌++◌, map, take, drop, length, slice_get, unwrap_or, Option, Some, None, option_map, Bool, true, false, not, ◌&&◌, if◌then◌else◌, refl, ap, sym, subst, ◌∙◌, arith}
 use Rattle.std.specs.List.{AllByRecursion}
 use Rattle.conn_messages.specs.declared.channel.Channel.{Channel}
-use Rattle.conn_table.specs.declared.state.Drain.{Drain}
+use Rattle.conn_rules.specs.declared.state.Drain.{Drain}
 use Rattle.bssmap_codec.specs.Layer3.{IsLayer3}
 use Rattle.conn_messages.specs.declared.channel.Place.{Place}
 use Rattle.conn_messages.specs.declared.message.Message.{Message}
 use Rattle.conn_messages.specs.SwitchMessage.{relaying}
-use Rattle.conn_table.specs.Connection.{drain_at, first_channel, is_at, tenure_at}
-use Rattle.conn_table.specs.Standing.{IsHeldTenure}
-use Rattle.conn_table.specs.Steps.{tenure_outs}
+use Rattle.conn_rules.specs.Connection.{drain_at, first_channel, is_at, tenure_at}
+use Rattle.conn_rules.specs.Standing.{IsHeldTenure}
+use Rattle.conn_rules.specs.Steps.{tenure_outs}
 use Rattle.dtap_codec.specs.declared.sapi.Sapi.{Sapi}
 use Rattle.dtap_codec.specs.declared.sapi.Sapi.TheVariants.{Zero, Three}
 use Rattle.hold_queue.specs.ChainState.{Tenure, messages_in, tenure_messages, tenures_count}

@@ -4,12 +4,12 @@ use Rattle.conn_messages.specs.declared.channel.Channel.{Channel}
 use Rattle.conn_messages.specs.declared.out.Out.{Out}
 use Rattle.conn_messages.specs.Out.{out_of}
 use Rattle.conn_messages.specs.SwitchMessage.{release_complete}
-use Rattle.conn_table.specs.declared.input.Input.TheVariants as inputs
-use Rattle.conn_table.specs.declared.state.Clearing.TheVariants.{Complete}
-use Rattle.conn_table.specs.declared.state.Drain.{Drain}
-use Rattle.conn_table.specs.declared.state.State.TheVariants.{Closed, Removed}
-use Rattle.conn_table.specs.Connection.{Connection, emptied, new_connection}
-use Rattle.conn_table.specs.Steps.{Row, row}
+use Rattle.conn_rules.specs.declared.input.Input.TheVariants as inputs
+use Rattle.conn_rules.specs.declared.state.Clearing.TheVariants.{Complete}
+use Rattle.conn_rules.specs.declared.state.Drain.{Drain}
+use Rattle.conn_rules.specs.declared.state.State.TheVariants.{Closed, Removed}
+use Rattle.conn_rules.specs.Connection.{Connection, emptied, new_connection}
+use Rattle.conn_rules.specs.Steps.{Row, row}
 use Rattle.dtap_codec.specs.declared.sapi.Sapi.TheVariants.{Zero, Three}
 use Rattle.hold_queue.specs.ChainState.{Tenure}
 use Rattle.conn_fsm.specs.Doing.{Closes, Commits, EndsIn, Finishes, IsAsPlanned, IsInitial, IsPlanned, Stays, Steps, outs_in}

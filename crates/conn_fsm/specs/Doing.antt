@@ -4,11 +4,11 @@ use Rattle.bssmap_codec.specs.Layer3.{IsLayer3}
 use Rattle.conn_messages.specs.declared.out.Out.{Out}
 use Rattle.std.specs.List.{AllByRecursion}
 use Rattle.conn_messages.specs.Out.{IsSound, outs_of}
-use Rattle.conn_table.specs.declared.input.Input.{Input}
-use Rattle.conn_table.specs.declared.input.Input.TheVariants.{Expiry, DrainExpiry, StationDown, SwitchDown}
-use Rattle.conn_table.specs.declared.state.State.{State}
-use Rattle.conn_table.specs.Connection.{Connection, emptied}
-use Rattle.conn_table.specs.Steps.{Row}
+use Rattle.conn_rules.specs.declared.input.Input.{Input}
+use Rattle.conn_rules.specs.declared.input.Input.TheVariants.{Expiry, DrainExpiry, StationDown, SwitchDown}
+use Rattle.conn_rules.specs.declared.state.State.{State}
+use Rattle.conn_rules.specs.Connection.{Connection, emptied}
+use Rattle.conn_rules.specs.Steps.{Row}
 
 -- the row's messages are appended, and the connection is its next
 abbrev pub Does : Row → Connection → Connection → List Out → List Out → Type 0

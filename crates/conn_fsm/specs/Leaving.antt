@@ -1,9 +1,9 @@
 -- Old channels leave: how many, and what a connection is and puts then.
 use Rattle.std.specs.Prelude.{ℕ, zero, suc, if◌then◌else◌, List, [], ◌∷◌, ◌++◌, drop}
 use Rattle.conn_messages.specs.declared.message.Message.{Message}
-use Rattle.conn_table.specs.declared.state.Drain.{Drain}
-use Rattle.conn_table.specs.Connection.{Connection, first_channel}
-use Rattle.conn_table.specs.Steps.{tenure_outs}
+use Rattle.conn_rules.specs.declared.state.Drain.{Drain}
+use Rattle.conn_rules.specs.Connection.{Connection, first_channel}
+use Rattle.conn_rules.specs.Steps.{tenure_outs}
 use Rattle.hold_queue.specs.ChainState.{first_cleared}
 
 -- how many leave: the oldest ones, as long as they are done

@@ -1,9 +1,9 @@
 -- A plan for an expiry or a broken link.
 use Rattle.std.specs.Prelude.{List, Option}
 use Rattle.conn_messages.specs.declared.out.Out.{Out}
-use Rattle.conn_table.specs.declared.input.Input.{Input}
-use Rattle.conn_table.specs.declared.state.State.{State}
-use Rattle.conn_table.specs.Connection.{Connection}
+use Rattle.conn_rules.specs.declared.input.Input.{Input}
+use Rattle.conn_rules.specs.declared.state.State.{State}
+use Rattle.conn_rules.specs.Connection.{Connection}
 
 pub record PlanState : Type 0 where
   -- the frames that are put

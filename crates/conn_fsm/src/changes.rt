@@ -4,12 +4,12 @@ ghost use Rattle.bssmap_codec.specs.Layer3.{IsLayer3};
 ghost use Rattle.conn_messages.specs.Out.{IsSound, outs_of};
 ghost use Rattle.conn_messages.specs.StationMessage.{handing as handing_word};
 ghost use Rattle.conn_messages.specs.SwitchMessage as words;
-ghost use Rattle.conn_table.specs.declared.limits.TheConstants.{DRAIN_LIMIT};
-ghost use Rattle.conn_table.specs.declared.state.Stage.TheVariants.{Changing, Preparing};
-ghost use Rattle.conn_table.specs.declared.state.State.TheVariants.{Live, WaitActivation};
-ghost use Rattle.conn_table.specs.Standing.{Stands};
-ghost use Rattle.conn_table.specs.Steps.{after_begin, after_waiting, ask_for_held, begin, begin_outs, hand_held, may_begin, moved, request_for, resting, resting_stage, waiting_outs};
-ghost use Rattle.conn_table.specs.Table.{complete, failure, on_activation_ack, on_activation_nack, on_complete, on_failure, on_move, on_assignment_request, assign_immediately, command_to, refuse, row_of, serving_after};
+ghost use Rattle.conn_rules.specs.declared.limits.TheConstants.{DRAIN_LIMIT};
+ghost use Rattle.conn_rules.specs.declared.state.Stage.TheVariants.{Changing, Preparing};
+ghost use Rattle.conn_rules.specs.declared.state.State.TheVariants.{Live, WaitActivation};
+ghost use Rattle.conn_rules.specs.Standing.{Stands};
+ghost use Rattle.conn_rules.specs.Steps.{after_begin, after_waiting, ask_for_held, begin, begin_outs, hand_held, may_begin, moved, request_for, resting, resting_stage, waiting_outs};
+ghost use Rattle.conn_rules.specs.Table.{complete, failure, on_activation_ack, on_activation_nack, on_complete, on_failure, on_move, on_assignment_request, assign_immediately, command_to, refuse, row_of, serving_after};
 ghost use Rattle.hold_queue.specs.HoldState.{messages};
 ghost use Rattle.dtap_codec.specs.declared.sapi.Sapi.TheVariants.{Zero};
 ghost use Rattle.conn_fsm.specs.Doing.{Does, Stays, Steps};
@@ -27,7 +27,7 @@ use conn_messages::station_message::{
 };
 use conn_messages::switch_message::{assignment_failure, change_complete};
 use conn_messages::{Change, Channel, Messages, Outputs, Place};
-use conn_table::{DOWN_LIMIT, DRAIN_LIMIT, Input, ShortMessageLink, Stage, State, Target};
+use conn_rules::{DOWN_LIMIT, DRAIN_LIMIT, Input, ShortMessageLink, Stage, State, Target};
 use dtap_codec::{RrCause, Sapi};
 use octets::{Memory, Octets};
 
@@ -245,7 +245,7 @@ impl Machine {
     // ---- the target is activated, or isn't
 
     /// CHANNEL ACTIVATION ACK.
-    pub(crate) fn activation_ack(
+    pub(crate) fn on_activation_ack(
         &mut self,
         at: Place,
         outputs: &mut Outputs,
@@ -323,7 +323,7 @@ impl Machine {
     }
 
     /// CHANNEL ACTIVATION NACK.
-    pub(crate) fn activation_nack(
+    pub(crate) fn on_activation_nack(
         &mut self,
         at: Place,
         offer: Option<Channel>,
@@ -392,7 +392,7 @@ impl Machine {
     // ---- the mobile changes, or comes back
 
     /// ASSIGNMENT COMPLETE, HANDOVER COMPLETE.
-    pub(crate) fn completed(
+    pub(crate) fn on_complete(
         &mut self,
         at: Place,
         change: Change,
@@ -419,7 +419,7 @@ impl Machine {
     }
 
     /// The channel that serves once the row that fits the input is done.
-    #[tactic(auto, unfolding(conn_table::specs::Table::row_of), using(conn_table::proofs::Channels::serves_on))]
+    #[tactic(auto, unfolding(conn_rules::specs::Table::row_of), using(conn_rules::proofs::Channels::serves_on))]
     pub(crate) fn serving_after(&self, input: &Input) -> Channel
         ensures { result ≡ serving_after self.now (row_of self.now input.now None) }
     {
@@ -430,7 +430,7 @@ impl Machine {
     }
 
     // The target where the COMPLETE fits.
-    #[tactic(auto, using(conn_table::proofs::Channels::serves_where))]
+    #[tactic(auto, using(conn_rules::proofs::Channels::serves_where))]
     fn serving_after_complete(&self, at: &Place, change: &Change) -> Channel
         ensures { (cause : ℕ) → serving_after self.now (on_complete self.now.state self.now at.now change.now cause None) ≡ result }
     {
@@ -481,7 +481,7 @@ impl Machine {
     }
 
     /// ASSIGNMENT FAILURE, HANDOVER FAILURE.
-    pub(crate) fn failed(
+    pub(crate) fn on_failure(
         &mut self,
         at: Place,
         change: Change,
@@ -503,11 +503,11 @@ impl Machine {
         if !is_at(&at, &self.serving) || !same_change(&change, &target.change) {
             return Ok(false);
         }
-        self.come_back(reference, change, target.channel, cause, offer, outputs)?;
+        self.failure(reference, change, target.channel, cause, offer, outputs)?;
         Ok(true)
     }
 
-    fn come_back(
+    fn failure(
         &mut self,
         reference: Reference,
         change: Change,
@@ -541,7 +541,7 @@ impl Machine {
     // ---- requests for a change
 
     /// A report decided for another cell.
-    pub(crate) fn move_away(
+    pub(crate) fn on_move(
         &mut self,
         offer: Option<Channel>,
         outputs: &mut Outputs,
@@ -560,7 +560,7 @@ impl Machine {
     }
 
     /// ASSIGNMENT REQUEST.
-    pub(crate) fn assignment_request(
+    pub(crate) fn on_assignment_request(
         &mut self,
         is_speech: bool,
         offer: Option<Channel>,

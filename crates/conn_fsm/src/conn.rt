@@ -1,16 +1,16 @@
 ghost use Rattle.std.specs.Prelude.{◌≡◌, ◌<◌, ◌^◌, None, IfOk, OnOk, OnErr};
-ghost use Rattle.conn_table.specs.Connection.{new_connection};
-ghost use Rattle.conn_table.specs.Standing.{IsCarried, Stands};
-ghost use Rattle.conn_table.specs.Table.{row_of, serving_after};
+ghost use Rattle.conn_rules.specs.Connection.{new_connection};
+ghost use Rattle.conn_rules.specs.Standing.{IsCarried, Stands};
+ghost use Rattle.conn_rules.specs.Table.{row_of, serving_after};
 ghost use Rattle.hold_queue.specs.HoldState.{messages};
 ghost use Rattle.conn_fsm.specs.Doing.{Commits, IsAsPlanned, IsPlanned, Stays, Steps, outs_in};
-ghost use Rattle.conn_table.specs.Timers.{after_pass};
+ghost use Rattle.conn_rules.specs.Timers.{after_pass};
 ghost use Rattle.conn_fsm.specs.Views.{joined};
 
 use crate::Plan;
 use crate::machine::Machine;
 use conn_messages::{Channel, Outputs};
-use conn_table::{Input, State};
+use conn_rules::{Input, State};
 use dtap_codec::Sapi;
 use octets::{Memory, Octets};
 use rsl_codec::{AccessDelay, RequestReference};
@@ -25,8 +25,8 @@ pub struct Conn {
 }
 
 impl Model for Conn {
-    ghost use Rattle.conn_table.specs.Connection.{Connection};
-    ghost use Rattle.conn_table.specs.Standing.{Stands};
+    ghost use Rattle.conn_rules.specs.Connection.{Connection};
+    ghost use Rattle.conn_rules.specs.Standing.{Stands};
 
     ghost Value = { Connection };
 
@@ -56,7 +56,7 @@ impl Conn {
     /// Does the one row of the table that fits the input, with the channel that is offered to a change which begins in it:
     /// its frames are appended, and it answers true; where no row fits it answers false, and nothing changes. Layer 3
     /// messages have 1 to 251 octets. A refusal, for lack of memory, changes nothing.
-    #[tactic(auto, unfolding(conn_table::specs::Table::row_of), using(crate::proofs::Keeping::step_stands))]
+    #[tactic(auto, unfolding(conn_rules::specs::Table::row_of), using(crate::proofs::Keeping::step_stands))]
     pub fn step(
         &mut self,
         input: Input,

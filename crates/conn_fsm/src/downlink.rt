@@ -3,16 +3,16 @@ ghost use Rattle.bssmap_codec.specs.Layer3.{IsLayer3};
 ghost use Rattle.conn_messages.specs.Out.{IsSound, outs_of};
 ghost use Rattle.std.specs.List.{AllByRecursion};
 ghost use Rattle.conn_messages.specs.StationMessage as words;
-ghost use Rattle.conn_table.specs.Standing.{Stands};
-ghost use Rattle.conn_table.specs.Steps.{hold_down, hold_short_message, request_where, short_message};
-ghost use Rattle.conn_table.specs.Table.{on_downlink};
+ghost use Rattle.conn_rules.specs.Standing.{Stands};
+ghost use Rattle.conn_rules.specs.Steps.{hold_down, hold_short_message, request_where, short_message};
+ghost use Rattle.conn_rules.specs.Table.{on_downlink};
 ghost use Rattle.conn_fsm.specs.Doing.{Does, Stays, Steps};
 
 use crate::machine::Machine;
 use conn_messages::causes::EQUIPMENT_FAILURE;
 use conn_messages::station_message::{establish_request, handing};
 use conn_messages::{Messages, Outputs};
-use conn_table::{DOWN_LIMIT, ShortMessageLink, Stage, State};
+use conn_rules::{DOWN_LIMIT, ShortMessageLink, Stage, State};
 use dtap_codec::Sapi;
 use hold_queue::HoldFault;
 use octets::{Memory, Octets};
@@ -20,7 +20,7 @@ use octets::{Memory, Octets};
 impl Machine {
     /// A layer 3 message for the mobile: while the channel changes it is held, and so is one of SAPI 3 while its link isn't
     /// up; else it is handed.
-    pub(crate) fn downlink(
+    pub(crate) fn on_downlink(
         &mut self,
         sapi: Sapi,
         message: Octets,

@@ -1,12 +1,12 @@
 ghost use Rattle.std.specs.Prelude.{◌≡◌, ◌<◌, ◌≤◌, ◌↔◌, [], ◌∷◌, ◌++◌, length, false, IsTrue, IfOk, slice_get, drop as dropped};
-ghost use Rattle.conn_table.specs.Connection.{drain_at};
-ghost use Rattle.conn_table.specs.Steps.{done_at};
-ghost use Rattle.conn_table.specs.Table.{drains_at};
+ghost use Rattle.conn_rules.specs.Connection.{drain_at};
+ghost use Rattle.conn_rules.specs.Steps.{done_at};
+ghost use Rattle.conn_rules.specs.Table.{drains_at};
 ghost use Rattle.conn_fsm.specs.Leaving.{leaving};
 
 use crate::places::is_at;
 use conn_messages::{Channel, Place};
-use conn_table::{DRAIN_LIMIT, Drain};
+use conn_rules::{DRAIN_LIMIT, Drain};
 use octets::Memory;
 use std::alloc::Global;
 use std::collections::VecDeque;
@@ -21,8 +21,8 @@ pub(crate) struct Drains {
 impl Model for Drains {
     ghost use Rattle.std.specs.Prelude.{◌≤◌, List, length};
     ghost use Rattle.std.specs.VecDeque.{deque_capacity};
-    ghost use Rattle.conn_table.specs.declared.limits.TheConstants.{DRAIN_LIMIT};
-    ghost use Rattle.conn_table.specs.declared.state.Drain.{Drain};
+    ghost use Rattle.conn_rules.specs.declared.limits.TheConstants.{DRAIN_LIMIT};
+    ghost use Rattle.conn_rules.specs.declared.state.Drain.{Drain};
 
     ghost Value = { List Drain };
 

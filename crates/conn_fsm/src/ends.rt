@@ -1,5 +1,5 @@
 ghost use Rattle.std.specs.Prelude.{◌≡◌, ◌++◌, OnOk, OnErr, Some, None};
-ghost use Rattle.conn_table.specs.Steps.{dropping, ending, end_outs, failing, target_release};
+ghost use Rattle.conn_rules.specs.Steps.{dropping, ending, end_outs, failing, target_release};
 ghost use Rattle.conn_fsm.specs.Doing.{Does, Stays};
 
 use crate::machine::Machine;
@@ -7,7 +7,7 @@ use conn_messages::causes::ABNORMAL_RELEASE;
 use conn_messages::station_message::{channel_release, rf_channel_release};
 use conn_messages::switch_message::clear_request;
 use conn_messages::{Messages, Outputs};
-use conn_table::{Clearing, Stage, State};
+use conn_rules::{Clearing, Stage, State};
 use octets::Memory;
 
 impl Machine {

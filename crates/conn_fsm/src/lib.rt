@@ -1,10 +1,10 @@
 //! The connection: a mobile's way through the base station controller, from its access to the clear. Each step is a row of
-//! the table in `conn_table`.
+//! the table in `conn_rules`.
 #![tactic(auto)]
 
 pub use conn::Conn;
 pub use conn_messages::{Channel, Out, Outputs};
-pub use conn_table::Input;
+pub use conn_rules::Input;
 pub use plan::Plan;
 
 mod changes;

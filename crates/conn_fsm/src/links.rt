@@ -1,9 +1,9 @@
 ghost use Rattle.std.specs.Prelude.{◌≡◌, [], ◌∷◌, ◌++◌, Some, IfOk, OnOk, OnErr, option_map};
 ghost use Rattle.bssmap_codec.specs.Layer3.{IsLayer3};
-ghost use Rattle.conn_table.specs.declared.state.ShortMessageLink.TheVariants.{Asked};
-ghost use Rattle.conn_table.specs.Standing.{Stands};
-ghost use Rattle.conn_table.specs.Steps.{link_down, link_up};
-ghost use Rattle.conn_table.specs.Table.{access, on_connection_failure, on_error_indication, on_establish_confirm, on_establish_indication, on_release_indication};
+ghost use Rattle.conn_rules.specs.declared.state.ShortMessageLink.TheVariants.{Asked};
+ghost use Rattle.conn_rules.specs.Standing.{Stands};
+ghost use Rattle.conn_rules.specs.Steps.{link_down, link_up};
+ghost use Rattle.conn_rules.specs.Table.{access, on_connection_failure, on_error_indication, on_establish_confirm, on_establish_indication, on_release_indication};
 ghost use Rattle.conn_fsm.specs.Doing.{Does, IsInitial, Stays, Steps};
 
 use crate::machine::Machine;
@@ -12,7 +12,7 @@ use bssmap_codec::Reference;
 use conn_messages::causes::RADIO_INTERFACE_FAILURE;
 use conn_messages::switch_message::{complete_layer3, sapi_3_reject};
 use conn_messages::{Messages, Outputs, Place};
-use conn_table::{ShortMessageLink, Stage, State};
+use conn_rules::{ShortMessageLink, Stage, State};
 use dtap_codec::Sapi;
 use octets::{INITIAL_LIMIT, Memory, Octets};
 
@@ -20,7 +20,7 @@ impl Machine {
     // ---- access
 
     /// ESTABLISH INDICATION.
-    pub(crate) fn establish_indication(
+    pub(crate) fn on_establish_indication(
         &mut self,
         at: Place,
         sapi: Sapi,
@@ -100,7 +100,7 @@ impl Machine {
     }
 
     /// ESTABLISH CONFIRM.
-    pub(crate) fn establish_confirm(
+    pub(crate) fn on_establish_confirm(
         &mut self,
         at: Place,
         sapi: Sapi,
@@ -128,7 +128,7 @@ impl Machine {
     }
 
     /// ERROR INDICATION.
-    pub(crate) fn error_indication(
+    pub(crate) fn on_error_indication(
         &mut self,
         at: Place,
         sapi: Sapi,
@@ -156,7 +156,7 @@ impl Machine {
     // ---- what ends the connection
 
     /// RELEASE INDICATION.
-    pub(crate) fn release_indication(
+    pub(crate) fn on_release_indication(
         &mut self,
         at: Place,
         sapi: Sapi,
@@ -166,13 +166,13 @@ impl Machine {
         ensures err { OnErr result (Stays self.old self.new outputs.old.outs outputs.new.outs) }
     {
         match sapi {
-            Sapi::Zero => self.main_link_lost(at, outputs),
-            Sapi::Three => self.error_indication(at, sapi, outputs),
+            Sapi::Zero => self.on_connection_failure(at, outputs),
+            Sapi::Three => self.on_error_indication(at, sapi, outputs),
         }
     }
 
     /// CONNECTION FAILURE, or RELEASE INDICATION of SAPI 0.
-    pub(crate) fn main_link_lost(
+    pub(crate) fn on_connection_failure(
         &mut self,
         at: Place,
         outputs: &mut Outputs,

@@ -1,11 +1,11 @@
 ghost use Rattle.std.specs.Prelude.{◌≡◌, ◌<◌, ◌^◌, ◌++◌, IfOk, OnOk, OnErr};
 ghost use Rattle.conn_messages.specs.Out.{IsSound, outs_of};
 ghost use Rattle.std.specs.List.{AllByRecursion};
-ghost use Rattle.conn_table.specs.Connection.{new_connection, enter, emptied};
+ghost use Rattle.conn_rules.specs.Connection.{new_connection, enter, emptied};
 
 use crate::drains::Drains;
 use conn_messages::{Channel, Messages, Outputs};
-use conn_table::{DOWN_LIMIT, ShortMessageLink, State, UP_LIMIT};
+use conn_rules::{DOWN_LIMIT, ShortMessageLink, State, UP_LIMIT};
 use dtap_codec::Sapi;
 use hold_queue::{Chain, Hold};
 use octets::Memory;
@@ -34,7 +34,7 @@ pub(crate) struct Machine {
 
 impl Model for Machine {
     ghost use Rattle.std.specs.Prelude.{◌<◌, ◌^◌};
-    ghost use Rattle.conn_table.specs.Connection.{Connection};
+    ghost use Rattle.conn_rules.specs.Connection.{Connection};
 
     ghost Value = { Connection };
 

@@ -1,9 +1,9 @@
 ghost use Rattle.std.specs.Prelude.{◌≡◌};
-ghost use Rattle.conn_table.specs.Connection.{is_at};
-ghost use Rattle.conn_table.specs.Table.{same_change, targets};
+ghost use Rattle.conn_rules.specs.Connection.{is_at};
+ghost use Rattle.conn_rules.specs.Table.{same_change, targets};
 
 use conn_messages::{Change, Channel, Place};
-use conn_table::Stage;
+use conn_rules::Stage;
 
 /// Whether the place is that of the channel.
 pub(crate) fn is_at(at: &Place, channel: &Channel) -> bool

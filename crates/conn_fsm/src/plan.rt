@@ -1,6 +1,6 @@
 use crate::machine::Machine;
 use conn_messages::Outputs;
-use conn_table::{Input, State};
+use conn_rules::{Input, State};
 use std::marker::Model;
 use std::snapshot::Snapshot;
 
@@ -15,7 +15,7 @@ pub struct Plan {
 
 impl Model for Plan {
     ghost use Rattle.std.specs.Prelude.{None};
-    ghost use Rattle.conn_table.specs.Table.{row_of};
+    ghost use Rattle.conn_rules.specs.Table.{row_of};
     ghost use Rattle.conn_fsm.specs.Doing.{IsPlanned, Plans};
     ghost use Rattle.conn_fsm.specs.PlanState.{PlanState};
 

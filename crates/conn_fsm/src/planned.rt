@@ -2,8 +2,8 @@ ghost use Rattle.std.specs.Prelude.{◌≡◌, ◌++◌, IfOk, OnOk, Some, None,
 ghost use Rattle.conn_messages.specs.Out.{IsSound, outs_of};
 ghost use Rattle.std.specs.List.{AllByRecursion};
 ghost use Rattle.conn_messages.specs.declared.causes.TheConstants.{ABNORMAL_RELEASE, EQUIPMENT_FAILURE};
-ghost use Rattle.conn_table.specs.Steps.{dropping, end_outs, failing, goes_to, target_release, without_station};
-ghost use Rattle.conn_table.specs.Table.{on_drain_expiry, on_expiry, on_station_down, on_switch_down};
+ghost use Rattle.conn_rules.specs.Steps.{dropping, end_outs, failing, goes_to, target_release, without_station};
+ghost use Rattle.conn_rules.specs.Table.{on_drain_expiry, on_expiry, on_station_down, on_switch_down};
 ghost use Rattle.conn_fsm.specs.Doing.{Plans};
 
 use crate::machine::Machine;
@@ -12,7 +12,7 @@ use conn_messages::causes::{ABNORMAL_RELEASE, EQUIPMENT_FAILURE, RADIO_INTERFACE
 use conn_messages::station_message::{channel_release, rf_channel_release};
 use conn_messages::switch_message::clear_request;
 use conn_messages::{Messages, Outputs};
-use conn_table::{Stage, State};
+use conn_rules::{Stage, State};
 use octets::Memory;
 
 /// What an expiry, or a link that broke, makes of a connection: the frames that it puts, and the state that it ends in; none
@@ -61,7 +61,7 @@ impl Machine {
     }
 
     /// The state's timer expired: T3101, T3103 or T3107.
-    pub(crate) fn expiry(&self) -> Result<Ending, Memory>
+    pub(crate) fn on_expiry(&self) -> Result<Ending, Memory>
         ensures { IfOk result (λ e. Plans e.outputs.outs e.last (on_expiry self.now.state self.now) self.now) }
     {
         let state = self.state;
@@ -75,7 +75,7 @@ impl Machine {
     }
 
     /// The drain time is over.
-    pub(crate) fn drain_expiry(&self) -> Result<Ending, Memory>
+    pub(crate) fn on_drain_expiry(&self) -> Result<Ending, Memory>
         ensures { IfOk result (λ e. Plans e.outputs.outs e.last (on_drain_expiry self.now.state self.now) self.now) }
     {
         let state = self.state;
@@ -86,7 +86,7 @@ impl Machine {
     }
 
     /// The link of a station broke, which gets nothing any more.
-    pub(crate) fn station_down(&self, station: u16) -> Result<Ending, Memory>
+    pub(crate) fn on_station_down(&self, station: u16) -> Result<Ending, Memory>
         ensures { IfOk result (λ e. Plans e.outputs.outs e.last (on_station_down self.now.state self.now station) self.now) }
     {
         let serves = self.serving.station == station;
@@ -147,7 +147,7 @@ impl Machine {
     }
 
     /// The link of the switch broke.
-    pub(crate) fn switch_down(&self) -> Result<Ending, Memory>
+    pub(crate) fn on_switch_down(&self) -> Result<Ending, Memory>
         ensures { IfOk result (λ e. Plans e.outputs.outs e.last (on_switch_down self.now.state self.now) self.now) }
     {
         let state = self.state;

@@ -1,20 +1,20 @@
 ghost use Rattle.std.specs.Prelude.{◌≡◌, ◌<◌, ◌≤◌, ◌+◌, ◌&&◌, ◌++◌, length, IfOk, OnOk, OnErr, drop as dropped};
-ghost use Rattle.conn_table.specs.declared.state.State.TheVariants.{Live};
-ghost use Rattle.conn_table.specs.Standing.{FirstIsEmpty, Stands};
-ghost use Rattle.conn_table.specs.Steps.{done_at, may_begin, settled};
-ghost use Rattle.conn_table.specs.Table.{on_release_ack, release};
+ghost use Rattle.conn_rules.specs.declared.state.State.TheVariants.{Live};
+ghost use Rattle.conn_rules.specs.Standing.{FirstIsEmpty, Stands};
+ghost use Rattle.conn_rules.specs.Steps.{done_at, may_begin, settled};
+ghost use Rattle.conn_rules.specs.Table.{on_release_ack, release};
 ghost use Rattle.conn_fsm.specs.Doing.{Does, Stays, Steps};
 ghost use Rattle.conn_fsm.specs.Leaving.{left, left_outs, oldest_left};
 
 use crate::machine::Machine;
 use bssmap_codec::Reference;
 use conn_messages::{Channel, Messages, Outputs, Place};
-use conn_table::{DRAIN_LIMIT, Stage, State};
+use conn_rules::{DRAIN_LIMIT, Stage, State};
 use octets::Memory;
 
 impl Machine {
     /// RF CHANNEL RELEASE ACK of an old channel.
-    pub(crate) fn release_ack(
+    pub(crate) fn on_release_ack(
         &mut self,
         at: Place,
         offer: Option<Channel>,

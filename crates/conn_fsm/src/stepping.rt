@@ -1,20 +1,20 @@
 ghost use Rattle.std.specs.Prelude.{◌≡◌, None, IfOk, OnErr};
-ghost use Rattle.conn_table.specs.Standing.{IsCarried, Stands};
-ghost use Rattle.conn_table.specs.Table.{row_of};
+ghost use Rattle.conn_rules.specs.Standing.{IsCarried, Stands};
+ghost use Rattle.conn_rules.specs.Table.{row_of};
 ghost use Rattle.conn_fsm.specs.Doing.{Closes, Commits, Finishes, IsAsPlanned, IsPlanned, Plans, Stays, Steps, outs_in};
-ghost use Rattle.conn_table.specs.Timers.{after_pass};
+ghost use Rattle.conn_rules.specs.Timers.{after_pass};
 
 use crate::Plan;
 use crate::machine::Machine;
 use crate::planned::Ending;
 use conn_messages::{Channel, Outputs};
-use conn_table::{Input, State};
+use conn_rules::{Input, State};
 use octets::Memory;
 use std::snapshot::Snapshot;
 
 impl Machine {
     /// The row that fits.
-    #[tactic(auto, unfolding(conn_table::specs::Table::row_of))]
+    #[tactic(auto, unfolding(conn_rules::specs::Table::row_of))]
     pub(crate) fn step(
         &mut self,
         input: Input,
@@ -27,31 +27,33 @@ impl Machine {
         ensures err { OnErr result (Stays self.old self.new outputs.old.outs outputs.new.outs) }
     {
         match input {
-            Input::ActivationAck { at } => self.activation_ack(at, outputs),
-            Input::ActivationNack { at } => self.activation_nack(at, offer, outputs),
+            Input::ActivationAck { at } => self.on_activation_ack(at, outputs),
+            Input::ActivationNack { at } => self.on_activation_nack(at, offer, outputs),
             Input::EstablishIndication { at, sapi, message } => {
-                self.establish_indication(at, sapi, message, outputs)
+                self.on_establish_indication(at, sapi, message, outputs)
             }
-            Input::EstablishConfirm { at, sapi } => self.establish_confirm(at, sapi, outputs),
-            Input::ReleaseIndication { at, sapi } => self.release_indication(at, sapi, outputs),
-            Input::ErrorIndication { at, sapi } => self.error_indication(at, sapi, outputs),
-            Input::ConnectionFailure { at } => self.main_link_lost(at, outputs),
-            Input::Dtap { at, sapi, message } => self.dtap(at, sapi, message, outputs),
+            Input::EstablishConfirm { at, sapi } => self.on_establish_confirm(at, sapi, outputs),
+            Input::ReleaseIndication { at, sapi } => self.on_release_indication(at, sapi, outputs),
+            Input::ErrorIndication { at, sapi } => self.on_error_indication(at, sapi, outputs),
+            Input::ConnectionFailure { at } => self.on_connection_failure(at, outputs),
+            Input::Dtap { at, sapi, message } => self.on_dtap(at, sapi, message, outputs),
             Input::Complete { at, change, cause } => {
-                self.completed(at, change, cause, offer, outputs)
+                self.on_complete(at, change, cause, offer, outputs)
             }
-            Input::Failure { at, change, cause } => self.failed(at, change, cause, offer, outputs),
-            Input::ReleaseAck { at } => self.release_ack(at, offer, outputs),
-            Input::Move => self.move_away(offer, outputs),
-            Input::ConnectionConfirm { source } => self.confirm(source, outputs),
-            Input::ConnectionRefused => self.refused(outputs),
-            Input::Released { source } => self.released(source, outputs),
-            Input::Downlink { sapi, message } => self.downlink(sapi, message, outputs),
+            Input::Failure { at, change, cause } => self.on_failure(
+                at, change, cause, offer, outputs,
+            ),
+            Input::ReleaseAck { at } => self.on_release_ack(at, offer, outputs),
+            Input::Move => self.on_move(offer, outputs),
+            Input::ConnectionConfirm { source } => self.on_confirm(source, outputs),
+            Input::ConnectionRefused => self.on_refused(outputs),
+            Input::Released { source } => self.on_released(source, outputs),
+            Input::Downlink { sapi, message } => self.on_downlink(sapi, message, outputs),
             Input::AssignmentRequest { is_speech } => {
-                self.assignment_request(is_speech, offer, outputs)
+                self.on_assignment_request(is_speech, offer, outputs)
             }
-            Input::CipherModeCommand => self.cipher_mode_command(outputs),
-            Input::ClearCommand => self.clear_command(outputs),
+            Input::CipherModeCommand => self.on_cipher_mode_command(outputs),
+            Input::ClearCommand => self.on_clear_command(outputs),
             planned => self.finish(&planned, outputs),
         }
     }
@@ -93,16 +95,16 @@ impl Machine {
     }
 
     // What an expiry or a broken link makes of the connection.
-    #[tactic(auto, unfolding(conn_table::specs::Table::row_of))]
+    #[tactic(auto, unfolding(conn_rules::specs::Table::row_of))]
     fn ending(&self, input: &Input) -> Result<Ending, Memory>
         requires { IsPlanned input.now }
         ensures { IfOk result (λ e. Plans e.outputs.outs e.last (row_of self.now input.now None) self.now) }
     {
         match input {
-            Input::Expiry => self.expiry(),
-            Input::DrainExpiry => self.drain_expiry(),
-            Input::StationDown { station } => self.station_down(*station),
-            Input::SwitchDown => self.switch_down(),
+            Input::Expiry => self.on_expiry(),
+            Input::DrainExpiry => self.on_drain_expiry(),
+            Input::StationDown { station } => self.on_station_down(*station),
+            Input::SwitchDown => self.on_switch_down(),
             _ => unreachable!(),
         }
     }

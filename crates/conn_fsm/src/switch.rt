@@ -1,8 +1,8 @@
 ghost use Rattle.std.specs.Prelude.{◌≡◌, [], ◌∷◌, ◌++◌, IfOk, OnOk, OnErr};
 ghost use Rattle.conn_messages.specs.Out.{outs_of};
-ghost use Rattle.conn_table.specs.declared.state.State.TheVariants.{Closed};
-ghost use Rattle.conn_table.specs.Standing.{Stands};
-ghost use Rattle.conn_table.specs.Table.{on_cipher_mode_command, on_clear_command, on_confirm, on_refused, on_released};
+ghost use Rattle.conn_rules.specs.declared.state.State.TheVariants.{Closed};
+ghost use Rattle.conn_rules.specs.Standing.{Stands};
+ghost use Rattle.conn_rules.specs.Table.{on_cipher_mode_command, on_clear_command, on_confirm, on_refused, on_released};
 ghost use Rattle.conn_fsm.specs.Doing.{Does, Stays, Steps};
 
 use crate::machine::Machine;
@@ -12,12 +12,12 @@ use conn_messages::switch_message::{
     cipher_mode_reject, clear_complete, clear_request, release_complete,
 };
 use conn_messages::{Messages, Outputs};
-use conn_table::{Clearing, Stage, State};
+use conn_rules::{Clearing, Stage, State};
 use octets::Memory;
 
 impl Machine {
     /// CC: what the mobile sent meanwhile is relayed; of a connection that ended meanwhile the clearing is asked for.
-    pub(crate) fn confirm(
+    pub(crate) fn on_confirm(
         &mut self,
         source: Reference,
         outputs: &mut Outputs,
@@ -46,7 +46,7 @@ impl Machine {
     }
 
     /// CREF.
-    pub(crate) fn refused(&mut self, outputs: &mut Outputs) -> Result<bool, Memory>
+    pub(crate) fn on_refused(&mut self, outputs: &mut Outputs) -> Result<bool, Memory>
         ensures done { IfOk result (λ fits. Steps (on_refused self.old.state self.old) fits self.old self.new outputs.old.outs outputs.new.outs) }
         ensures err { OnErr result (Stays self.old self.new outputs.old.outs outputs.new.outs) }
     {
@@ -60,7 +60,7 @@ impl Machine {
     }
 
     /// RLSD: the mobile is dismissed where it wasn't, and RLC goes to the reference that the switch names.
-    pub(crate) fn released(
+    pub(crate) fn on_released(
         &mut self,
         source: Reference,
         outputs: &mut Outputs,
@@ -82,7 +82,7 @@ impl Machine {
     }
 
     /// CIPHER MODE COMMAND, which is rejected.
-    pub(crate) fn cipher_mode_command(&mut self, outputs: &mut Outputs) -> Result<bool, Memory>
+    pub(crate) fn on_cipher_mode_command(&mut self, outputs: &mut Outputs) -> Result<bool, Memory>
         ensures done { IfOk result (λ fits. Steps (on_cipher_mode_command self.old.state self.old) fits self.old self.new outputs.old.outs outputs.new.outs) }
         ensures err { OnErr result (Stays self.old self.new outputs.old.outs outputs.new.outs) }
     {
@@ -97,7 +97,7 @@ impl Machine {
     }
 
     /// CLEAR COMMAND: the mobile is dismissed where it wasn't, and CLEAR COMPLETE is put, once.
-    pub(crate) fn clear_command(&mut self, outputs: &mut Outputs) -> Result<bool, Memory>
+    pub(crate) fn on_clear_command(&mut self, outputs: &mut Outputs) -> Result<bool, Memory>
         ensures done { IfOk result (λ fits. Steps (on_clear_command self.old.state self.old) fits self.old self.new outputs.old.outs outputs.new.outs) }
         ensures err { OnErr result (Stays self.old self.new outputs.old.outs outputs.new.outs) }
     {

@@ -3,11 +3,11 @@ ghost use Rattle.std.specs.List.{AllByRecursion};
 ghost use Rattle.bssmap_codec.specs.Layer3.{IsLayer3};
 ghost use Rattle.conn_messages.specs.Out.{IsSound, outs_of};
 ghost use Rattle.conn_messages.specs.SwitchMessage.{relaying as relaying_word};
-ghost use Rattle.conn_table.specs.declared.state.State.TheVariants.{Live};
-ghost use Rattle.conn_table.specs.Connection.{first_channel, tenure_at};
-ghost use Rattle.conn_table.specs.Standing.{Stands};
-ghost use Rattle.conn_table.specs.Steps.{hold_up, tenure_outs};
-ghost use Rattle.conn_table.specs.Table.{dtap_before_access, dtap_on_target, on_dtap, relay_dtap};
+ghost use Rattle.conn_rules.specs.declared.state.State.TheVariants.{Live};
+ghost use Rattle.conn_rules.specs.Connection.{first_channel, tenure_at};
+ghost use Rattle.conn_rules.specs.Standing.{Stands};
+ghost use Rattle.conn_rules.specs.Steps.{hold_up, tenure_outs};
+ghost use Rattle.conn_rules.specs.Table.{dtap_before_access, dtap_on_target, on_dtap, relay_dtap};
 ghost use Rattle.hold_queue.specs.ChainState.{messages_in};
 ghost use Rattle.conn_fsm.specs.Doing.{Does, Stays, Steps};
 
@@ -17,7 +17,7 @@ use bssmap_codec::Reference;
 use conn_messages::causes::EQUIPMENT_FAILURE;
 use conn_messages::switch_message::relaying;
 use conn_messages::{Channel, Messages, Outputs, Place};
-use conn_table::{Stage, State, UP_LIMIT};
+use conn_rules::{Stage, State, UP_LIMIT};
 use dtap_codec::Sapi;
 use hold_queue::HoldFault;
 use octets::{Memory, Octets};
@@ -25,7 +25,7 @@ use octets::{Memory, Octets};
 impl Machine {
     /// A layer 3 message of the mobile: of the first tenure it is relayed, of another held.
     #[tactic(auto, using(crate::proofs::Pushing::tenure_within))]
-    pub(crate) fn dtap(
+    pub(crate) fn on_dtap(
         &mut self,
         at: Place,
         sapi: Sapi,

@@ -1,11 +1,11 @@
 ghost use Rattle.std.specs.Prelude.{◌≡◌, ◌≤◌, ◌++◌, length, IfOk, OnOk};
-ghost use Rattle.conn_table.specs.Standing.{Stands};
+ghost use Rattle.conn_rules.specs.Standing.{Stands};
 ghost use Rattle.hold_queue.specs.ChainState.{messages_in};
 ghost use Rattle.hold_queue.specs.HoldState.{messages};
 ghost use Rattle.conn_fsm.specs.Views.{joined};
 
 use crate::machine::Machine;
-use conn_table::{DOWN_LIMIT, UP_LIMIT};
+use conn_rules::{DOWN_LIMIT, UP_LIMIT};
 use dtap_codec::Sapi;
 use hold_queue::TENURE_LIMIT;
 use octets::{Memory, Octets};

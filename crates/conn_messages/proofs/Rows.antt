@@ -1,6 +1,7 @@
 -- Each message against its literal octets (TS 48.058, TS 44.018, Q.713, TS 48.006, TS 48.008): the link that its frame goes to,
 -- the connection, the stream and the body.
 use Rattle.std.proofs.Common.{◌≡◌, ℕ, List, [], ◌∷◌, map, replicate, slice_index, Some, None, refl}
+use Rattle.octets.proofs.Hex.{hex}
 use Rattle.octets.specs.Front.{octet_at, counted_at}
 use Rattle.octets.specs.Walk.{walk}
 use Rattle.bssmap_codec.specs.BssapReading.{bssap_reading, breaks_off, cause_at, complete_layer3_at, elements_of, layer3_at, management_at, message_at, needed_value}
@@ -28,7 +29,7 @@ abbrev on_1 : ℕ → Channel
 on_1 number = record {
   station = 1;
   number = number;
-  cell = 0x00 ∷ 0x00 ∷ 0xf1 ∷ 0x10 ∷ 0x00 ∷ 0x01 ∷ 0x00 ∷ 0x01 ∷ [];
+  cell = hex "00 00 f1 10 00 01 00 01";
   description = record { arfcn = 20; ncc = 1; bcc = 1 };
   reference = record { 0 = 0 };
 }
@@ -37,7 +38,7 @@ abbrev on_2 : ℕ → Channel
 on_2 number = record {
   station = 2;
   number = number;
-  cell = 0x00 ∷ 0x00 ∷ 0xf1 ∷ 0x10 ∷ 0x00 ∷ 0x01 ∷ 0x00 ∷ 0x02 ∷ [];
+  cell = hex "00 00 f1 10 00 01 00 02";
   description = record { arfcn = 30; ncc = 2; bcc = 2 };
   reference = record { 0 = 0 };
 }
@@ -53,42 +54,48 @@ abbrev to_switch : List ℕ → Out
 to_switch body = record { to = 0; conn = 1; frame = record { stream = 0xfd; body = body } }
 
 abbrev full_rate : List ℕ
-full_rate = 0x00 ∷ 0x01 ∷ 0x08 ∷ 0x01 ∷ []
+full_rate = hex "00 01 08 01"
 
 abbrev half_rate : List ℕ
-half_rate = 0x00 ∷ 0x01 ∷ 0x09 ∷ 0x01 ∷ []
+half_rate = hex "00 01 09 01"
 
 abbrev signalling : List ℕ
-signalling = 0x00 ∷ 0x03 ∷ 0x01 ∷ 0x00 ∷ []
+signalling = hex "00 03 01 00"
 
 -- ---- to a station
 
-access_channel_activated : out_of 1 (access_activation (on_1 0x41)) ≡ to_station 1 (0x08 ∷ 0x21 ∷ 0x01 ∷ 0x41 ∷ 0x03 ∷ 0x00 ∷ 0x06 ∷ 0x04 ∷ 0x00 ∷ 0x03 ∷ 0x01 ∷ 0x00 ∷ [])
+access_channel_activated : out_of 1 (access_activation (on_1 0x41)) ≡ to_station 1 (hex "08 21 01 41 03 00 06 04 00 03 01 00")
 unfolding out_of rsl_element_text
 access_channel_activated = refl
 
-target_of_an_assignment_activated : out_of 1 (change_activation Assignment (on_1 0x0a)) ≡ to_station 1 (0x08 ∷ 0x21 ∷ 0x01 ∷ 0x0a ∷ 0x03 ∷ 0x01 ∷ 0x06 ∷ 0x04 ∷ 0x00 ∷ 0x01 ∷ 0x08 ∷ 0x01 ∷ [])
+target_of_an_assignment_activated : out_of 1 (change_activation Assignment (on_1 0x0a))
+    ≡ to_station 1 (hex "08 21 01 0a 03 01 06 04 00 01 08 01")
 unfolding out_of rsl_element_text
 target_of_an_assignment_activated = refl
 
-target_of_a_handover_activated : out_of 1 (change_activation Handover (on_2 0x41)) ≡ to_station 2 (0x08 ∷ 0x21 ∷ 0x01 ∷ 0x41 ∷ 0x03 ∷ 0x02 ∷ 0x06 ∷ 0x04 ∷ 0x00 ∷ 0x03 ∷ 0x01 ∷ 0x00 ∷ 0x09 ∷ 0x00 ∷ [])
+target_of_a_handover_activated : out_of 1 (change_activation Handover (on_2 0x41))
+    ≡ to_station 2 (hex "08 21 01 41 03 02 06 04 00 03 01 00 09 00")
 unfolding out_of rsl_element_text
 target_of_a_handover_activated = refl
 
 -- the reference goes with a handover alone
-handover_reference_in_the_activation : out_of 1 (change_activation Handover (record (on_2 0x16) { reference = record { 0 = 0x5a } })) ≡ to_station 2 (0x08 ∷ 0x21 ∷ 0x01 ∷ 0x16 ∷ 0x03 ∷ 0x02 ∷ 0x06 ∷ 0x04 ∷ 0x00 ∷ 0x01 ∷ 0x09 ∷ 0x01 ∷ 0x09 ∷ 0x5a ∷ [])
+handover_reference_in_the_activation : out_of 1 (change_activation Handover (record (on_2 0x16) { reference = record { 0 = 0x5a } }))
+    ≡ to_station 2 (hex "08 21 01 16 03 02 06 04 00 01 09 01 09 5a")
 unfolding out_of rsl_element_text
 handover_reference_in_the_activation = refl
 
-no_reference_in_an_assignment : out_of 1 (change_activation Assignment (record (on_2 0x16) { reference = record { 0 = 0x5a } })) ≡ to_station 2 (0x08 ∷ 0x21 ∷ 0x01 ∷ 0x16 ∷ 0x03 ∷ 0x01 ∷ 0x06 ∷ 0x04 ∷ 0x00 ∷ 0x01 ∷ 0x09 ∷ 0x01 ∷ [])
+no_reference_in_an_assignment : out_of 1 (change_activation Assignment (record (on_2 0x16) { reference = record { 0 = 0x5a } }))
+    ≡ to_station 2 (hex "08 21 01 16 03 01 06 04 00 01 09 01")
 unfolding out_of rsl_element_text
 no_reference_in_an_assignment = refl
 
 -- TCH/F, TCH/H, SDCCH, from the first to the last number of each
-modes : map mode_of (0x08 ∷ 0x0f ∷ 0x10 ∷ 0x1f ∷ 0x20 ∷ 0x3f ∷ 0x40 ∷ 0x7f ∷ []) ≡ full_rate ∷ full_rate ∷ half_rate ∷ half_rate ∷ signalling ∷ signalling ∷ signalling ∷ signalling ∷ []
+modes : map mode_of (hex "08 0f 10 1f 20 3f 40 7f")
+    ≡ full_rate ∷ full_rate ∷ half_rate ∷ half_rate ∷ signalling ∷ signalling ∷ signalling ∷ signalling ∷ []
 modes = refl
 
-access_granted : out_of 1 (immediate_assign_command (on_1 0x41) request 5) ≡ to_station 1 (0x0c ∷ 0x16 ∷ 0x01 ∷ 0x90 ∷ 0x2b ∷ 0x17 ∷ 0x2d ∷ 0x06 ∷ 0x3f ∷ 0x00 ∷ 0x41 ∷ 0x20 ∷ 0x14 ∷ 0x7f ∷ 0x01 ∷ 0x02 ∷ 0x05 ∷ 0x00 ∷ 0x2b ∷ 0x2b ∷ 0x2b ∷ 0x2b ∷ 0x2b ∷ 0x2b ∷ 0x2b ∷ 0x2b ∷ 0x2b ∷ 0x2b ∷ 0x2b ∷ [])
+access_granted : out_of 1 (immediate_assign_command (on_1 0x41) request 5)
+    ≡ to_station 1 (hex "0c 16 01 90 2b 17 2d 06 3f 00 41 20 14 7f 01 02 05 00 2b 2b 2b 2b 2b 2b 2b 2b 2b 2b 2b")
 unfolding out_of rsl_element_text
 access_granted = refl
 
@@ -97,94 +104,102 @@ timing_advances : map (λ delay. slice_index (out_of 1 (immediate_assign_command
 unfolding out_of rsl_element_text
 timing_advances = refl
 
-message_handed : out_of 1 (handing (on_1 0x41) Zero (0x83 ∷ 0x02 ∷ [])) ≡ to_station 1 (0x03 ∷ 0x01 ∷ 0x01 ∷ 0x41 ∷ 0x02 ∷ 0x00 ∷ 0x0b ∷ 0x00 ∷ 0x02 ∷ 0x83 ∷ 0x02 ∷ [])
+message_handed : out_of 1 (handing (on_1 0x41) Zero (hex "83 02")) ≡ to_station 1 (hex "03 01 01 41 02 00 0b 00 02 83 02")
 unfolding out_of rsl_element_text
 message_handed = refl
 
-message_handed_on_a_tch : out_of 1 (handing (on_1 0x0a) Zero (0x83 ∷ 0x02 ∷ [])) ≡ to_station 1 (0x03 ∷ 0x01 ∷ 0x01 ∷ 0x0a ∷ 0x02 ∷ 0x00 ∷ 0x0b ∷ 0x00 ∷ 0x02 ∷ 0x83 ∷ 0x02 ∷ [])
+message_handed_on_a_tch : out_of 1 (handing (on_1 0x0a) Zero (hex "83 02")) ≡ to_station 1 (hex "03 01 01 0a 02 00 0b 00 02 83 02")
 unfolding out_of rsl_element_text
 message_handed_on_a_tch = refl
 
-short_message_handed : out_of 1 (handing (on_2 0x41) Three (0x09 ∷ 0x01 ∷ [])) ≡ to_station 2 (0x03 ∷ 0x01 ∷ 0x01 ∷ 0x41 ∷ 0x02 ∷ 0x03 ∷ 0x0b ∷ 0x00 ∷ 0x02 ∷ 0x09 ∷ 0x01 ∷ [])
+short_message_handed : out_of 1 (handing (on_2 0x41) Three (hex "09 01")) ≡ to_station 2 (hex "03 01 01 41 02 03 0b 00 02 09 01")
 unfolding out_of rsl_element_text
 short_message_handed = refl
 
-short_message_handed_on_a_tch : out_of 1 (handing (on_2 0x0a) Three (0x09 ∷ 0x01 ∷ [])) ≡ to_station 2 (0x03 ∷ 0x01 ∷ 0x01 ∷ 0x0a ∷ 0x02 ∷ 0x43 ∷ 0x0b ∷ 0x00 ∷ 0x02 ∷ 0x09 ∷ 0x01 ∷ [])
+short_message_handed_on_a_tch : out_of 1 (handing (on_2 0x0a) Three (hex "09 01")) ≡ to_station 2 (hex "03 01 01 0a 02 43 0b 00 02 09 01")
 unfolding out_of rsl_element_text
 short_message_handed_on_a_tch = refl
 
 -- the last TCH/H, the first SDCCH
-links : map (λ number. link_on number Three) (0x1f ∷ 0x20 ∷ []) ≡ 0x43 ∷ 0x03 ∷ []
+links : map (λ number. link_on number Three) (hex "1f 20") ≡ hex "43 03"
 links = refl
 
-released_normally : out_of 1 (channel_release (on_1 0x41) NORMAL_EVENT) ≡ to_station 1 (0x03 ∷ 0x01 ∷ 0x01 ∷ 0x41 ∷ 0x02 ∷ 0x00 ∷ 0x0b ∷ 0x00 ∷ 0x03 ∷ 0x06 ∷ 0x0d ∷ 0x00 ∷ [])
+released_normally : out_of 1 (channel_release (on_1 0x41) NORMAL_EVENT) ≡ to_station 1 (hex "03 01 01 41 02 00 0b 00 03 06 0d 00")
 unfolding out_of rsl_element_text
 released_normally = refl
 
-released_abnormally : out_of 1 (channel_release (on_2 0x41) ABNORMAL_RELEASE) ≡ to_station 2 (0x03 ∷ 0x01 ∷ 0x01 ∷ 0x41 ∷ 0x02 ∷ 0x00 ∷ 0x0b ∷ 0x00 ∷ 0x03 ∷ 0x06 ∷ 0x0d ∷ 0x01 ∷ [])
+released_abnormally : out_of 1 (channel_release (on_2 0x41) ABNORMAL_RELEASE) ≡ to_station 2 (hex "03 01 01 41 02 00 0b 00 03 06 0d 01")
 unfolding out_of rsl_element_text
 released_abnormally = refl
 
-assignment_commanded : out_of 1 (change_command (on_1 0x41) Assignment (on_1 0x0a)) ≡ to_station 1 (0x03 ∷ 0x01 ∷ 0x01 ∷ 0x41 ∷ 0x02 ∷ 0x00 ∷ 0x0b ∷ 0x00 ∷ 0x06 ∷ 0x06 ∷ 0x2e ∷ 0x0a ∷ 0x20 ∷ 0x14 ∷ 0x00 ∷ [])
+assignment_commanded : out_of 1 (change_command (on_1 0x41) Assignment (on_1 0x0a))
+    ≡ to_station 1 (hex "03 01 01 41 02 00 0b 00 06 06 2e 0a 20 14 00")
 unfolding out_of rsl_element_text
 assignment_commanded = refl
 
-handover_commanded : out_of 1 (change_command (on_1 0x41) Handover (on_2 0x41)) ≡ to_station 1 (0x03 ∷ 0x01 ∷ 0x01 ∷ 0x41 ∷ 0x02 ∷ 0x00 ∷ 0x0b ∷ 0x00 ∷ 0x09 ∷ 0x06 ∷ 0x2b ∷ 0x12 ∷ 0x1e ∷ 0x41 ∷ 0x40 ∷ 0x1e ∷ 0x00 ∷ 0x00 ∷ [])
+handover_commanded : out_of 1 (change_command (on_1 0x41) Handover (on_2 0x41))
+    ≡ to_station 1 (hex "03 01 01 41 02 00 0b 00 09 06 2b 12 1e 41 40 1e 00 00")
 unfolding out_of rsl_element_text
 handover_commanded = refl
 
 -- it goes to the station of the serving channel, and names the target
-handover_commanded_with_a_reference : out_of 1 (change_command (on_2 0x0a) Handover (record (on_1 0x49) { reference = record { 0 = 0x5a } })) ≡ to_station 2 (0x03 ∷ 0x01 ∷ 0x01 ∷ 0x0a ∷ 0x02 ∷ 0x00 ∷ 0x0b ∷ 0x00 ∷ 0x09 ∷ 0x06 ∷ 0x2b ∷ 0x09 ∷ 0x14 ∷ 0x49 ∷ 0x20 ∷ 0x14 ∷ 0x5a ∷ 0x00 ∷ [])
+handover_commanded_with_a_reference : out_of 1 (change_command (on_2 0x0a) Handover (record (on_1 0x49) { reference = record { 0 = 0x5a } }))
+    ≡ to_station 2 (hex "03 01 01 0a 02 00 0b 00 09 06 2b 09 14 49 20 14 5a 00")
 unfolding out_of rsl_element_text
 handover_commanded_with_a_reference = refl
 
-handover_commanded_to_a_high_arfcn : out_of 1 (change_command (on_1 0x41) Handover (record (on_2 0x0a) { description = record { arfcn = 1023; ncc = 5; bcc = 6 } })) ≡ to_station 1 (0x03 ∷ 0x01 ∷ 0x01 ∷ 0x41 ∷ 0x02 ∷ 0x00 ∷ 0x0b ∷ 0x00 ∷ 0x09 ∷ 0x06 ∷ 0x2b ∷ 0xee ∷ 0xff ∷ 0x0a ∷ 0xc3 ∷ 0xff ∷ 0x00 ∷ 0x00 ∷ [])
+handover_commanded_to_a_high_arfcn : out_of 1 (change_command (on_1 0x41) Handover (record (on_2 0x0a) { description = record { arfcn = 1023; ncc = 5; bcc = 6 } }))
+    ≡ to_station 1 (hex "03 01 01 41 02 00 0b 00 09 06 2b ee ff 0a c3 ff 00 00")
 unfolding out_of rsl_element_text
 handover_commanded_to_a_high_arfcn = refl
 
-link_asked_for : out_of 1 (establish_request (on_1 0x41)) ≡ to_station 1 (0x02 ∷ 0x04 ∷ 0x01 ∷ 0x41 ∷ 0x02 ∷ 0x03 ∷ [])
+link_asked_for : out_of 1 (establish_request (on_1 0x41)) ≡ to_station 1 (hex "02 04 01 41 02 03")
 unfolding out_of rsl_element_text
 link_asked_for = refl
 
-link_asked_for_on_a_tch : out_of 1 (establish_request (on_2 0x0a)) ≡ to_station 2 (0x02 ∷ 0x04 ∷ 0x01 ∷ 0x0a ∷ 0x02 ∷ 0x43 ∷ [])
+link_asked_for_on_a_tch : out_of 1 (establish_request (on_2 0x0a)) ≡ to_station 2 (hex "02 04 01 0a 02 43")
 unfolding out_of rsl_element_text
 link_asked_for_on_a_tch = refl
 
-channel_released : out_of 1 (rf_channel_release (on_1 0x41)) ≡ to_station 1 (0x08 ∷ 0x2e ∷ 0x01 ∷ 0x41 ∷ [])
+channel_released : out_of 1 (rf_channel_release (on_1 0x41)) ≡ to_station 1 (hex "08 2e 01 41")
 unfolding out_of rsl_element_text
 channel_released = refl
 
-channel_of_another_station_released : out_of 1 (rf_channel_release (on_2 0x0a)) ≡ to_station 2 (0x08 ∷ 0x2e ∷ 0x01 ∷ 0x0a ∷ [])
+channel_of_another_station_released : out_of 1 (rf_channel_release (on_2 0x0a)) ≡ to_station 2 (hex "08 2e 01 0a")
 unfolding out_of rsl_element_text
 channel_of_another_station_released = refl
 
 -- ---- to the switch
 
-message_relayed : out_of 1 (relaying 0x800001 (on_1 0x41) Zero (0x03 ∷ 0x45 ∷ [])) ≡ to_switch (0x06 ∷ 0x80 ∷ 0x00 ∷ 0x01 ∷ 0x00 ∷ 0x01 ∷ 0x05 ∷ 0x01 ∷ 0x00 ∷ 0x02 ∷ 0x03 ∷ 0x45 ∷ [])
+message_relayed : out_of 1 (relaying 0x800001 (on_1 0x41) Zero (hex "03 45")) ≡ to_switch (hex "06 80 00 01 00 01 05 01 00 02 03 45")
 unfolding out_of rsl_element_text
 message_relayed = refl
 
-message_relayed_of_a_tch : out_of 1 (relaying 0x800001 (on_1 0x0a) Zero (0x03 ∷ 0x45 ∷ [])) ≡ to_switch (0x06 ∷ 0x80 ∷ 0x00 ∷ 0x01 ∷ 0x00 ∷ 0x01 ∷ 0x05 ∷ 0x01 ∷ 0x00 ∷ 0x02 ∷ 0x03 ∷ 0x45 ∷ [])
+message_relayed_of_a_tch : out_of 1 (relaying 0x800001 (on_1 0x0a) Zero (hex "03 45"))
+    ≡ to_switch (hex "06 80 00 01 00 01 05 01 00 02 03 45")
 unfolding out_of rsl_element_text
 message_relayed_of_a_tch = refl
 
-short_message_relayed : out_of 1 (relaying 0x800001 (on_1 0x41) Three (0x09 ∷ 0x01 ∷ [])) ≡ to_switch (0x06 ∷ 0x80 ∷ 0x00 ∷ 0x01 ∷ 0x00 ∷ 0x01 ∷ 0x05 ∷ 0x01 ∷ 0x83 ∷ 0x02 ∷ 0x09 ∷ 0x01 ∷ [])
+short_message_relayed : out_of 1 (relaying 0x800001 (on_1 0x41) Three (hex "09 01")) ≡ to_switch (hex "06 80 00 01 00 01 05 01 83 02 09 01")
 unfolding out_of rsl_element_text
 short_message_relayed = refl
 
-short_message_relayed_of_a_tch : out_of 1 (relaying 0x0a0b0c (on_2 0x0a) Three (0x09 ∷ 0x01 ∷ [])) ≡ to_switch (0x06 ∷ 0x0a ∷ 0x0b ∷ 0x0c ∷ 0x00 ∷ 0x01 ∷ 0x05 ∷ 0x01 ∷ 0xc3 ∷ 0x02 ∷ 0x09 ∷ 0x01 ∷ [])
+short_message_relayed_of_a_tch : out_of 1 (relaying 0x0a0b0c (on_2 0x0a) Three (hex "09 01"))
+    ≡ to_switch (hex "06 0a 0b 0c 00 01 05 01 c3 02 09 01")
 unfolding out_of rsl_element_text
 short_message_relayed_of_a_tch = refl
 
 -- the last TCH/H, the first SDCCH
-dlcis : map (λ number. dlci_on number Three) (0x1f ∷ 0x20 ∷ []) ≡ 0xc3 ∷ 0x83 ∷ []
+dlcis : map (λ number. dlci_on number Three) (hex "1f 20") ≡ hex "c3 83"
 dlcis = refl
 
-connection_requested : out_of 1 (complete_layer3 (on_1 0x41) (0x05 ∷ 0x24 ∷ 0x71 ∷ [])) ≡ to_switch (0x01 ∷ 0x00 ∷ 0x00 ∷ 0x01 ∷ 0x02 ∷ 0x02 ∷ 0x04 ∷ 0x02 ∷ 0x42 ∷ 0xfe ∷ 0x0f ∷ 0x12 ∷ 0x00 ∷ 0x10 ∷ 0x57 ∷ 0x05 ∷ 0x08 ∷ 0x00 ∷ 0x00 ∷ 0xf1 ∷ 0x10 ∷ 0x00 ∷ 0x01 ∷ 0x00 ∷ 0x01 ∷ 0x17 ∷ 0x03 ∷ 0x05 ∷ 0x24 ∷ 0x71 ∷ 0x00 ∷ [])
+connection_requested : out_of 1 (complete_layer3 (on_1 0x41) (hex "05 24 71"))
+    ≡ to_switch (hex "01 00 00 01 02 02 04 02 42 fe 0f 12 00 10 57 05 08 00 00 f1 10 00 01 00 01 17 03 05 24 71 00")
 unfolding out_of rsl_element_text
 connection_requested = refl
 
-connection_requested_with_another_number : out_of 0x010203 (complete_layer3 (on_2 0x0a) (0x05 ∷ 0x24 ∷ [])) ≡ record { to = 0; conn = 0x010203; frame = record { stream = 0xfd; body = 0x01 ∷ 0x01 ∷ 0x02 ∷ 0x03 ∷ 0x02 ∷ 0x02 ∷ 0x04 ∷ 0x02 ∷ 0x42 ∷ 0xfe ∷ 0x0f ∷ 0x11 ∷ 0x00 ∷ 0x0f ∷ 0x57 ∷ 0x05 ∷ 0x08 ∷ 0x00 ∷ 0x00 ∷ 0xf1 ∷ 0x10 ∷ 0x00 ∷ 0x01 ∷ 0x00 ∷ 0x02 ∷ 0x17 ∷ 0x02 ∷ 0x05 ∷ 0x24 ∷ 0x00 ∷ [] } }
+connection_requested_with_another_number : out_of 0x010203 (complete_layer3 (on_2 0x0a) (hex "05 24"))
+    ≡ record { to = 0; conn = 0x010203; frame = record { stream = 0xfd; body = hex "01 01 02 03 02 02 04 02 42 fe 0f 11 00 0f 57 05 08 00 00 f1 10 00 01 00 02 17 02 05 24 00" } }
 unfolding out_of rsl_element_text
 connection_requested_with_another_number = refl
 
@@ -193,56 +208,62 @@ longest_initial_message : slice_index (out_of 1 (complete_layer3 (on_1 0x41) (re
 unfolding out_of rsl_element_text
 longest_initial_message = refl
 
-clearing_requested : out_of 1 (clear_request 0x800001 EQUIPMENT_FAILURE) ≡ to_switch (0x06 ∷ 0x80 ∷ 0x00 ∷ 0x01 ∷ 0x00 ∷ 0x01 ∷ 0x06 ∷ 0x00 ∷ 0x04 ∷ 0x22 ∷ 0x04 ∷ 0x01 ∷ 0x20 ∷ [])
+clearing_requested : out_of 1 (clear_request 0x800001 EQUIPMENT_FAILURE) ≡ to_switch (hex "06 80 00 01 00 01 06 00 04 22 04 01 20")
 unfolding out_of rsl_element_text
 clearing_requested = refl
 
-cleared : out_of 1 (clear_complete 0x800001) ≡ to_switch (0x06 ∷ 0x80 ∷ 0x00 ∷ 0x01 ∷ 0x00 ∷ 0x01 ∷ 0x03 ∷ 0x00 ∷ 0x01 ∷ 0x21 ∷ [])
+cleared : out_of 1 (clear_complete 0x800001) ≡ to_switch (hex "06 80 00 01 00 01 03 00 01 21")
 unfolding out_of rsl_element_text
 cleared = refl
 
-connection_released : out_of 1 (release_complete 0x800001) ≡ to_switch (0x05 ∷ 0x80 ∷ 0x00 ∷ 0x01 ∷ 0x00 ∷ 0x00 ∷ 0x01 ∷ [])
+connection_released : out_of 1 (release_complete 0x800001) ≡ to_switch (hex "05 80 00 01 00 00 01")
 unfolding out_of rsl_element_text
 connection_released = refl
 
-connection_with_another_number_released : out_of 0x010203 (release_complete 0x0a0b0c) ≡ record { to = 0; conn = 0x010203; frame = record { stream = 0xfd; body = 0x05 ∷ 0x0a ∷ 0x0b ∷ 0x0c ∷ 0x01 ∷ 0x02 ∷ 0x03 ∷ [] } }
+connection_with_another_number_released : out_of 0x010203 (release_complete 0x0a0b0c)
+    ≡ record { to = 0; conn = 0x010203; frame = record { stream = 0xfd; body = hex "05 0a 0b 0c 01 02 03" } }
 unfolding out_of rsl_element_text
 connection_with_another_number_released = refl
 
-assignment_refused : out_of 1 (assignment_failure 0x800001 PROTOCOL_ERROR None) ≡ to_switch (0x06 ∷ 0x80 ∷ 0x00 ∷ 0x01 ∷ 0x00 ∷ 0x01 ∷ 0x06 ∷ 0x00 ∷ 0x04 ∷ 0x03 ∷ 0x04 ∷ 0x01 ∷ 0x60 ∷ [])
+assignment_refused : out_of 1 (assignment_failure 0x800001 PROTOCOL_ERROR None) ≡ to_switch (hex "06 80 00 01 00 01 06 00 04 03 04 01 60")
 unfolding out_of rsl_element_text
 assignment_refused = refl
 
-assignment_without_a_channel : out_of 1 (assignment_failure 0x800001 NO_RADIO_RESOURCE None) ≡ to_switch (0x06 ∷ 0x80 ∷ 0x00 ∷ 0x01 ∷ 0x00 ∷ 0x01 ∷ 0x06 ∷ 0x00 ∷ 0x04 ∷ 0x03 ∷ 0x04 ∷ 0x01 ∷ 0x21 ∷ [])
+assignment_without_a_channel : out_of 1 (assignment_failure 0x800001 NO_RADIO_RESOURCE None)
+    ≡ to_switch (hex "06 80 00 01 00 01 06 00 04 03 04 01 21")
 unfolding out_of rsl_element_text
 assignment_without_a_channel = refl
 
-assignment_failed : out_of 1 (assignment_failure 0x800001 REVERSION_TO_OLD_CHANNEL (Some (record { 0 = 0x03 }))) ≡ to_switch (0x06 ∷ 0x80 ∷ 0x00 ∷ 0x01 ∷ 0x00 ∷ 0x01 ∷ 0x08 ∷ 0x00 ∷ 0x06 ∷ 0x03 ∷ 0x04 ∷ 0x01 ∷ 0x0a ∷ 0x15 ∷ 0x03 ∷ [])
+assignment_failed : out_of 1 (assignment_failure 0x800001 REVERSION_TO_OLD_CHANNEL (Some (record { 0 = 0x03 })))
+    ≡ to_switch (hex "06 80 00 01 00 01 08 00 06 03 04 01 0a 15 03")
 unfolding out_of rsl_element_text
 assignment_failed = refl
 
-assignment_completed : out_of 1 (change_complete 0x800001 Assignment (on_1 0x0a) 0x00) ≡ to_switch (0x06 ∷ 0x80 ∷ 0x00 ∷ 0x01 ∷ 0x00 ∷ 0x01 ∷ 0x05 ∷ 0x00 ∷ 0x03 ∷ 0x02 ∷ 0x15 ∷ 0x00 ∷ [])
+assignment_completed : out_of 1 (change_complete 0x800001 Assignment (on_1 0x0a) 0x00)
+    ≡ to_switch (hex "06 80 00 01 00 01 05 00 03 02 15 00")
 unfolding out_of rsl_element_text
 assignment_completed = refl
 
-assignment_completed_with_a_cause : out_of 1 (change_complete 0x800001 Assignment (on_1 0x0a) 0x6f) ≡ to_switch (0x06 ∷ 0x80 ∷ 0x00 ∷ 0x01 ∷ 0x00 ∷ 0x01 ∷ 0x05 ∷ 0x00 ∷ 0x03 ∷ 0x02 ∷ 0x15 ∷ 0x6f ∷ [])
+assignment_completed_with_a_cause : out_of 1 (change_complete 0x800001 Assignment (on_1 0x0a) 0x6f)
+    ≡ to_switch (hex "06 80 00 01 00 01 05 00 03 02 15 6f")
 unfolding out_of rsl_element_text
 assignment_completed_with_a_cause = refl
 
 -- the mobile's cause isn't passed on
-handover_completed : out_of 1 (change_complete 0x800001 Handover (on_2 0x41) 0x6f) ≡ to_switch (0x06 ∷ 0x80 ∷ 0x00 ∷ 0x01 ∷ 0x00 ∷ 0x01 ∷ 0x10 ∷ 0x00 ∷ 0x0e ∷ 0x17 ∷ 0x04 ∷ 0x01 ∷ 0x0c ∷ 0x05 ∷ 0x08 ∷ 0x00 ∷ 0x00 ∷ 0xf1 ∷ 0x10 ∷ 0x00 ∷ 0x01 ∷ 0x00 ∷ 0x02 ∷ [])
+handover_completed : out_of 1 (change_complete 0x800001 Handover (on_2 0x41) 0x6f)
+    ≡ to_switch (hex "06 80 00 01 00 01 10 00 0e 17 04 01 0c 05 08 00 00 f1 10 00 01 00 02")
 unfolding out_of rsl_element_text
 handover_completed = refl
 
-sapi_3_rejected : out_of 1 (sapi_3_reject 0x800001 (on_1 0x41)) ≡ to_switch (0x06 ∷ 0x80 ∷ 0x00 ∷ 0x01 ∷ 0x00 ∷ 0x01 ∷ 0x08 ∷ 0x00 ∷ 0x06 ∷ 0x25 ∷ 0x18 ∷ 0x83 ∷ 0x04 ∷ 0x01 ∷ 0x25 ∷ [])
+sapi_3_rejected : out_of 1 (sapi_3_reject 0x800001 (on_1 0x41)) ≡ to_switch (hex "06 80 00 01 00 01 08 00 06 25 18 83 04 01 25")
 unfolding out_of rsl_element_text
 sapi_3_rejected = refl
 
-sapi_3_rejected_on_a_tch : out_of 1 (sapi_3_reject 0x800001 (on_1 0x0a)) ≡ to_switch (0x06 ∷ 0x80 ∷ 0x00 ∷ 0x01 ∷ 0x00 ∷ 0x01 ∷ 0x08 ∷ 0x00 ∷ 0x06 ∷ 0x25 ∷ 0x18 ∷ 0xc3 ∷ 0x04 ∷ 0x01 ∷ 0x25 ∷ [])
+sapi_3_rejected_on_a_tch : out_of 1 (sapi_3_reject 0x800001 (on_1 0x0a)) ≡ to_switch (hex "06 80 00 01 00 01 08 00 06 25 18 c3 04 01 25")
 unfolding out_of rsl_element_text
 sapi_3_rejected_on_a_tch = refl
 
-ciphering_rejected : out_of 1 (cipher_mode_reject 0x800001) ≡ to_switch (0x06 ∷ 0x80 ∷ 0x00 ∷ 0x01 ∷ 0x00 ∷ 0x01 ∷ 0x06 ∷ 0x00 ∷ 0x04 ∷ 0x59 ∷ 0x04 ∷ 0x01 ∷ 0x40 ∷ [])
+ciphering_rejected : out_of 1 (cipher_mode_reject 0x800001) ≡ to_switch (hex "06 80 00 01 00 01 06 00 04 59 04 01 40")
 unfolding out_of rsl_element_text
 ciphering_rejected = refl
 
@@ -250,34 +271,36 @@ ciphering_rejected = refl
 
 -- a connection that is cleared during a handover
 frames_in_order : outs_of 1 (channel_release (on_1 0x41) NORMAL_EVENT ∷ rf_channel_release (on_1 0x41) ∷ rf_channel_release (on_2 0x41) ∷ clear_complete 0x800001 ∷ []) ≡
-    to_station 1 (0x03 ∷ 0x01 ∷ 0x01 ∷ 0x41 ∷ 0x02 ∷ 0x00 ∷ 0x0b ∷ 0x00 ∷ 0x03 ∷ 0x06 ∷ 0x0d ∷ 0x00 ∷ []) ∷ to_station 1 (0x08 ∷ 0x2e ∷ 0x01 ∷ 0x41 ∷ []) ∷ to_station 2 (0x08 ∷ 0x2e ∷ 0x01 ∷ 0x41 ∷ [])
-    ∷ to_switch (0x06 ∷ 0x80 ∷ 0x00 ∷ 0x01 ∷ 0x00 ∷ 0x01 ∷ 0x03 ∷ 0x00 ∷ 0x01 ∷ 0x21 ∷ []) ∷ []
+    to_station 1 (hex "03 01 01 41 02 00 0b 00 03 06 0d 00") ∷ to_station 1 (hex "08 2e 01 41") ∷ to_station 2 (hex "08 2e 01 41")
+    ∷ to_switch (hex "06 80 00 01 00 01 03 00 01 21") ∷ []
 unfolding out_of rsl_element_text
 frames_in_order = refl
 
 -- ---- the causes
 
-switch_causes : RADIO_INTERFACE_MESSAGE_FAILURE ∷ RADIO_INTERFACE_FAILURE ∷ REVERSION_TO_OLD_CHANNEL ∷ BETTER_CELL ∷ EQUIPMENT_FAILURE ∷ NO_RADIO_RESOURCE ∷ BSS_NOT_EQUIPPED ∷ CIPHERING_NOT_SUPPORTED ∷ PROTOCOL_ERROR ∷ [] ≡ 0x00 ∷ 0x01 ∷ 0x0a ∷ 0x0c ∷ 0x20 ∷ 0x21 ∷ 0x25 ∷ 0x40 ∷ 0x60 ∷ []
+switch_causes : RADIO_INTERFACE_MESSAGE_FAILURE ∷ RADIO_INTERFACE_FAILURE ∷ REVERSION_TO_OLD_CHANNEL ∷ BETTER_CELL
+    ∷ EQUIPMENT_FAILURE ∷ NO_RADIO_RESOURCE ∷ BSS_NOT_EQUIPPED ∷ CIPHERING_NOT_SUPPORTED ∷ PROTOCOL_ERROR ∷ []
+    ≡ hex "00 01 0a 0c 20 21 25 40 60"
 switch_causes = refl
 
-mobile_causes : NORMAL_EVENT ∷ ABNORMAL_RELEASE ∷ [] ≡ 0x00 ∷ 0x01 ∷ []
+mobile_causes : NORMAL_EVENT ∷ ABNORMAL_RELEASE ∷ [] ≡ hex "00 01"
 mobile_causes = refl
 
 -- ---- what the other end reads
 
-release_read : IsReadOf 1 (rf_channel_release (on_1 0x41)) (0x08 ∷ 0x2e ∷ 0x01 ∷ 0x41 ∷ [])
+release_read : IsReadOf 1 (rf_channel_release (on_1 0x41)) (hex "08 2e 01 41")
 unfolding rsl_reading rsl_message_at rsl_elements_of rsl_breaks_off rsl_type walk channel_only_at
 release_read = refl
 
-request_read : IsReadOf 0x010203 (complete_layer3 (on_2 0x0a) (0x05 ∷ 0x24 ∷ [])) (0x01 ∷ 0x01 ∷ 0x02 ∷ 0x03 ∷ 0x02 ∷ 0x02 ∷ 0x04 ∷ 0x02 ∷ 0x42 ∷ 0xfe ∷ 0x0f ∷ 0x11 ∷ 0x00 ∷ 0x0f ∷ 0x57 ∷ 0x05 ∷ 0x08 ∷ 0x00 ∷ 0x00 ∷ 0xf1 ∷ 0x10 ∷ 0x00 ∷ 0x01 ∷ 0x00 ∷ 0x02 ∷ 0x17 ∷ 0x02 ∷ 0x05 ∷ 0x24 ∷ 0x00 ∷ [])
+request_read : IsReadOf 0x010203 (complete_layer3 (on_2 0x0a) (hex "05 24")) (hex "01 01 02 03 02 02 04 02 42 fe 0f 11 00 0f 57 05 08 00 00 f1 10 00 01 00 02 17 02 05 24 00")
 unfolding sccp_reading octet_at sccp_type reference_at request_at part_at counted_at user_data_at data_in option_at bssap_reading management_at bssmap_type message_at elements_of breaks_off walk needed_value complete_layer3_at layer3_at
-request_read = (0x00 ∷ 0x0f ∷ 0x57 ∷ 0x05 ∷ 0x08 ∷ 0x00 ∷ 0x00 ∷ 0xf1 ∷ 0x10 ∷ 0x00 ∷ 0x01 ∷ 0x00 ∷ 0x02 ∷ 0x17 ∷ 0x02 ∷ 0x05 ∷ 0x24 ∷ [], refl, refl)
+request_read = (hex "00 0f 57 05 08 00 00 f1 10 00 01 00 02 17 02 05 24", refl, refl)
 
-data_read : IsReadOf 0x010203 (clear_request 0x800001 EQUIPMENT_FAILURE) (0x06 ∷ 0x80 ∷ 0x00 ∷ 0x01 ∷ 0x00 ∷ 0x01 ∷ 0x06 ∷ 0x00 ∷ 0x04 ∷ 0x22 ∷ 0x04 ∷ 0x01 ∷ 0x20 ∷ [])
+data_read : IsReadOf 0x010203 (clear_request 0x800001 EQUIPMENT_FAILURE) (hex "06 80 00 01 00 01 06 00 04 22 04 01 20")
 unfolding sccp_reading octet_at sccp_type reference_at data_form_at data_behind_at counted_at bssap_reading management_at bssmap_type message_at elements_of breaks_off walk needed_value cause_at part_at
-data_read = (0x00 ∷ 0x04 ∷ 0x22 ∷ 0x04 ∷ 0x01 ∷ 0x20 ∷ [], refl, refl)
+data_read = (hex "00 04 22 04 01 20", refl, refl)
 
-release_complete_read : IsReadOf 0x010203 (release_complete 0x0a0b0c) (0x05 ∷ 0x0a ∷ 0x0b ∷ 0x0c ∷ 0x01 ∷ 0x02 ∷ 0x03 ∷ [])
+release_complete_read : IsReadOf 0x010203 (release_complete 0x0a0b0c) (hex "05 0a 0b 0c 01 02 03")
 unfolding sccp_reading octet_at sccp_type reference_at references_at fixed_references_at
 release_complete_read = refl
 

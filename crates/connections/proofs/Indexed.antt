@@ -3,7 +3,7 @@ use Rattle.std.proofs.Common.{◌≡◌, ◌≢◌, ℕ, zero, suc, ◌==◌, �
 use Rattle.std.specs.Option.{option_to_list, option_and_then}
 use Rattle.std.specs.Map.{lookup, remove_entry}
 use Rattle.std.proofs.lemmas.Bool.{cases_Bool, eq-eqb, eqb-false, false_from_ne_true, false≢true, or_parts, or_left, or_right, or_from}
-use Rattle.controller_table.specs.Controller.{Entry, has_number, put_back, remaining}
+use Rattle.controller_model.specs.Controller.{Entry, has_number, put_back, remaining}
 use Rattle.connections.specs.Entries.{is_removed}
 use Rattle.connections.specs.Index.{at, listed, HasNumber, is_key, IsIndex, SameBut}
 

@@ -5,14 +5,14 @@ use Rattle.std.specs.Option.{is_some}
 use Rattle.conn_fsm.specs.Doing.{Steps, Commits, AreSound, outs_in}
 use Rattle.conn_messages.specs.declared.channel.Channel.{Channel}
 use Rattle.conn_messages.specs.declared.out.Out.{Out}
-use Rattle.conn_table.specs.declared.input.Input.{Input}
-use Rattle.conn_table.specs.Connection.{Connection, is_at}
-use Rattle.conn_table.specs.Steps.{Row}
-use Rattle.conn_table.specs.Streams.{OfRow}
-use Rattle.conn_table.specs.Table.{row_of}
-use Rattle.conn_table.proofs.Channels.{GoesWithin, all_within}
-use Rattle.controller_table.specs.Controller.{Entry, place_of}
-use Rattle.controller_table.specs.Life.{averages_after, new_averages}
+use Rattle.conn_rules.specs.declared.input.Input.{Input}
+use Rattle.conn_rules.specs.Connection.{Connection, is_at}
+use Rattle.conn_rules.specs.Steps.{Row}
+use Rattle.conn_rules.specs.Streams.{OfRow}
+use Rattle.conn_rules.specs.Table.{row_of}
+use Rattle.conn_rules.proofs.Channels.{GoesWithin, all_within}
+use Rattle.controller_model.specs.Controller.{Entry, place_of}
+use Rattle.controller_model.specs.Life.{averages_after, new_averages}
 use Rattle.ho_decision.specs.State.{State as Averages}
 use Rattle.settings.specs.Parameters.{Parameters, air_of, handover_settings_of}
 use Rattle.connections.specs.Entries.{IsKept, IsOfCell, IsOffer}

@@ -5,14 +5,14 @@ use Rattle.std.specs.Option.{ForSome}
 use Rattle.std.proofs.lemmas.Bool.{cases_Bool, ne_eqb}
 use Rattle.conn_messages.specs.declared.channel.Channel.{Channel}
 use Rattle.conn_messages.specs.declared.out.Out.{Out}
-use Rattle.conn_table.specs.declared.input.Input.{Input}
-use Rattle.conn_table.specs.declared.state.State.{State}
-use Rattle.conn_table.specs.declared.state.State.TheVariants.{WaitActivation, WaitEstablish, WaitConfirm, Live, Closed, Removed}
-use Rattle.conn_table.specs.Steps.{Row}
-use Rattle.conn_table.specs.Table.{row_of}
-use Rattle.controller_table.proofs.Entries.{Found, found as found_at, put_back_all}
-use Rattle.controller_table.specs.Controller.{Entry, has_number, put_back, remaining}
-use Rattle.controller_table.specs.Life.{aged, entry_after, new_entry, with_report}
+use Rattle.conn_rules.specs.declared.input.Input.{Input}
+use Rattle.conn_rules.specs.declared.state.State.{State}
+use Rattle.conn_rules.specs.declared.state.State.TheVariants.{WaitActivation, WaitEstablish, WaitConfirm, Live, Closed, Removed}
+use Rattle.conn_rules.specs.Steps.{Row}
+use Rattle.conn_rules.specs.Table.{row_of}
+use Rattle.controller_model.proofs.Entries.{Found, found as found_at, put_back_all}
+use Rattle.controller_model.specs.Controller.{Entry, has_number, put_back, remaining}
+use Rattle.controller_model.specs.Life.{aged, entry_after, new_entry, with_report}
 use Rattle.dtap_codec.specs.declared.report.Report.{Report}
 use Rattle.ho_decision.specs.Settings.{Settings as HandoverSettings}
 use Rattle.ho_decision.specs.State.{State as Averages}

@@ -4,14 +4,14 @@ use Rattle.conn_fsm.specs.PlanState.{PlanState}
 use Rattle.conn_messages.specs.declared.channel.Change.TheVariants.{Handover}
 use Rattle.conn_messages.specs.declared.channel.Channel.{Channel}
 use Rattle.conn_messages.specs.declared.out.Out.{Out}
-use Rattle.conn_table.specs.declared.input.Input.TheVariants as inputs
-use Rattle.conn_table.specs.declared.state.Stage.TheVariants.{Preparing}
-use Rattle.conn_table.specs.declared.state.State.TheVariants.{Live, Removed, WaitEstablish}
-use Rattle.conn_table.specs.Connection.{Connection, emptied}
-use Rattle.conn_table.specs.Steps.{row}
-use Rattle.controller_table.specs.Controller.{Entry, place_at}
-use Rattle.controller_table.specs.Life.{new_entry, pong}
-use Rattle.controller_table.proofs.OnLiterals.{on_literals}
+use Rattle.conn_rules.specs.declared.input.Input.TheVariants as inputs
+use Rattle.conn_rules.specs.declared.state.Stage.TheVariants.{Preparing}
+use Rattle.conn_rules.specs.declared.state.State.TheVariants.{Live, Removed, WaitEstablish}
+use Rattle.conn_rules.specs.Connection.{Connection, emptied}
+use Rattle.conn_rules.specs.Steps.{row}
+use Rattle.controller_model.specs.Controller.{Entry, place_at}
+use Rattle.controller_model.specs.Life.{new_entry, pong}
+use Rattle.controller_model.proofs.OnLiterals.{on_literals}
 use Rattle.dtap_codec.specs.declared.report.Report.{Report}
 use Rattle.ho_decision.specs.declared.decision.Decision.TheVariants.{Move, Stay}
 use Rattle.ho_decision.specs.Settings.{Settings as HandoverSettings}

@@ -7,13 +7,13 @@ use Rattle.std.proofs.lemmas.List.{get_or_past}
 use Rattle.conn_fsm.specs.Doing.{AreSound, outs_in}
 use Rattle.conn_messages.specs.declared.channel.Channel.{Channel}
 use Rattle.conn_messages.specs.declared.out.Out.{Out}
-use Rattle.conn_table.specs.declared.input.Input.{Input}
-use Rattle.conn_table.specs.declared.state.State.{State}
-use Rattle.conn_table.specs.declared.state.State.TheVariants.{WaitActivation, WaitEstablish, WaitConfirm, Live, Closed, Removed}
-use Rattle.conn_table.specs.Steps.{Row}
-use Rattle.conn_table.specs.Table.{row_of}
-use Rattle.controller_table.specs.Controller.{Entry, has_number, put_back, remaining}
-use Rattle.controller_table.specs.Life.{aged, with_report}
+use Rattle.conn_rules.specs.declared.input.Input.{Input}
+use Rattle.conn_rules.specs.declared.state.State.{State}
+use Rattle.conn_rules.specs.declared.state.State.TheVariants.{WaitActivation, WaitEstablish, WaitConfirm, Live, Closed, Removed}
+use Rattle.conn_rules.specs.Steps.{Row}
+use Rattle.conn_rules.specs.Table.{row_of}
+use Rattle.controller_model.specs.Controller.{Entry, has_number, put_back, remaining}
+use Rattle.controller_model.specs.Life.{aged, with_report}
 use Rattle.dtap_codec.specs.declared.report.Report.{Report}
 use Rattle.indexmap.specs.IndexMap.{insert_entry}
 use Rattle.settings.specs.Parameters.{Parameters}

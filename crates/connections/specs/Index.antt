@@ -2,7 +2,7 @@
 use Rattle.std.specs.Prelude.{◌≡◌, ◌≢◌, ℕ, ◌==◌, ◌||◌, Bool, true, false, List, [], ◌∷◌, ◌++◌, slice_index_or, Option, Some, None}
 use Rattle.std.specs.Option.{option_to_list}
 use Rattle.std.specs.Map.{remove_entry}
-use Rattle.controller_table.specs.Controller.{Entry}
+use Rattle.controller_model.specs.Controller.{Entry}
 use Rattle.connections.specs.Entries.{is_removed}
 
 -- what has a key

@@ -5,11 +5,11 @@ use Rattle.conn_fsm.specs.Doing.{IsAsPlanned, outs_in, AreSound}
 use Rattle.conn_fsm.specs.PlanState.{PlanState}
 use Rattle.conn_messages.specs.declared.channel.Channel.{Channel}
 use Rattle.conn_messages.specs.declared.out.Out.{Out}
-use Rattle.conn_table.specs.declared.input.Input.{Input}
-use Rattle.conn_table.specs.Steps.{Row}
-use Rattle.conn_table.specs.Table.{row_of}
-use Rattle.controller_table.specs.Controller.{Entry, put_back}
-use Rattle.controller_table.specs.Life.{entry_after, with_report}
+use Rattle.conn_rules.specs.declared.input.Input.{Input}
+use Rattle.conn_rules.specs.Steps.{Row}
+use Rattle.conn_rules.specs.Table.{row_of}
+use Rattle.controller_model.specs.Controller.{Entry, put_back}
+use Rattle.controller_model.specs.Life.{entry_after, with_report}
 use Rattle.dtap_codec.specs.declared.report.Report.{Report}
 use Rattle.settings.specs.Parameters.{Parameters}
 

@@ -1,9 +1,9 @@
 ghost use Rattle.std.specs.Prelude.{◌≡◌, ◌<◌, ◌^◌, ◌↔◌, [], ◌∷◌, ◌++◌, IsTrue, IfOk, OnOk, OnErr, find, length, map, slice_get};
 ghost use Rattle.std.specs.List.{AllByRecursion};
 ghost use Rattle.std.specs.Option.{ForSome, option_copied};
-ghost use Rattle.conn_table.specs.Standing.{IsCarried};
-ghost use Rattle.controller_table.specs.Controller.{has_number};
-ghost use Rattle.controller_table.specs.Life.{aged, new_entry};
+ghost use Rattle.conn_rules.specs.Standing.{IsCarried};
+ghost use Rattle.controller_model.specs.Controller.{has_number};
+ghost use Rattle.controller_model.specs.Life.{aged, new_entry};
 ghost use Rattle.connections.specs.Entries.{AreKept, IsBelow, IsKept, IsOfCell, IsOffer, decision_with};
 ghost use Rattle.connections.specs.Steps.{CommitsFor, IsLeft, IsPlanFor, StepsFor, all_with_report};
 

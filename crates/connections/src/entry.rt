@@ -1,15 +1,15 @@
 ghost use Rattle.std.specs.Prelude.{◌≡◌, ◌<◌, ◌^◌, ◌++◌, None, IfOk, OnOk, OnErr, length};
 ghost use Rattle.std.specs.Option.{is_some};
 ghost use Rattle.conn_fsm.specs.Doing.{AreSound, IsAsPlanned, outs_in};
-ghost use Rattle.conn_table.specs.Standing.{IsCarried};
-ghost use Rattle.conn_table.specs.Table.{row_of};
-ghost use Rattle.controller_table.specs.Life.{aged, averages_after, new_entry, with_report};
+ghost use Rattle.conn_rules.specs.Standing.{IsCarried};
+ghost use Rattle.conn_rules.specs.Table.{row_of};
+ghost use Rattle.controller_model.specs.Life.{aged, averages_after, new_entry, with_report};
 ghost use Rattle.connections.specs.Entries.{IsKept, IsOfCell, IsOffer, decision_over_all, is_removed};
 ghost use Rattle.connections.specs.Steps.{after_row};
 
 use crate::cells::Cells;
 use conn_fsm::{Channel, Conn, Input, Outputs, Plan};
-use conn_table::State;
+use conn_rules::State;
 use dtap_codec::Report;
 use ho_decision::{Averages, Decision};
 use octets::Memory;
@@ -25,7 +25,7 @@ pub struct Entry {
 }
 
 impl Model for Entry {
-    ghost use Rattle.controller_table.specs.Controller.{Entry as EntryState};
+    ghost use Rattle.controller_model.specs.Controller.{Entry as EntryState};
 
     ghost Value = { EntryState };
 
@@ -138,7 +138,7 @@ impl Entry {
     }
 
     /// What is decided over the reports once this one is added with its number. Nothing changes.
-    #[tactic(auto, using(controller_table::proofs::Decides::decision_is))]
+    #[tactic(auto, using(controller_model::proofs::Decides::decision_is))]
     pub(crate) fn decide_with(
         &self,
         alloc: Global,

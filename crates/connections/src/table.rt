@@ -1,8 +1,8 @@
 ghost use Rattle.std.specs.Prelude.{◌≡◌, ◌∷◌, [], ◌++◌, IfOk, OnOk, OnErr, None, false, find, length, map, slice_get};
 ghost use Rattle.std.specs.Option.{ForSome, option_copied};
-ghost use Rattle.conn_table.specs.Standing.{IsCarried};
-ghost use Rattle.controller_table.specs.Controller.{has_number};
-ghost use Rattle.controller_table.specs.Life.{aged};
+ghost use Rattle.conn_rules.specs.Standing.{IsCarried};
+ghost use Rattle.controller_model.specs.Controller.{has_number};
+ghost use Rattle.controller_model.specs.Life.{aged};
 ghost use Rattle.connections.specs.Entries.{IsKept, IsOffer, is_removed};
 ghost use Rattle.connections.specs.Steps.{CommitsFor, IsLeft, IsPlanFor, StepsFor, all_with_report};
 
@@ -27,7 +27,7 @@ pub(crate) struct Table {
 
 impl Model for Table {
     ghost use Rattle.std.specs.Prelude.{List};
-    ghost use Rattle.controller_table.specs.Controller.{Entry as EntryState};
+    ghost use Rattle.controller_model.specs.Controller.{Entry as EntryState};
     ghost use Rattle.connections.specs.Index.{listed, IsIndex};
 
     ghost Value = { List EntryState };

@@ -1,17 +1,17 @@
 -- Planned steps, one after the other: what is left is ready, has room, and makes the same.
-use Rattle.std.proofs.Common.{◌≡◌, ◌≢◌, ℕ, ◌+◌, ◌≤◌, Bool, if◌then◌else◌, List, ◌∷◌, ◌++◌, find, map, sum_by, refl, sym, subst, ap, ◌∙◌, arith, append_assoc}
-use Rattle.std.proofs.lemmas.Bool.{eq-eqb, ne_eqb}
+use Rattle.controller.proofs.Prelude.{◌≡◌, ◌≢◌, ℕ, ◌+◌, ◌≤◌, Bool, List, ◌∷◌, ◌++◌, find, map, refl, sym, subst, ap, ◌∙◌, arith, eq-eqb}
+use Rattle.controller.proofs.Prelude.{Out, AreRising, Controller, Turn, turn, each, has_number, aged, all_aged}
+use Rattle.std.proofs.Common.{if◌then◌else◌, sum_by, append_assoc}
+use Rattle.std.proofs.lemmas.Bool.{ne_eqb}
 use Rattle.std.proofs.lemmas.List.Sums.{sum_by-cons}
-use Rattle.conn_messages.specs.declared.out.Out.{Out}
 use Rattle.conn_messages.specs.declared.parameters.TheConstants.{SWITCH_LINK}
-use Rattle.connections.specs.Entries.{AreRising}
 use Rattle.controller.specs.declared.many.Cause.TheVariants.{Time, Break}
 use Rattle.controller.specs.Doing.{Turns}
 use Rattle.controller.specs.Many.{AreReady, Due, PlannedState, all_due, carried_out, frames_of, planned_for}
 use Rattle.controller.proofs.Dues.{break_dues, break_ready, still_ready, time_dues, time_ready}
-use Rattle.controller_table.specs.Controller.{Controller, Turn, turn, each, freed_station, has_number, with_down}
-use Rattle.controller_table.specs.Life.{aged, all_aged, break_of, on_break, tick, told}
-use Rattle.controller_table.proofs.Others.{found_leaves}
+use Rattle.controller_model.specs.Controller.{freed_station, with_down}
+use Rattle.controller_model.specs.Life.{break_of, on_break, tick, told}
+use Rattle.controller_model.proofs.Others.{found_leaves}
 
 -- ---- a loop over planned steps, which make this controller and these frames in the end
 

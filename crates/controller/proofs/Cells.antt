@@ -1,18 +1,16 @@
 -- Channels that are given or offered are those of cells.
-use Rattle.std.proofs.Common.{◌≡◌, ℕ, ◌-◌, ◌≤◌, ◌<◌, List, length, slice_get, Option, Some, None, option_map, refl, rules}
+use Rattle.controller.proofs.Prelude.{◌≡◌, ℕ, ◌≤◌, ◌<◌, List, length, slice_get, Option, Some, None, refl, rules, Input, Row, ChannelState}
+use Rattle.controller.proofs.Prelude.{Entry, Parameters}
+use Rattle.std.proofs.Common.{◌-◌, option_map}
 use Rattle.std.specs.Option.{option_and_then}
 use Rattle.std.proofs.lemmas.Option.{slice_get_within}
-use Rattle.conn_table.specs.declared.input.Input.{Input}
-use Rattle.conn_table.specs.Steps.{Row}
-use Rattle.conn_table.specs.Table.{row_of, serving_after}
+use Rattle.conn_rules.specs.Table.{row_of, serving_after}
 use Rattle.connections.specs.Entries.{IsKept, IsOfCell, IsOffer, IsStation}
 use Rattle.connections.specs.Steps.{after_row}
 use Rattle.connections.proofs.Kept.{kept_after}
-use Rattle.controller_table.specs.declared.channel_kind.ChannelKind.{ChannelKind}
-use Rattle.controller_table.specs.declared.channel_state.ChannelState.{ChannelState}
-use Rattle.controller_table.specs.Channels.{channel_in, channel_of_kind, free_channel, free_in}
-use Rattle.controller_table.specs.Controller.{Entry}
-use Rattle.settings.specs.Parameters.{Parameters, CellParameters}
+use Rattle.controller_model.specs.declared.channel_kind.ChannelKind.{ChannelKind}
+use Rattle.controller_model.specs.Channels.{channel_in, channel_of_kind, free_channel, free_in}
+use Rattle.settings.specs.Parameters.{CellParameters}
 
 given_in : (p : Parameters) (station reference : ℕ) (cell : CellParameters) (number : Option ℕ) → IsStation p station → IsOffer p (option_map (channel_in p station reference cell) number)
 given_in p station reference cell None is = tt

@@ -1,18 +1,15 @@
 -- What concerns a connection: whether a row fits, and with which offer.
-use Rattle.std.proofs.Common.{◌≡◌, Bool, true, false, [], Option, Some, None, refl, ap}
+use Rattle.controller.proofs.Prelude.{◌≡◌, Bool, true, false, [], Option, Some, None, refl, ap, Channel, Input, State, WaitActivation}
+use Rattle.controller.proofs.Prelude.{WaitEstablish, WaitConfirm, Live, Closed, Removed, Connection, Row, Controller, Entry, Turn, turn}
+use Rattle.controller.proofs.Prelude.{by_fitting, concerning_too}
 use Rattle.std.specs.Option.{is_some}
-use Rattle.conn_messages.specs.declared.channel.Channel.{Channel}
 use Rattle.conn_messages.specs.declared.channel.Place.{Place}
-use Rattle.conn_table.specs.declared.input.Input.{Input}
-use Rattle.conn_table.specs.declared.input.Input.TheVariants as inputs
-use Rattle.conn_table.specs.declared.state.Stage.TheVariants.{Active, Preparing, Changing, Draining}
-use Rattle.conn_table.specs.declared.state.State.{State}
-use Rattle.conn_table.specs.declared.state.State.TheVariants.{WaitActivation, WaitEstablish, WaitConfirm, Live, Closed, Removed}
-use Rattle.conn_table.specs.Connection.{Connection, is_at}
-use Rattle.conn_table.specs.Steps.{Row}
-use Rattle.conn_table.specs.Table.{on_activation_nack, row_if, row_of}
-use Rattle.controller_table.specs.Controller.{Controller, Entry, Turn, turn, ignoring}
-use Rattle.controller_table.specs.Life.{by_fitting, concerning, concerning_too, row_in}
+use Rattle.conn_rules.specs.declared.input.Input.TheVariants as inputs
+use Rattle.conn_rules.specs.declared.state.Stage.TheVariants.{Active, Preparing, Changing, Draining}
+use Rattle.conn_rules.specs.Connection.{is_at}
+use Rattle.conn_rules.specs.Table.{on_activation_nack, row_if, row_of}
+use Rattle.controller_model.specs.Controller.{ignoring}
+use Rattle.controller_model.specs.Life.{concerning, row_in}
 use Rattle.controller.specs.Doing.{by_offer, fits_in, fits_with}
 use Rattle.controller.specs.Offers.{awaits}
 

@@ -1,23 +1,19 @@
 -- What comes to all connections, step by step: each step is that of the connection as it is then, since the others left it.
-use Rattle.std.proofs.Common.{◌≡◌, ◌≢◌, ℕ, cond, List, [], ◌∷◌, ◌++◌, find, map, Option, Some, None, refl, sym, subst, ap, ◌∙◌, arith}
+use Rattle.controller.proofs.Prelude.{◌≡◌, ◌≢◌, ℕ, cond, List, [], ◌∷◌, ◌++◌, find, map, Option, Some, None, refl, sym, subst, ap, ◌∙◌}
+use Rattle.controller.proofs.Prelude.{arith, eq-eqb, AllByRecursion, Input, Connection, Row, AreRising, Controller, Entry, Turn, turn, each}
+use Rattle.controller.proofs.Prelude.{has_number, entry_of, aged, all_aged, by_fitting, concerning_too, Parameters}
 use Rattle.std.proofs.lemmas.List.{map-id}
-use Rattle.std.proofs.lemmas.Bool.{eq-eqb, ne_eqb}
-use Rattle.std.specs.List.{AllByRecursion}
+use Rattle.std.proofs.lemmas.Bool.{ne_eqb}
 use Rattle.conn_fsm.specs.Doing.{IsAsPlanned, IsPlanned}
-use Rattle.conn_table.specs.declared.input.Input.{Input}
-use Rattle.conn_table.specs.declared.input.Input.TheVariants as inputs
-use Rattle.conn_table.specs.Connection.{Connection}
-use Rattle.conn_table.specs.Steps.{Row}
-use Rattle.conn_table.specs.Table.{row_of}
-use Rattle.conn_table.specs.Timers.{after_pass}
-use Rattle.connections.specs.Entries.{AreRising, IsAbove}
+use Rattle.conn_rules.specs.declared.input.Input.TheVariants as inputs
+use Rattle.conn_rules.specs.Table.{row_of}
+use Rattle.conn_rules.specs.Timers.{after_pass}
+use Rattle.connections.specs.Entries.{IsAbove}
 use Rattle.controller.specs.declared.many.Cause.{Cause}
 use Rattle.controller.specs.declared.many.Cause.TheVariants.{Time, Break}
 use Rattle.controller.specs.Many.{Due, due, due_with, all_due, carried_out, IsReadyFor, AreReady}
-use Rattle.controller_table.specs.Controller.{Controller, Entry, Turn, turn, each, has_number, entry_of}
-use Rattle.controller_table.specs.Life.{aged, all_aged, break_of, by_fitting, concerning_too, expiry, on_expiry, row_in, timed, told}
-use Rattle.controller_table.proofs.Others.{told_leaves}
-use Rattle.settings.specs.Parameters.{Parameters}
+use Rattle.controller_model.specs.Life.{break_of, expiry, on_expiry, row_in, timed, told}
+use Rattle.controller_model.proofs.Others.{told_leaves}
 use Rattle.settings.specs.declared.timers.Timers.{Timers}
 
 -- ---- an expiry, or a link that broke, begins no change

@@ -1,9 +1,9 @@
 -- A channel that was freed for a step is as it was before, once its state is put back.
-use Rattle.std.proofs.Common.{◌≡◌, ℕ, zero, suc, List, [], ◌∷◌, set, slice_index_or, refl, ap}
+use Rattle.controller.proofs.Prelude.{◌≡◌, ℕ, List, [], ◌∷◌, refl, ap, ChannelState}
+use Rattle.std.proofs.Common.{zero, suc, set, slice_index_or}
 use Rattle.conn_messages.specs.declared.channel.Place.{Place}
-use Rattle.controller_table.specs.declared.channel_state.ChannelState.{ChannelState}
-use Rattle.controller_table.specs.declared.channel_state.ChannelState.TheVariants.{Free}
-use Rattle.controller_table.specs.Controller.{state_in, with_state}
+use Rattle.controller_model.specs.declared.channel_state.ChannelState.TheVariants.{Free}
+use Rattle.controller_model.specs.Controller.{state_in, with_state}
 
 set_back : {X : Type 0} (xs : List X) (i : ℕ) (x d : X) → set (set xs i x) i (slice_index_or xs i d) ≡ xs
 set_back [] i x d = refl

@@ -1,5 +1,5 @@
 -- What is held of all tenures, one behind the other.
-use Rattle.std.proofs.Common.{◌≡◌, List, [], ◌∷◌, ◌++◌, refl, ap}
+use Rattle.controller.proofs.Prelude.{◌≡◌, List, [], ◌∷◌, ◌++◌, refl, ap}
 use Rattle.std.specs.List.{flat_map}
 use Rattle.conn_fsm.specs.Views.{joined}
 use Rattle.dtap_codec.specs.declared.sapi.Sapi.{Sapi}

@@ -1,10 +1,7 @@
 -- The offer matters to the rows with which, or after which, a change may begin; to no other.
-use Rattle.std.proofs.Common.{◌≡◌, false, Option, None, refl}
-use Rattle.conn_messages.specs.declared.channel.Channel.{Channel}
-use Rattle.conn_table.specs.declared.input.Input.{Input}
-use Rattle.conn_table.specs.declared.input.Input.TheVariants as inputs
-use Rattle.conn_table.specs.Connection.{Connection}
-use Rattle.conn_table.specs.Table.{row_of}
+use Rattle.controller.proofs.Prelude.{◌≡◌, false, Option, None, refl, Channel, Input, Connection}
+use Rattle.conn_rules.specs.declared.input.Input.TheVariants as inputs
+use Rattle.conn_rules.specs.Table.{row_of}
 use Rattle.controller.specs.Offers.{may_begin}
 
 pub needs_no_offer : (s : Connection) (input : Input) (offer : Option Channel) → may_begin input ≡ false → row_of s input offer ≡ row_of s input None

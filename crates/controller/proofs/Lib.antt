@@ -1,3 +1,4 @@
+mod Prelude
 pub mod Carrying
 mod Cells
 mod Concerning

@@ -1,26 +1,23 @@
 -- The laws of a life hold of what is what it is.
-use Rattle.std.proofs.Common.{◌≡◌, ℕ, ◌≤◌, List, Result, Ok, Err, IfOk, sym, subst, ap, ◌∙◌}
-use Rattle.conn_messages.specs.declared.out.Out.{Out}
-use Rattle.controller_laws.specs.Downlink.{DownlinkIsConserved}
-use Rattle.controller_laws.specs.End.{SilenceIsKept}
-use Rattle.controller_laws.specs.Handing.{HandsInPlace}
-use Rattle.controller_laws.specs.History.{connection_of}
-use Rattle.controller_laws.specs.Owning.{OwnsOpen}
-use Rattle.controller_laws.specs.Uplink.{UplinkIsConserved}
-use Rattle.controller_laws.proofs.DownlinkLaw.{life_conserves}
-use Rattle.controller_laws.proofs.OwningLife.{life_owns}
-use Rattle.controller_laws.proofs.HandingLife.{life_hands}
-use Rattle.controller_laws.proofs.SilenceLife.{life_is_silent}
-use Rattle.controller_laws.proofs.SoundLife.{life_sends_all}
-use Rattle.controller_laws.proofs.UplinkLife.{life_conserves_up}
-use Rattle.controller_laws.proofs.UsingLife.{life_uses}
-use Rattle.controller_laws.specs.Sending.{ComesInOctets, IsSent}
-use Rattle.controller_laws.specs.Using.{AreUsed}
-use Rattle.std.specs.List.{AllByRecursion}
-use Rattle.controller_table.specs.declared.step.Step.{Step}
-use Rattle.controller_table.specs.Controller.{Controller, turn}
-use Rattle.controller_table.specs.Life.{life}
-use Rattle.settings.specs.Parameters.{AreAllowed, Parameters}
+use Rattle.controller.proofs.Prelude.{◌≡◌, ℕ, ◌≤◌, List, sym, subst, ap, ◌∙◌, Out, AllByRecursion, Step, Controller, turn, Parameters}
+use Rattle.std.proofs.Common.{Result, Ok, Err, IfOk}
+use Rattle.controller_model.specs.LifeLaws.Downlink.{DownlinkIsConserved}
+use Rattle.controller_model.specs.LifeLaws.End.{SilenceIsKept}
+use Rattle.controller_model.specs.LifeLaws.Handing.{HandsInPlace}
+use Rattle.controller_model.specs.LifeLaws.History.{connection_of}
+use Rattle.controller_model.specs.LifeLaws.Owning.{OwnsOpen}
+use Rattle.controller_model.specs.LifeLaws.Uplink.{UplinkIsConserved}
+use Rattle.controller_model.proofs.LifeLaws.DownlinkLaw.{life_conserves}
+use Rattle.controller_model.proofs.LifeLaws.OwningLife.{life_owns}
+use Rattle.controller_model.proofs.LifeLaws.HandingLife.{life_hands}
+use Rattle.controller_model.proofs.LifeLaws.SilenceLife.{life_is_silent}
+use Rattle.controller_model.proofs.LifeLaws.SoundLife.{life_sends_all}
+use Rattle.controller_model.proofs.LifeLaws.UplinkLife.{life_conserves_up}
+use Rattle.controller_model.proofs.LifeLaws.UsingLife.{life_uses}
+use Rattle.controller_model.specs.LifeLaws.Sending.{ComesInOctets, IsSent}
+use Rattle.controller_model.specs.LifeLaws.Using.{AreUsed}
+use Rattle.controller_model.specs.Life.{life}
+use Rattle.settings.specs.Parameters.{AreAllowed}
 
 -- what follows from what an answer is
 pub if_so : {A E : Type 0} (P Q : A → Type 0) (r : Result A E) → ((x : A) → P x → Q x) → IfOk r P → IfOk r Q

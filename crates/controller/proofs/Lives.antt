@@ -1,10 +1,7 @@
 -- A life, step by step: what is left of the steps makes the rest of it.
-use Rattle.std.proofs.Common.{◌≡◌, List, ◌∷◌, ◌++◌, ap, ◌∙◌}
+use Rattle.controller.proofs.Prelude.{◌≡◌, List, ◌∷◌, ◌++◌, ap, ◌∙◌, Out, Step, Controller, Turn, each}
 use Rattle.std.proofs.lemmas.List.{append_assoc}
-use Rattle.conn_messages.specs.declared.out.Out.{Out}
-use Rattle.controller_table.specs.declared.step.Step.{Step}
-use Rattle.controller_table.specs.Controller.{Controller, Turn, each}
-use Rattle.controller_table.specs.Life as words
+use Rattle.controller_model.specs.Life as words
 use Rattle.controller.specs.Doing.{Turns}
 
 -- the steps that are left end as all do

@@ -1,21 +1,20 @@
 -- A report that is added behind the row that it decides for.
-use Rattle.std.proofs.Common.{◌≡◌, ℕ, true, cond, List, [], ◌∷◌, ◌++◌, find, IsSome, Option, Some, None, sym, ap, ◌∙◌}
-use Rattle.conn_table.specs.declared.input.Input.TheVariants as inputs
-use Rattle.conn_table.specs.Steps.{Row}
-use Rattle.conn_table.specs.Streams.{OfRow}
-use Rattle.conn_table.specs.Table.{row_of}
-use Rattle.std.specs.List.{AllByRecursion}
-use Rattle.connections.specs.Entries.{IsBelow, decision_with}
+use Rattle.controller.proofs.Prelude.{◌≡◌, ℕ, true, cond, List, [], ◌∷◌, ◌++◌, find, Option, Some, None, sym, ap, ◌∙◌, Row, OfRow}
+use Rattle.controller.proofs.Prelude.{AllByRecursion, IsBelow, Controller, Entry, Turn, turn, entry_of, has_number, put_back, by_fitting}
+use Rattle.controller.proofs.Prelude.{entry_after, Report}
+use Rattle.std.proofs.Common.{IsSome}
+use Rattle.conn_rules.specs.declared.input.Input.TheVariants as inputs
+use Rattle.conn_rules.specs.Table.{row_of}
+use Rattle.connections.specs.Entries.{decision_with}
 use Rattle.connections.specs.Steps.{all_with_report}
-use Rattle.controller_table.specs.Channels.{handover_offer}
-use Rattle.controller_table.specs.Controller.{Controller, Entry, Turn, turn, entry_of, has_number, put_back, with_entry}
-use Rattle.controller_table.specs.Life.{by_fitting, by_row, entry_after, measured, on_decision, with_report}
-use Rattle.controller_table.specs.Reports.{decision_over}
+use Rattle.controller_model.specs.Channels.{handover_offer}
+use Rattle.controller_model.specs.Controller.{with_entry}
+use Rattle.controller_model.specs.Life.{by_row, measured, on_decision, with_report}
+use Rattle.controller_model.specs.Reports.{decision_over}
 use Rattle.controller.specs.Reporting.{decided_in, measured_in}
 use Rattle.controller.proofs.Moves.{Goes, goes_on}
-use Rattle.controller_table.proofs.Entries.{FoundIn, NumberOf, found_in, put_back_all}
+use Rattle.controller_model.proofs.Entries.{FoundIn, NumberOf, found_in, put_back_all}
 use Rattle.controller.proofs.Reporting.{found_again, report_behind_row}
-use Rattle.dtap_codec.specs.declared.report.Report.{Report}
 use Rattle.ho_decision.specs.declared.decision.Decision.{Decision}
 use Rattle.ho_decision.specs.declared.decision.Decision.TheVariants.{Stay, Move}
 use Rattle.ho_decision.specs.declared.settings.TheConstants.{MAX_WINDOW}

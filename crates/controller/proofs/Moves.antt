@@ -1,18 +1,13 @@
 -- A move goes to a cell with a number, and the same channel serves.
-use Rattle.std.proofs.Common.{◌≡◌, ◌≢◌, ℕ, Bool, true, false, List, [], ◌∷◌, Option, Some, None, refl, rules}
-use Rattle.conn_messages.specs.declared.channel.Channel.{Channel}
+use Rattle.controller.proofs.Prelude.{◌≡◌, ◌≢◌, ℕ, Bool, true, false, List, [], ◌∷◌, Option, Some, None, refl, rules, Channel, State}
+use Rattle.controller.proofs.Prelude.{WaitActivation, WaitEstablish, WaitConfirm, Live, Closed, Removed, Connection, Row, OfRow, Report}
 use Rattle.conn_messages.specs.declared.channel.Change.TheVariants.{Handover}
-use Rattle.conn_table.specs.declared.input.Input.TheVariants as inputs
-use Rattle.conn_table.specs.declared.state.State.{State}
-use Rattle.conn_table.specs.declared.state.State.TheVariants.{WaitActivation, WaitEstablish, WaitConfirm, Live, Closed, Removed}
-use Rattle.conn_table.specs.Connection.{Connection}
-use Rattle.conn_table.specs.declared.state.Stage.{Stage}
-use Rattle.conn_table.specs.Steps.{Row, begin, may_begin}
-use Rattle.conn_table.specs.Streams.{OfRow}
-use Rattle.conn_table.specs.Table.{on_move, row_if, row_of}
-use Rattle.controller_table.specs.Reports.{best, decision_over, decision_where, moving_to}
+use Rattle.conn_rules.specs.declared.input.Input.TheVariants as inputs
+use Rattle.conn_rules.specs.declared.state.Stage.{Stage}
+use Rattle.conn_rules.specs.Steps.{begin, may_begin}
+use Rattle.conn_rules.specs.Table.{on_move, row_if, row_of}
+use Rattle.controller_model.specs.Reports.{best, decision_over, decision_where, moving_to}
 use Rattle.controller.specs.Offers.{HasCell}
-use Rattle.dtap_codec.specs.declared.report.Report.{Report}
 use Rattle.ho_decision.specs.Decision.{is_due}
 use Rattle.ho_decision.specs.Settings.{Settings}
 

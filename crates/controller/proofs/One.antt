@@ -1,26 +1,21 @@
 -- A step that was planned, of the connection with its number.
-use Rattle.std.proofs.Common.{◌≡◌, ℕ, ◌<◌, if◌then◌else◌, List, [], ◌∷◌, ◌++◌, length, map, Option, Some, None, refl, sym, subst, ap, ◌∙◌, inl, inr, arith, eqb-true}
-use Rattle.std.specs.List.{AllByRecursion}
+use Rattle.controller.proofs.Prelude.{◌≡◌, ℕ, ◌<◌, List, [], ◌∷◌, ◌++◌, length, map, Option, Some, None, refl, sym, subst, ap, ◌∙◌, inl}
+use Rattle.controller.proofs.Prelude.{inr, arith, AllByRecursion, Out, IsSound, outs_of, Input, Row, IsBelow, Controller, Entry, turn}
+use Rattle.controller.proofs.Prelude.{has_number, entry_of, put_back, aged, by_fitting, concerning_too, entry_after, Parameters}
+use Rattle.std.proofs.Common.{if◌then◌else◌, eqb-true}
 use Rattle.std.proofs.lemmas.Bool.{cases_Bool}
 use Rattle.conn_fsm.specs.Doing.{IsPlanned}
 use Rattle.conn_fsm.specs.PlanState.{PlanState}
 use Rattle.conn_fsm.proofs.Later.{outs_later}
 use Rattle.conn_messages.specs.declared.message.Message.{Message}
-use Rattle.conn_messages.specs.declared.out.Out.{Out}
-use Rattle.conn_messages.specs.Out.{IsSound, outs_of}
-use Rattle.conn_table.specs.declared.input.Input.{Input}
-use Rattle.conn_table.specs.Steps.{Row}
-use Rattle.conn_table.specs.Table.{row_of}
-use Rattle.connections.specs.Entries.{IsBelow}
+use Rattle.conn_rules.specs.Table.{row_of}
 use Rattle.connections.specs.Steps.{CommitsFor, DoesRow, all_after}
 use Rattle.controller.specs.Doing.{Turns, following}
 use Rattle.controller.specs.Many.{IsReadyFor, IsRow}
 use Rattle.controller.proofs.Dues.{no_offer}
-use Rattle.controller_table.specs.Controller.{Controller, Entry, turn, has_number, entry_of, put_back, remaining}
-use Rattle.controller_table.specs.Life.{aged, by_fitting, concerning_too, entry_after}
-use Rattle.controller_table.proofs.Entries.{remaining_all}
-use Rattle.controller_table.proofs.Others.{found_number}
-use Rattle.settings.specs.Parameters.{Parameters}
+use Rattle.controller_model.specs.Controller.{remaining}
+use Rattle.controller_model.proofs.Entries.{remaining_all}
+use Rattle.controller_model.proofs.Others.{found_number}
 
 -- ---- its frames are those of the row
 

@@ -1,10 +1,10 @@
 -- The steps that are planned, by rising number.
-use Rattle.std.proofs.Common.{◌≡◌, ℕ, ◌+◌, ◌≤◌, suc, List, ◌∷◌, ◌++◌, drop, length, slice_get, Some, None, sym, ap, ◌∙◌, inl, inr, append_assoc, append-nil, add-one, drop-cons}
+use Rattle.controller.proofs.Prelude.{◌≡◌, ℕ, ◌+◌, ◌≤◌, List, ◌∷◌, ◌++◌, drop, length, slice_get, Some, None, sym, ap, ◌∙◌, inl, inr, Entry}
+use Rattle.std.proofs.Common.{suc, append_assoc, append-nil, add-one, drop-cons}
 use Rattle.std.proofs.lemmas.List.{drop_all}
 use Rattle.std.proofs.lemmas.Option.{get_or_from_slice_get, slice_get_cases, slice_get_within}
 use Rattle.controller.specs.declared.many.Cause.{Cause}
 use Rattle.controller.specs.Many.{Due, all_due, due_of}
-use Rattle.controller_table.specs.Controller.{Entry}
 use Rattle.settings.specs.declared.timers.Timers.{Timers}
 
 first_left : (es : List Entry) (place : ℕ) (e : Entry) → slice_get es place ≡ Some e → drop place es ≡ e ∷ drop (place + 1) es

@@ -1,17 +1,14 @@
 -- A report may be added before the row of a move, or behind it.
-use Rattle.std.proofs.Common.{◌≡◌, ◌≢◌, ℕ, ◌&&◌, Bool, true, false, cond, List, [], ◌∷◌, ◌++◌, find, Some, refl, sym, ap, ◌∙◌, inl, inr}
-use Rattle.std.proofs.lemmas.Bool.{cases_Bool, eq-eqb}
-use Rattle.conn_messages.specs.declared.channel.Channel.{Channel}
-use Rattle.conn_table.specs.declared.state.State.{State}
-use Rattle.conn_table.specs.declared.state.State.TheVariants.{WaitActivation, WaitEstablish, WaitConfirm, Live, Closed, Removed}
-use Rattle.conn_table.specs.Connection.{is_at}
-use Rattle.conn_table.specs.Steps.{Row}
-use Rattle.controller_table.specs.Controller.{Entry, has_number, place_of, put_back, remaining}
-use Rattle.controller_table.specs.Life.{averages_after, entry_after, new_averages, with_report}
+use Rattle.controller.proofs.Prelude.{◌≡◌, ◌≢◌, ℕ, Bool, true, false, cond, List, [], ◌∷◌, ◌++◌, find, Some, refl, sym, ap, ◌∙◌, inl, inr}
+use Rattle.controller.proofs.Prelude.{eq-eqb, Channel, State, WaitActivation, WaitEstablish, WaitConfirm, Live, Closed, Removed, Row, Entry}
+use Rattle.controller.proofs.Prelude.{has_number, put_back, entry_after, Report, Parameters}
+use Rattle.std.proofs.Common.{◌&&◌}
+use Rattle.std.proofs.lemmas.Bool.{cases_Bool}
+use Rattle.conn_rules.specs.Connection.{is_at}
+use Rattle.controller_model.specs.Controller.{place_of, remaining}
+use Rattle.controller_model.specs.Life.{averages_after, new_averages, with_report}
 use Rattle.controller.proofs.Moves.{Goes}
-use Rattle.dtap_codec.specs.declared.report.Report.{Report}
 use Rattle.ho_decision.specs.State.{State as Averages, after_report}
-use Rattle.settings.specs.Parameters.{Parameters}
 
 -- ---- an entry that is put back in its place
 

@@ -1,17 +1,15 @@
 -- What a call makes of the controller and of the outputs, and what comes to its connections, against literal values.
-use Rattle.std.proofs.Common.{◌≡◌, ℕ, Bool, true, false, List, [], ◌∷◌, map, replicate, Some, None, refl, sym, ap, arith}
+use Rattle.controller.proofs.Prelude.{◌≡◌, ℕ, Bool, true, false, List, [], ◌∷◌, map, Some, None, refl, sym, ap, arith, Channel, Out}
+use Rattle.controller.proofs.Prelude.{WaitActivation, WaitEstablish, WaitConfirm, Live, Connection, ConnectionsState, Controller, Entry}
+use Rattle.controller.proofs.Prelude.{turn}
+use Rattle.std.proofs.Common.{replicate}
 use Rattle.conn_messages.specs.declared.channel.Change.TheVariants.{Assignment, Handover}
-use Rattle.conn_messages.specs.declared.channel.Channel.{Channel}
-use Rattle.conn_messages.specs.declared.out.Out.{Out}
-use Rattle.conn_table.specs.declared.input.Input.TheVariants as inputs
-use Rattle.conn_table.specs.declared.state.Stage.TheVariants.{Preparing, Changing, Draining}
-use Rattle.conn_table.specs.declared.state.State.TheVariants.{WaitActivation, WaitEstablish, WaitConfirm, Live}
-use Rattle.conn_table.specs.Connection.{Connection}
-use Rattle.connections.specs.Entries.{ConnectionsState}
-use Rattle.controller_table.specs.Controller.{Controller, Entry, new_controller, place_at, turn}
-use Rattle.controller_table.specs.Life.{new_entry, pong, step}
-use Rattle.controller_table.proofs.Lives.{on_stream, usual_settings}
-use Rattle.controller_table.proofs.OnLiterals.{on_literals}
+use Rattle.conn_rules.specs.declared.input.Input.TheVariants as inputs
+use Rattle.conn_rules.specs.declared.state.Stage.TheVariants.{Preparing, Changing, Draining}
+use Rattle.controller_model.specs.Controller.{new_controller, place_at}
+use Rattle.controller_model.specs.Life.{new_entry, pong, step}
+use Rattle.controller_model.proofs.Lives.{on_stream, usual_settings}
+use Rattle.controller_model.proofs.OnLiterals.{on_literals}
 use Rattle.controller.specs.declared.many.Cause.TheVariants.{Time, Break}
 use Rattle.controller.specs.Doing.{Stays, Turns, by_offer, fits_in, fits_with}
 use Rattle.controller.specs.Many.{AreReady, Due, IsReadyFor, all_due, due, due_of}

@@ -1,26 +1,20 @@
 -- A connection's row, done in the controller.
-use Rattle.std.proofs.Common.{◌≡◌, ℕ, ◌+◌, ◌-◌, ◌%◌, ◌<◌, take, rules, count_by, Bool, true, List, [], ◌++◌, drop, fold, find, length, Option, Some, None, sym, subst, ap, ◌∙◌}
+use Rattle.controller.proofs.Prelude.{◌≡◌, ℕ, ◌+◌, ◌<◌, rules, Bool, true, List, [], ◌++◌, drop, find, length, Option, Some, None, sym}
+use Rattle.controller.proofs.Prelude.{subst, ap, ◌∙◌, AllByRecursion, Channel, Out, IsSound, outs_of, Input, Row, OfRow, IsBelow}
+use Rattle.controller.proofs.Prelude.{ChannelState, Controller, Entry, entry_of, has_number, put_back, turn, by_fitting, entry_after}
+use Rattle.controller.proofs.Prelude.{Parameters}
+use Rattle.std.proofs.Common.{◌-◌, ◌%◌, take, count_by, fold}
 use Rattle.std.proofs.Math.Seq.{drop-append_seam, take-length}
 use Rattle.std.proofs.lemmas.List.{length-drop}
-use Rattle.std.specs.List.{AllByRecursion}
 use Rattle.std.specs.Option.{is_some}
-use Rattle.conn_messages.specs.declared.channel.Channel.{Channel}
 use Rattle.conn_messages.specs.declared.message.Message.{Message}
-use Rattle.conn_messages.specs.declared.out.Out.{Out}
 use Rattle.conn_messages.specs.ChannelUse.{use_by}
-use Rattle.conn_messages.specs.Out.{IsSound, outs_of}
-use Rattle.conn_table.specs.declared.input.Input.{Input}
-use Rattle.conn_table.specs.Steps.{Row}
-use Rattle.conn_table.specs.Streams.{OfRow}
-use Rattle.conn_table.specs.Table.{row_of}
-use Rattle.connections.specs.Entries.{IsBelow}
+use Rattle.conn_rules.specs.Table.{row_of}
 use Rattle.connections.specs.Steps.{DoesRow, StepsFor, all_after}
-use Rattle.controller_table.proofs.Entries.{FoundIn, NumberOf, found_in, number_of_found, put_back_all}
-use Rattle.controller_table.proofs.Numbers.{keeps_number}
-use Rattle.controller_table.specs.declared.channel_state.ChannelState.{ChannelState}
-use Rattle.controller_table.specs.Controller.{Controller, Entry, channels_after, entry_of, has_number, put_back, turn}
-use Rattle.controller_table.specs.Life.{begins_handover, by_fitting, by_row, entry_after}
-use Rattle.settings.specs.Parameters.{Parameters}
+use Rattle.controller_model.proofs.Entries.{FoundIn, NumberOf, found_in, number_of_found, put_back_all}
+use Rattle.controller_model.proofs.Numbers.{keeps_number}
+use Rattle.controller_model.specs.Controller.{channels_after}
+use Rattle.controller_model.specs.Life.{begins_handover, by_row}
 use Rattle.controller.specs.Doing.{Turns, by_offer, following}
 
 pub row_turns : (c after : Controller) (e : Entry) (r : Row) (entries : List Entry) (outs outs_after : List Out)

@@ -4,10 +4,10 @@ use Rattle.std.specs.Option.{is_some}
 use Rattle.conn_messages.specs.declared.channel.Channel.{Channel}
 use Rattle.conn_messages.specs.declared.message.Message.{Message}
 use Rattle.conn_messages.specs.declared.out.Out.{Out}
-use Rattle.conn_table.specs.declared.input.Input.{Input}
-use Rattle.conn_table.specs.Table.{row_of}
-use Rattle.controller_table.specs.Controller.{Controller, Entry, Turn, turn, channels_after}
-use Rattle.controller_table.specs.Life.{by_fitting, handovers_after, row_in}
+use Rattle.conn_rules.specs.declared.input.Input.{Input}
+use Rattle.conn_rules.specs.Table.{row_of}
+use Rattle.controller_model.specs.Controller.{Controller, Entry, Turn, turn, channels_after}
+use Rattle.controller_model.specs.Life.{by_fitting, handovers_after, row_in}
 
 -- the turn is done: its frames are behind the others
 abbrev pub Turns : Turn → Controller → Controller → List Out → List Out → Type 0

@@ -3,14 +3,14 @@ use Rattle.std.specs.Prelude.{◌≡◌, ◌≢◌, ℕ, List, [], ◌∷◌, fi
 use Rattle.std.specs.List.{AllByRecursion, flat_map}
 use Rattle.conn_fsm.specs.Doing.{IsAsPlanned, IsPlanned, outs_in}
 use Rattle.conn_fsm.specs.PlanState.{PlanState}
-use Rattle.conn_table.specs.declared.input.Input.{Input}
-use Rattle.conn_table.specs.Connection.{Connection}
-use Rattle.conn_table.specs.Table.{row_of}
-use Rattle.conn_table.specs.Timers.{after_pass}
+use Rattle.conn_rules.specs.declared.input.Input.{Input}
+use Rattle.conn_rules.specs.Connection.{Connection}
+use Rattle.conn_rules.specs.Table.{row_of}
+use Rattle.conn_rules.specs.Timers.{after_pass}
 use Rattle.controller.specs.declared.many.Cause.{Cause}
 use Rattle.controller.specs.declared.many.Cause.TheVariants.{Time, Break}
-use Rattle.controller_table.specs.Controller.{Controller, Entry, Turn, entry_of, has_number}
-use Rattle.controller_table.specs.Life.{break_of, concerning_too, expiry}
+use Rattle.controller_model.specs.Controller.{Controller, Entry, Turn, entry_of, has_number}
+use Rattle.controller_model.specs.Life.{break_of, concerning_too, expiry}
 use Rattle.settings.specs.declared.timers.Timers.{Timers}
 
 -- a step that a connection is to do: its number, what it was when that was planned, and the input

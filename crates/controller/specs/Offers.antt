@@ -1,12 +1,12 @@
 -- With which inputs, or after which, a change may begin; to which cell.
 use Rattle.std.specs.Prelude.{◌≤◌, Bool, true, false}
 use Rattle.conn_messages.specs.declared.channel.Place.{Place}
-use Rattle.conn_table.specs.declared.input.Input.{Input}
-use Rattle.conn_table.specs.declared.input.Input.TheVariants as inputs
-use Rattle.conn_table.specs.declared.state.Stage.TheVariants.{Preparing}
-use Rattle.conn_table.specs.declared.state.State.{State}
-use Rattle.conn_table.specs.declared.state.State.TheVariants.{WaitActivation, Live}
-use Rattle.conn_table.specs.Connection.{Connection, is_at}
+use Rattle.conn_rules.specs.declared.input.Input.{Input}
+use Rattle.conn_rules.specs.declared.input.Input.TheVariants as inputs
+use Rattle.conn_rules.specs.declared.state.Stage.TheVariants.{Preparing}
+use Rattle.conn_rules.specs.declared.state.State.{State}
+use Rattle.conn_rules.specs.declared.state.State.TheVariants.{WaitActivation, Live}
+use Rattle.conn_rules.specs.Connection.{Connection, is_at}
 use Rattle.ho_decision.specs.declared.decision.Decision.{Decision}
 use Rattle.ho_decision.specs.declared.decision.Decision.TheVariants.{Stay, Move}
 

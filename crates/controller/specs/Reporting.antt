@@ -1,10 +1,10 @@
 -- A report of a connection, by its number.
 use Rattle.std.specs.Prelude.{ℕ, Bool, false, [], Option, Some, None}
 use Rattle.conn_messages.specs.declared.channel.Place.{Place}
-use Rattle.conn_table.specs.declared.input.Input.TheVariants as inputs
-use Rattle.controller_table.specs.Channels.{handover_offer}
-use Rattle.controller_table.specs.Controller.{Controller, Entry, Turn, turn}
-use Rattle.controller_table.specs.Life.{measured, measures}
+use Rattle.conn_rules.specs.declared.input.Input.TheVariants as inputs
+use Rattle.controller_model.specs.Channels.{handover_offer}
+use Rattle.controller_model.specs.Controller.{Controller, Entry, Turn, turn}
+use Rattle.controller_model.specs.Life.{measured, measures}
 use Rattle.controller.specs.Doing.{by_offer}
 use Rattle.dtap_codec.specs.declared.report.Report.{Report}
 use Rattle.ho_decision.specs.declared.decision.Decision.{Decision}

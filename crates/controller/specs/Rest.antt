@@ -1,6 +1,6 @@
 -- A controller that has nothing left to do.
 use Rattle.std.specs.Prelude.{◌==◌, ◌&&◌, Bool, true, false, List, [], ◌∷◌, length}
-use Rattle.controller_table.specs.Controller.{Controller}
+use Rattle.controller_model.specs.Controller.{Controller}
 
 -- whether each link is up
 abbrev pub all_down : List Bool → Bool

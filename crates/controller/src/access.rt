@@ -2,14 +2,14 @@ ghost use Rattle.std.specs.Prelude.{◌≡◌, ◌≢◌, ◌<◌, ◌≤◌, �
 ghost use Rattle.conn_messages.specs.Out.{IsLawfulMessage, outs_of};
 ghost use Rattle.conn_messages.specs.StationMessage.{access_activation};
 ghost use Rattle.connections.specs.Entries.{IsOfCell};
-ghost use Rattle.controller_table.specs.Life as words;
+ghost use Rattle.controller_model.specs.Life as words;
 ghost use Rattle.controller.specs.Doing.{Stays, Turns};
 
 use crate::controller::Controller;
 use conn_fsm::{Channel, Outputs};
 use conn_messages::station_message::access_activation;
 use conn_messages::{Messages, SWITCH_LINK};
-use controller_table::MAX_CONNECTION_NUMBER;
+use controller_model::MAX_CONNECTION_NUMBER;
 use octets::Memory;
 use rsl_codec::RequestReference;
 use std::alloc::Global;

@@ -1,13 +1,13 @@
 ghost use Rattle.std.specs.Prelude.{◌≡◌, ◌≤◌, OnOk, OnErr};
-ghost use Rattle.controller_table.specs.Controller.{with_down};
-ghost use Rattle.controller_table.specs.Life as words;
+ghost use Rattle.controller_model.specs.Controller.{with_down};
+ghost use Rattle.controller_model.specs.Life as words;
 ghost use Rattle.controller.specs.Doing.{Stays, Turns};
 
 use crate::controller::Controller;
 use crate::many::Cause;
 use conn_fsm::Outputs;
 use conn_messages::SWITCH_LINK;
-use conn_table::Input;
+use conn_rules::Input;
 use octets::Memory;
 
 impl Controller {

@@ -1,19 +1,19 @@
 ghost use Rattle.std.specs.Prelude.{◌≡◌, OnOk, OnErr, None};
 ghost use Rattle.std.specs.Option.{is_some};
-ghost use Rattle.conn_table.specs.declared.input.Input.TheVariants as inputs;
-ghost use Rattle.conn_table.specs.Connection.{is_at as at_channel};
-ghost use Rattle.conn_table.specs.Standing.{IsCarried};
-ghost use Rattle.conn_table.specs.Table.{row_of};
-ghost use Rattle.controller_table.specs.Controller as words;
-ghost use Rattle.controller_table.specs.Life.{concerning_too, entry_at, frees as is_freed, on_state};
+ghost use Rattle.conn_rules.specs.declared.input.Input.TheVariants as inputs;
+ghost use Rattle.conn_rules.specs.Connection.{is_at as at_channel};
+ghost use Rattle.conn_rules.specs.Standing.{IsCarried};
+ghost use Rattle.conn_rules.specs.Table.{row_of};
+ghost use Rattle.controller_model.specs.Controller as words;
+ghost use Rattle.controller_model.specs.Life.{concerning_too, entry_at, frees as is_freed, on_state};
 ghost use Rattle.controller.specs.Doing.{Stays, Turns};
 ghost use Rattle.controller.specs.Offers.{awaits as awaits_by};
 
 use crate::controller::Controller;
 use conn_fsm::{Conn, Outputs};
 use conn_messages::{Channel, Place};
-use conn_table::{Input, Stage, State};
-use controller_table::ChannelState;
+use conn_rules::{Input, Stage, State};
+use controller_model::ChannelState;
 use octets::Memory;
 
 impl Controller {

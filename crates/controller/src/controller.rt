@@ -1,8 +1,8 @@
 ghost use Rattle.std.specs.Prelude.{◌≡◌, ◌+◌, [], IfOk, length, replicate, true};
-ghost use Rattle.controller_table.specs.Controller.{free_channels, is_up, new_controller, ignoring};
+ghost use Rattle.controller_model.specs.Controller.{free_channels, is_up, new_controller, ignoring};
 
-use cell_channels::Channels;
 use connections::Connections;
+use controller_parts::Channels;
 use octets::Memory;
 use settings::Settings;
 use std::alloc::Global;
@@ -25,7 +25,7 @@ pub struct Controller {
 }
 
 impl Model for Controller {
-    ghost use Rattle.controller_table.specs.Controller.{Controller};
+    ghost use Rattle.controller_model.specs.Controller.{Controller};
     ghost use Rattle.controller.specs.Standing.{IsStanding};
 
     ghost Value = { Controller };

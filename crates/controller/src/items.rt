@@ -1,17 +1,17 @@
 ghost use Rattle.std.specs.Prelude.{◌≡◌, ◌++◌, ◌∷◌, [], OnOk, OnErr, IfErr};
-ghost use Rattle.controller_table.specs.Life as words;
-ghost use Rattle.controller_table.specs.Reading.{word_of};
+ghost use Rattle.controller_model.specs.Life as words;
+ghost use Rattle.controller_model.specs.Reading.{word_of};
 ghost use Rattle.controller.specs.Doing.{Stays, Turns};
-ghost use Rattle.frame_reading.specs.Words.{ComesFrom, IsCarriedWord};
+ghost use Rattle.controller_parts.specs.Words.{ComesFrom, IsCarriedWord};
 
 use crate::controller::Controller;
 use conn_fsm::Outputs;
 use conn_messages::Out;
-use controller_table::Word;
-use frame_reading::read_word;
+use controller_model::Word;
+use controller_parts::read_word;
 use ipa_framing::{CCM_STREAM, Frame, PONG};
 use octets::{Memory, Octets};
-use relay_items::{Item, What};
+use ruled_relay::{Item, What};
 use std::alloc::Global;
 
 impl Controller {
@@ -29,7 +29,7 @@ impl Controller {
         }
     }
 
-    #[tactic(auto, unfolding(controller_table::specs::Life::take))]
+    #[tactic(auto, unfolding(controller_model::specs::Life::take))]
     fn take(&mut self, item: &Item, outputs: &mut Outputs) -> Result<(), Memory>
         ensures ok { OnOk result (Turns (words.take item.now self.old) self.old self.new outputs.old.outs outputs.new.outs) }
         ensures err { OnErr result (Stays self.old self.new outputs.old.outs outputs.new.outs) }

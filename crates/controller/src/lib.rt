@@ -1,11 +1,11 @@
 //! The controller of base stations: connections on the channels of its cells, between stations and switch. It takes items of
-//! its links and the passing of time, and gives frames. Its contracts say that it is the controller of `controller_table`.
+//! its links and the passing of time, and gives frames. Its contracts say that it is the controller of `controller_model`.
 #![tactic(auto)]
 
 pub use conn_messages::{Out, Outputs};
 pub use controller::Controller;
-pub use controller_table::{Forwarded, Item, Step, What};
-pub use frame_reading::{forwarded, handed};
+pub use controller_model::{Forwarded, Item, Step, What};
+pub use controller_parts::{forwarded, handed};
 pub use life::run;
 pub use settings::{Settings, SettingsFault};
 

@@ -1,30 +1,30 @@
 ghost use Rattle.std.specs.Prelude.{ℕ, ◌≡◌, ◌≤◌, ◌<◌, IfOk, List, OnErr, OnOk};
 ghost use Rattle.std.specs.List.{AllByRecursion};
 ghost use Rattle.conn_messages.specs.declared.parameters.TheConstants.{SWITCH_LINK};
-ghost use Rattle.controller_laws.specs.Acts.{ActsOn};
-ghost use Rattle.controller_laws.specs.Concern.{FrameLeaves};
-ghost use Rattle.controller_laws.specs.Downlink.{DownlinkIsConserved};
-ghost use Rattle.controller_laws.specs.End.{IsThere, SilenceIsKept, StaysSilent};
-ghost use Rattle.controller_laws.specs.Handing.{HandsInPlace};
-ghost use Rattle.controller_laws.specs.History.{connection_of};
-ghost use Rattle.controller_laws.specs.Naming.{NamesItsMobile};
-ghost use Rattle.controller_laws.specs.Numbers.{IsNumbered};
-ghost use Rattle.controller_laws.specs.Owning.{LinkedOf, OwnsOpen};
-ghost use Rattle.controller_laws.specs.Placing.{KeepsToChannels};
-ghost use Rattle.controller_laws.specs.Reach.{GoesToUp};
-ghost use Rattle.controller_laws.specs.Sending.{ComesInOctets, IsSent};
-ghost use Rattle.controller_laws.specs.Uplink.{UplinkIsConserved};
-ghost use Rattle.controller_laws.specs.Using.{AreUsed};
-ghost use Rattle.controller_table.specs.declared.step.Step.{Step as StepValue};
-ghost use Rattle.controller_table.specs.Controller.{each, is_up, new_controller, turn};
-ghost use Rattle.controller_table.specs.Life as words;
+ghost use Rattle.controller_model.specs.LifeLaws.Acts.{ActsOn};
+ghost use Rattle.controller_model.specs.LifeLaws.Concern.{FrameLeaves};
+ghost use Rattle.controller_model.specs.LifeLaws.Downlink.{DownlinkIsConserved};
+ghost use Rattle.controller_model.specs.LifeLaws.End.{IsThere, SilenceIsKept, StaysSilent};
+ghost use Rattle.controller_model.specs.LifeLaws.Handing.{HandsInPlace};
+ghost use Rattle.controller_model.specs.LifeLaws.History.{connection_of};
+ghost use Rattle.controller_model.specs.LifeLaws.Naming.{NamesItsMobile};
+ghost use Rattle.controller_model.specs.LifeLaws.Numbers.{IsNumbered};
+ghost use Rattle.controller_model.specs.LifeLaws.Owning.{LinkedOf, OwnsOpen};
+ghost use Rattle.controller_model.specs.LifeLaws.Placing.{KeepsToChannels};
+ghost use Rattle.controller_model.specs.LifeLaws.Reach.{GoesToUp};
+ghost use Rattle.controller_model.specs.LifeLaws.Sending.{ComesInOctets, IsSent};
+ghost use Rattle.controller_model.specs.LifeLaws.Uplink.{UplinkIsConserved};
+ghost use Rattle.controller_model.specs.LifeLaws.Using.{AreUsed};
+ghost use Rattle.controller_model.specs.declared.step.Step.{Step as StepValue};
+ghost use Rattle.controller_model.specs.Controller.{each, is_up, new_controller, turn};
+ghost use Rattle.controller_model.specs.Life as words;
 ghost use Rattle.controller.specs.Doing.{Stays, Turns};
 ghost use Rattle.ipa_framing.specs.declared.frame.Frame.{Frame as FrameValue};
 ghost use Rattle.settings.specs.Parameters.{AreAllowed};
 
 use crate::controller::Controller;
 use conn_fsm::Outputs;
-use controller_table::Step;
+use controller_model::Step;
 use octets::Memory;
 use settings::Settings;
 use std::alloc::Global;
@@ -77,7 +77,7 @@ pub fn run(
 }
 
 // One step after the other.
-#[tactic(auto, unfolding(controller_table::specs::Life::life))]
+#[tactic(auto, unfolding(controller_model::specs::Life::life))]
 fn live(
     alloc: Global,
     settings: Settings,

@@ -1,7 +1,7 @@
 ghost use Rattle.std.specs.Prelude.{◌≡◌, ◌+◌, ◌≤◌, ◌++◌, map, sum_by, IfOk, IfSome, OnOk};
 ghost use Rattle.conn_fsm.specs.Doing.{IsPlanned};
 ghost use Rattle.connections.specs.Entries.{AreRising};
-ghost use Rattle.controller_table.specs.Controller.{each, entry_of};
+ghost use Rattle.controller_model.specs.Controller.{each, entry_of};
 ghost use Rattle.controller.specs.Doing.{Turns};
 ghost use Rattle.controller.specs.Many.{AreReady, IsReadyFor, all_due, due as due_input, due_of, carried_out, frames_of, planned_for};
 
@@ -9,7 +9,7 @@ use crate::breaks::break_of;
 use crate::controller::Controller;
 use crate::time::expiry_after;
 use conn_fsm::{Conn, Outputs, Plan};
-use conn_table::Input;
+use conn_rules::Input;
 use octets::Memory;
 use std::marker::Model;
 

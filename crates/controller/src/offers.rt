@@ -1,16 +1,16 @@
 ghost use Rattle.std.specs.Prelude.{◌≡◌, ◌≤◌, Some};
-ghost use Rattle.conn_table.specs.Table.{row_of};
+ghost use Rattle.conn_rules.specs.Table.{row_of};
 ghost use Rattle.connections.specs.Entries.{IsOffer};
-ghost use Rattle.controller_table.specs.Channels as words;
-ghost use Rattle.controller_table.specs.Controller.{Entry, entry_of};
-ghost use Rattle.controller_table.specs.Life.{row_in};
+ghost use Rattle.controller_model.specs.Channels as words;
+ghost use Rattle.controller_model.specs.Controller.{Entry, entry_of};
+ghost use Rattle.controller_model.specs.Life.{row_in};
 ghost use Rattle.controller.specs.Offers.{may_begin as begins};
 
 use crate::controller::Controller;
-use cell_channels::{free_channel, kind_of};
 use conn_fsm::Channel;
-use conn_table::Input;
-use controller_table::ChannelKind;
+use conn_rules::Input;
+use controller_model::ChannelKind;
+use controller_parts::{free_channel, kind_of};
 use rsl_codec::HandoverReference;
 
 impl Controller {

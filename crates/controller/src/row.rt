@@ -2,17 +2,17 @@ ghost use Rattle.std.specs.Prelude.{◌≡◌, List, IfOk, OnOk, OnErr};
 ghost use Rattle.std.specs.List.{AllByRecursion};
 ghost use Rattle.conn_messages.specs.declared.message.Message.{Message};
 ghost use Rattle.conn_messages.specs.Out.{IsSound, outs_of};
-ghost use Rattle.conn_table.specs.Standing.{IsCarried};
+ghost use Rattle.conn_rules.specs.Standing.{IsCarried};
 ghost use Rattle.connections.specs.Entries.{IsOffer};
-ghost use Rattle.controller_table.specs.Controller.{entry_of};
-ghost use Rattle.controller_table.specs.Life.{concerning, concerning_too};
+ghost use Rattle.controller_model.specs.Controller.{entry_of};
+ghost use Rattle.controller_model.specs.Life.{concerning, concerning_too};
 ghost use Rattle.controller.specs.Doing.{Stays, Turns, by_offer, fits_in, fits_with, following};
 
 use crate::controller::Controller;
-use cell_channels::handovers_begun;
 use conn_fsm::{Channel, Outputs};
 use conn_messages::Out;
-use conn_table::Input;
+use conn_rules::Input;
+use controller_parts::handovers_begun;
 use octets::Memory;
 
 impl Controller {

@@ -1,13 +1,13 @@
 ghost use Rattle.std.specs.Prelude.{◌≡◌, OnOk, OnErr};
-ghost use Rattle.conn_table.specs.Timers.{after_pass};
-ghost use Rattle.controller_table.specs.Life as words;
+ghost use Rattle.conn_rules.specs.Timers.{after_pass};
+ghost use Rattle.controller_model.specs.Life as words;
 ghost use Rattle.controller.specs.Doing.{Stays, Turns};
 
 use crate::controller::Controller;
 use crate::many::Cause;
 use conn_fsm::{Conn, Outputs};
 use conn_messages::Change;
-use conn_table::{Input, Stage, State};
+use conn_rules::{Input, Stage, State};
 use octets::Memory;
 use settings::Settings;
 

@@ -1,10 +1,10 @@
 ghost use Rattle.std.specs.Prelude.{◌≡◌, IfOk, filter};
-ghost use Rattle.conn_table.specs.Streams.{is_dtap as dtap};
-ghost use Rattle.controller_table.specs.Views as words;
+ghost use Rattle.conn_rules.specs.Streams.{is_dtap as dtap};
+ghost use Rattle.controller_model.specs.Views as words;
 
 use crate::controller::Controller;
+use controller_parts::is_dtap;
 use dtap_codec::Sapi;
-use frame_reading::is_dtap;
 use octets::{Memory, Octets};
 
 impl Controller {

@@ -1,9 +1,26 @@
-//! Lives of the whole controller over octets: the frames that it takes, and those that it puts. Each call that can run out
-//! of memory is made with ample memory, and a life goes on where memory was refused once.
+//! The calls of the codecs, the decision, the connection and the settings that can run out of memory, each with ample memory,
+//! its answer compared; and lives of the whole controller over octets: the frames that it takes, and those that it puts. A life
+//! goes on where memory was refused once.
 #![tactic(auto)]
 
 #[cfg(test)]
+mod bssmap;
+#[cfg(test)]
+mod connection;
+#[cfg(test)]
+mod decision;
+#[cfg(test)]
+mod dtap;
+#[cfg(test)]
 mod exchanges;
+#[cfg(test)]
+mod faults;
+#[cfg(test)]
+mod frames;
+#[cfg(test)]
+mod framing;
+#[cfg(test)]
+mod hold;
 #[cfg(test)]
 mod late;
 #[cfg(test)]
@@ -11,6 +28,12 @@ mod life;
 #[cfg(test)]
 mod parts;
 #[cfg(test)]
+mod reading;
+#[cfg(test)]
 mod refused;
+#[cfg(test)]
+mod rsl;
+#[cfg(test)]
+mod settings_text;
 #[cfg(test)]
 mod views;

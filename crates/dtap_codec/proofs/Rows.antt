@@ -1,5 +1,6 @@
 -- Definitions against literal octets.
 use Rattle.std.proofs.Common.{◌≡◌, ℕ, List, [], ◌∷◌, true, false, map, Some, None, Result, Ok, Err, refl, arith}
+use Rattle.octets.proofs.Hex.{hex}
 use Rattle.octets.specs.Front.{octet_at}
 use Rattle.dtap_codec.specs.declared.message.TheConstants.{CALL_CONTROL, MOBILITY_MANAGEMENT, RADIO_RESOURCE, SHORT_MESSAGES, SUPPLEMENTARY_SERVICES}
 use Rattle.dtap_codec.specs.declared.report.Neighbour.{Neighbour}
@@ -25,7 +26,7 @@ use Rattle.dtap_codec.specs.RrType.{rr_octet, rr_type}
 
 -- ---- numbers of the standards
 
-protocols : CALL_CONTROL ∷ MOBILITY_MANAGEMENT ∷ RADIO_RESOURCE ∷ SHORT_MESSAGES ∷ SUPPLEMENTARY_SERVICES ∷ [] ≡ 0x03 ∷ 0x05 ∷ 0x06 ∷ 0x09 ∷ 0x0b ∷ []
+protocols : CALL_CONTROL ∷ MOBILITY_MANAGEMENT ∷ RADIO_RESOURCE ∷ SHORT_MESSAGES ∷ SUPPLEMENTARY_SERVICES ∷ [] ≡ hex "03 05 06 09 0b"
 protocols = refl
 
 pseudo_length : PSEUDO_LENGTH ≡ 0x2d
@@ -33,13 +34,15 @@ pseudo_length = refl
 
 -- ---- messages of the flow
 
-discriminators : map discriminator ([] ∷ (0x03 ∷ []) ∷ (0x83 ∷ 0x05 ∷ []) ∷ (0xf4 ∷ 0x45 ∷ []) ∷ (0x06 ∷ 0x45 ∷ []) ∷ []) ≡ None ∷ Some 0x3 ∷ Some 0x3 ∷ Some 0x4 ∷ Some 0x6 ∷ []
+discriminators : map discriminator ([] ∷ hex "03" ∷ hex "83 05" ∷ hex "f4 45" ∷ hex "06 45" ∷ [])
+    ≡ None ∷ Some 0x3 ∷ Some 0x3 ∷ Some 0x4 ∷ Some 0x6 ∷ []
 discriminators = refl
 
-of_the_flow : map is_flow_message ((0x05 ∷ 0x24 ∷ 0x71 ∷ []) ∷ (0x03 ∷ 0x05 ∷ []) ∷ (0x0b ∷ 0x3a ∷ 0xff ∷ []) ∷ (0x83 ∷ 0x05 ∷ []) ∷ []) ≡ true ∷ true ∷ true ∷ true ∷ []
+of_the_flow : map is_flow_message (hex "05 24 71" ∷ hex "03 05" ∷ hex "0b 3a ff" ∷ hex "83 05" ∷ []) ≡ true ∷ true ∷ true ∷ true ∷ []
 of_the_flow = refl
 
-not_of_the_flow : map is_flow_message ([] ∷ (0x03 ∷ []) ∷ (0x06 ∷ 0x45 ∷ []) ∷ (0x09 ∷ 0x45 ∷ []) ∷ (0xf4 ∷ 0x45 ∷ []) ∷ []) ≡ false ∷ false ∷ false ∷ false ∷ false ∷ []
+not_of_the_flow : map is_flow_message ([] ∷ hex "03" ∷ hex "06 45" ∷ hex "09 45" ∷ hex "f4 45" ∷ [])
+    ≡ false ∷ false ∷ false ∷ false ∷ false ∷ []
 not_of_the_flow = refl
 
 -- of the sixteen protocols three: 3, 5 and B
@@ -55,79 +58,79 @@ four = refl
 two : count_of Two ≡ 2
 two = refl
 
-numbers : map (number_in 4) ((0x05 ∷ 0x24 ∷ 0x71 ∷ []) ∷ (0x03 ∷ 0x45 ∷ []) ∷ (0x03 ∷ 0x8f ∷ []) ∷ (0x03 ∷ 0xc1 ∷ []) ∷ (0x0b ∷ 0xfa ∷ 0xff ∷ []) ∷ (0x83 ∷ 0x45 ∷ []) ∷ []) ≡
+numbers : map (number_in 4) (hex "05 24 71" ∷ hex "03 45" ∷ hex "03 8f" ∷ hex "03 c1" ∷ hex "0b fa ff" ∷ hex "83 45" ∷ []) ≡
     Some 0 ∷ Some 1 ∷ Some 2 ∷ Some 3 ∷ Some 3 ∷ Some 1 ∷ []
 numbers = refl
 
-no_numbers : map (number_in 4) ([] ∷ (0x03 ∷ []) ∷ (0x06 ∷ 0x45 ∷ []) ∷ (0x09 ∷ 0x45 ∷ []) ∷ (0xf4 ∷ 0x45 ∷ []) ∷ []) ≡ None ∷ None ∷ None ∷ None ∷ None ∷ []
+no_numbers : map (number_in 4) ([] ∷ hex "03" ∷ hex "06 45" ∷ hex "09 45" ∷ hex "f4 45" ∷ []) ≡ None ∷ None ∷ None ∷ None ∷ None ∷ []
 no_numbers = refl
 
-numbered_0 : with_number 0 (0x05 ∷ 0x24 ∷ 0x71 ∷ []) ≡ 0x05 ∷ 0x24 ∷ 0x71 ∷ []
+numbered_0 : with_number 0 (hex "05 24 71") ≡ hex "05 24 71"
 numbered_0 = refl
 
-numbered_1 : with_number 1 (0x83 ∷ 0x05 ∷ []) ≡ 0x83 ∷ 0x45 ∷ []
+numbered_1 : with_number 1 (hex "83 05") ≡ hex "83 45"
 numbered_1 = refl
 
-numbered_2 : with_number 2 (0x03 ∷ 0x0f ∷ []) ≡ 0x03 ∷ 0x8f ∷ []
+numbered_2 : with_number 2 (hex "03 0f") ≡ hex "03 8f"
 numbered_2 = refl
 
-numbered_3 : with_number 3 (0x0b ∷ 0x3a ∷ 0xff ∷ []) ≡ 0x0b ∷ 0xfa ∷ 0xff ∷ []
+numbered_3 : with_number 3 (hex "0b 3a ff") ≡ hex "0b fa ff"
 numbered_3 = refl
 
 -- the number that stood there goes
-numbered_anew : with_number 1 (0x03 ∷ 0xc1 ∷ []) ≡ 0x03 ∷ 0x41 ∷ []
+numbered_anew : with_number 1 (hex "03 c1") ≡ hex "03 41"
 numbered_anew = refl
 
-cleared_3 : without_number (0x0b ∷ 0xfa ∷ 0xff ∷ []) ≡ 0x0b ∷ 0x3a ∷ 0xff ∷ []
+cleared_3 : without_number (hex "0b fa ff") ≡ hex "0b 3a ff"
 cleared_3 = refl
 
-cleared_1 : without_number (0x03 ∷ 0x45 ∷ []) ≡ 0x03 ∷ 0x05 ∷ []
+cleared_1 : without_number (hex "03 45") ≡ hex "03 05"
 cleared_1 = refl
 
-places_wrap : with_numbers_from 4 3 ((0x05 ∷ 0x24 ∷ 0x71 ∷ []) ∷ (0x03 ∷ 0x05 ∷ []) ∷ (0x03 ∷ 0x01 ∷ []) ∷ []) ≡ (0x05 ∷ 0xe4 ∷ 0x71 ∷ []) ∷ (0x03 ∷ 0x05 ∷ []) ∷ (0x03 ∷ 0x41 ∷ []) ∷ []
+places_wrap : with_numbers_from 4 3 (hex "05 24 71" ∷ hex "03 05" ∷ hex "03 01" ∷ []) ≡ hex "05 e4 71" ∷ hex "03 05" ∷ hex "03 41" ∷ []
 places_wrap = refl
 
 -- modulo 2: bit 8 isn't looked at, and is written 0
-numbers_of_two : map (number_in (count_of Two)) ((0x03 ∷ 0x05 ∷ []) ∷ (0x03 ∷ 0x45 ∷ []) ∷ (0x03 ∷ 0x85 ∷ []) ∷ (0x0b ∷ 0xfa ∷ 0xff ∷ []) ∷ (0x85 ∷ 0x64 ∷ []) ∷ []) ≡
+numbers_of_two : map (number_in (count_of Two)) (hex "03 05" ∷ hex "03 45" ∷ hex "03 85" ∷ hex "0b fa ff" ∷ hex "85 64" ∷ []) ≡
     Some 0 ∷ Some 1 ∷ Some 0 ∷ Some 1 ∷ Some 1 ∷ []
 numbers_of_two = refl
 
-no_numbers_of_two : map (number_in (count_of Two)) ([] ∷ (0x03 ∷ []) ∷ (0x06 ∷ 0x45 ∷ []) ∷ (0x09 ∷ 0x45 ∷ []) ∷ []) ≡ None ∷ None ∷ None ∷ None ∷ []
+no_numbers_of_two : map (number_in (count_of Two)) ([] ∷ hex "03" ∷ hex "06 45" ∷ hex "09 45" ∷ []) ≡ None ∷ None ∷ None ∷ None ∷ []
 no_numbers_of_two = refl
 
-numbered_0_of_two : with_number 0 (0x03 ∷ 0xc5 ∷ []) ≡ 0x03 ∷ 0x05 ∷ []
+numbered_0_of_two : with_number 0 (hex "03 c5") ≡ hex "03 05"
 numbered_0_of_two = refl
 
-numbered_1_of_two : with_number 1 (0x0b ∷ 0xba ∷ 0xff ∷ []) ≡ 0x0b ∷ 0x7a ∷ 0xff ∷ []
+numbered_1_of_two : with_number 1 (hex "0b ba ff") ≡ hex "0b 7a ff"
 numbered_1_of_two = refl
 
-cleared_bit_8 : without_number (0x03 ∷ 0x85 ∷ []) ≡ 0x03 ∷ 0x05 ∷ []
+cleared_bit_8 : without_number (hex "03 85") ≡ hex "03 05"
 cleared_bit_8 = refl
 
-places_of_two : with_numbers_from (count_of Two) 0 ((0x05 ∷ 0x24 ∷ 0x71 ∷ []) ∷ (0x03 ∷ 0x05 ∷ []) ∷ (0x03 ∷ 0x0f ∷ []) ∷ (0x03 ∷ 0x01 ∷ []) ∷ []) ≡
-    (0x05 ∷ 0x24 ∷ 0x71 ∷ []) ∷ (0x03 ∷ 0x45 ∷ []) ∷ (0x03 ∷ 0x0f ∷ []) ∷ (0x03 ∷ 0x41 ∷ []) ∷ []
+places_of_two : with_numbers_from (count_of Two) 0 (hex "05 24 71" ∷ hex "03 05" ∷ hex "03 0f" ∷ hex "03 01" ∷ []) ≡
+    hex "05 24 71" ∷ hex "03 45" ∷ hex "03 0f" ∷ hex "03 41" ∷ []
 places_of_two = refl
 
 abbrev sent : List (List ℕ)
-sent = (0x05 ∷ 0x24 ∷ 0x71 ∷ []) ∷ (0x03 ∷ 0x05 ∷ []) ∷ []
+sent = hex "05 24 71" ∷ hex "03 05" ∷ []
 
-at_0 : Carries 4 sent 0 (0x05 ∷ 0x24 ∷ 0x71 ∷ [])
-at_0 = record { message = 0x05 ∷ 0x24 ∷ 0x71 ∷ []; is_sent = refl; is_clear = record { is_flow = refl; cleared = refl }; carries = refl }
+at_0 : Carries 4 sent 0 (hex "05 24 71")
+at_0 = record { message = hex "05 24 71"; is_sent = refl; is_clear = record { is_flow = refl; cleared = refl }; carries = refl }
 
-at_1 : Carries 4 sent 1 (0x03 ∷ 0x45 ∷ [])
-at_1 = record { message = 0x03 ∷ 0x05 ∷ []; is_sent = refl; is_clear = record { is_flow = refl; cleared = refl }; carries = refl }
+at_1 : Carries 4 sent 1 (hex "03 45")
+at_1 = record { message = hex "03 05"; is_sent = refl; is_clear = record { is_flow = refl; cleared = refl }; carries = refl }
 
 -- both messages in turn, the second twice, with one between them that isn't of the flow
-rising : Rise 4 sent 0 ((0x05 ∷ 0x24 ∷ 0x71 ∷ []) ∷ (0x06 ∷ 0x27 ∷ []) ∷ (0x03 ∷ 0x45 ∷ []) ∷ (0x03 ∷ 0x45 ∷ []) ∷ []) 2
+rising : Rise 4 sent 0 (hex "05 24 71" ∷ hex "06 27" ∷ hex "03 45" ∷ hex "03 45" ∷ []) 2
 rising = next at_0 (other refl (next at_1 (again refl at_1 (over 2))))
 
 -- ---- types
 
 octets_of_types : map rr_octet (types.HandoverCommand ∷ types.AssignmentCommand ∷ types.HandoverComplete ∷ types.HandoverFailure ∷ types.AssignmentComplete ∷ types.AssignmentFailure ∷ types.ChannelRelease ∷ types.ImmediateAssignment ∷ types.MeasurementReport ∷ types.PagingResponse ∷ []) ≡
-    0x2b ∷ 0x2e ∷ 0x2c ∷ 0x28 ∷ 0x29 ∷ 0x2f ∷ 0x0d ∷ 0x3f ∷ 0x15 ∷ 0x27 ∷ []
+    hex "2b 2e 2c 28 29 2f 0d 3f 15 27"
 octets_of_types = refl
 
-types_of_octets : map rr_type (0x2b ∷ 0x2e ∷ 0x2c ∷ 0x28 ∷ 0x29 ∷ 0x2f ∷ 0x0d ∷ 0x3f ∷ 0x15 ∷ 0x27 ∷ 0x99 ∷ 0x2d ∷ []) ≡
+types_of_octets : map rr_type (hex "2b 2e 2c 28 29 2f 0d 3f 15 27 99 2d") ≡
     Some types.HandoverCommand ∷ Some types.AssignmentCommand ∷ Some types.HandoverComplete ∷ Some types.HandoverFailure ∷ Some types.AssignmentComplete ∷ Some types.AssignmentFailure ∷ Some types.ChannelRelease ∷ Some types.ImmediateAssignment ∷ Some types.MeasurementReport ∷ Some types.PagingResponse ∷ None ∷ None ∷ []
 unfolding rr_type
 types_of_octets = refl
@@ -146,123 +149,127 @@ abbrev cause : ℕ → RrCause
 cause octet = record { 0 = octet }
 
 abbrev sixteen : List ℕ
-sixteen = 0xe1 ∷ 0xac ∷ 0x2b ∷ 0x8a ∷ 0x0a ∷ 0x4a ∷ 0x89 ∷ 0xb8 ∷ 0x09 ∷ 0x25 ∷ 0x68 ∷ 0xb7 ∷ 0x68 ∷ 0x6d ∷ 0xff ∷ 0xc9 ∷ []
+sixteen = hex "e1 ac 2b 8a 0a 4a 89 b8 09 25 68 b7 68 6d ff c9"
 
 abbrev refused : RrFault → Result RrMessage RrFault
 refused fault = Err fault
 
 -- ---- what octets are read as; power command, hopping and spare bits, page mode and the end aren't looked at
 
-handover_command : rr_reading (0x06 ∷ 0x2b ∷ 0xd5 ∷ 0x1e ∷ 0x41 ∷ 0xc2 ∷ 0x14 ∷ 0x5c ∷ 0x00 ∷ []) ≡ Ok (HandoverCommand the_cell the_channel 0x5c)
+handover_command : rr_reading (hex "06 2b d5 1e 41 c2 14 5c 00") ≡ Ok (HandoverCommand the_cell the_channel 0x5c)
 unfolding rr_reading typed_at rr_type handover_command_at three_at octet_at
 handover_command = refl
 
-handover_command_with_spare_bits : rr_reading (0x06 ∷ 0x2b ∷ 0xd5 ∷ 0x1e ∷ 0x41 ∷ 0xde ∷ 0x14 ∷ 0x5c ∷ 0x07 ∷ 0x99 ∷ []) ≡ Ok (HandoverCommand the_cell the_channel 0x5c)
+handover_command_with_spare_bits : rr_reading (hex "06 2b d5 1e 41 de 14 5c 07 99") ≡ Ok (HandoverCommand the_cell the_channel 0x5c)
 unfolding rr_reading typed_at rr_type handover_command_at three_at octet_at
 handover_command_with_spare_bits = refl
 
-handover_command_cut : rr_reading (0x06 ∷ 0x2b ∷ 0xd5 ∷ 0x1e ∷ 0x41 ∷ 0xc2 ∷ 0x14 ∷ 0x5c ∷ []) ≡ refused Short
+handover_command_cut : rr_reading (hex "06 2b d5 1e 41 c2 14 5c") ≡ refused Short
 unfolding rr_reading typed_at rr_type handover_command_at three_at octet_at
 handover_command_cut = refl
 
-assignment_command : rr_reading (0x06 ∷ 0x2e ∷ 0x41 ∷ 0xc2 ∷ 0x14 ∷ 0x07 ∷ []) ≡ Ok (AssignmentCommand the_channel)
+assignment_command : rr_reading (hex "06 2e 41 c2 14 07") ≡ Ok (AssignmentCommand the_channel)
 unfolding rr_reading typed_at rr_type assignment_command_at three_at octet_at
 assignment_command = refl
 
-assignment_command_cut : rr_reading (0x06 ∷ 0x2e ∷ 0x41 ∷ 0xc2 ∷ 0x14 ∷ []) ≡ refused Short
+assignment_command_cut : rr_reading (hex "06 2e 41 c2 14") ≡ refused Short
 unfolding rr_reading typed_at rr_type assignment_command_at three_at octet_at
 assignment_command_cut = refl
 
-handover_complete : rr_reading (0x06 ∷ 0x2c ∷ 0x00 ∷ []) ≡ Ok (HandoverComplete (cause 0x00))
+handover_complete : rr_reading (hex "06 2c 00") ≡ Ok (HandoverComplete (cause 0x00))
 unfolding rr_reading typed_at rr_type cause_at octet_at
 handover_complete = refl
 
-handover_complete_cut : rr_reading (0x06 ∷ 0x2c ∷ []) ≡ refused Short
+handover_complete_cut : rr_reading (hex "06 2c") ≡ refused Short
 unfolding rr_reading typed_at rr_type cause_at octet_at
 handover_complete_cut = refl
 
-handover_failure : rr_reading (0x06 ∷ 0x28 ∷ 0x03 ∷ 0x99 ∷ []) ≡ Ok (HandoverFailure (cause 0x03))
+handover_failure : rr_reading (hex "06 28 03 99") ≡ Ok (HandoverFailure (cause 0x03))
 unfolding rr_reading typed_at rr_type cause_at octet_at
 handover_failure = refl
 
-assignment_complete : rr_reading (0x06 ∷ 0x29 ∷ 0x01 ∷ []) ≡ Ok (AssignmentComplete (cause 0x01))
+assignment_complete : rr_reading (hex "06 29 01") ≡ Ok (AssignmentComplete (cause 0x01))
 unfolding rr_reading typed_at rr_type cause_at octet_at
 assignment_complete = refl
 
-assignment_failure : rr_reading (0x06 ∷ 0x2f ∷ 0x6f ∷ []) ≡ Ok (AssignmentFailure (cause 0x6f))
+assignment_failure : rr_reading (hex "06 2f 6f") ≡ Ok (AssignmentFailure (cause 0x6f))
 unfolding rr_reading typed_at rr_type cause_at octet_at
 assignment_failure = refl
 
-channel_release : rr_reading (0x06 ∷ 0x0d ∷ 0xff ∷ []) ≡ Ok (ChannelRelease (cause 0xff))
+channel_release : rr_reading (hex "06 0d ff") ≡ Ok (ChannelRelease (cause 0xff))
 unfolding rr_reading typed_at rr_type cause_at octet_at
 channel_release = refl
 
 -- the 23 octets of an IMMEDIATE ASSIGNMENT
-immediate_assignment : rr_reading (0x2d ∷ 0x06 ∷ 0x3f ∷ 0x05 ∷ 0x41 ∷ 0xde ∷ 0x14 ∷ 0x7f ∷ 0x01 ∷ 0x02 ∷ 0xc5 ∷ 0x11 ∷ 0x12 ∷ 0x13 ∷ 0x14 ∷ 0x15 ∷ 0x16 ∷ 0x17 ∷ 0x18 ∷ 0x19 ∷ 0x1a ∷ 0x1b ∷ 0x1c ∷ []) ≡
-    Ok (ImmediateAssignment the_channel (0x7f ∷ 0x01 ∷ 0x02 ∷ []) 5)
+immediate_assignment : rr_reading (hex "2d 06 3f 05 41 de 14 7f 01 02 c5 11 12 13 14 15 16 17 18 19 1a 1b 1c") ≡
+    Ok (ImmediateAssignment the_channel (hex "7f 01 02") 5)
 unfolding rr_reading pseudo_at immediate_assignment_at three_at octet_at
 immediate_assignment = refl
 
-immediate_assignment_cut : rr_reading (0x2d ∷ 0x06 ∷ 0x3f ∷ 0x05 ∷ 0x41 ∷ 0xde ∷ 0x14 ∷ 0x7f ∷ 0x01 ∷ 0x02 ∷ 0xc5 ∷ 0x11 ∷ 0x12 ∷ 0x13 ∷ 0x14 ∷ 0x15 ∷ 0x16 ∷ 0x17 ∷ 0x18 ∷ 0x19 ∷ 0x1a ∷ 0x1b ∷ []) ≡ refused Short
+immediate_assignment_cut : rr_reading (hex "2d 06 3f 05 41 de 14 7f 01 02 c5 11 12 13 14 15 16 17 18 19 1a 1b") ≡ refused Short
 unfolding rr_reading pseudo_at immediate_assignment_at three_at octet_at
 immediate_assignment_cut = refl
 
-measurement_report : rr_reading (0x06 ∷ 0x15 ∷ 0xe1 ∷ 0xac ∷ 0x2b ∷ 0x8a ∷ 0x0a ∷ 0x4a ∷ 0x89 ∷ 0xb8 ∷ 0x09 ∷ 0x25 ∷ 0x68 ∷ 0xb7 ∷ 0x68 ∷ 0x6d ∷ 0xff ∷ 0xc9 ∷ 0x99 ∷ []) ≡ Ok (MeasurementReport sixteen)
+measurement_report : rr_reading (hex "06 15 e1 ac 2b 8a 0a 4a 89 b8 09 25 68 b7 68 6d ff c9 99") ≡ Ok (MeasurementReport sixteen)
 unfolding rr_reading typed_at rr_type measurement_report_at octet_at
 measurement_report = refl
 
-measurement_report_cut : rr_reading (0x06 ∷ 0x15 ∷ 0xe1 ∷ 0xac ∷ 0x2b ∷ 0x8a ∷ 0x0a ∷ 0x4a ∷ 0x89 ∷ 0xb8 ∷ 0x09 ∷ 0x25 ∷ 0x68 ∷ 0xb7 ∷ 0x68 ∷ 0x6d ∷ 0xff ∷ []) ≡ refused Short
+measurement_report_cut : rr_reading (hex "06 15 e1 ac 2b 8a 0a 4a 89 b8 09 25 68 b7 68 6d ff") ≡ refused Short
 unfolding rr_reading typed_at rr_type measurement_report_at octet_at
 measurement_report_cut = refl
 
-paging_response : rr_reading (0x06 ∷ 0x27 ∷ 0x71 ∷ 0x08 ∷ []) ≡ Ok (PagingResponse (0x71 ∷ 0x08 ∷ []))
+paging_response : rr_reading (hex "06 27 71 08") ≡ Ok (PagingResponse (hex "71 08"))
 unfolding rr_reading typed_at rr_type octet_at
 paging_response = refl
 
-paging_response_of_nothing : rr_reading (0x06 ∷ 0x27 ∷ []) ≡ Ok (PagingResponse [])
+paging_response_of_nothing : rr_reading (hex "06 27") ≡ Ok (PagingResponse [])
 unfolding rr_reading typed_at rr_type octet_at
 paging_response_of_nothing = refl
 
 -- ---- faults, and which comes first
 
-short : map rr_reading ([] ∷ (0x06 ∷ []) ∷ (0x2d ∷ []) ∷ (0x2d ∷ 0x06 ∷ []) ∷ (0x2d ∷ 0x06 ∷ 0x3f ∷ []) ∷ []) ≡ refused Short ∷ refused Short ∷ refused Short ∷ refused Short ∷ refused Short ∷ []
+short : map rr_reading ([] ∷ hex "06" ∷ hex "2d" ∷ hex "2d 06" ∷ hex "2d 06 3f" ∷ [])
+    ≡ refused Short ∷ refused Short ∷ refused Short ∷ refused Short ∷ refused Short ∷ []
 unfolding rr_reading typed_at pseudo_at immediate_assignment_at octet_at
 short = refl
 
-other_discriminators : map rr_reading ((0x03 ∷ []) ∷ (0x16 ∷ 0x29 ∷ 0x00 ∷ []) ∷ (0x2d ∷ 0x03 ∷ []) ∷ (0x2d ∷ 0x16 ∷ 0x3f ∷ []) ∷ (0x2d ∷ 0x2d ∷ []) ∷ []) ≡ refused UnknownRr ∷ refused UnknownRr ∷ refused UnknownRr ∷ refused UnknownRr ∷ refused UnknownRr ∷ []
+other_discriminators : map rr_reading (hex "03" ∷ hex "16 29 00" ∷ hex "2d 03" ∷ hex "2d 16 3f" ∷ hex "2d 2d" ∷ [])
+    ≡ refused UnknownRr ∷ refused UnknownRr ∷ refused UnknownRr ∷ refused UnknownRr ∷ refused UnknownRr ∷ []
 unfolding rr_reading typed_at pseudo_at octet_at
 other_discriminators = refl
 
 -- a type that isn't known comes before octets that are missing, and so does another discriminator before its type
-unknown_alone : map rr_reading ((0x06 ∷ 0x99 ∷ []) ∷ (0x06 ∷ 0x3f ∷ []) ∷ (0x2d ∷ 0x06 ∷ 0x15 ∷ []) ∷ (0x05 ∷ []) ∷ []) ≡ refused UnknownRr ∷ refused UnknownRr ∷ refused UnknownRr ∷ refused UnknownRr ∷ []
+unknown_alone : map rr_reading (hex "06 99" ∷ hex "06 3f" ∷ hex "2d 06 15" ∷ hex "05" ∷ [])
+    ≡ refused UnknownRr ∷ refused UnknownRr ∷ refused UnknownRr ∷ refused UnknownRr ∷ []
 unfolding rr_reading typed_at rr_type pseudo_at octet_at
 unknown_alone = refl
 
 -- the type 3F without a pseudo length, and other types behind one
-other_types : map rr_reading ((0x06 ∷ 0x99 ∷ []) ∷ (0x06 ∷ 0x3f ∷ 0x00 ∷ []) ∷ (0x2d ∷ 0x06 ∷ 0x29 ∷ 0x00 ∷ []) ∷ (0x2d ∷ 0x06 ∷ 0x99 ∷ []) ∷ []) ≡ refused UnknownRr ∷ refused UnknownRr ∷ refused UnknownRr ∷ refused UnknownRr ∷ []
+other_types : map rr_reading (hex "06 99" ∷ hex "06 3f 00" ∷ hex "2d 06 29 00" ∷ hex "2d 06 99" ∷ [])
+    ≡ refused UnknownRr ∷ refused UnknownRr ∷ refused UnknownRr ∷ refused UnknownRr ∷ []
 unfolding rr_reading typed_at rr_type pseudo_at octet_at
 other_types = refl
 
 -- ---- the texts that are written
 
-handover_command_text : rr_text (HandoverCommand the_cell the_channel 0x5c) ≡ 0x06 ∷ 0x2b ∷ 0xd5 ∷ 0x1e ∷ 0x41 ∷ 0xc2 ∷ 0x14 ∷ 0x5c ∷ 0x00 ∷ []
+handover_command_text : rr_text (HandoverCommand the_cell the_channel 0x5c) ≡ hex "06 2b d5 1e 41 c2 14 5c 00"
 handover_command_text = refl
 
-assignment_command_text : rr_text (AssignmentCommand the_channel) ≡ 0x06 ∷ 0x2e ∷ 0x41 ∷ 0xc2 ∷ 0x14 ∷ 0x00 ∷ []
+assignment_command_text : rr_text (AssignmentCommand the_channel) ≡ hex "06 2e 41 c2 14 00"
 assignment_command_text = refl
 
 cause_texts : map rr_text (HandoverComplete (cause 0x00) ∷ HandoverFailure (cause 0x03) ∷ AssignmentComplete (cause 0x01) ∷ AssignmentFailure (cause 0x6f) ∷ ChannelRelease (cause 0xff) ∷ []) ≡
-    (0x06 ∷ 0x2c ∷ 0x00 ∷ []) ∷ (0x06 ∷ 0x28 ∷ 0x03 ∷ []) ∷ (0x06 ∷ 0x29 ∷ 0x01 ∷ []) ∷ (0x06 ∷ 0x2f ∷ 0x6f ∷ []) ∷ (0x06 ∷ 0x0d ∷ 0xff ∷ []) ∷ []
+    hex "06 2c 00" ∷ hex "06 28 03" ∷ hex "06 29 01" ∷ hex "06 2f 6f" ∷ hex "06 0d ff" ∷ []
 cause_texts = refl
 
-immediate_assignment_text : rr_text (ImmediateAssignment the_channel (0x7f ∷ 0x01 ∷ 0x02 ∷ []) 5) ≡
-    0x2d ∷ 0x06 ∷ 0x3f ∷ 0x00 ∷ 0x41 ∷ 0xc2 ∷ 0x14 ∷ 0x7f ∷ 0x01 ∷ 0x02 ∷ 0x05 ∷ 0x00 ∷ 0x2b ∷ 0x2b ∷ 0x2b ∷ 0x2b ∷ 0x2b ∷ 0x2b ∷ 0x2b ∷ 0x2b ∷ 0x2b ∷ 0x2b ∷ 0x2b ∷ []
+immediate_assignment_text : rr_text (ImmediateAssignment the_channel (hex "7f 01 02") 5) ≡
+    hex "2d 06 3f 00 41 c2 14 7f 01 02 05 00 2b 2b 2b 2b 2b 2b 2b 2b 2b 2b 2b"
 immediate_assignment_text = refl
 
-measurement_report_text : rr_text (MeasurementReport sixteen) ≡ 0x06 ∷ 0x15 ∷ 0xe1 ∷ 0xac ∷ 0x2b ∷ 0x8a ∷ 0x0a ∷ 0x4a ∷ 0x89 ∷ 0xb8 ∷ 0x09 ∷ 0x25 ∷ 0x68 ∷ 0xb7 ∷ 0x68 ∷ 0x6d ∷ 0xff ∷ 0xc9 ∷ []
+measurement_report_text : rr_text (MeasurementReport sixteen) ≡ hex "06 15 e1 ac 2b 8a 0a 4a 89 b8 09 25 68 b7 68 6d ff c9"
 measurement_report_text = refl
 
-paging_response_text : rr_text (PagingResponse (0x71 ∷ 0x08 ∷ [])) ≡ 0x06 ∷ 0x27 ∷ 0x71 ∷ 0x08 ∷ []
+paging_response_text : rr_text (PagingResponse (hex "71 08")) ≡ hex "06 27 71 08"
 paging_response_text = refl
 
 -- ---- reports
@@ -287,7 +294,7 @@ abbrev nothing : Neighbour
 nothing = entry 0 0 0
 
 -- a report that isn't valid, without a list of neighbours
-invalid_report : IsReport (0x14 ∷ 0x55 ∷ 0xf3 ∷ 0xd7 ∷ 0x02 ∷ 0x40 ∷ 0x00 ∷ 0x00 ∷ 0x00 ∷ 0x00 ∷ 0x00 ∷ 0x00 ∷ 0x00 ∷ 0x00 ∷ 0x00 ∷ 0x00 ∷ 0x99 ∷ [])
+invalid_report : IsReport (hex "14 55 f3 d7 02 40 00 00 00 00 00 00 00 00 00 00 99")
     (record { ba_used = 0; dtx_used = false; rxlev_full = 20; valid = false; rxlev_sub = 21; rxqual_full = 7; rxqual_sub = 1; no_ncell = 7; entries = entry 23 0 18 ∷ nothing ∷ nothing ∷ nothing ∷ nothing ∷ nothing ∷ [] })
 invalid_report = record {
   enough = omega arith;

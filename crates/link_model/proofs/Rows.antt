@@ -1,5 +1,6 @@
 -- Definitions against literal values: an acknowledged link, and the end of base station 1.
 use Rattle.std.proofs.Common.{◌≡◌, true, false, List, [], ◌∷◌, map, Some, None, Ok, Err, refl}
+use Rattle.octets.proofs.Hex.{hex}
 use Rattle.dtap_codec.specs.declared.sapi.Sapi.TheVariants.{Zero, Three}
 use Rattle.link_model.specs.declared.air_link.Air.{Air}
 use Rattle.link_model.specs.declared.air_link.Air.TheVariants.{Empty, Given, Reached}
@@ -16,56 +17,56 @@ use Rattle.rsl_codec.specs.declared.rsl.Rsl.TheVariants as messages
 -- ---- an acknowledged link: empty, with a message given to it, and with one that reached the station
 
 abbrev airs : List Air
-airs = Empty ∷ Given (0x0a ∷ []) ∷ Reached (0x0b ∷ []) ∷ []
+airs = Empty ∷ Given (hex "0a") ∷ Reached (hex "0b") ∷ []
 
 empties : map is_empty airs ≡ true ∷ false ∷ false ∷ []
 empties = refl
 
-give_answers : map (λ air. give_answer air (0x0c ∷ [])) airs ≡ Ok tt ∷ Err (0x0c ∷ []) ∷ Err (0x0c ∷ []) ∷ []
+give_answers : map (λ air. give_answer air (hex "0c")) airs ≡ Ok tt ∷ Err (hex "0c") ∷ Err (hex "0c") ∷ []
 give_answers = refl
 
-gives : map (λ air. after_give air (0x0c ∷ [])) airs ≡ Given (0x0c ∷ []) ∷ Given (0x0a ∷ []) ∷ Reached (0x0b ∷ []) ∷ []
+gives : map (λ air. after_give air (hex "0c")) airs ≡ Given (hex "0c") ∷ Given (hex "0a") ∷ Reached (hex "0b") ∷ []
 gives = refl
 
-in_air : map message_in airs ≡ None ∷ Some (0x0a ∷ []) ∷ Some (0x0b ∷ []) ∷ []
+in_air : map message_in airs ≡ None ∷ Some (hex "0a") ∷ Some (hex "0b") ∷ []
 in_air = refl
 
-offers : map offered_message airs ≡ None ∷ Some (0x0a ∷ []) ∷ None ∷ []
+offers : map offered_message airs ≡ None ∷ Some (hex "0a") ∷ None ∷ []
 offers = refl
 
-reaches : map after_reach airs ≡ Empty ∷ Reached (0x0a ∷ []) ∷ Reached (0x0b ∷ []) ∷ []
+reaches : map after_reach airs ≡ Empty ∷ Reached (hex "0a") ∷ Reached (hex "0b") ∷ []
 reaches = refl
 
 reached_ones : map is_reached airs ≡ false ∷ false ∷ true ∷ []
 reached_ones = refl
 
-acks : map after_ack airs ≡ Empty ∷ Given (0x0a ∷ []) ∷ Empty ∷ []
+acks : map after_ack airs ≡ Empty ∷ Given (hex "0a") ∷ Empty ∷ []
 acks = refl
 
 -- ---- links: SAPI 3 takes the SACCH of a TCH, 08 to 1F, and the main link of an SDCCH, 20 to 7F
 
-links : map (λ channel. link_on channel Three) (0x08 ∷ 0x0f ∷ 0x10 ∷ 0x1f ∷ 0x20 ∷ 0x27 ∷ 0x3a ∷ 0x3f ∷ 0x40 ∷ 0x7f ∷ []) ≡
-    0x43 ∷ 0x43 ∷ 0x43 ∷ 0x43 ∷ 0x03 ∷ 0x03 ∷ 0x03 ∷ 0x03 ∷ 0x03 ∷ 0x03 ∷ []
+links : map (λ channel. link_on channel Three) (hex "08 0f 10 1f 20 27 3a 3f 40 7f") ≡
+    hex "43 43 43 43 03 03 03 03 03 03"
 links = refl
 
-main_links : map (λ channel. link_on channel Zero) (0x1f ∷ 0x20 ∷ []) ≡ 0x00 ∷ 0x00 ∷ []
+main_links : map (λ channel. link_on channel Zero) (hex "1f 20") ≡ hex "00 00"
 main_links = refl
 
 -- ---- a base station end
 
 abbrev busy : BaseState
-busy = record { station = 1; active = 0x41 ∷ 0x0a ∷ []; messages = messages.RfChannelReleaseAck 0x20 ∷ messages.RfChannelReleaseAck 0x21 ∷ [] }
+busy = record { station = 1; active = hex "41 0a"; messages = messages.RfChannelReleaseAck 0x20 ∷ messages.RfChannelReleaseAck 0x21 ∷ [] }
 
 new_one : new_base 1 ≡ record { station = 1; active = []; messages = [] }
 new_one = refl
 
-active_ones : map (is_active busy.active) (0x41 ∷ 0x0a ∷ 0x40 ∷ []) ≡ true ∷ true ∷ false ∷ []
+active_ones : map (is_active busy.active) (hex "41 0a 40") ≡ true ∷ true ∷ false ∷ []
 active_ones = refl
 
-activate_refusals : map (refusal_of_activate busy) (0x41 ∷ 0x40 ∷ []) ≡ Some Busy ∷ None ∷ []
+activate_refusals : map (refusal_of_activate busy) (hex "41 40") ≡ Some Busy ∷ None ∷ []
 activate_refusals = refl
 
-other_refusals : map (refusal_unless_active busy) (0x41 ∷ 0x40 ∷ []) ≡ None ∷ Some NotActive ∷ []
+other_refusals : map (refusal_unless_active busy) (hex "41 40") ≡ None ∷ Some NotActive ∷ []
 other_refusals = refl
 
 first_one : first_message busy ≡ Some (messages.RfChannelReleaseAck 0x20)
@@ -74,7 +75,7 @@ first_one = refl
 no_first_one : first_message (new_base 1) ≡ None
 no_first_one = refl
 
-down : after_take_down busy ≡ record { station = 1; active = 0x41 ∷ 0x0a ∷ []; messages = [] }
+down : after_take_down busy ≡ record { station = 1; active = hex "41 0a"; messages = [] }
 down = refl
 
 -- ---- a life: refused calls change nothing, and each other call makes its message
@@ -84,15 +85,15 @@ confirm = messages.EstablishConfirm (record { channel = 0x0a; link = 0x43 })
 
 abbrev life : List BaseCall
 life =
-    brings_up 0x0a Zero (0x05 ∷ []) ∷ activates 0x0a ∷ activates 0x0a ∷ establishes 0x0a Zero (Some (0x05 ∷ 0x24 ∷ []))
-    ∷ establishes 0x41 Zero None ∷ establishes 0x0a Three None ∷ brings_up 0x0a Three (0x09 ∷ 0x01 ∷ []) ∷ tells confirm
+    brings_up 0x0a Zero (hex "05") ∷ activates 0x0a ∷ activates 0x0a ∷ establishes 0x0a Zero (Some (hex "05 24"))
+    ∷ establishes 0x41 Zero None ∷ establishes 0x0a Three None ∷ brings_up 0x0a Three (hex "09 01") ∷ tells confirm
     ∷ tells (messages.RfChannelRelease 0x0a) ∷ gives_next ∷ activates 0x41 ∷ releases 0x0a ∷ releases 0x7f ∷ gives_next ∷ []
 
 life_messages : messages_made (new_base 1) life ≡
     messages.ChannelActivationAck (record { channel = 0x0a; frame = Some (record { 0 = 0 }) })
-    ∷ messages.EstablishIndication (record { channel = 0x0a; link = 0x00; l3 = Some (0x05 ∷ 0x24 ∷ []) })
+    ∷ messages.EstablishIndication (record { channel = 0x0a; link = 0x00; l3 = Some (hex "05 24") })
     ∷ messages.EstablishIndication (record { channel = 0x0a; link = 0x43; l3 = None })
-    ∷ messages.DataIndication (record { channel = 0x0a; link = 0x43; l3 = 0x09 ∷ 0x01 ∷ [] })
+    ∷ messages.DataIndication (record { channel = 0x0a; link = 0x43; l3 = hex "09 01" })
     ∷ messages.EstablishConfirm (record { channel = 0x0a; link = 0x43 })
     ∷ messages.ChannelActivationAck (record { channel = 0x41; frame = Some (record { 0 = 0 }) })
     ∷ messages.RfChannelReleaseAck 0x0a ∷ messages.RfChannelReleaseAck 0x7f ∷ []
@@ -100,15 +101,15 @@ life_messages = refl
 
 life_given : messages_given (new_base 1) life ≡
     messages.ChannelActivationAck (record { channel = 0x0a; frame = Some (record { 0 = 0 }) })
-    ∷ messages.EstablishIndication (record { channel = 0x0a; link = 0x00; l3 = Some (0x05 ∷ 0x24 ∷ []) }) ∷ []
+    ∷ messages.EstablishIndication (record { channel = 0x0a; link = 0x00; l3 = Some (hex "05 24") }) ∷ []
 life_given = refl
 
 life_end : after_calls (new_base 1) life ≡ record {
   station = 1;
-  active = 0x41 ∷ [];
+  active = hex "41";
   messages =
       messages.EstablishIndication (record { channel = 0x0a; link = 0x43; l3 = None })
-      ∷ messages.DataIndication (record { channel = 0x0a; link = 0x43; l3 = 0x09 ∷ 0x01 ∷ [] })
+      ∷ messages.DataIndication (record { channel = 0x0a; link = 0x43; l3 = hex "09 01" })
       ∷ messages.EstablishConfirm (record { channel = 0x0a; link = 0x43 })
       ∷ messages.ChannelActivationAck (record { channel = 0x41; frame = Some (record { 0 = 0 }) })
       ∷ messages.RfChannelReleaseAck 0x0a ∷ messages.RfChannelReleaseAck 0x7f ∷ [];
@@ -126,7 +127,8 @@ told_ones : map is_told
 told_ones = refl
 
 untold_ones : map is_told
-    (messages.DataIndication (record { channel = 0x41; link = 0x00; l3 = 0x05 ∷ [] }) ∷ messages.EstablishIndication (record { channel = 0x41; link = 0x00; l3 = None })
+    (messages.DataIndication (record { channel = 0x41; link = 0x00; l3 = hex "05" })
+    ∷ messages.EstablishIndication (record { channel = 0x41; link = 0x00; l3 = None })
     ∷ messages.ChannelActivationAck (record { channel = 0x41; frame = None }) ∷ messages.RfChannelReleaseAck 0x41 ∷ messages.ReleaseConfirm (record { channel = 0x41; link = 0x00 }) ∷ [])
     ≡ false ∷ false ∷ false ∷ false ∷ false ∷ []
 untold_ones = refl

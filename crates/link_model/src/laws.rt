@@ -1,13 +1,15 @@
+//! Laws: each contract states what holds of the definitions that it names. Their bodies are empty.
+
 ghost use Rattle.std.specs.Prelude.{◌≡◌, ℕ, ◌++◌, false, List};
 ghost use Rattle.link_model.specs.BaseState.{BaseState};
 ghost use Rattle.link_model.specs.Base.{is_active, new_base};
 ghost use Rattle.link_model.specs.BaseCalls.{BaseCall, after_calls, messages_made, messages_given};
 ghost use Rattle.link_model.specs.Tenures.{Tenures};
 
-/// What a base station end keeps of an honest station, whatever is called and in whatever order up to a `take_down`: in what
-/// it makes, no ESTABLISH INDICATION and no DTAP of a channel stands outside the stretch from an activation acknowledgement
-/// to the release acknowledgement after it, and within a tenure the release acknowledgement comes last. It is a law on the
-/// definitions that the calls' contracts cite: it does nothing.
+/// What a base station end keeps of an honest station, whatever is called and in whatever order up to a `take_down`: in
+/// what it makes, no ESTABLISH INDICATION and no DTAP of a channel stands outside the stretch from an activation
+/// acknowledgement to the release acknowledgement after it, and within a tenure the release acknowledgement comes last.
+/// It is a law on the definitions that the calls' contracts cite.
 pub fn keeps_tenures()
     ensures made { (base : BaseState) (channel : ℕ) (calls : List BaseCall) →
         Tenures channel (is_active base.active channel) (messages_made base calls) (is_active (after_calls base calls).active channel) }
@@ -17,7 +19,7 @@ pub fn keeps_tenures()
         Tenures channel false (messages_given (new_base station) calls ++ (after_calls (new_base station) calls).messages) (is_active (after_calls (new_base station) calls).active channel) }
 {}
 
-/// What is given out are the messages that were made, each once and in order. It does nothing.
+/// What is given out are the messages that were made, each once and in order.
 pub fn gives_in_order()
     ensures { (base : BaseState) (calls : List BaseCall) → messages_given base calls ++ (after_calls base calls).messages ≡ base.messages ++ messages_made base calls }
 {}

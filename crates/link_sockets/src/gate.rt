@@ -1,4 +1,4 @@
-use link_io::Gate;
+use link_workers::Gate;
 
 /// A gate that is never shut.
 #[derive(Clone, Copy)]

@@ -1,10 +1,12 @@
-//! The program's relay over TCP: its links, the clock that ticks for it, and its run.
+//! The program's relay over TCP: its links, the clock that ticks for it, and its run; and `bsc run`, the
+//! relay between the links that a file of settings names.
 #![tactic(auto)]
 
 pub use fault::RunFault;
 pub use gate::OpenGate;
 pub use name::LinkName;
 pub use open::{SocketLink, open_links};
+pub use relaying::relay;
 pub use run::run_links;
 pub use socket::{ReadingEnd, WritingEnd};
 pub use stopwatch::Stopwatch;
@@ -14,6 +16,7 @@ mod gate;
 mod line;
 mod name;
 mod open;
+mod relaying;
 mod run;
 mod socket;
 mod stopwatch;

@@ -3,7 +3,7 @@ use crate::line::log_line;
 use crate::open::{SocketLink, open_links};
 use crate::stopwatch::Stopwatch;
 use controller::Controller;
-use link_io::IoFault;
+use link_workers::IoFault;
 use log::{Level, Log};
 use settings::Settings;
 use station_io::serve_links;

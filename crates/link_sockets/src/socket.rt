@@ -3,7 +3,7 @@ ghost use Rattle.std.specs.Prelude.{◌≡◌, IfOk};
 use crate::fault::RunFault;
 use crate::line::log_line;
 use crate::name::LinkName;
-use link_io::{IoFault, LinkReader};
+use link_workers::{IoFault, LinkReader};
 use log::{Level, Log};
 use std::alloc::{AllocError, Global};
 use std::io::{self, ErrorKind, Read, Write};

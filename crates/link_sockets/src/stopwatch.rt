@@ -50,7 +50,7 @@ fn millis_to_tell(told: u64, last: Instant, now: Instant) -> u32
     passed.min(u128::from(most)) as u32
 }
 
-impl<R: Clock> call_worker::Clock for Stopwatch<R> {
+impl<R: Clock> controller_worker::Clock for Stopwatch<R> {
     ghost told = { λ s. s.told };
 
     fn elapsed(&mut self) -> u32 {

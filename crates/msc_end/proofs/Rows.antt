@@ -1,6 +1,7 @@
 -- What the switch end does with literal messages.
 use Rattle.std.proofs.Common.{◌≡◌, ℕ, List, [], ◌∷◌, ◌++◌, length, map, Some, None, refl}
 use Rattle.std.specs.List.{flat_map}
+use Rattle.octets.proofs.Hex.{hex}
 use Rattle.octets.specs.Front.{octet_at}
 use Rattle.octets.specs.Walk.{walk}
 use Rattle.dtap_codec.specs.Number.{count_of}
@@ -23,21 +24,21 @@ use Rattle.msc_end.specs.SwitchState.{SwitchState}
 -- ---- messages of the base station controller
 
 abbrev initial : List ℕ
-initial = (0x05 ∷ 0x24 ∷ 0x71 ∷ [])
+initial = hex "05 24 71"
 
 -- COMPLETE LAYER 3 INFORMATION with the initial message
 abbrev request : Sccp
-request = ConnectionRequest 0x010203 (Some (0x00 ∷ 0x10 ∷ 0x57 ∷ 0x05 ∷ 0x08 ∷ 0x00 ∷ 0x00 ∷ 0xf1 ∷ 0x10 ∷ 0x00 ∷ 0x01 ∷ 0x00 ∷ 0x01 ∷ 0x17 ∷ 0x03 ∷ 0x05 ∷ 0x24 ∷ 0x71 ∷ []))
+request = ConnectionRequest 0x010203 (Some (hex "00 10 57 05 08 00 00 f1 10 00 01 00 01 17 03 05 24 71"))
 
 -- DTAP on the first connection
 abbrev uplink : List ℕ → Sccp
 uplink message = DataForm1 0x800001 (0x01 ∷ 0x80 ∷ length message ∷ message)
 
 abbrev clear_request : Sccp
-clear_request = DataForm1 0x800001 (0x00 ∷ 0x04 ∷ 0x22 ∷ 0x04 ∷ 0x01 ∷ 0x20 ∷ [])
+clear_request = DataForm1 0x800001 (hex "00 04 22 04 01 20")
 
 abbrev clear_complete : Sccp
-clear_complete = DataForm1 0x800001 (0x00 ∷ 0x01 ∷ 0x21 ∷ [])
+clear_complete = DataForm1 0x800001 (hex "00 01 21")
 
 -- a switch end with a connection at this stage, on which these messages were taken
 abbrev switch_at : Stage → List (List ℕ) → SwitchState
@@ -61,15 +62,15 @@ first_request_confirmed = refl
 request_without_data : after new_switch (ConnectionRequest 0x010203 None) ≡ switch_at Open []
 request_without_data = refl
 
-request_with_another_message : after new_switch (ConnectionRequest 0x010203 (Some (0x00 ∷ 0x01 ∷ 0x21 ∷ []))) ≡ switch_at Open []
+request_with_another_message : after new_switch (ConnectionRequest 0x010203 (Some (hex "00 01 21"))) ≡ switch_at Open []
 unfolding bssap_reading octet_at management_at transfer_at bssmap_type message_at breaks_off elements_of walk needed_value layer3_at cause_at complete_layer3_at
 request_with_another_message = refl
 
-request_with_dtap : after new_switch (ConnectionRequest 0x010203 (Some (0x01 ∷ 0x00 ∷ 0x02 ∷ 0x05 ∷ 0x24 ∷ []))) ≡ switch_at Open []
+request_with_dtap : after new_switch (ConnectionRequest 0x010203 (Some (hex "01 00 02 05 24"))) ≡ switch_at Open []
 unfolding bssap_reading octet_at management_at transfer_at bssmap_type message_at breaks_off elements_of walk needed_value layer3_at cause_at complete_layer3_at
 request_with_dtap = refl
 
-request_that_is_not_read : after new_switch (ConnectionRequest 0x010203 (Some (0x02 ∷ []))) ≡ switch_at Open []
+request_that_is_not_read : after new_switch (ConnectionRequest 0x010203 (Some (hex "02"))) ≡ switch_at Open []
 unfolding bssap_reading octet_at management_at transfer_at bssmap_type message_at breaks_off elements_of walk needed_value layer3_at cause_at complete_layer3_at
 request_that_is_not_read = refl
 
@@ -90,19 +91,20 @@ request_beyond_the_last connections count = rw count refl
 
 -- ---- data
 
-uplink_taken : after (switch_at Open (initial ∷ [])) (uplink (0x03 ∷ 0x45 ∷ [])) ≡ switch_at Open (initial ∷ (0x03 ∷ 0x45 ∷ []) ∷ [])
+uplink_taken : after (switch_at Open (initial ∷ [])) (uplink (hex "03 45")) ≡ switch_at Open (initial ∷ hex "03 45" ∷ [])
 unfolding bssap_reading octet_at management_at transfer_at bssmap_type message_at breaks_off elements_of walk needed_value layer3_at cause_at complete_layer3_at
 uplink_taken = refl
 
-uplink_unanswered : replies (switch_at Open (initial ∷ [])).connections (uplink (0x03 ∷ 0x45 ∷ [])) ≡ []
+uplink_unanswered : replies (switch_at Open (initial ∷ [])).connections (uplink (hex "03 45")) ≡ []
 unfolding bssap_reading octet_at management_at transfer_at bssmap_type message_at breaks_off elements_of walk needed_value layer3_at cause_at complete_layer3_at
 uplink_unanswered = refl
 
-uplink_taken_in_clearing : after (switch_at Clearing (initial ∷ [])) (uplink (0x03 ∷ 0x45 ∷ [])) ≡ switch_at Clearing (initial ∷ (0x03 ∷ 0x45 ∷ []) ∷ [])
+uplink_taken_in_clearing : after (switch_at Clearing (initial ∷ [])) (uplink (hex "03 45"))
+    ≡ switch_at Clearing (initial ∷ hex "03 45" ∷ [])
 unfolding bssap_reading octet_at management_at transfer_at bssmap_type message_at breaks_off elements_of walk needed_value layer3_at cause_at complete_layer3_at
 uplink_taken_in_clearing = refl
 
-uplink_after_the_end : after (switch_at Ended (initial ∷ [])) (uplink (0x03 ∷ 0x45 ∷ [])) ≡ switch_at Ended (initial ∷ [])
+uplink_after_the_end : after (switch_at Ended (initial ∷ [])) (uplink (hex "03 45")) ≡ switch_at Ended (initial ∷ [])
 unfolding bssap_reading octet_at management_at transfer_at bssmap_type message_at breaks_off elements_of walk needed_value layer3_at cause_at complete_layer3_at
 uplink_after_the_end = refl
 
@@ -111,11 +113,13 @@ unfolding bssap_reading octet_at management_at transfer_at bssmap_type message_a
 clear_request_clears = refl
 
 -- with its own cause
-clear_request_answered : replies (switch_at Open (initial ∷ [])).connections clear_request ≡ DataForm1 0x010203 (0x00 ∷ 0x04 ∷ 0x20 ∷ 0x04 ∷ 0x01 ∷ 0x20 ∷ []) ∷ []
+clear_request_answered : replies (switch_at Open (initial ∷ [])).connections clear_request
+    ≡ DataForm1 0x010203 (hex "00 04 20 04 01 20") ∷ []
 unfolding bssap_reading octet_at management_at transfer_at bssmap_type message_at breaks_off elements_of walk needed_value layer3_at cause_at complete_layer3_at
 clear_request_answered = refl
 
-clear_request_answered_again : replies (switch_at Clearing (initial ∷ [])).connections clear_request ≡ DataForm1 0x010203 (0x00 ∷ 0x04 ∷ 0x20 ∷ 0x04 ∷ 0x01 ∷ 0x20 ∷ []) ∷ []
+clear_request_answered_again : replies (switch_at Clearing (initial ∷ [])).connections clear_request
+    ≡ DataForm1 0x010203 (hex "00 04 20 04 01 20") ∷ []
 unfolding bssap_reading octet_at management_at transfer_at bssmap_type message_at breaks_off elements_of walk needed_value layer3_at cause_at complete_layer3_at
 clear_request_answered_again = refl
 
@@ -139,47 +143,49 @@ clear_request_after_the_end : replies (switch_at Ended (initial ∷ [])).connect
 unfolding bssap_reading octet_at management_at transfer_at bssmap_type message_at breaks_off elements_of walk needed_value layer3_at cause_at complete_layer3_at
 clear_request_after_the_end = refl
 
-another_message_of_bssmap : after (switch_at Open (initial ∷ [])) (DataForm1 0x800001 (0x00 ∷ 0x01 ∷ 0x53 ∷ [])) ≡ switch_at Open (initial ∷ [])
+another_message_of_bssmap : after (switch_at Open (initial ∷ [])) (DataForm1 0x800001 (hex "00 01 53")) ≡ switch_at Open (initial ∷ [])
 unfolding bssap_reading octet_at management_at transfer_at bssmap_type message_at breaks_off elements_of walk needed_value layer3_at cause_at complete_layer3_at
 another_message_of_bssmap = refl
 
-another_message_of_bssmap_unanswered : replies (switch_at Open (initial ∷ [])).connections (DataForm1 0x800001 (0x00 ∷ 0x01 ∷ 0x53 ∷ [])) ≡ []
+another_message_of_bssmap_unanswered : replies (switch_at Open (initial ∷ [])).connections (DataForm1 0x800001 (hex "00 01 53")) ≡ []
 unfolding bssap_reading octet_at management_at transfer_at bssmap_type message_at breaks_off elements_of walk needed_value layer3_at cause_at complete_layer3_at
 another_message_of_bssmap_unanswered = refl
 
-data_that_are_not_read : after (switch_at Open (initial ∷ [])) (DataForm1 0x800001 (0x01 ∷ 0x02 ∷ 0x01 ∷ 0x05 ∷ [])) ≡ switch_at Open (initial ∷ [])
+data_that_are_not_read : after (switch_at Open (initial ∷ [])) (DataForm1 0x800001 (hex "01 02 01 05")) ≡ switch_at Open (initial ∷ [])
 unfolding bssap_reading octet_at management_at transfer_at bssmap_type message_at breaks_off elements_of walk needed_value layer3_at cause_at complete_layer3_at
 data_that_are_not_read = refl
 
-connection_before_the_first : after (switch_at Open (initial ∷ [])) (DataForm1 0x800000 (0x00 ∷ 0x01 ∷ 0x21 ∷ [])) ≡ switch_at Open (initial ∷ [])
+connection_before_the_first : after (switch_at Open (initial ∷ [])) (DataForm1 0x800000 (hex "00 01 21")) ≡ switch_at Open (initial ∷ [])
 unfolding bssap_reading octet_at management_at transfer_at bssmap_type message_at breaks_off elements_of walk needed_value layer3_at cause_at complete_layer3_at
 connection_before_the_first = refl
 
-connection_before_the_first_unanswered : replies (switch_at Open (initial ∷ [])).connections (DataForm1 0x800000 (0x00 ∷ 0x01 ∷ 0x21 ∷ [])) ≡ []
+connection_before_the_first_unanswered : replies (switch_at Open (initial ∷ [])).connections (DataForm1 0x800000 (hex "00 01 21")) ≡ []
 unfolding bssap_reading octet_at management_at transfer_at bssmap_type message_at breaks_off elements_of walk needed_value layer3_at cause_at complete_layer3_at
 connection_before_the_first_unanswered = refl
 
-connection_of_the_other_end : after (switch_at Open (initial ∷ [])) (DataForm1 0x000001 (0x00 ∷ 0x01 ∷ 0x21 ∷ [])) ≡ switch_at Open (initial ∷ [])
+connection_of_the_other_end : after (switch_at Open (initial ∷ [])) (DataForm1 0x000001 (hex "00 01 21")) ≡ switch_at Open (initial ∷ [])
 unfolding bssap_reading octet_at management_at transfer_at bssmap_type message_at breaks_off elements_of walk needed_value layer3_at cause_at complete_layer3_at
 connection_of_the_other_end = refl
 
-connection_of_the_other_end_unanswered : replies (switch_at Open (initial ∷ [])).connections (DataForm1 0x000001 (0x00 ∷ 0x01 ∷ 0x21 ∷ [])) ≡ []
+connection_of_the_other_end_unanswered : replies (switch_at Open (initial ∷ [])).connections (DataForm1 0x000001 (hex "00 01 21")) ≡ []
 unfolding bssap_reading octet_at management_at transfer_at bssmap_type message_at breaks_off elements_of walk needed_value layer3_at cause_at complete_layer3_at
 connection_of_the_other_end_unanswered = refl
 
-connection_behind_the_last : after (switch_at Open (initial ∷ [])) (DataForm1 0x800002 (0x00 ∷ 0x01 ∷ 0x21 ∷ [])) ≡ switch_at Open (initial ∷ [])
+connection_behind_the_last : after (switch_at Open (initial ∷ [])) (DataForm1 0x800002 (hex "00 01 21")) ≡ switch_at Open (initial ∷ [])
 unfolding bssap_reading octet_at management_at transfer_at bssmap_type message_at breaks_off elements_of walk needed_value layer3_at cause_at complete_layer3_at
 connection_behind_the_last = refl
 
-connection_behind_the_last_unanswered : replies (switch_at Open (initial ∷ [])).connections (DataForm1 0x800002 (0x00 ∷ 0x01 ∷ 0x21 ∷ [])) ≡ []
+connection_behind_the_last_unanswered : replies (switch_at Open (initial ∷ [])).connections (DataForm1 0x800002 (hex "00 01 21")) ≡ []
 unfolding bssap_reading octet_at management_at transfer_at bssmap_type message_at breaks_off elements_of walk needed_value layer3_at cause_at complete_layer3_at
 connection_behind_the_last_unanswered = refl
 
-second_connection_alone : connections_after 4 ((switch_at Open (initial ∷ [])).connections ++ other ∷ []) (DataForm1 0x800002 (0x00 ∷ 0x01 ∷ 0x21 ∷ [])) ≡ (switch_at Open (initial ∷ [])).connections ++ with_stage other Ended ∷ []
+second_connection_alone : connections_after 4 ((switch_at Open (initial ∷ [])).connections ++ other ∷ []) (DataForm1 0x800002 (hex "00 01 21"))
+    ≡ (switch_at Open (initial ∷ [])).connections ++ with_stage other Ended ∷ []
 unfolding bssap_reading octet_at management_at transfer_at bssmap_type message_at breaks_off elements_of walk needed_value layer3_at cause_at complete_layer3_at
 second_connection_alone = refl
 
-second_connection_released : replies ((switch_at Open (initial ∷ [])).connections ++ other ∷ []) (DataForm1 0x800002 (0x00 ∷ 0x01 ∷ 0x21 ∷ [])) ≡ Released 0x040506 0x800002 ∷ []
+second_connection_released : replies ((switch_at Open (initial ∷ [])).connections ++ other ∷ []) (DataForm1 0x800002 (hex "00 01 21"))
+    ≡ Released 0x040506 0x800002 ∷ []
 unfolding bssap_reading octet_at management_at transfer_at bssmap_type message_at breaks_off elements_of walk needed_value layer3_at cause_at complete_layer3_at
 second_connection_released = refl
 
@@ -209,16 +215,20 @@ release_complete_unanswered = refl
 
 -- ---- what is sent of the switch's own accord
 
-dtap_of_sapi_0 : data_forms_on (connection_of (switch_at Open (initial ∷ [])).connections 1) (Transfer (dlci_for Zero) (0x83 ∷ 0x02 ∷ [])) ≡ DataForm1 0x010203 (0x01 ∷ 0x00 ∷ 0x02 ∷ 0x83 ∷ 0x02 ∷ []) ∷ []
+dtap_of_sapi_0 : data_forms_on (connection_of (switch_at Open (initial ∷ [])).connections 1) (Transfer (dlci_for Zero) (hex "83 02"))
+    ≡ DataForm1 0x010203 (hex "01 00 02 83 02") ∷ []
 dtap_of_sapi_0 = refl
 
-dtap_of_sapi_3 : data_forms_on (connection_of (switch_at Open (initial ∷ [])).connections 1) (Transfer (dlci_for Three) (0x09 ∷ 0x01 ∷ [])) ≡ DataForm1 0x010203 (0x01 ∷ 0x03 ∷ 0x02 ∷ 0x09 ∷ 0x01 ∷ []) ∷ []
+dtap_of_sapi_3 : data_forms_on (connection_of (switch_at Open (initial ∷ [])).connections 1) (Transfer (dlci_for Three) (hex "09 01"))
+    ≡ DataForm1 0x010203 (hex "01 03 02 09 01") ∷ []
 dtap_of_sapi_3 = refl
 
-assignment_sent : data_forms_on (connection_of (switch_at Open (initial ∷ [])).connections 1) assignment_request ≡ DataForm1 0x010203 (0x00 ∷ 0x06 ∷ 0x01 ∷ 0x0b ∷ 0x03 ∷ 0x01 ∷ 0x08 ∷ 0x01 ∷ []) ∷ []
+assignment_sent : data_forms_on (connection_of (switch_at Open (initial ∷ [])).connections 1) assignment_request
+    ≡ DataForm1 0x010203 (hex "00 06 01 0b 03 01 08 01") ∷ []
 assignment_sent = refl
 
-clear_sent : data_forms_on (connection_of (switch_at Open (initial ∷ [])).connections 1) clear_command ≡ DataForm1 0x010203 (0x00 ∷ 0x04 ∷ 0x20 ∷ 0x04 ∷ 0x01 ∷ 0x09 ∷ []) ∷ []
+clear_sent : data_forms_on (connection_of (switch_at Open (initial ∷ [])).connections 1) clear_command
+    ≡ DataForm1 0x010203 (hex "00 04 20 04 01 09") ∷ []
 clear_sent = refl
 
 cleared_state : after_clear (switch_at Open (initial ∷ [])) 1 ≡ switch_at Clearing (initial ∷ [])
@@ -252,23 +262,33 @@ switch_after switch (message ∷ messages) = switch_after (after switch (uplink 
 abbrev taken_of : SwitchState → List (List ℕ)
 taken_of switch = flat_map (λ c. c.reception.taken) switch.connections
 
-repeated_message_taken : taken_of (switch_after (switch_at Open (initial ∷ [])) ((0x03 ∷ 0x45 ∷ []) ∷ (0x03 ∷ 0x45 ∷ []) ∷ (0x03 ∷ 0x45 ∷ []) ∷ [])) ≡ ((0x05 ∷ 0x24 ∷ 0x71 ∷ []) ∷ (0x03 ∷ 0x45 ∷ []) ∷ (0x03 ∷ 0x45 ∷ []) ∷ (0x03 ∷ 0x45 ∷ []) ∷ [])
+repeated_message_taken : taken_of (switch_after (switch_at Open (initial ∷ [])) (hex "03 45" ∷ hex "03 45"
+    ∷ hex "03 45" ∷ []))
+    ≡ (hex "05 24 71" ∷ hex "03 45" ∷ hex "03 45" ∷ hex "03 45" ∷ [])
 unfolding bssap_reading octet_at management_at transfer_at bssmap_type message_at breaks_off elements_of walk needed_value layer3_at cause_at complete_layer3_at
 repeated_message_taken = refl
 
-repeated_message_accepted_once : accepted_list 4 (taken_of (switch_after (switch_at Open (initial ∷ [])) ((0x03 ∷ 0x45 ∷ []) ∷ (0x03 ∷ 0x45 ∷ []) ∷ (0x03 ∷ 0x45 ∷ []) ∷ []))) ≡ ((0x05 ∷ 0x24 ∷ 0x71 ∷ []) ∷ (0x03 ∷ 0x05 ∷ []) ∷ [])
+repeated_message_accepted_once : accepted_list 4 (taken_of (switch_after (switch_at Open (initial ∷ [])) (hex "03 45"
+    ∷ hex "03 45" ∷ hex "03 45" ∷ [])))
+    ≡ (hex "05 24 71" ∷ hex "03 05" ∷ [])
 unfolding bssap_reading octet_at management_at transfer_at bssmap_type message_at breaks_off elements_of walk needed_value layer3_at cause_at complete_layer3_at
 repeated_message_accepted_once = refl
 
-numbers_run_on : accepted_list 4 (taken_of (switch_after (switch_at Open (initial ∷ [])) ((0x03 ∷ 0x45 ∷ []) ∷ (0x03 ∷ 0x8f ∷ []) ∷ []))) ≡ ((0x05 ∷ 0x24 ∷ 0x71 ∷ []) ∷ (0x03 ∷ 0x05 ∷ []) ∷ (0x03 ∷ 0x0f ∷ []) ∷ [])
+numbers_run_on : accepted_list 4 (taken_of (switch_after (switch_at Open (initial ∷ [])) (hex "03 45"
+    ∷ hex "03 8f" ∷ [])))
+    ≡ (hex "05 24 71" ∷ hex "03 05" ∷ hex "03 0f" ∷ [])
 unfolding bssap_reading octet_at management_at transfer_at bssmap_type message_at breaks_off elements_of walk needed_value layer3_at cause_at complete_layer3_at
 numbers_run_on = refl
 
-nothing_accepted_behind_a_gap : accepted_list 4 (taken_of (switch_after (switch_at Open (initial ∷ [])) ((0x03 ∷ 0x85 ∷ []) ∷ (0x03 ∷ 0x45 ∷ []) ∷ []))) ≡ ((0x05 ∷ 0x24 ∷ 0x71 ∷ []) ∷ [])
+nothing_accepted_behind_a_gap : accepted_list 4 (taken_of (switch_after (switch_at Open (initial ∷ [])) (hex "03 85"
+    ∷ hex "03 45" ∷ [])))
+    ≡ (hex "05 24 71" ∷ [])
 unfolding bssap_reading octet_at management_at transfer_at bssmap_type message_at breaks_off elements_of walk needed_value layer3_at cause_at complete_layer3_at
 nothing_accepted_behind_a_gap = refl
 
-numbers_begin_again_after_the_last : accepted_list 4 (taken_of (switch_after (switch_at Open []) ((0x03 ∷ 0x01 ∷ []) ∷ (0x03 ∷ 0x41 ∷ []) ∷ (0x03 ∷ 0x81 ∷ []) ∷ (0x03 ∷ 0xc1 ∷ []) ∷ (0x03 ∷ 0x01 ∷ []) ∷ (0x03 ∷ 0x41 ∷ []) ∷ []))) ≡ ((0x03 ∷ 0x01 ∷ []) ∷ (0x03 ∷ 0x01 ∷ []) ∷ (0x03 ∷ 0x01 ∷ []) ∷ (0x03 ∷ 0x01 ∷ []) ∷ (0x03 ∷ 0x01 ∷ []) ∷ (0x03 ∷ 0x01 ∷ []) ∷ [])
+numbers_begin_again_after_the_last : accepted_list 4 (taken_of (switch_after (switch_at Open []) (hex "03 01"
+    ∷ hex "03 41" ∷ hex "03 81" ∷ hex "03 c1" ∷ hex "03 01" ∷ hex "03 41" ∷ [])))
+    ≡ (hex "03 01" ∷ hex "03 01" ∷ hex "03 01" ∷ hex "03 01" ∷ hex "03 01" ∷ hex "03 01" ∷ [])
 unfolding bssap_reading octet_at management_at transfer_at bssmap_type message_at breaks_off elements_of walk needed_value layer3_at cause_at complete_layer3_at
 numbers_begin_again_after_the_last = refl
 
@@ -276,14 +296,18 @@ numbers_begin_again_after_the_last = refl
 abbrev switch_of_two : SwitchState
 switch_of_two = record { modulus = count_of Two; connections = record { peer = 0x010203; number = 0x800001; stage = Open; reception = record { modulus = count_of Two; taken = initial ∷ [] } } ∷ [] }
 
-repeated_message_of_two : map (λ c. accepted_list c.reception.modulus c.reception.taken) (switch_after switch_of_two ((0x03 ∷ 0x45 ∷ []) ∷ (0x03 ∷ 0x45 ∷ []) ∷ (0x03 ∷ 0x0f ∷ []) ∷ [])).connections ≡ ((0x05 ∷ 0x24 ∷ 0x71 ∷ []) ∷ (0x03 ∷ 0x05 ∷ []) ∷ (0x03 ∷ 0x0f ∷ []) ∷ []) ∷ []
+repeated_message_of_two : map (λ c. accepted_list c.reception.modulus c.reception.taken) (switch_after switch_of_two (hex "03 45"
+    ∷ hex "03 45" ∷ hex "03 0f" ∷ [])).connections
+    ≡ (hex "05 24 71" ∷ hex "03 05" ∷ hex "03 0f" ∷ []) ∷ []
 unfolding bssap_reading octet_at management_at transfer_at bssmap_type message_at breaks_off elements_of walk needed_value layer3_at cause_at complete_layer3_at
 repeated_message_of_two = refl
 
-initial_message_without_number : accepted_list 4 (taken_of (switch_after (switch_at Open ((0x06 ∷ 0x27 ∷ 0x71 ∷ []) ∷ [])) ((0x03 ∷ 0x05 ∷ []) ∷ []))) ≡ ((0x03 ∷ 0x05 ∷ []) ∷ [])
+initial_message_without_number : accepted_list 4 (taken_of (switch_after (switch_at Open (hex "06 27 71" ∷ [])) (hex "03 05" ∷ [])))
+    ≡ (hex "03 05" ∷ [])
 unfolding bssap_reading octet_at management_at transfer_at bssmap_type message_at breaks_off elements_of walk needed_value layer3_at cause_at complete_layer3_at
 initial_message_without_number = refl
 
-unnumbered_message : not_of_the_flow (taken_of (switch_after (switch_at Open ((0x06 ∷ 0x27 ∷ 0x71 ∷ []) ∷ [])) ((0x03 ∷ 0x05 ∷ []) ∷ []))) ≡ ((0x06 ∷ 0x27 ∷ 0x71 ∷ []) ∷ [])
+unnumbered_message : not_of_the_flow (taken_of (switch_after (switch_at Open (hex "06 27 71" ∷ [])) (hex "03 05" ∷ [])))
+    ≡ (hex "06 27 71" ∷ [])
 unfolding bssap_reading octet_at management_at transfer_at bssmap_type message_at breaks_off elements_of walk needed_value layer3_at cause_at complete_layer3_at
 unnumbered_message = refl

@@ -1,6 +1,7 @@
 -- Definitions against literal numbers and octets.
 use Rattle.std.proofs.Common.{◌≡◌, ◌≢◌, ℕ, ◌+◌, ◌%◌, ◌<◌, ◌==◌, Bool, true, false, cond, List, [], ◌∷◌, map, Option, Some, None, refl, arith}
 use Rattle.std.proofs.lemmas.Bool.{eqb-false}
+use Rattle.octets.proofs.Hex.{hex}
 use Rattle.dtap_codec.specs.Number.{count_of}
 use Rattle.dtap_codec.specs.declared.number.Modulus.TheVariants.{Two}
 use Rattle.nsd_filter.specs.declared.verdict.Verdict.{Verdict}
@@ -86,26 +87,27 @@ two_has_no_gap accepted number within =
 -- ---- the accepted list, with a message that isn't of the flow and one that came twice
 
 abbrev taken : List (List ℕ)
-taken = (0x06 ∷ 0x27 ∷ 0x71 ∷ []) ∷ (0x05 ∷ 0x24 ∷ 0x71 ∷ []) ∷ (0x03 ∷ 0x45 ∷ []) ∷ (0x03 ∷ 0x45 ∷ []) ∷ []
+taken = hex "06 27 71" ∷ hex "05 24 71" ∷ hex "03 45" ∷ hex "03 45" ∷ []
 
-accepted_of_taken : accepted_list 4 taken ≡ (0x05 ∷ 0x24 ∷ 0x71 ∷ []) ∷ (0x03 ∷ 0x05 ∷ []) ∷ []
+accepted_of_taken : accepted_list 4 taken ≡ hex "05 24 71" ∷ hex "03 05" ∷ []
 accepted_of_taken = refl
 
 progress_of_taken : progress 4 taken ≡ Some 2
 progress_of_taken = refl
 
-unnumbered_of_taken : not_of_the_flow taken ≡ (0x06 ∷ 0x27 ∷ 0x71 ∷ []) ∷ []
+unnumbered_of_taken : not_of_the_flow taken ≡ hex "06 27 71" ∷ []
 unnumbered_of_taken = refl
 
 -- one octet has no number, whatever its protocol, and neither has none
-unnumbered_of_one_octet : not_of_the_flow ((0x08 ∷ []) ∷ (0x03 ∷ []) ∷ [] ∷ (0x05 ∷ 0x24 ∷ []) ∷ (0x09 ∷ 0x01 ∷ 0x02 ∷ []) ∷ []) ≡ (0x08 ∷ []) ∷ (0x03 ∷ []) ∷ [] ∷ (0x09 ∷ 0x01 ∷ 0x02 ∷ []) ∷ []
+unnumbered_of_one_octet : not_of_the_flow (hex "08" ∷ hex "03" ∷ [] ∷ hex "05 24" ∷ hex "09 01 02" ∷ [])
+    ≡ hex "08" ∷ hex "03" ∷ [] ∷ hex "09 01 02" ∷ []
 unnumbered_of_one_octet = refl
 
 -- number 2 where 1 is due: nothing more is accepted, neither it nor what comes then
 abbrev with_gap : List (List ℕ)
-with_gap = (0x05 ∷ 0x24 ∷ 0x71 ∷ []) ∷ (0x03 ∷ 0x85 ∷ []) ∷ (0x03 ∷ 0x45 ∷ []) ∷ []
+with_gap = hex "05 24 71" ∷ hex "03 85" ∷ hex "03 45" ∷ []
 
-accepted_before_gap : accepted_list 4 with_gap ≡ (0x05 ∷ 0x24 ∷ 0x71 ∷ []) ∷ []
+accepted_before_gap : accepted_list 4 with_gap ≡ hex "05 24 71" ∷ []
 accepted_before_gap = refl
 
 no_progress_past_gap : progress 4 with_gap ≡ None
@@ -113,14 +115,15 @@ no_progress_past_gap = refl
 
 -- number 0 comes after 3
 abbrev round : List (List ℕ)
-round = (0x05 ∷ 0x01 ∷ []) ∷ (0x03 ∷ 0x42 ∷ []) ∷ (0x0b ∷ 0x83 ∷ []) ∷ (0x05 ∷ 0xc4 ∷ []) ∷ (0x03 ∷ 0x05 ∷ []) ∷ []
+round = hex "05 01" ∷ hex "03 42" ∷ hex "0b 83" ∷ hex "05 c4" ∷ hex "03 05" ∷ []
 
-accepted_of_round : accepted_list 4 round ≡ (0x05 ∷ 0x01 ∷ []) ∷ (0x03 ∷ 0x02 ∷ []) ∷ (0x0b ∷ 0x03 ∷ []) ∷ (0x05 ∷ 0x04 ∷ []) ∷ (0x03 ∷ 0x05 ∷ []) ∷ []
+accepted_of_round : accepted_list 4 round ≡ hex "05 01" ∷ hex "03 02" ∷ hex "0b 03" ∷ hex "05 04" ∷ hex "03 05" ∷ []
 accepted_of_round = refl
 
 -- modulo 2 in a message that came twice; bit 8 isn't looked at
-accepted_of_two : accepted_list (count_of Two) ((0x05 ∷ 0x24 ∷ 0x71 ∷ []) ∷ (0x03 ∷ 0x45 ∷ []) ∷ (0x03 ∷ 0xc5 ∷ []) ∷ (0x03 ∷ 0x8f ∷ []) ∷ []) ≡ (0x05 ∷ 0x24 ∷ 0x71 ∷ []) ∷ (0x03 ∷ 0x05 ∷ []) ∷ (0x03 ∷ 0x0f ∷ []) ∷ []
+accepted_of_two : accepted_list (count_of Two) (hex "05 24 71" ∷ hex "03 45" ∷ hex "03 c5" ∷ hex "03 8f" ∷ [])
+    ≡ hex "05 24 71" ∷ hex "03 05" ∷ hex "03 0f" ∷ []
 accepted_of_two = refl
 
-deliveries : map (λ verdict. delivery_by verdict (0x03 ∷ 0x05 ∷ [])) (Accept ∷ Duplicate ∷ Gap ∷ []) ≡ ((0x03 ∷ 0x05 ∷ []) ∷ []) ∷ [] ∷ [] ∷ []
+deliveries : map (λ verdict. delivery_by verdict (hex "03 05")) (Accept ∷ Duplicate ∷ Gap ∷ []) ≡ (hex "03 05" ∷ []) ∷ [] ∷ [] ∷ []
 deliveries = refl

@@ -1,4 +1,5 @@
 pub mod ListLemmas
+pub mod Hex
 mod Rows
 pub mod Steps
 pub mod Walks

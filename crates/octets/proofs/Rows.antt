@@ -1,6 +1,7 @@
 -- Definitions against literal octets. The table has an identifier of each format: 01 with one octet, 0B with two octets of
 -- length, 1A with one.
-use Rattle.std.proofs.Common.{◌≡◌, ℕ, List, [], ◌∷◌, true, false, Some, None, Result, Ok, Err, refl}
+use Rattle.std.proofs.Common.{◌≡◌, ℕ, List, [], ◌∷◌, map, replicate, true, false, Some, None, Result, Ok, Err, refl}
+use Rattle.octets.proofs.Hex.{hex, octets_in}
 use Rattle.octets.specs.declared.element.Entry.{Entry}
 use Rattle.octets.specs.declared.element.Format.TheVariants.{Tv, Tlv, TlvE}
 use Rattle.octets.specs.declared.limits.TheConstants.{LENGTH_LIMIT, MESSAGE_LIMIT}
@@ -15,29 +16,29 @@ table = record { id = 0x01; format = Tv 1 } ∷ record { id = 0x0b; format = Tlv
 
 -- ---- the walk
 
-each_format : walk table (0x01 ∷ 0x41 ∷ 0x0b ∷ 0x00 ∷ 0x02 ∷ 0x03 ∷ 0x45 ∷ 0x1a ∷ 0x01 ∷ 0x60 ∷ []) ≡
-    finding (element 0x01 (0x41 ∷ []) ∷ element 0x0b (0x03 ∷ 0x45 ∷ []) ∷ element 0x1a (0x60 ∷ []) ∷ []) false
+each_format : walk table (hex "01 41 0b 00 02 03 45 1a 01 60") ≡
+    finding (element 0x01 (hex "41") ∷ element 0x0b (hex "03 45") ∷ element 0x1a (hex "60") ∷ []) false
 unfolding walk
 each_format = refl
 
-value_cut : walk table (0x01 ∷ 0x41 ∷ 0x1a ∷ 0x02 ∷ 0x60 ∷ []) ≡ finding (element 0x01 (0x41 ∷ []) ∷ []) true
+value_cut : walk table (hex "01 41 1a 02 60") ≡ finding (element 0x01 (hex "41") ∷ []) true
 unfolding walk
 value_cut = refl
 
-length_cut : walk table (0x0b ∷ 0x00 ∷ []) ≡ finding [] true
+length_cut : walk table (hex "0b 00") ≡ finding [] true
 unfolding walk
 length_cut = refl
 
-identifier_alone : walk table (0x01 ∷ []) ≡ finding [] true
+identifier_alone : walk table (hex "01") ≡ finding [] true
 unfolding walk
 identifier_alone = refl
 
 -- the high octet of a length comes first: 258 octets are said to follow
-long_length : walk table (0x0b ∷ 0x01 ∷ 0x02 ∷ 0x03 ∷ []) ≡ finding [] true
+long_length : walk table (hex "0b 01 02 03") ≡ finding [] true
 unfolding walk
 long_length = refl
 
-stops_at_unknown : walk table (0x1a ∷ 0x00 ∷ 0x02 ∷ 0x01 ∷ 0x41 ∷ []) ≡ finding (element 0x1a [] ∷ []) false
+stops_at_unknown : walk table (hex "1a 00 02 01 41") ≡ finding (element 0x1a [] ∷ []) false
 unfolding walk
 stops_at_unknown = refl
 
@@ -45,16 +46,17 @@ nothing : walk table [] ≡ finding [] false
 unfolding walk
 nothing = refl
 
-first_of_two : first_of 0x01 (element 0x0b (0x07 ∷ []) ∷ element 0x01 (0x41 ∷ []) ∷ element 0x01 (0x42 ∷ []) ∷ []) ≡ Some (0x41 ∷ [])
+first_of_two : first_of 0x01 (element 0x0b (hex "07") ∷ element 0x01 (hex "41") ∷ element 0x01 (hex "42") ∷ []) ≡ Some (hex "41")
 first_of_two = refl
 
-none_found : first_of 0x02 (element 0x0b (0x02 ∷ []) ∷ []) ≡ None
+none_found : first_of 0x02 (element 0x0b (hex "02") ∷ []) ≡ None
 none_found = refl
 
 -- ---- fields
 
-written : fields_text table (field 0x1a (Some (0x60 ∷ 0x61 ∷ [])) ∷ field 0x01 None ∷ field 0x0b (Some (0x03 ∷ [])) ∷ field 0x01 (Some (0x41 ∷ [])) ∷ []) ≡
-    0x1a ∷ 0x02 ∷ 0x60 ∷ 0x61 ∷ 0x0b ∷ 0x00 ∷ 0x01 ∷ 0x03 ∷ 0x01 ∷ 0x41 ∷ []
+written : fields_text table (field 0x1a (Some (hex "60 61")) ∷ field 0x01 None
+    ∷ field 0x0b (Some (hex "03")) ∷ field 0x01 (Some (hex "41")) ∷ []) ≡
+    hex "1a 02 60 61 0b 00 01 03 01 41"
 written = refl
 
 apart : are_distinct (field 0x1a None ∷ field 0x01 None ∷ []) ≡ true
@@ -71,7 +73,7 @@ fault = 7
 abbrev refused : {A : Type 0} → Result A ℕ
 refused = Err fault
 
-one_octet : octet_at fault (0x05 ∷ 0x24 ∷ []) ≡ Ok (0x05, 0x24 ∷ [])
+one_octet : octet_at fault (hex "05 24") ≡ Ok (0x05, hex "24")
 unfolding octet_at
 one_octet = refl
 
@@ -79,24 +81,24 @@ no_octet : octet_at fault [] ≡ refused
 unfolding octet_at
 no_octet = refl
 
-all_of_two : split_at fault 2 (0x05 ∷ 0x24 ∷ []) ≡ Ok (0x05 ∷ 0x24 ∷ [], [])
+all_of_two : split_at fault 2 (hex "05 24") ≡ Ok (hex "05 24", [])
 all_of_two = refl
 
-one_of_two : split_at fault 1 (0x05 ∷ 0x24 ∷ []) ≡ Ok (0x05 ∷ [], 0x24 ∷ [])
+one_of_two : split_at fault 1 (hex "05 24") ≡ Ok (hex "05", hex "24")
 one_of_two = refl
 
-three_of_two : split_at fault 3 (0x05 ∷ 0x24 ∷ []) ≡ refused
+three_of_two : split_at fault 3 (hex "05 24") ≡ refused
 three_of_two = refl
 
-counted_two : counted_at fault (0x02 ∷ 0x05 ∷ 0x24 ∷ 0x71 ∷ []) ≡ Ok (0x05 ∷ 0x24 ∷ [], 0x71 ∷ [])
+counted_two : counted_at fault (hex "02 05 24 71") ≡ Ok (hex "05 24", hex "71")
 unfolding counted_at octet_at
 counted_two = refl
 
-counted_cut : counted_at fault (0x02 ∷ 0x05 ∷ []) ≡ refused
+counted_cut : counted_at fault (hex "02 05") ≡ refused
 unfolding counted_at octet_at
 counted_cut = refl
 
-counted_text_of_two : counted_text (0x05 ∷ 0x24 ∷ []) ≡ 0x02 ∷ 0x05 ∷ 0x24 ∷ []
+counted_text_of_two : counted_text (hex "05 24") ≡ hex "02 05 24"
 counted_text_of_two = refl
 
 -- ---- limits
@@ -114,3 +116,26 @@ earlier = refl
 
 later : first_refusal {F = ℕ} None (Some 2) ≡ Some 2
 later = refl
+
+-- ---- octets as text
+
+apart_by_spaces : hex "0c 16 01 90" ≡ 0x0c ∷ 0x16 ∷ 0x01 ∷ 0x90 ∷ []
+apart_by_spaces = refl
+
+without_spaces : hex "0c160190" ≡ hex " 0c16  01 90 "
+without_spaces = refl
+
+no_text : hex "" ≡ []
+no_text = refl
+
+each_digit : hex "01 23 45 67 89 ab cd ef" ≡ 0x01 ∷ 0x23 ∷ 0x45 ∷ 0x67 ∷ 0x89 ∷ 0xab ∷ 0xcd ∷ 0xef ∷ []
+each_digit = refl
+
+upper_case : hex "AB CD EF Ab cD" ≡ hex "ab cd ef ab cd"
+upper_case = refl
+
+a_digit_alone : map octets_in ("0" ∷ "0c1" ∷ "0c 1" ∷ "0 c1" ∷ "0 c" ∷ []) ≡ replicate 5 None
+a_digit_alone = refl
+
+no_digits : map octets_in ("0/" ∷ "0:" ∷ "@0" ∷ "G0" ∷ "0`" ∷ "0c g0" ∷ "0x" ∷ "0,0" ∷ []) ≡ replicate 8 None
+no_digits = refl

@@ -3,3 +3,15 @@ pub mod Lists
 pub mod Putting
 pub mod Feeding
 mod Rows
+pub mod FrameLine
+pub mod Decoding
+mod NameRows
+mod CommandRows
+pub mod Taking
+pub mod Commanding
+pub mod Splitting
+pub mod HexadecimalLemmas
+pub mod Reading
+pub mod Saying
+pub mod Lines
+mod LineRows

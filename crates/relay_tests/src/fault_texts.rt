@@ -4,11 +4,11 @@ use link_model::LinkFault;
 use mobile_end::MobileFault;
 use msc_end::MscFault;
 use octets::Memory;
+use program_base::LineFault;
 use settings::SettingsFault;
 use std::fmt::Display;
 use std::process::Abort;
 use std::test::Fail;
-use world::LineFault;
 
 /// Asserts what is said of each fault of the table.
 fn tells<F: Display>(rt: &(impl Abort + AllocGlobal), table: &[(F, &str)]) -> Result<(), Fail> {

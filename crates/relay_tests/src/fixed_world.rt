@@ -1,9 +1,10 @@
 use dtap_codec::Modulus;
 use octets::Octets;
+use program_base::read_line;
 use std::alloc::Global;
 use std::process::Abort;
 use std::test::Fail;
-use world::{World, read_line};
+use world::World;
 
 /// The lines of a script, and whether the actor of each can act.
 const LINES: &[(&str, bool)] = &[

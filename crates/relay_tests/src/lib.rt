@@ -1,30 +1,18 @@
-//! The calls of the models and of the program that can run out of memory, each with ample memory, and what no contract says
-//! of them: printed text, and devices that fail.
+//! The calls of the models, of the world and of the program that can run out of memory, each with ample memory, and what no
+//! contract says of them: printed text, and devices that fail.
 #![tactic(auto)]
 
 #[cfg(test)]
 mod base_end;
 #[cfg(test)]
-mod connection;
-#[cfg(test)]
-mod decision;
-#[cfg(test)]
 mod fault_texts;
 #[cfg(test)]
 mod fixed_world;
-#[cfg(test)]
-mod frames;
-#[cfg(test)]
-mod hold;
 #[cfg(test)]
 mod mobile;
 #[cfg(test)]
 mod program;
 #[cfg(test)]
-mod reading;
-#[cfg(test)]
 mod reception;
-#[cfg(test)]
-mod settings_text;
 #[cfg(test)]
 mod switch;

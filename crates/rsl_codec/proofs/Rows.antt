@@ -1,5 +1,6 @@
 -- Definitions against literal octets (TS 48.058 clauses 8 and 9).
 use Rattle.std.proofs.Common.{◌≡◌, ℕ, Bool, List, [], ◌∷◌, length, map, replicate, true, false, Some, None, Ok, Err, refl}
+use Rattle.octets.proofs.Hex.{hex}
 use Rattle.octets.specs.declared.element.Format.TheVariants.{Tv, Tlv, TlvE}
 use Rattle.octets.specs.Element.{format_in}
 use Rattle.octets.specs.Walk.{walk}
@@ -47,17 +48,18 @@ unfolding rsl_type
 octet_of_another_discriminator = refl
 
 -- each other bit of the discriminator is
-unknown_discriminators : map (λ discriminator. rsl_type discriminator 0x04) (0x00 ∷ 0x06 ∷ 0x0a ∷ 0x12 ∷ 0x22 ∷ 0x42 ∷ 0x82 ∷ []) ≡ None ∷ None ∷ None ∷ None ∷ None ∷ None ∷ None ∷ []
+unknown_discriminators : map (λ discriminator. rsl_type discriminator 0x04) (hex "00 06 0a 12 22 42 82")
+    ≡ None ∷ None ∷ None ∷ None ∷ None ∷ None ∷ None ∷ []
 unfolding rsl_type
 unknown_discriminators = refl
 
 -- ---- the elements
 
-formats : map (λ id. format_in ELEMENTS id) (0x01 ∷ 0x02 ∷ 0x03 ∷ 0x04 ∷ 0x06 ∷ 0x08 ∷ 0x09 ∷ 0x0a ∷ 0x0b ∷ 0x11 ∷ 0x13 ∷ 0x14 ∷ 0x16 ∷ 0x19 ∷ 0x1a ∷ 0x1b ∷ 0x2b ∷ []) ≡
+formats : map (λ id. format_in ELEMENTS id) (hex "01 02 03 04 06 08 09 0a 0b 11 13 14 16 19 1a 1b 2b") ≡
     Some (Tv 1) ∷ Some (Tv 1) ∷ Some (Tv 1) ∷ Some (Tv 1) ∷ Some Tlv ∷ Some (Tv 2) ∷ Some (Tv 1) ∷ Some (Tv 2) ∷ Some TlvE ∷ Some (Tv 1) ∷ Some (Tv 3) ∷ Some (Tv 1) ∷ Some Tlv ∷ Some Tlv ∷ Some Tlv ∷ Some (Tv 1) ∷ Some Tlv ∷ []
 formats = refl
 
-unknown_identifiers : map (λ id. format_in ELEMENTS id) (0x00 ∷ 0x05 ∷ 0x07 ∷ 0x0c ∷ 0x12 ∷ 0x1c ∷ 0x2a ∷ []) ≡ None ∷ None ∷ None ∷ None ∷ None ∷ None ∷ None ∷ []
+unknown_identifiers : map (λ id. format_in ELEMENTS id) (hex "00 05 07 0c 12 1c 2a") ≡ None ∷ None ∷ None ∷ None ∷ None ∷ None ∷ None ∷ []
 unknown_identifiers = refl
 
 no_other_element : length ELEMENTS ≡ 17
@@ -66,9 +68,9 @@ no_other_element = refl
 -- ---- the elements that each message needs, in written order
 
 needed_elements : map needed all_types ≡
-    (0x01 ∷ 0x02 ∷ 0x0b ∷ []) ∷ (0x01 ∷ 0x02 ∷ 0x0b ∷ []) ∷ (0x01 ∷ 0x02 ∷ []) ∷ (0x01 ∷ 0x02 ∷ []) ∷ (0x01 ∷ 0x02 ∷ []) ∷ (0x01 ∷ 0x02 ∷ [])
-    ∷ (0x01 ∷ 0x02 ∷ 0x14 ∷ []) ∷ (0x01 ∷ 0x02 ∷ []) ∷ (0x01 ∷ 0x02 ∷ []) ∷ (0x01 ∷ 0x13 ∷ 0x11 ∷ []) ∷ (0x01 ∷ 0x2b ∷ []) ∷ (0x01 ∷ 0x03 ∷ 0x06 ∷ [])
-    ∷ (0x01 ∷ []) ∷ (0x01 ∷ []) ∷ (0x01 ∷ []) ∷ (0x01 ∷ []) ∷ (0x01 ∷ 0x1b ∷ []) ∷ (0x01 ∷ []) ∷ (0x01 ∷ []) ∷ []
+    hex "01 02 0b" ∷ hex "01 02 0b" ∷ hex "01 02" ∷ hex "01 02" ∷ hex "01 02" ∷ hex "01 02"
+    ∷ hex "01 02 14" ∷ hex "01 02" ∷ hex "01 02" ∷ hex "01 13 11" ∷ hex "01 2b" ∷ hex "01 03 06"
+    ∷ hex "01" ∷ hex "01" ∷ hex "01" ∷ hex "01" ∷ hex "01 1b" ∷ hex "01" ∷ hex "01" ∷ []
 needed_elements = refl
 
 with_l3 : map has_l3 all_types ≡
@@ -82,10 +84,10 @@ order_of_faults = refl
 
 -- ---- channel numbers: TCH/F, TCH/H, SDCCH/4, SDCCH/8, RACH, PCH and AGCH
 
-channels : map is_channel (0x08 ∷ 0x0f ∷ 0x10 ∷ 0x1f ∷ 0x20 ∷ 0x3f ∷ 0x40 ∷ 0x7f ∷ 0x88 ∷ 0x90 ∷ []) ≡ replicate 10 true
+channels : map is_channel (hex "08 0f 10 1f 20 3f 40 7f 88 90") ≡ replicate 10 true
 channels = refl
 
-no_channels : map is_channel (0x00 ∷ 0x07 ∷ 0x80 ∷ 0x87 ∷ 0x89 ∷ 0x8f ∷ 0x91 ∷ 0x98 ∷ 0xa0 ∷ 0xc0 ∷ 0xe0 ∷ 0xff ∷ []) ≡ replicate 12 false
+no_channels : map is_channel (hex "00 07 80 87 89 8f 91 98 a0 c0 e0 ff") ≡ replicate 12 false
 no_channels = refl
 
 channel_read : channel_by 0x0a ≡ Ok 0x0a
@@ -97,11 +99,11 @@ channel_refused = refl
 -- ---- links and activation types
 
 -- SAPI 3 on a TCH/F, the last TCH/H, the first SDCCH/4, an SDCCH/8
-short_message_links : map short_message_link (0x0a ∷ 0x1f ∷ 0x20 ∷ 0x41 ∷ []) ≡ 0x43 ∷ 0x43 ∷ 0x03 ∷ 0x03 ∷ []
+short_message_links : map short_message_link (hex "0a 1f 20 41") ≡ hex "43 43 03 03"
 short_message_links = refl
 
 -- immediate assignment, normal assignment, asynchronous handover
-activation_types : map (λ kind. kind.0) (IMMEDIATE_ASSIGNMENT ∷ NORMAL_ASSIGNMENT ∷ ASYNCHRONOUS_HANDOVER ∷ []) ≡ 0x00 ∷ 0x01 ∷ 0x02 ∷ []
+activation_types : map (λ kind. kind.0) (IMMEDIATE_ASSIGNMENT ∷ NORMAL_ASSIGNMENT ∷ ASYNCHRONOUS_HANDOVER ∷ []) ≡ hex "00 01 02"
 activation_types = refl
 
 -- ---- each message: what the octets are read as, and what is written of it
@@ -109,128 +111,130 @@ activation_types = refl
 abbrev Stands : List ℕ → Rsl → Type 0
 Stands octets message = (rsl_reading octets ≡ Ok message) × (rsl_text message ≡ octets)
 
-data_request : Stands (0x03 ∷ 0x01 ∷ 0x01 ∷ 0x41 ∷ 0x02 ∷ 0x00 ∷ 0x0b ∷ 0x00 ∷ 0x06 ∷ 0x06 ∷ 0x2e ∷ 0x0a ∷ 0x20 ∷ 0x14 ∷ 0x00 ∷ []) (messages.DataRequest (record { channel = 0x41; link = 0x00; l3 = 0x06 ∷ 0x2e ∷ 0x0a ∷ 0x20 ∷ 0x14 ∷ 0x00 ∷ [] }))
+data_request : Stands (hex "03 01 01 41 02 00 0b 00 06 06 2e 0a 20 14 00") (messages.DataRequest (record { channel = 0x41; link = 0x00; l3 = hex "06 2e 0a 20 14 00" }))
 unfolding rsl_reading message_at elements_of breaks_off rsl_type walk data_at rsl_element_text
 data_request = (refl, refl)
 
-data_indication : Stands (0x03 ∷ 0x02 ∷ 0x01 ∷ 0x0a ∷ 0x02 ∷ 0x43 ∷ 0x0b ∷ 0x00 ∷ 0x03 ∷ 0x06 ∷ 0x2c ∷ 0x00 ∷ []) (messages.DataIndication (record { channel = 0x0a; link = 0x43; l3 = 0x06 ∷ 0x2c ∷ 0x00 ∷ [] }))
+data_indication : Stands (hex "03 02 01 0a 02 43 0b 00 03 06 2c 00") (messages.DataIndication (record { channel = 0x0a; link = 0x43; l3 = hex "06 2c 00" }))
 unfolding rsl_reading message_at elements_of breaks_off rsl_type walk data_at rsl_element_text
 data_indication = (refl, refl)
 
-error_indication : Stands (0x02 ∷ 0x03 ∷ 0x01 ∷ 0x41 ∷ 0x02 ∷ 0x03 ∷ 0x16 ∷ 0x01 ∷ 0x01 ∷ []) (messages.ErrorIndication (record { channel = 0x41; link = 0x03; cause = Some (record { 0 = 0x01 ∷ [] }) }))
+error_indication : Stands (hex "02 03 01 41 02 03 16 01 01") (messages.ErrorIndication (record { channel = 0x41; link = 0x03; cause = Some (record { 0 = hex "01" }) }))
 unfolding rsl_reading message_at elements_of breaks_off rsl_type walk error_at rsl_element_text
 error_indication = (refl, refl)
 
-error_indication_alone : Stands (0x02 ∷ 0x03 ∷ 0x01 ∷ 0x41 ∷ 0x02 ∷ 0x03 ∷ []) (messages.ErrorIndication (record { channel = 0x41; link = 0x03; cause = None }))
+error_indication_alone : Stands (hex "02 03 01 41 02 03") (messages.ErrorIndication (record { channel = 0x41; link = 0x03; cause = None }))
 unfolding rsl_reading message_at elements_of breaks_off rsl_type walk error_at rsl_element_text
 error_indication_alone = (refl, refl)
 
-establish_request : Stands (0x02 ∷ 0x04 ∷ 0x01 ∷ 0x41 ∷ 0x02 ∷ 0x03 ∷ []) (messages.EstablishRequest (record { channel = 0x41; link = 0x03 }))
+establish_request : Stands (hex "02 04 01 41 02 03") (messages.EstablishRequest (record { channel = 0x41; link = 0x03 }))
 unfolding rsl_reading message_at elements_of breaks_off rsl_type walk link_at rsl_element_text
 establish_request = (refl, refl)
 
-establish_confirm : Stands (0x02 ∷ 0x05 ∷ 0x01 ∷ 0x41 ∷ 0x02 ∷ 0x03 ∷ []) (messages.EstablishConfirm (record { channel = 0x41; link = 0x03 }))
+establish_confirm : Stands (hex "02 05 01 41 02 03") (messages.EstablishConfirm (record { channel = 0x41; link = 0x03 }))
 unfolding rsl_reading message_at elements_of breaks_off rsl_type walk link_at rsl_element_text
 establish_confirm = (refl, refl)
 
-establish_indication : Stands (0x02 ∷ 0x06 ∷ 0x01 ∷ 0x41 ∷ 0x02 ∷ 0x00 ∷ 0x0b ∷ 0x00 ∷ 0x03 ∷ 0x05 ∷ 0x24 ∷ 0x71 ∷ []) (messages.EstablishIndication (record { channel = 0x41; link = 0x00; l3 = Some (0x05 ∷ 0x24 ∷ 0x71 ∷ []) }))
+establish_indication : Stands (hex "02 06 01 41 02 00 0b 00 03 05 24 71") (messages.EstablishIndication (record { channel = 0x41; link = 0x00; l3 = Some (hex "05 24 71") }))
 unfolding rsl_reading message_at elements_of breaks_off rsl_type walk establishment_at rsl_element_text
 establish_indication = (refl, refl)
 
-establish_indication_alone : Stands (0x02 ∷ 0x06 ∷ 0x01 ∷ 0x41 ∷ 0x02 ∷ 0x03 ∷ []) (messages.EstablishIndication (record { channel = 0x41; link = 0x03; l3 = None }))
+establish_indication_alone : Stands (hex "02 06 01 41 02 03") (messages.EstablishIndication (record { channel = 0x41; link = 0x03; l3 = None }))
 unfolding rsl_reading message_at elements_of breaks_off rsl_type walk establishment_at rsl_element_text
 establish_indication_alone = (refl, refl)
 
-release_request : Stands (0x02 ∷ 0x07 ∷ 0x01 ∷ 0x41 ∷ 0x02 ∷ 0x03 ∷ 0x14 ∷ 0x01 ∷ []) (messages.ReleaseRequest (record { channel = 0x41; link = 0x03; mode = record { 0 = 0x01 } }))
+release_request : Stands (hex "02 07 01 41 02 03 14 01") (messages.ReleaseRequest (record { channel = 0x41; link = 0x03; mode = record { 0 = 0x01 } }))
 unfolding rsl_reading message_at elements_of breaks_off rsl_type walk release_at rsl_element_text
 release_request = (refl, refl)
 
-release_confirm : Stands (0x02 ∷ 0x08 ∷ 0x01 ∷ 0x41 ∷ 0x02 ∷ 0x03 ∷ []) (messages.ReleaseConfirm (record { channel = 0x41; link = 0x03 }))
+release_confirm : Stands (hex "02 08 01 41 02 03") (messages.ReleaseConfirm (record { channel = 0x41; link = 0x03 }))
 unfolding rsl_reading message_at elements_of breaks_off rsl_type walk link_at rsl_element_text
 release_confirm = (refl, refl)
 
-release_indication : Stands (0x02 ∷ 0x09 ∷ 0x01 ∷ 0x41 ∷ 0x02 ∷ 0x03 ∷ []) (messages.ReleaseIndication (record { channel = 0x41; link = 0x03 }))
+release_indication : Stands (hex "02 09 01 41 02 03") (messages.ReleaseIndication (record { channel = 0x41; link = 0x03 }))
 unfolding rsl_reading message_at elements_of breaks_off rsl_type walk link_at rsl_element_text
 release_indication = (refl, refl)
 
-channel_required : Stands (0x0c ∷ 0x13 ∷ 0x01 ∷ 0x88 ∷ 0x13 ∷ 0x7f ∷ 0x01 ∷ 0x02 ∷ 0x11 ∷ 0x05 ∷ []) (messages.ChannelRequired (record { channel = 0x88; reference = record { access = 0x7f; frame = 0x0102 }; access_delay = record { 0 = 0x05 } }))
+channel_required : Stands (hex "0c 13 01 88 13 7f 01 02 11 05") (messages.ChannelRequired (record { channel = 0x88; reference = record { access = 0x7f; frame = 0x0102 }; access_delay = record { 0 = 0x05 } }))
 unfolding rsl_reading message_at elements_of breaks_off rsl_type walk channel_required_at rsl_element_text
 channel_required = (refl, refl)
 
-immediate_assign_command : Stands (0x0c ∷ 0x16 ∷ 0x01 ∷ 0x90 ∷ 0x2b ∷ 0x04 ∷ 0x2d ∷ 0x06 ∷ 0x3f ∷ 0x00 ∷ []) (messages.ImmediateAssignCommand (record { channel = 0x90; information = 0x2d ∷ 0x06 ∷ 0x3f ∷ 0x00 ∷ [] }))
+immediate_assign_command : Stands (hex "0c 16 01 90 2b 04 2d 06 3f 00") (messages.ImmediateAssignCommand (record { channel = 0x90; information = hex "2d 06 3f 00" }))
 unfolding rsl_reading message_at elements_of breaks_off rsl_type walk assignment_at rsl_element_text
 immediate_assign_command = (refl, refl)
 
-channel_activation : Stands (0x08 ∷ 0x21 ∷ 0x01 ∷ 0x41 ∷ 0x03 ∷ 0x00 ∷ 0x06 ∷ 0x04 ∷ 0x00 ∷ 0x03 ∷ 0x01 ∷ 0x00 ∷ []) (messages.ChannelActivation (record { channel = 0x41; activation = record { 0 = 0x00 }; mode = record { 0 = 0x00 ∷ 0x03 ∷ 0x01 ∷ 0x00 ∷ [] }; reference = None }))
+channel_activation : Stands (hex "08 21 01 41 03 00 06 04 00 03 01 00") (messages.ChannelActivation (record { channel = 0x41; activation = record { 0 = 0x00 }; mode = record { 0 = hex "00 03 01 00" }; reference = None }))
 unfolding rsl_reading message_at elements_of breaks_off rsl_type walk activation_at rsl_element_text
 channel_activation = (refl, refl)
 
-channel_activation_for_handover : Stands (0x08 ∷ 0x21 ∷ 0x01 ∷ 0x0a ∷ 0x03 ∷ 0x02 ∷ 0x06 ∷ 0x04 ∷ 0x00 ∷ 0x01 ∷ 0x08 ∷ 0x01 ∷ 0x09 ∷ 0x07 ∷ []) (messages.ChannelActivation (record { channel = 0x0a; activation = record { 0 = 0x02 }; mode = record { 0 = 0x00 ∷ 0x01 ∷ 0x08 ∷ 0x01 ∷ [] }; reference = Some (record { 0 = 0x07 }) }))
+channel_activation_for_handover : Stands (hex "08 21 01 0a 03 02 06 04 00 01 08 01 09 07") (messages.ChannelActivation (record { channel = 0x0a; activation = record { 0 = 0x02 }; mode = record { 0 = hex "00 01 08 01" }; reference = Some (record { 0 = 0x07 }) }))
 unfolding rsl_reading message_at elements_of breaks_off rsl_type walk activation_at rsl_element_text
 channel_activation_for_handover = (refl, refl)
 
-channel_activation_ack : Stands (0x08 ∷ 0x22 ∷ 0x01 ∷ 0x41 ∷ 0x08 ∷ 0x01 ∷ 0x02 ∷ []) (messages.ChannelActivationAck (record { channel = 0x41; frame = Some (record { 0 = 0x0102 }) }))
+channel_activation_ack : Stands (hex "08 22 01 41 08 01 02") (messages.ChannelActivationAck (record { channel = 0x41; frame = Some (record { 0 = 0x0102 }) }))
 unfolding rsl_reading message_at elements_of breaks_off rsl_type walk activation_ack_at rsl_element_text
 channel_activation_ack = (refl, refl)
 
-channel_activation_ack_alone : Stands (0x08 ∷ 0x22 ∷ 0x01 ∷ 0x41 ∷ []) (messages.ChannelActivationAck (record { channel = 0x41; frame = None }))
+channel_activation_ack_alone : Stands (hex "08 22 01 41") (messages.ChannelActivationAck (record { channel = 0x41; frame = None }))
 unfolding rsl_reading message_at elements_of breaks_off rsl_type walk activation_ack_at rsl_element_text
 channel_activation_ack_alone = (refl, refl)
 
-channel_activation_nack : Stands (0x08 ∷ 0x23 ∷ 0x01 ∷ 0x41 ∷ 0x1a ∷ 0x01 ∷ 0x20 ∷ []) (messages.ChannelActivationNack (record { channel = 0x41; cause = Some (record { 0 = 0x20 ∷ [] }) }))
+channel_activation_nack : Stands (hex "08 23 01 41 1a 01 20") (messages.ChannelActivationNack (record { channel = 0x41; cause = Some (record { 0 = hex "20" }) }))
 unfolding rsl_reading message_at elements_of breaks_off rsl_type walk failure_at rsl_element_text
 channel_activation_nack = (refl, refl)
 
-connection_failure : Stands (0x08 ∷ 0x24 ∷ 0x01 ∷ 0x41 ∷ 0x1a ∷ 0x01 ∷ 0x01 ∷ []) (messages.ConnectionFailure (record { channel = 0x41; cause = Some (record { 0 = 0x01 ∷ [] }) }))
+connection_failure : Stands (hex "08 24 01 41 1a 01 01") (messages.ConnectionFailure (record { channel = 0x41; cause = Some (record { 0 = hex "01" }) }))
 unfolding rsl_reading message_at elements_of breaks_off rsl_type walk failure_at rsl_element_text
 connection_failure = (refl, refl)
 
-connection_failure_alone : Stands (0x08 ∷ 0x24 ∷ 0x01 ∷ 0x41 ∷ []) (messages.ConnectionFailure (record { channel = 0x41; cause = None }))
+connection_failure_alone : Stands (hex "08 24 01 41") (messages.ConnectionFailure (record { channel = 0x41; cause = None }))
 unfolding rsl_reading message_at elements_of breaks_off rsl_type walk failure_at rsl_element_text
 connection_failure_alone = (refl, refl)
 
-handover_detection : Stands (0x08 ∷ 0x27 ∷ 0x01 ∷ 0x41 ∷ 0x11 ∷ 0x05 ∷ []) (messages.HandoverDetection (record { channel = 0x41; access_delay = Some (record { 0 = 0x05 }) }))
+handover_detection : Stands (hex "08 27 01 41 11 05") (messages.HandoverDetection (record { channel = 0x41; access_delay = Some (record { 0 = 0x05 }) }))
 unfolding rsl_reading message_at elements_of breaks_off rsl_type walk detection_at rsl_element_text
 handover_detection = (refl, refl)
 
-handover_detection_alone : Stands (0x08 ∷ 0x27 ∷ 0x01 ∷ 0x41 ∷ []) (messages.HandoverDetection (record { channel = 0x41; access_delay = None }))
+handover_detection_alone : Stands (hex "08 27 01 41") (messages.HandoverDetection (record { channel = 0x41; access_delay = None }))
 unfolding rsl_reading message_at elements_of breaks_off rsl_type walk detection_at rsl_element_text
 handover_detection_alone = (refl, refl)
 
-measurement_result : Stands (0x08 ∷ 0x28 ∷ 0x01 ∷ 0x41 ∷ 0x1b ∷ 0x05 ∷ 0x19 ∷ 0x03 ∷ 0x14 ∷ 0x15 ∷ 0x00 ∷ 0x04 ∷ 0x06 ∷ 0x0a ∷ 0x01 ∷ 0x02 ∷ 0x0b ∷ 0x00 ∷ 0x02 ∷ 0x06 ∷ 0x15 ∷ []) (messages.MeasurementResult (record { channel = 0x41; number = record { 0 = 0x05 }; uplink = Some (record { 0 = 0x14 ∷ 0x15 ∷ 0x00 ∷ [] }); bs_power = Some (record { 0 = 0x06 }); l1 = Some (record { 0 = 0x0102 }); l3 = Some (0x06 ∷ 0x15 ∷ []) }))
+measurement_result : Stands (hex "08 28 01 41 1b 05 19 03 14 15 00 04 06 0a 01 02 0b 00 02 06 15") (messages.MeasurementResult (record { channel = 0x41; number = record { 0 = 0x05 }; uplink = Some (record { 0 = hex "14 15 00" }); bs_power = Some (record { 0 = 0x06 }); l1 = Some (record { 0 = 0x0102 }); l3 = Some (hex "06 15") }))
 unfolding rsl_reading message_at elements_of breaks_off rsl_type walk measurement_result_at rsl_element_text
 measurement_result = (refl, refl)
 
-measurement_result_alone : Stands (0x08 ∷ 0x28 ∷ 0x01 ∷ 0x41 ∷ 0x1b ∷ 0x05 ∷ []) (messages.MeasurementResult (record { channel = 0x41; number = record { 0 = 0x05 }; uplink = None; bs_power = None; l1 = None; l3 = None }))
+measurement_result_alone : Stands (hex "08 28 01 41 1b 05") (messages.MeasurementResult (record { channel = 0x41; number = record { 0 = 0x05 }; uplink = None; bs_power = None; l1 = None; l3 = None }))
 unfolding rsl_reading message_at elements_of breaks_off rsl_type walk measurement_result_at rsl_element_text
 measurement_result_alone = (refl, refl)
 
-rf_channel_release : Stands (0x08 ∷ 0x2e ∷ 0x01 ∷ 0x41 ∷ []) (messages.RfChannelRelease 0x41)
+rf_channel_release : Stands (hex "08 2e 01 41") (messages.RfChannelRelease 0x41)
 unfolding rsl_reading message_at elements_of breaks_off rsl_type walk channel_only_at rsl_element_text
 rf_channel_release = (refl, refl)
 
-rf_channel_release_ack : Stands (0x08 ∷ 0x33 ∷ 0x01 ∷ 0x41 ∷ []) (messages.RfChannelReleaseAck 0x41)
+rf_channel_release_ack : Stands (hex "08 33 01 41") (messages.RfChannelReleaseAck 0x41)
 unfolding rsl_reading message_at elements_of breaks_off rsl_type walk channel_only_at rsl_element_text
 rf_channel_release_ack = (refl, refl)
 
 -- ---- what else is read
 
 -- elements in another order, of a repeated one the first, and nothing from the first identifier outside the table on
-any_order : rsl_reading (0x02 ∷ 0x04 ∷ 0x02 ∷ 0x03 ∷ 0x01 ∷ 0x41 ∷ 0x01 ∷ 0x42 ∷ 0x0c ∷ 0x01 ∷ []) ≡ Ok (messages.EstablishRequest (record { channel = 0x41; link = 0x03 }))
+any_order : rsl_reading (hex "02 04 02 03 01 41 01 42 0c 01") ≡ Ok (messages.EstablishRequest (record { channel = 0x41; link = 0x03 }))
 unfolding rsl_reading message_at elements_of breaks_off rsl_type walk link_at
 any_order = refl
 
-other_bit_1 : rsl_reading (0x02 ∷ 0x02 ∷ 0x01 ∷ 0x41 ∷ 0x02 ∷ 0x00 ∷ 0x0b ∷ 0x00 ∷ 0x01 ∷ 0x06 ∷ []) ≡ Ok (messages.DataIndication (record { channel = 0x41; link = 0x00; l3 = 0x06 ∷ [] }))
+other_bit_1 : rsl_reading (hex "02 02 01 41 02 00 0b 00 01 06")
+    ≡ Ok (messages.DataIndication (record { channel = 0x41; link = 0x00; l3 = hex "06" }))
 unfolding rsl_reading message_at elements_of breaks_off rsl_type walk data_at
 other_bit_1 = refl
 
 -- an L3 information that the message does not have is walked over
-l3_of_no_line : rsl_reading (0x02 ∷ 0x04 ∷ 0x01 ∷ 0x41 ∷ 0x0b ∷ 0x00 ∷ 0x00 ∷ 0x02 ∷ 0x03 ∷ []) ≡ Ok (messages.EstablishRequest (record { channel = 0x41; link = 0x03 }))
+l3_of_no_line : rsl_reading (hex "02 04 01 41 0b 00 00 02 03") ≡ Ok (messages.EstablishRequest (record { channel = 0x41; link = 0x03 }))
 unfolding rsl_reading message_at elements_of breaks_off rsl_type walk link_at
 l3_of_no_line = refl
 
 -- a value of no octets is one
-empty_cause : rsl_reading (0x08 ∷ 0x24 ∷ 0x01 ∷ 0x41 ∷ 0x1a ∷ 0x00 ∷ []) ≡ Ok (messages.ConnectionFailure (record { channel = 0x41; cause = Some (record { 0 = [] }) }))
+empty_cause : rsl_reading (hex "08 24 01 41 1a 00")
+    ≡ Ok (messages.ConnectionFailure (record { channel = 0x41; cause = Some (record { 0 = [] }) }))
 unfolding rsl_reading message_at elements_of breaks_off rsl_type walk failure_at
 empty_cause = refl
 
@@ -240,137 +244,138 @@ no_octet : rsl_reading [] ≡ Err faults.Short
 unfolding rsl_reading message_at elements_of breaks_off rsl_type walk
 no_octet = refl
 
-discriminator_alone : rsl_reading (0x02 ∷ []) ≡ Err faults.Short
+discriminator_alone : rsl_reading (hex "02") ≡ Err faults.Short
 unfolding rsl_reading message_at elements_of breaks_off rsl_type walk
 discriminator_alone = refl
 
-unknown_type : rsl_reading (0x0c ∷ 0x99 ∷ []) ≡ Err faults.UnknownType
+unknown_type : rsl_reading (hex "0c 99") ≡ Err faults.UnknownType
 unfolding rsl_reading message_at elements_of breaks_off rsl_type walk
 unknown_type = refl
 
-unknown_type_and_cut : rsl_reading (0x0c ∷ 0x99 ∷ 0x01 ∷ []) ≡ Err faults.UnknownType
+unknown_type_and_cut : rsl_reading (hex "0c 99 01") ≡ Err faults.UnknownType
 unfolding rsl_reading message_at elements_of breaks_off rsl_type walk
 unknown_type_and_cut = refl
 
-identifier_cut : rsl_reading (0x02 ∷ 0x04 ∷ 0x01 ∷ 0x41 ∷ 0x02 ∷ []) ≡ Err faults.Short
+identifier_cut : rsl_reading (hex "02 04 01 41 02") ≡ Err faults.Short
 unfolding rsl_reading message_at elements_of breaks_off rsl_type walk
 identifier_cut = refl
 
-cut_and_missing : rsl_reading (0x02 ∷ 0x04 ∷ 0x02 ∷ []) ≡ Err faults.Short
+cut_and_missing : rsl_reading (hex "02 04 02") ≡ Err faults.Short
 unfolding rsl_reading message_at elements_of breaks_off rsl_type walk
 cut_and_missing = refl
 
-cut_behind_all : rsl_reading (0x02 ∷ 0x04 ∷ 0x01 ∷ 0x41 ∷ 0x02 ∷ 0x03 ∷ 0x1a ∷ 0x02 ∷ 0x01 ∷ []) ≡ Err faults.Short
+cut_behind_all : rsl_reading (hex "02 04 01 41 02 03 1a 02 01") ≡ Err faults.Short
 unfolding rsl_reading message_at elements_of breaks_off rsl_type walk
 cut_behind_all = refl
 
-l3_cut : rsl_reading (0x03 ∷ 0x02 ∷ 0x01 ∷ 0x41 ∷ 0x02 ∷ 0x00 ∷ 0x0b ∷ 0x00 ∷ 0x02 ∷ 0x03 ∷ []) ≡ Err faults.Short
+l3_cut : rsl_reading (hex "03 02 01 41 02 00 0b 00 02 03") ≡ Err faults.Short
 unfolding rsl_reading message_at elements_of breaks_off rsl_type walk
 l3_cut = refl
 
-both_missing : rsl_reading (0x02 ∷ 0x04 ∷ []) ≡ Err (faults.MissingElement 0x01)
+both_missing : rsl_reading (hex "02 04") ≡ Err (faults.MissingElement 0x01)
 unfolding rsl_reading message_at elements_of breaks_off rsl_type walk link_at
 both_missing = refl
 
-channel_missing : rsl_reading (0x02 ∷ 0x04 ∷ 0x02 ∷ 0x00 ∷ []) ≡ Err (faults.MissingElement 0x01)
+channel_missing : rsl_reading (hex "02 04 02 00") ≡ Err (faults.MissingElement 0x01)
 unfolding rsl_reading message_at elements_of breaks_off rsl_type walk link_at
 channel_missing = refl
 
-link_missing : rsl_reading (0x02 ∷ 0x04 ∷ 0x01 ∷ 0x41 ∷ []) ≡ Err (faults.MissingElement 0x02)
+link_missing : rsl_reading (hex "02 04 01 41") ≡ Err (faults.MissingElement 0x02)
 unfolding rsl_reading message_at elements_of breaks_off rsl_type walk link_at
 link_missing = refl
 
-link_missing_and_bad_channel : rsl_reading (0x02 ∷ 0x04 ∷ 0x01 ∷ 0xff ∷ []) ≡ Err (faults.MissingElement 0x02)
+link_missing_and_bad_channel : rsl_reading (hex "02 04 01 ff") ≡ Err (faults.MissingElement 0x02)
 unfolding rsl_reading message_at elements_of breaks_off rsl_type walk link_at
 link_missing_and_bad_channel = refl
 
-data_l3_missing : rsl_reading (0x03 ∷ 0x01 ∷ 0x01 ∷ 0x41 ∷ 0x02 ∷ 0x00 ∷ []) ≡ Err (faults.MissingElement 0x0b)
+data_l3_missing : rsl_reading (hex "03 01 01 41 02 00") ≡ Err (faults.MissingElement 0x0b)
 unfolding rsl_reading message_at elements_of breaks_off rsl_type walk data_at
 data_l3_missing = refl
 
-release_link_missing : rsl_reading (0x02 ∷ 0x07 ∷ 0x01 ∷ 0x41 ∷ []) ≡ Err (faults.MissingElement 0x02)
+release_link_missing : rsl_reading (hex "02 07 01 41") ≡ Err (faults.MissingElement 0x02)
 unfolding rsl_reading message_at elements_of breaks_off rsl_type walk release_at
 release_link_missing = refl
 
-release_mode_missing : rsl_reading (0x02 ∷ 0x07 ∷ 0x01 ∷ 0xff ∷ 0x02 ∷ 0x00 ∷ []) ≡ Err (faults.MissingElement 0x14)
+release_mode_missing : rsl_reading (hex "02 07 01 ff 02 00") ≡ Err (faults.MissingElement 0x14)
 unfolding rsl_reading message_at elements_of breaks_off rsl_type walk release_at
 release_mode_missing = refl
 
-error_link_missing : rsl_reading (0x02 ∷ 0x03 ∷ 0x01 ∷ 0x41 ∷ []) ≡ Err (faults.MissingElement 0x02)
+error_link_missing : rsl_reading (hex "02 03 01 41") ≡ Err (faults.MissingElement 0x02)
 unfolding rsl_reading message_at elements_of breaks_off rsl_type walk error_at
 error_link_missing = refl
 
-establish_link_missing : rsl_reading (0x02 ∷ 0x06 ∷ 0x01 ∷ 0x41 ∷ []) ≡ Err (faults.MissingElement 0x02)
+establish_link_missing : rsl_reading (hex "02 06 01 41") ≡ Err (faults.MissingElement 0x02)
 unfolding rsl_reading message_at elements_of breaks_off rsl_type walk establishment_at
 establish_link_missing = refl
 
 -- of two that are missing the first in written order
-request_reference_and_access_delay_missing : rsl_reading (0x0c ∷ 0x13 ∷ 0x01 ∷ 0x80 ∷ []) ≡ Err (faults.MissingElement 0x13)
+request_reference_and_access_delay_missing : rsl_reading (hex "0c 13 01 80") ≡ Err (faults.MissingElement 0x13)
 unfolding rsl_reading message_at elements_of breaks_off rsl_type walk channel_required_at
 request_reference_and_access_delay_missing = refl
 
-request_reference_missing : rsl_reading (0x0c ∷ 0x13 ∷ 0x01 ∷ 0x88 ∷ 0x11 ∷ 0x05 ∷ []) ≡ Err (faults.MissingElement 0x13)
+request_reference_missing : rsl_reading (hex "0c 13 01 88 11 05") ≡ Err (faults.MissingElement 0x13)
 unfolding rsl_reading message_at elements_of breaks_off rsl_type walk channel_required_at
 request_reference_missing = refl
 
-access_delay_missing : rsl_reading (0x0c ∷ 0x13 ∷ 0x01 ∷ 0x80 ∷ 0x13 ∷ 0x7f ∷ 0x01 ∷ 0x02 ∷ []) ≡ Err (faults.MissingElement 0x11)
+access_delay_missing : rsl_reading (hex "0c 13 01 80 13 7f 01 02") ≡ Err (faults.MissingElement 0x11)
 unfolding rsl_reading message_at elements_of breaks_off rsl_type walk channel_required_at
 access_delay_missing = refl
 
-assignment_missing : rsl_reading (0x0c ∷ 0x16 ∷ 0x01 ∷ 0x80 ∷ []) ≡ Err (faults.MissingElement 0x2b)
+assignment_missing : rsl_reading (hex "0c 16 01 80") ≡ Err (faults.MissingElement 0x2b)
 unfolding rsl_reading message_at elements_of breaks_off rsl_type walk assignment_at
 assignment_missing = refl
 
-activation_type_missing : rsl_reading (0x08 ∷ 0x21 ∷ 0x01 ∷ 0x41 ∷ []) ≡ Err (faults.MissingElement 0x03)
+activation_type_missing : rsl_reading (hex "08 21 01 41") ≡ Err (faults.MissingElement 0x03)
 unfolding rsl_reading message_at elements_of breaks_off rsl_type walk activation_at
 activation_type_missing = refl
 
-channel_mode_missing : rsl_reading (0x08 ∷ 0x21 ∷ 0x01 ∷ 0x80 ∷ 0x03 ∷ 0x00 ∷ []) ≡ Err (faults.MissingElement 0x06)
+channel_mode_missing : rsl_reading (hex "08 21 01 80 03 00") ≡ Err (faults.MissingElement 0x06)
 unfolding rsl_reading message_at elements_of breaks_off rsl_type walk activation_at
 channel_mode_missing = refl
 
-measurement_number_missing : rsl_reading (0x08 ∷ 0x28 ∷ 0x01 ∷ 0x80 ∷ []) ≡ Err (faults.MissingElement 0x1b)
+measurement_number_missing : rsl_reading (hex "08 28 01 80") ≡ Err (faults.MissingElement 0x1b)
 unfolding rsl_reading message_at elements_of breaks_off rsl_type walk measurement_result_at
 measurement_number_missing = refl
 
-ack_channel_missing : rsl_reading (0x08 ∷ 0x22 ∷ []) ≡ Err (faults.MissingElement 0x01)
+ack_channel_missing : rsl_reading (hex "08 22") ≡ Err (faults.MissingElement 0x01)
 unfolding rsl_reading message_at elements_of breaks_off rsl_type walk activation_ack_at
 ack_channel_missing = refl
 
-nack_channel_missing : rsl_reading (0x08 ∷ 0x23 ∷ []) ≡ Err (faults.MissingElement 0x01)
+nack_channel_missing : rsl_reading (hex "08 23") ≡ Err (faults.MissingElement 0x01)
 unfolding rsl_reading message_at elements_of breaks_off rsl_type walk failure_at
 nack_channel_missing = refl
 
-detection_channel_missing : rsl_reading (0x08 ∷ 0x27 ∷ []) ≡ Err (faults.MissingElement 0x01)
+detection_channel_missing : rsl_reading (hex "08 27") ≡ Err (faults.MissingElement 0x01)
 unfolding rsl_reading message_at elements_of breaks_off rsl_type walk detection_at
 detection_channel_missing = refl
 
-release_channel_missing : rsl_reading (0x08 ∷ 0x2e ∷ []) ≡ Err (faults.MissingElement 0x01)
+release_channel_missing : rsl_reading (hex "08 2e") ≡ Err (faults.MissingElement 0x01)
 unfolding rsl_reading message_at elements_of breaks_off rsl_type walk channel_only_at
 release_channel_missing = refl
 
-bad_channel : rsl_reading (0x02 ∷ 0x04 ∷ 0x01 ∷ 0xff ∷ 0x02 ∷ 0x00 ∷ []) ≡ Err faults.BadChannel
+bad_channel : rsl_reading (hex "02 04 01 ff 02 00") ≡ Err faults.BadChannel
 unfolding rsl_reading message_at elements_of breaks_off rsl_type walk link_at
 bad_channel = refl
 
 -- of a repeated channel number the first is the one that is looked at
-bad_channel_before_another : rsl_reading (0x02 ∷ 0x04 ∷ 0x01 ∷ 0x98 ∷ 0x02 ∷ 0x00 ∷ 0x01 ∷ 0x41 ∷ []) ≡ Err faults.BadChannel
+bad_channel_before_another : rsl_reading (hex "02 04 01 98 02 00 01 41") ≡ Err faults.BadChannel
 unfolding rsl_reading message_at elements_of breaks_off rsl_type walk link_at
 bad_channel_before_another = refl
 
-bad_channel_behind_another : rsl_reading (0x02 ∷ 0x04 ∷ 0x01 ∷ 0x41 ∷ 0x02 ∷ 0x00 ∷ 0x01 ∷ 0x98 ∷ []) ≡ Ok (messages.EstablishRequest (record { channel = 0x41; link = 0x00 }))
+bad_channel_behind_another : rsl_reading (hex "02 04 01 41 02 00 01 98")
+    ≡ Ok (messages.EstablishRequest (record { channel = 0x41; link = 0x00 }))
 unfolding rsl_reading message_at elements_of breaks_off rsl_type walk link_at
 bad_channel_behind_another = refl
 
-bad_channel_and_empty_l3 : rsl_reading (0x03 ∷ 0x02 ∷ 0x01 ∷ 0xff ∷ 0x02 ∷ 0x00 ∷ 0x0b ∷ 0x00 ∷ 0x00 ∷ []) ≡ Err faults.BadChannel
+bad_channel_and_empty_l3 : rsl_reading (hex "03 02 01 ff 02 00 0b 00 00") ≡ Err faults.BadChannel
 unfolding rsl_reading message_at elements_of breaks_off rsl_type walk data_at
 bad_channel_and_empty_l3 = refl
 
-empty_l3 : rsl_reading (0x03 ∷ 0x02 ∷ 0x01 ∷ 0x41 ∷ 0x02 ∷ 0x00 ∷ 0x0b ∷ 0x00 ∷ 0x00 ∷ []) ≡ Err faults.Short
+empty_l3 : rsl_reading (hex "03 02 01 41 02 00 0b 00 00") ≡ Err faults.Short
 unfolding rsl_reading message_at elements_of breaks_off rsl_type walk data_at
 empty_l3 = refl
 
-empty_l3_of_establish : rsl_reading (0x02 ∷ 0x06 ∷ 0x01 ∷ 0x41 ∷ 0x02 ∷ 0x00 ∷ 0x0b ∷ 0x00 ∷ 0x00 ∷ []) ≡ Err faults.Short
+empty_l3_of_establish : rsl_reading (hex "02 06 01 41 02 00 0b 00 00") ≡ Err faults.Short
 unfolding rsl_reading message_at elements_of breaks_off rsl_type walk establishment_at
 empty_l3_of_establish = refl
 

@@ -3,8 +3,8 @@ use Rattle.std.proofs.Common.{◌≡◌, ℕ, zero, suc, ◌+◌, ◌<◌, List,
 use Rattle.std.proofs.Math.Seq.{drop-append_seam, drop-length}
 use mathlib.Core.Option.{some, some-injective, some-ne-none}
 use lib.ListN.{get_elem?}
-use Rattle.relay_items.specs.declared.Item.{Item}
-use Rattle.relay_items.specs.declared.What.{What}
+use Rattle.ruled_relay.specs.declared.item.Item.{Item}
+use Rattle.ruled_relay.specs.declared.item.What.{What}
 use Rattle.ruled_relay.specs.Rule.{left_over}
 use Rattle.ruled_relay.specs.Ends.{EndView, knowing}
 use Rattle.ruled_relay.specs.Row.{Row}

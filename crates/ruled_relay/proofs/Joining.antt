@@ -5,7 +5,7 @@ use mathlib.Core.Option.{some, some-injective}
 use lib.ListN.{get_elem?}
 use Rattle.atomic_table.proofs.Lists.{at_set, at_map}
 use Rattle.atomic_table.specs.Seated.{TableId}
-use Rattle.relay_items.specs.declared.What.{What}
+use Rattle.ruled_relay.specs.declared.item.What.{What}
 use Rattle.ruled_relay.specs.declared.rule.Seen.{Seen}
 use Rattle.ruled_relay.specs.Rule.{left_over}
 use Rattle.ruled_relay.specs.Ends.{EndView, knowing}

@@ -3,7 +3,7 @@ use Rattle.std.proofs.Common.{◌≡◌, ℕ, zero, suc, ◌+◌, ◌⊎◌, inl
 use Rattle.std.proofs.lemmas.List.{map-append}
 use mathlib.Core.Option.{some, some-injective, some-ne-none}
 use lib.ListN.{get_elem?}
-use Rattle.relay_items.specs.declared.What.{What}
+use Rattle.ruled_relay.specs.declared.item.What.{What}
 use Rattle.ruled_relay.specs.Rule.{taking}
 use Rattle.ruled_relay.specs.Ends.{AreNew}
 use Rattle.ruled_relay.specs.Ends.{EndView}

@@ -3,8 +3,8 @@ use Rattle.std.specs.Prelude.{◌≡◌, ◌≢◌, ℕ, ◌<◌, List, [], ◌�
 use mathlib.Core.Option.{some}
 use lib.ListN.{get_elem?}
 use Rattle.atomic_table.specs.Seated.{TableId}
-use Rattle.relay_items.specs.declared.Item.{Item}
-use Rattle.relay_items.specs.declared.What.{What}
+use Rattle.ruled_relay.specs.declared.item.Item.{Item}
+use Rattle.ruled_relay.specs.declared.item.What.{What}
 use Rattle.ruled_relay.specs.declared.inbox.PutFault.{PutFault}
 use Rattle.ruled_relay.specs.declared.inbox.PutFault.TheVariants.{Foreign, Full}
 use Rattle.ruled_relay.specs.Rule.{putting, taking, left_over}

@@ -1,7 +1,7 @@
 -- What an inbox still holds when its ends have come together, and how it is given.
 use Rattle.std.specs.Prelude.{ℕ, ◌+◌, List, [], ◌∷◌, ◌++◌, drop, length, map}
-use Rattle.relay_items.specs.declared.Item.{Item}
-use Rattle.relay_items.specs.declared.What.{What}
+use Rattle.ruled_relay.specs.declared.item.Item.{Item}
+use Rattle.ruled_relay.specs.declared.item.What.{What}
 use Rattle.ruled_relay.specs.Ends.{EndView}
 use Rattle.ruled_relay.specs.Row.{Row}
 use Rattle.ruled_relay.specs.Inbox.{GivesItem, IsAllGiven}

@@ -5,9 +5,9 @@ ghost use Rattle.ruled_relay.specs.Inbox.{AreJoined, AreNewInbox, GivesItem, IsA
 
 use crate::bell::Bell;
 use crate::end::{End, ends};
+use crate::item::{Item, What};
 use crate::row::{join_at, take_among, take_in_turn};
 use octets::Memory;
-use relay_items::{Item, What};
 use std::alloc::Global;
 use std::marker::Model;
 use std::sync::Wait;
@@ -209,8 +209,8 @@ impl Left {
     }
 }
 
-/// Law: what `next` gives, one call after the other until there is none, is all that was put and not taken: of source 0 in
-/// order, then of source 1, and so on. It does nothing.
+/// Law: what `next` gives, one call after the other until there is none, is all that was put and not taken: of source 0
+/// in order, then of source 1, and so on.
 pub fn all_that_is_left_is_given()
     ensures { (left : Row) (items : List Item) → GivesAll left items → items ≡ left_from 0 left }
 {}

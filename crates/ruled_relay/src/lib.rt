@@ -5,12 +5,13 @@
 #![tactic(auto)]
 
 pub use inbox::{Desk, Inbox, Left, PutFault, SourcePass, all_that_is_left_is_given};
+pub use item::{Item, What};
 pub use outbox::{Full, Line, Outbox, Putter, Taker, Unsent, refusals_are_those_of_all_puts};
-pub use relay_items::{Item, What};
 
 mod bell;
 mod end;
 mod inbox;
+mod item;
 mod outbox;
 mod row;
 mod rule;

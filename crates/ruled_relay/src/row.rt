@@ -3,7 +3,7 @@ ghost use Rattle.std.specs.Prelude.{◌≡◌, ◌<◌, ◌≤◌, true, vec_len
 ghost use Rattle.ruled_relay.specs.Row.{EachMayTake, HasAt, JoinsAt, TakesAmong, TakesAt, TakesOne};
 
 use crate::end::End;
-use relay_items::{Item, What};
+use crate::item::{Item, What};
 use std::sync::Wait;
 
 /// Takes the first item of one source.

@@ -1,5 +1,5 @@
-use call_worker::Clock;
-use link_io::{Gate, IoFault, LinkReader};
+use controller_worker::Clock;
+use link_workers::{Gate, IoFault, LinkReader};
 use std::alloc::Global;
 use std::io::{self, ErrorKind, Read, Write};
 use std::sync::Arc;

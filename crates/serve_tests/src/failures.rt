@@ -1,6 +1,6 @@
 use crate::relay::{Ended, IDLE, Play, serve};
 use crate::texts::{answered, answers, first, released, requested, requests, whole_frames};
-use link_io::IoFault;
+use link_workers::IoFault;
 use std::alloc::{AllocError, Global};
 use std::process::Abort;
 use std::sync::Wait;

@@ -1,6 +1,6 @@
 use crate::devices::{Got, Held, Sink, Source, Still};
 use controller::Controller;
-use link_io::IoFault;
+use link_workers::IoFault;
 use settings::Settings;
 use station_io::{Link, serve_links};
 use std::alloc::{AllocError, Global};

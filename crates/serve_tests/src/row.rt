@@ -1,6 +1,6 @@
 use crate::relay::{Ended, IDLE, Play, serve};
 use crate::texts::{answers, first, requests};
-use link_io::IoFault;
+use link_workers::IoFault;
 use std::alloc::{AllocError, Global};
 use std::test::Fail;
 

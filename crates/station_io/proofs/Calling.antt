@@ -2,11 +2,11 @@
 use Rattle.std.proofs.Common.{◌≡◌, ℕ, zero, suc, List, [], ◌∷◌, ◌++◌, length, Option, Some, None, refl, sym, ap, ◌∙◌, subst, arith, append-nil, length-append}
 use mathlib.Core.Option.{some}
 use lib.ListN.{get_elem?}
-use Rattle.call_worker.specs.Call.{IsMemory, Parts, Runs as CallRuns}
-use Rattle.call_worker.specs.Links.{lines}
-use Rattle.call_worker.specs.Taking.{HasTaken}
-use Rattle.link_io.specs.declared.fault.IoFault.{IoFault}
-use Rattle.relay_items.specs.declared.Item.{Item}
+use Rattle.controller_worker.specs.Call.{IsMemory, Parts, Runs as CallRuns}
+use Rattle.controller_worker.specs.Links.{lines}
+use Rattle.controller_worker.specs.Taking.{HasTaken}
+use Rattle.link_workers.specs.declared.fault.IoFault.{IoFault}
+use Rattle.ruled_relay.specs.declared.item.Item.{Item}
 use Rattle.station_io.specs.declared.work.Calling.{Calling}
 use Rattle.station_io.specs.declared.work.HasCalled.{HasCalled}
 use Rattle.station_io.specs.Calls.{Calls}

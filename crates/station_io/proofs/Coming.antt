@@ -3,19 +3,19 @@ use Rattle.std.proofs.Common.{◌≡◌, ℕ, Bool, true, false, List, [], ◌�
 use Rattle.std.proofs.lemmas.List.Concat.{flat_map-append}
 use Rattle.std.specs.List.{flat_map}
 use Rattle.std.specs.Io.KnownBytes.{Appends, Consumes}
-use Rattle.call_worker.specs.Call.{Serves as CallServes}
-use Rattle.call_worker.specs.Links.{AreSent, AreStepped, HasDown, is_given_up, lines}
-use Rattle.call_worker.specs.Steps.{frames_to, items_of, whats_of}
+use Rattle.controller_worker.specs.Call.{Serves as CallServes}
+use Rattle.controller_worker.specs.Links.{AreSent, AreStepped, HasDown, is_given_up, lines}
+use Rattle.controller_worker.specs.Steps.{frames_to, items_of, whats_of}
 use Rattle.conn_messages.specs.declared.out.Out.{Out}
-use Rattle.controller_table.specs.declared.step.Step.{Step}
+use Rattle.controller_model.specs.declared.step.Step.{Step}
 use Rattle.ipa_framing.specs.declared.frame.Frame.{Frame}
 use Rattle.ipa_framing.specs.Frame.{frame_text}
-use Rattle.link_io.specs.declared.fault.IoFault.{IoFault}
-use Rattle.link_io.specs.Reading.{Serves as ReadServes, frames_text, given}
-use Rattle.link_io.specs.Writing.{AppendsBeginning, Delivers, WritesFrames}
-use Rattle.relay_items.specs.declared.Item.{Item}
-use Rattle.relay_items.specs.declared.What.{What}
-use Rattle.relay_items.specs.declared.What.TheVariants.{Frame as GivenFrame, Down}
+use Rattle.link_workers.specs.declared.fault.IoFault.{IoFault}
+use Rattle.link_workers.specs.Reading.{Serves as ReadServes, frames_text, given}
+use Rattle.link_workers.specs.Writing.{AppendsBeginning, Delivers, WritesFrames}
+use Rattle.ruled_relay.specs.declared.item.Item.{Item}
+use Rattle.ruled_relay.specs.declared.item.What.{What}
+use Rattle.ruled_relay.specs.declared.item.What.TheVariants.{Frame as GivenFrame, Down}
 use Rattle.ruled_relay.specs.declared.outbox.Line.{Line}
 use Rattle.ruled_relay.specs.declared.outbox.Line.TheVariants.{Frame as FrameLine, End}
 use Rattle.ruled_relay.specs.Inbox.{PassView}

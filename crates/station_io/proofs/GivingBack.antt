@@ -1,7 +1,7 @@
 -- The links are given back, one after the other.
 use Rattle.std.proofs.Common.{◌≡◌, ℕ, ◌+◌, ◌≤◌, Bool, List, [], ◌∷◌, ◌++◌, length, map, Option, refl, sym, ap, ◌∙◌, subst, arith, append-nil}
 use Rattle.atomic_table.specs.Seated.{TableId}
-use Rattle.link_io.specs.declared.fault.IoFault.{IoFault}
+use Rattle.link_workers.specs.declared.fault.IoFault.{IoFault}
 use Rattle.ruled_relay.specs.Inbox.{AreJoined, PassView}
 use Rattle.ruled_relay.specs.Outbox.{PutterView}
 use Rattle.ruled_relay.specs.Row.{Row}

@@ -6,3 +6,5 @@ mod NewQueues
 mod GivingBack
 mod Relaying
 mod Rows
+mod Lists
+mod CrewRows

@@ -4,13 +4,13 @@ use Rattle.std.proofs.lemmas.List.{map-append}
 use mathlib.Core.Option.{some}
 use lib.ListN.{get_elem?}
 use Rattle.atomic_table.specs.Seated.{TableId}
-use Rattle.relay_items.specs.declared.What.{What}
+use Rattle.ruled_relay.specs.declared.item.What.{What}
 use Rattle.ruled_relay.proofs.Places.{there, within}
 use Rattle.ruled_relay.specs.Ends.{EndView}
 use Rattle.ruled_relay.specs.Inbox.{AreNewInbox, PassView, queues_of}
 use Rattle.ruled_relay.specs.Outbox.{AreNewOutbox, PutterView, TakerView}
 use Rattle.ruled_relay.specs.Row.{Row}
-use Rattle.call_worker.specs.Call.{IsNew}
+use Rattle.controller_worker.specs.Call.{IsNew}
 use Rattle.station_io.specs.Work.{AreNewOutboxes, AreNewQueues, most_waiting}
 use Rattle.station_io.proofs.Pairing.{each_more}
 

@@ -6,12 +6,12 @@ use lib.ListN.{get_elem?}
 use Rattle.std.specs.declared.alloc.Global.{Global}
 use Rattle.atomic_table.proofs.Lists.{at_map}
 use Rattle.atomic_table.specs.Seated.{TableId}
-use Rattle.call_worker.specs.Call.{Serves as CallServes}
-use Rattle.call_worker.specs.Links.{is_given_up}
-use Rattle.call_worker.specs.Steps.{frames_to, over, whats_of}
-use Rattle.controller_table.specs.Controller.{Controller}
-use Rattle.link_io.specs.declared.fault.IoFault.{IoFault}
-use Rattle.relay_items.specs.declared.What.{What}
+use Rattle.controller_worker.specs.Call.{Serves as CallServes}
+use Rattle.controller_worker.specs.Links.{is_given_up}
+use Rattle.controller_worker.specs.Steps.{frames_to, over, whats_of}
+use Rattle.controller_model.specs.Controller.{Controller}
+use Rattle.link_workers.specs.declared.fault.IoFault.{IoFault}
+use Rattle.ruled_relay.specs.declared.item.What.{What}
 use Rattle.ruled_relay.proofs.Places.{same_there, there, within}
 use Rattle.ruled_relay.specs.Ends.{EndView}
 use Rattle.ruled_relay.specs.Inbox.{AreJoined, PassView, queues_of}

@@ -4,20 +4,20 @@ use mathlib.Core.Option.{some, some-injective, some-ne-none}
 use lib.ListN.{get_elem?}
 use Rattle.std.specs.declared.alloc.Global.{Global}
 use Rattle.atomic_table.specs.Seated.{TableId}
-use Rattle.call_worker.specs.Steps.{over, whats_of}
-use Rattle.call_worker.specs.Links.{AreStepped}
+use Rattle.controller_worker.specs.Steps.{over, whats_of}
+use Rattle.controller_worker.specs.Links.{AreStepped}
 use Rattle.conn_messages.specs.declared.out.Out.{Out}
-use Rattle.controller_table.specs.declared.step.Step.{Step}
-use Rattle.controller_table.specs.declared.step.Step.TheVariants.{Take, Tick}
-use Rattle.controller_table.specs.Controller.{Controller, new_controller}
-use Rattle.controller_table.proofs.Lives.{usual_settings}
-use Rattle.controller_table.proofs.OnLiterals.{on_literals}
+use Rattle.controller_model.specs.declared.step.Step.{Step}
+use Rattle.controller_model.specs.declared.step.Step.TheVariants.{Take, Tick}
+use Rattle.controller_model.specs.Controller.{Controller, new_controller}
+use Rattle.controller_model.proofs.Lives.{usual_settings}
+use Rattle.controller_model.proofs.OnLiterals.{on_literals}
 use Rattle.ipa_framing.specs.declared.frame.Frame.{Frame}
-use Rattle.link_io.specs.declared.fault.IoFault.{IoFault}
-use Rattle.link_io.specs.declared.fault.IoFault.TheVariants.{GateShut, GivenUp, Memory, ReadFailed, WriteFailed}
-use Rattle.link_io.specs.Reading.{Ends, given}
-use Rattle.relay_items.specs.declared.What.{What}
-use Rattle.relay_items.specs.declared.What.TheVariants as whats
+use Rattle.link_workers.specs.declared.fault.IoFault.{IoFault}
+use Rattle.link_workers.specs.declared.fault.IoFault.TheVariants.{GateShut, GivenUp, Memory, ReadFailed, WriteFailed}
+use Rattle.link_workers.specs.Reading.{Ends, given}
+use Rattle.ruled_relay.specs.declared.item.What.{What}
+use Rattle.ruled_relay.specs.declared.item.What.TheVariants as whats
 use Rattle.ruled_relay.specs.declared.outbox.Line.{Line}
 use Rattle.ruled_relay.specs.declared.outbox.Line.TheVariants as marks
 use Rattle.ruled_relay.specs.Ends.{EndView}

@@ -2,14 +2,14 @@
 use Rattle.std.specs.Prelude.{◌≡◌, ℕ, List, [], ◌∷◌, ◌++◌, length, Option, Some, None}
 use mathlib.Core.Option.{some}
 use lib.ListN.{get_elem?}
-use Rattle.call_worker.specs.Call.{Serves}
-use Rattle.call_worker.specs.Steps.{frames_to, over}
-use Rattle.call_worker.specs.Taking.{HasTaken}
-use Rattle.controller_table.specs.declared.step.Step.{Step}
-use Rattle.controller_table.specs.Controller.{Controller}
-use Rattle.link_io.specs.declared.fault.IoFault.{IoFault}
-use Rattle.link_io.specs.declared.fault.IoFault.TheVariants.{Memory}
-use Rattle.relay_items.specs.declared.Item.{Item}
+use Rattle.controller_worker.specs.Call.{Serves}
+use Rattle.controller_worker.specs.Steps.{frames_to, over}
+use Rattle.controller_worker.specs.Taking.{HasTaken}
+use Rattle.controller_model.specs.declared.step.Step.{Step}
+use Rattle.controller_model.specs.Controller.{Controller}
+use Rattle.link_workers.specs.declared.fault.IoFault.{IoFault}
+use Rattle.link_workers.specs.declared.fault.IoFault.TheVariants.{Memory}
+use Rattle.ruled_relay.specs.declared.item.Item.{Item}
 use Rattle.ruled_relay.specs.declared.outbox.Line.{Line}
 use Rattle.ruled_relay.specs.declared.outbox.Line.TheVariants.{End}
 use Rattle.ruled_relay.specs.Outbox.{PutterView}

@@ -1,9 +1,9 @@
 -- What the threads of the relay give back.
 use Rattle.std.specs.Prelude.{◌≡◌, ℕ, List, [], ◌∷◌, length, Option}
 use Rattle.std.specs.declared.alloc.Global.{Global}
-use Rattle.controller_table.specs.Controller.{Controller}
-use Rattle.link_io.specs.Reading.{Serves}
-use Rattle.link_io.specs.Writing.{Delivers}
+use Rattle.controller_model.specs.Controller.{Controller}
+use Rattle.link_workers.specs.Reading.{Serves}
+use Rattle.link_workers.specs.Writing.{Delivers}
 use Rattle.ruled_relay.specs.Inbox.{PassView}
 use Rattle.ruled_relay.specs.Outbox.{PutterView, TakerView}
 use Rattle.ruled_relay.specs.Row.{Row}
@@ -16,7 +16,7 @@ use Rattle.station_io.specs.declared.work.Reading.{Reading}
 use Rattle.station_io.specs.declared.work.Writing.{Writing}
 use Rattle.station_io.specs.Calls.{Runs}
 use Rattle.station_io.specs.Work.{AreNewOutboxes, AreNewQueues, readings, writings}
-use Rattle.worker_threads.specs.Done.{AllDone}
+use Rattle.station_io.specs.CrewDone.{AllDone}
 
 -- each link was read, over readers that tell what is left of their octets and gates that tell how often they refused
 abbrev pub AreRead : {I G : Type 0} → (I → Option (List ℕ)) → (G → ℕ) → List (Reading I G) → List (HasRead I G) → Type 0

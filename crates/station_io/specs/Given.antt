@@ -1,7 +1,7 @@
 -- What is given back of each link.
 use Rattle.std.specs.Prelude.{◌≡◌, ℕ, ◌≤◌, List, [], ◌++◌, Option}
-use Rattle.call_worker.specs.Links.{is_given_up}
-use Rattle.link_io.specs.declared.fault.IoFault.{IoFault}
+use Rattle.controller_worker.specs.Links.{is_given_up}
+use Rattle.link_workers.specs.declared.fault.IoFault.{IoFault}
 use Rattle.ruled_relay.specs.declared.outbox.Line.{Line}
 use Rattle.ruled_relay.specs.Outbox.{PutterView}
 use Rattle.station_io.specs.declared.link.Link.{Link}

@@ -3,17 +3,17 @@ use Rattle.std.specs.Prelude.{◌≡◌, ℕ, Bool, true, false, List, [], ◌�
 use Rattle.std.specs.Io.KnownBytes.{Appends, Consumes}
 use mathlib.Core.Option.{some}
 use lib.ListN.{get_elem?}
-use Rattle.call_worker.specs.Links.{AreStepped}
-use Rattle.call_worker.specs.Steps.{frames_to, items_of, over, whats_of}
+use Rattle.controller_worker.specs.Links.{AreStepped}
+use Rattle.controller_worker.specs.Steps.{frames_to, items_of, over, whats_of}
 use Rattle.conn_messages.specs.declared.out.Out.{Out}
-use Rattle.controller_table.specs.declared.step.Step.{Step}
-use Rattle.controller_table.specs.Controller.{Controller}
+use Rattle.controller_model.specs.declared.step.Step.{Step}
+use Rattle.controller_model.specs.Controller.{Controller}
 use Rattle.ipa_framing.specs.declared.frame.Frame.{Frame}
-use Rattle.link_io.specs.declared.fault.IoFault.{IoFault}
-use Rattle.link_io.specs.declared.fault.IoFault.TheVariants.{GivenUp}
-use Rattle.link_io.specs.Reading.{AsksGate, Ends, Parts, frames_text, given}
-use Rattle.link_io.specs.Writing.{AppendsBeginning}
-use Rattle.relay_items.specs.declared.What.TheVariants.{Down}
+use Rattle.link_workers.specs.declared.fault.IoFault.{IoFault}
+use Rattle.link_workers.specs.declared.fault.IoFault.TheVariants.{GivenUp}
+use Rattle.link_workers.specs.Reading.{AsksGate, Ends, Parts, frames_text, given}
+use Rattle.link_workers.specs.Writing.{AppendsBeginning}
+use Rattle.ruled_relay.specs.declared.item.What.TheVariants.{Down}
 use Rattle.station_io.specs.declared.link.Link.{Link}
 
 -- A link as its two devices and its gate tell of it: the octets that are left to be read, those that were written, and how

@@ -1,6 +1,6 @@
 -- What the threads of the relay are given.
 use Rattle.std.specs.Prelude.{◌≡◌, ℕ, List, [], length, map}
-use Rattle.call_worker.specs.Call.{AreNew}
+use Rattle.controller_worker.specs.Call.{AreNew}
 use Rattle.ruled_relay.specs.Ends.{EndView}
 use Rattle.ruled_relay.specs.Inbox.{PassView, queues_of}
 use Rattle.ruled_relay.specs.Outbox.{PutterView, TakerView}

@@ -1,11 +1,14 @@
 //! The threads of the relay: all are started, or none begins.
 ghost use Rattle.std.specs.Prelude.{◌≡◌, [], ◌++◌, length, vec_len, IfOk, IfSome, None, OnOk};
-ghost use Rattle.call_worker.specs.Call.{AreNew, AreUnmarked};
+ghost use Rattle.controller_worker.specs.Call.{AreNew, AreUnmarked};
 ghost use Rattle.station_io.specs.Done.{AreRead, AreWritten, IsCalled};
 
+use crate::crew::Crew;
+use crate::signal::Signal;
 use crate::work::{Calling, HasCalled, HasRead, HasWritten, Reading, Writing};
-use call_worker::Clock;
-use link_io::{Gate, LinkReader};
+use crate::worker::Worker;
+use controller_worker::Clock;
+use link_workers::{Gate, LinkReader};
 use octets::Memory;
 use ruled_relay::Desk;
 use std::alloc::Global;
@@ -13,7 +16,6 @@ use std::io::Write;
 use std::sync::Wait;
 use std::thread::Threads;
 use std::time::Duration;
-use worker_threads::{Crew, Signal, Worker};
 
 /// How many milliseconds the desk is left alone at most while readers are to end that nobody takes from.
 const LONGEST_WAIT: u64 = 10;

@@ -1,6 +1,6 @@
 //! What is given back of the links once all threads have ended.
 ghost use Rattle.std.specs.Prelude.{◌≡◌, [], length, map, vec_len, vec_capacity, IfOk};
-ghost use Rattle.call_worker.specs.Links.{is_given_up};
+ghost use Rattle.controller_worker.specs.Links.{is_given_up};
 ghost use Rattle.ruled_relay.specs.Inbox.{AreJoined, queues_of};
 ghost use Rattle.ruled_relay.specs.Row.{Row};
 ghost use Rattle.station_io.specs.Given.{Follows, HasRoom, all_given, given_back};
@@ -9,8 +9,8 @@ ghost use Rattle.station_io.specs.Pairs.{EachPair};
 
 use crate::link::Link;
 use crate::work::{HasCalled, HasRead, HasWritten};
-use call_worker::MAX_REFUSALS;
-use link_io::IoFault;
+use controller_worker::MAX_REFUSALS;
+use link_workers::IoFault;
 use octets::Memory;
 use ruled_relay::{Inbox, Outbox, Putter, SourcePass};
 use std::alloc::Global;

@@ -1,13 +1,18 @@
 //! The running relay: the controller among its links, with a thread for each reader, each writer and the call worker.
+//! All are started before the first begins, and each gives back what it promised.
 #![tactic(auto)]
 
 pub use link::Link;
 pub use serve::serve_links;
 
+mod crew;
 mod crews;
 mod giving;
 mod link;
+mod promise;
 mod queues;
 mod serve;
+mod signal;
 mod work;
+mod worker;
 mod works;

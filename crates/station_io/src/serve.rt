@@ -1,5 +1,5 @@
 ghost use Rattle.std.specs.Prelude.{◌≡◌, map, IfOk, IfErr};
-ghost use Rattle.link_io.specs.declared.fault.IoFault.TheVariants as faults;
+ghost use Rattle.link_workers.specs.declared.fault.IoFault.TheVariants as faults;
 ghost use Rattle.station_io.specs.Done.{HasEnded};
 ghost use Rattle.station_io.specs.Links.{Relays, ended_view, link_view};
 
@@ -9,9 +9,9 @@ use crate::link::Link;
 use crate::queues::Queues;
 use crate::work::Calling;
 use crate::works::workers;
-use call_worker::{Clock, Marks};
 use controller::Controller;
-use link_io::{Gate, IoFault, LinkReader};
+use controller_worker::{Clock, Marks};
+use link_workers::{Gate, IoFault, LinkReader};
 use octets::Memory;
 use std::alloc::Global;
 use std::io::Write;

@@ -1,13 +1,13 @@
 //! What each thread of the relay does.
 
-use call_worker::{Clock, Marks, call_worker};
+use crate::worker::Worker;
 use controller::Controller;
-use link_io::{Gate, IoFault, LinkReader, serve_reader, serve_writer};
+use controller_worker::{Clock, Marks, call_worker};
+use link_workers::{Gate, IoFault, LinkReader, serve_reader, serve_writer};
 use ruled_relay::{Desk, Putter, SourcePass, Taker};
 use std::alloc::Global;
 use std::io::Write;
 use std::sync::Wait;
-use worker_threads::Worker;
 
 /// The reader of a link.
 #[derive(Drop)]
@@ -32,7 +32,7 @@ pub(crate) struct HasRead<I, G> {
 impl<I: LinkReader + Drop, G: Gate + Drop> Worker for Reading<I, G> {
     type Done = HasRead<I, G>;
 
-    ghost use Rattle.link_io.specs.Reading.{Serves};
+    ghost use Rattle.link_workers.specs.Reading.{Serves};
 
     ghost can_work = { λ w. Unit {0} };
 
@@ -75,7 +75,7 @@ pub(crate) struct HasWritten<O> {
 impl<O: Write + Drop> Worker for Writing<O> {
     type Done = HasWritten<O>;
 
-    ghost use Rattle.link_io.specs.Writing.{Delivers};
+    ghost use Rattle.link_workers.specs.Writing.{Delivers};
 
     ghost can_work = { λ w. Unit {0} };
 
@@ -114,7 +114,7 @@ impl<K: Clock + Drop> Worker for Calling<K> {
     type Done = HasCalled;
 
     ghost use Rattle.std.specs.Prelude.{◌≡◌, length, vec_len};
-    ghost use Rattle.call_worker.specs.Call.{AreNew, AreUnmarked};
+    ghost use Rattle.controller_worker.specs.Call.{AreNew, AreUnmarked};
     ghost use Rattle.station_io.specs.Calls.{Calls};
 
     ghost can_work = { λ w. AreNew w.putters.items × (length w.desk ≡ vec_len w.putters) × AreUnmarked (vec_len w.putters) w.marks };

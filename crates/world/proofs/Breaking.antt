@@ -1,8 +1,8 @@
 -- Events with the break of a link among them.
 use Rattle.std.proofs.Common.{◌≡◌, ℕ, min, List, ◌∷◌, Result, Ok, Err, OnOk, length, take, drop, sym, ap, ◌∙◌}
 use Rattle.std.proofs.lemmas.List.{take_min, drop_min}
-use Rattle.world_table.specs.declared.event.Event.{Event}
-use Rattle.world_table.specs.declared.event.Event.TheVariants.{BaseDown}
+use Rattle.world_model.specs.declared.event.Event.{Event}
+use Rattle.world_model.specs.declared.event.Event.TheVariants.{BaseDown}
 use Rattle.world.specs.World.{after, after_all, broken}
 use Rattle.world.specs.WorldState.{WorldState}
 use Rattle.world.proofs.Order.{after_all-append}

@@ -1,21 +1,21 @@
 -- The order of messages in every world with a controller.
 use Rattle.std.proofs.Common.{ℕ, ◌≤◌, List, refl, sym, subst}
-use Rattle.controller_laws.specs.Downlink.{DownlinkIsConserved}
-use Rattle.controller_laws.specs.End.{SilenceIsKept}
-use Rattle.controller_laws.specs.Handing.{HandsInPlace}
-use Rattle.controller_laws.proofs.DownlinkLaw.{life_conserves}
-use Rattle.controller_laws.proofs.HandingLife.{life_hands}
-use Rattle.controller_laws.proofs.SilenceLife.{life_is_silent}
-use Rattle.controller_table.specs.declared.step.Step.{Step}
+use Rattle.controller_model.specs.LifeLaws.Downlink.{DownlinkIsConserved}
+use Rattle.controller_model.specs.LifeLaws.End.{SilenceIsKept}
+use Rattle.controller_model.specs.LifeLaws.Handing.{HandsInPlace}
+use Rattle.controller_model.proofs.LifeLaws.DownlinkLaw.{life_conserves}
+use Rattle.controller_model.proofs.LifeLaws.HandingLife.{life_hands}
+use Rattle.controller_model.proofs.LifeLaws.SilenceLife.{life_is_silent}
+use Rattle.controller_model.specs.declared.step.Step.{Step}
 use Rattle.settings.specs.Parameters.{AreAllowed, Parameters}
-use Rattle.world_table.specs.declared.event.Event.{Event}
-use Rattle.world_table.specs.Steps.{all_steps}
-use Rattle.world_table.specs.World.{new_actors}
-use Rattle.world_table.proofs.Living.{RunsByTable-new}
-use Rattle.world_order.specs.OctetEvents.{AreOctetEvents}
-use Rattle.world_order.specs.Order.{IsInOrderFor}
-use Rattle.world_order.proofs.Fairly.{ComeInOctets-new}
-use Rattle.world_order.proofs.Whole.{runs-are-in-order}
+use Rattle.world_model.specs.declared.event.Event.{Event}
+use Rattle.world_model.specs.Steps.{all_steps}
+use Rattle.world_model.specs.World.{new_actors}
+use Rattle.world_model.proofs.Living.{RunsByTable-new}
+use Rattle.world_laws.specs.Order.OctetEvents.{AreOctetEvents}
+use Rattle.world_laws.specs.Order.Order.{IsInOrderFor}
+use Rattle.world_laws.proofs.Order.Fairly.{ComeInOctets-new}
+use Rattle.world_laws.proofs.Order.Whole.{runs-are-in-order}
 use Rattle.world.specs.declared.world.Scene.{Scene}
 use Rattle.world.specs.declared.world.Scene.TheVariants.{Controlled}
 use Rattle.world.specs.Handing.{IsHandedInOrder}

@@ -3,13 +3,13 @@ use Rattle.std.proofs.Common.{◌≡◌, ℕ, ◌==◌, true, List, [], ◌∷�
 use Rattle.std.proofs.lemmas.List.{map-append}
 use Rattle.std.proofs.lemmas.List.Elements.{filter-append}
 use Rattle.octets.specs.Lists.{IsPrefix}
-use Rattle.relay_items.specs.declared.Item.{Item}
+use Rattle.ruled_relay.specs.declared.item.Item.{Item}
 use Rattle.settings.specs.Parameters.{Parameters}
-use Rattle.world_table.specs.declared.event.Event.{Event}
-use Rattle.world_table.specs.Life.{event_after, actors_after as next_actors, actors_after_all}
-use Rattle.world_table.specs.Queues.{put, taken, pushed, popped, of_source, all_put, all_taken, all_pushed, all_popped}
-use Rattle.world_table.specs.World.{Actors, new_actors, outbox_of}
-use Rattle.world_table.proofs.Outboxes.{KeepsQueues-new}
+use Rattle.world_model.specs.declared.event.Event.{Event}
+use Rattle.world_model.specs.Life.{event_after, actors_after as next_actors, actors_after_all}
+use Rattle.world_model.specs.Queues.{put, taken, pushed, popped, of_source, all_put, all_taken, all_pushed, all_popped}
+use Rattle.world_model.specs.World.{Actors, new_actors, outbox_of}
+use Rattle.world_model.proofs.Outboxes.{KeepsQueues-new}
 use Rattle.world.specs.declared.world.Scene.{Scene}
 use Rattle.world.specs.declared.world.Scene.TheVariants.{Controlled}
 use Rattle.world.specs.Headline.{QueuesKeepOrder}

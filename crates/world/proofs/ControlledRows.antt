@@ -1,14 +1,14 @@
 -- The world with a controller against literal events: what is seen of it, its queues, its events with a break.
 use Rattle.std.proofs.Common.{◌≡◌, ℕ, ◌∷◌, Bool, true, false, List, [], ◌++◌, length, map, Option, Some, None, refl}
-use Rattle.controller_table.proofs.Lives.{eager_settings, usual_settings}
+use Rattle.controller_model.proofs.Lives.{eager_settings, usual_settings}
 use Rattle.dtap_codec.specs.declared.sapi.Sapi.TheVariants.{Zero}
-use Rattle.relay_items.specs.declared.What.{What}
-use Rattle.relay_items.specs.declared.What.TheVariants as whats
+use Rattle.ruled_relay.specs.declared.item.What.{What}
+use Rattle.ruled_relay.specs.declared.item.What.TheVariants as whats
 use Rattle.settings.specs.Parameters.{Parameters}
-use Rattle.world_table.specs.declared.event.Event.{Event}
-use Rattle.world_table.specs.declared.event.Event.TheVariants.{Upper, Connect, AirUp, AirAck, AirDown, Move, Touch, Arrive, BaseTakes, BasePush, Handle, SwitchTakes, SwitchDoes, Tick, BaseDown, Report}
-use Rattle.world_table.specs.declared.event.SwitchAction.TheVariants.{Clear, Dtap}
-use Rattle.world_table.proofs.Worlds.{on_literals}
+use Rattle.world_model.specs.declared.event.Event.{Event}
+use Rattle.world_model.specs.declared.event.Event.TheVariants.{Upper, Connect, AirUp, AirAck, AirDown, Move, Touch, Arrive, BaseTakes, BasePush, Handle, SwitchTakes, SwitchDoes, Tick, BaseDown, Report}
+use Rattle.world_model.specs.declared.event.SwitchAction.TheVariants.{Clear, Dtap}
+use Rattle.world_model.proofs.Worlds.{on_literals}
 use Rattle.world.specs.Openers.{opener_in}
 use Rattle.world.specs.Queues.{Queue, Queued, outbox, inbox, message, entry, item, all_messages_put, all_messages_taken, messages_left, is_kept, messages_of, switch_of}
 use Rattle.world.specs.Views.{accepted_list, progress_in, received_list, sent_list, taken_list, unnumbered_list}

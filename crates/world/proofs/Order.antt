@@ -9,7 +9,7 @@ use Rattle.dtap_codec.proofs.Rising.{Rise-cut, Rise-with_numbers_from}
 use Rattle.nsd_filter.specs.AcceptedList.{accepted_list as accepted_of, progress}
 use Rattle.nsd_filter.proofs.Accepting.{accepted_list_from-rise, progress_from-rise}
 use Rattle.mobile_end.specs.DataLink.{to_be_taken}
-use Rattle.world_table.specs.declared.event.Event.{Event}
+use Rattle.world_model.specs.declared.event.Event.{Event}
 use Rattle.world.specs.declared.fixed.TheConstants.{FIXED_MOBILE, FIXED_CONNECTION}
 use Rattle.world.specs.declared.world.Scene.{Scene}
 use Rattle.world.specs.declared.world.Scene.TheVariants.{Fixed}

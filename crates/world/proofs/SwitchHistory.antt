@@ -12,8 +12,8 @@ use Rattle.bssmap_codec.specs.declared.bssmap.Bssmap.{Bssmap}
 use Rattle.bssmap_codec.specs.declared.bssmap.Bssmap.TheVariants.{ClearComplete, ClearRequest}
 use Rattle.bssmap_codec.specs.declared.sccp.Sccp.{Sccp}
 use Rattle.bssmap_codec.specs.declared.sccp.Sccp.TheVariants.{ConnectionRequest, DataForm1}
-use Rattle.conn_messages.specs.declared.parameters.TheConstants.{SWITCH_LINK}
-use Rattle.controller_table.specs.Life.{take, tick}
+use Rattle.world_model.specs.LinkNumbers.{SWITCH_LINK}
+use Rattle.controller_model.specs.Life.{take, tick}
 use Rattle.dtap_codec.specs.declared.sapi.Sapi.{Sapi}
 use Rattle.dtap_codec.specs.declared.sapi.Sapi.TheVariants.{Zero, Three}
 use Rattle.msc_end.specs.declared.connection.Connection.{Connection}
@@ -23,22 +23,22 @@ use Rattle.msc_end.specs.declared.parameters.TheConstants.{CONNECTION_LIMIT, REF
 use Rattle.msc_end.specs.Refusal.{send_fault, stage_fault}
 use Rattle.msc_end.specs.Switch.{after, after_clear, assignment_request, clear_command, data_forms_on, dlci_for, connection_of, connection_after, connections_after, connections_after_clear, connections_by, message_in, with_connection, with_stage, initial_messages}
 use Rattle.msc_end.specs.SwitchState.{SwitchState}
-use Rattle.rsl_codec.specs.declared.rsl.Rsl.{Rsl}
+use Rattle.world_model.specs.Rsl.{Rsl}
 use Rattle.settings.specs.Parameters.{Parameters}
-use Rattle.world_table.specs.declared.event.Event.{Event}
-use Rattle.world_table.specs.declared.event.Event.TheVariants.{Upper, Connect, AirUp, AirAck, AirDown, AirDownLost, Move, Touch, Arrive, Return, BaseTakes, BasePush, Handle, SwitchTakes, SwitchDoes, Tick, BaseDown, Report}
-use Rattle.world_table.specs.declared.event.SwitchAction.{SwitchAction}
-use Rattle.world_table.specs.declared.event.SwitchAction.TheVariants.{Assign, Clear, Dtap}
-use Rattle.world_table.specs.declared.line.OutboxEntry.{OutboxEntry}
-use Rattle.world_table.specs.declared.seat.Tenure.{Tenure}
-use Rattle.world_table.specs.Life.{event_after, actors_after, actors_after_all}
-use Rattle.world_table.specs.Queues.{first_of, taken, all_taken}
-use Rattle.world_table.specs.SwitchSide.{is_layer_3, may_send_on, sccp_in, sent_on, switch_took, switch_took_first, after_switch_does}
-use Rattle.world_table.specs.World.{Actors, is_up, modulus_in, new_actors, outbox_of, with_outbox}
-use Rattle.world_table.specs.Mobiles.{brought, after_upper, after_connecting, after_air_up, after_air_ack, after_air_down, after_air_down_lost, after_move, after_touch, after_arriving, after_return, after_report}
-use Rattle.world_table.specs.Relay.{after_base_push, after_break, after_handle, target_in, with_turn}
-use Rattle.world_table.specs.Stations.{after_base_takes, rsl_in, took, took_first}
-use Rattle.world_table.proofs.Leads.{OfTaken, FromAir, upper-leads, connect-leads, air_up-leads, air_ack-leads, air_down-leads, air_down_lost-leads, move-leads, touch-leads, arrive-leads, return-leads, report-leads, base_takes-leads, took-leads, handle-leads, turn-leads, push-leads, broken-leads, after-taken}
+use Rattle.world_model.specs.declared.event.Event.{Event}
+use Rattle.world_model.specs.declared.event.Event.TheVariants.{Upper, Connect, AirUp, AirAck, AirDown, AirDownLost, Move, Touch, Arrive, Return, BaseTakes, BasePush, Handle, SwitchTakes, SwitchDoes, Tick, BaseDown, Report}
+use Rattle.world_model.specs.declared.event.SwitchAction.{SwitchAction}
+use Rattle.world_model.specs.declared.event.SwitchAction.TheVariants.{Assign, Clear, Dtap}
+use Rattle.world_model.specs.declared.line.OutboxEntry.{OutboxEntry}
+use Rattle.world_model.specs.declared.seat.Tenure.{Tenure}
+use Rattle.world_model.specs.Life.{event_after, actors_after, actors_after_all}
+use Rattle.world_model.specs.Queues.{first_of, taken, all_taken}
+use Rattle.world_model.specs.SwitchSide.{is_layer_3, may_send_on, sccp_in, sent_on, switch_took, switch_took_first, after_switch_does}
+use Rattle.world_model.specs.World.{Actors, is_up, modulus_in, new_actors, outbox_of, with_outbox}
+use Rattle.world_model.specs.Mobiles.{brought, after_upper, after_connecting, after_air_up, after_air_ack, after_air_down, after_air_down_lost, after_move, after_touch, after_arriving, after_return, after_report}
+use Rattle.world_model.specs.Relay.{after_base_push, after_break, after_handle, target_in, with_turn}
+use Rattle.world_model.specs.Stations.{after_base_takes, rsl_in, took, took_first}
+use Rattle.world_model.proofs.Leads.{OfTaken, FromAir, upper-leads, connect-leads, air_up-leads, air_ack-leads, air_down-leads, air_down_lost-leads, move-leads, touch-leads, arrive-leads, return-leads, report-leads, base_takes-leads, took-leads, handle-leads, turn-leads, push-leads, broken-leads, after-taken}
 use Rattle.world.specs.declared.world.Scene.TheVariants.{Controlled}
 use Rattle.world.specs.Queues.{Queued, IsTakenBySwitch, entry, messages_of, switch_at, switch_by, switch_of}
 

@@ -1,14 +1,14 @@
 -- The switch's messages on their way to the mobiles, over every list of events.
 use Rattle.std.specs.Prelude.{ℕ, ◌≤◌, List}
 use Rattle.std.specs.List.{AllByRecursion}
-use Rattle.controller_laws.specs.Downlink.{DownlinkIsConserved}
-use Rattle.controller_laws.specs.End.{SilenceIsKept}
-use Rattle.controller_laws.specs.Handing.{HandsInPlace}
-use Rattle.controller_laws.specs.Sending.{ComesInOctets}
+use Rattle.controller_model.specs.LifeLaws.Downlink.{DownlinkIsConserved}
+use Rattle.controller_model.specs.LifeLaws.End.{SilenceIsKept}
+use Rattle.controller_model.specs.LifeLaws.Handing.{HandsInPlace}
+use Rattle.controller_model.specs.LifeLaws.Sending.{ComesInOctets}
 use Rattle.settings.specs.Parameters.{AreAllowed}
-use Rattle.world_table.specs.declared.event.Event.{Event}
-use Rattle.world_table.specs.Steps.{all_steps, controller_run}
-use Rattle.world_table.specs.World.{Actors}
+use Rattle.world_model.specs.declared.event.Event.{Event}
+use Rattle.world_model.specs.Steps.{all_steps, controller_run}
+use Rattle.world_model.specs.World.{Actors}
 use Rattle.world.specs.declared.world.Scene.{Scene}
 use Rattle.world.specs.declared.world.Scene.TheVariants.{Fixed, Controlled}
 

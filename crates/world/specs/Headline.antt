@@ -4,8 +4,8 @@
 use Rattle.std.specs.Prelude.{◌≡◌, ℕ, ◌≤◌, true, Option, Some, IsSome, List, ◌++◌}
 use Rattle.octets.specs.Lists.{IsPrefix}
 use Rattle.settings.specs.Parameters.{AreAllowed, Parameters}
-use Rattle.world_order.specs.OctetEvents.{AreOctetEvents}
-use Rattle.world_table.specs.declared.event.Event.{Event}
+use Rattle.world_laws.specs.Order.OctetEvents.{AreOctetEvents}
+use Rattle.world_model.specs.declared.event.Event.{Event}
 use Rattle.world.specs.declared.world.Scene.{Scene}
 use Rattle.world.specs.declared.world.Scene.TheVariants.{Fixed, Controlled}
 use Rattle.world.specs.Handing.{HandsInOrder}

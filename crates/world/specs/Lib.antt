@@ -7,7 +7,3 @@ pub mod Openers
 pub mod Queues
 pub mod Handing
 pub mod Headline
-pub mod WordsLeft
-pub mod Words
-pub mod Script
-pub mod ScriptReading

@@ -1,7 +1,7 @@
 -- Whose connection it is: the mobile with whose initial message it was asked for.
 use Rattle.std.specs.Prelude.{ℕ, ◌==◌, Option, Some, None, List, if◌then◌else◌}
-use Rattle.world_order.specs.Order.{opener_of}
-use Rattle.world_table.specs.declared.event.Event.{Event}
+use Rattle.world_laws.specs.Order.Order.{opener_of}
+use Rattle.world_model.specs.declared.event.Event.{Event}
 use Rattle.world.specs.declared.fixed.TheConstants.{FIXED_MOBILE, FIXED_CONNECTION}
 use Rattle.world.specs.declared.world.Scene.{Scene}
 use Rattle.world.specs.declared.world.Scene.TheVariants.{Fixed, Controlled}

@@ -4,13 +4,13 @@ use Rattle.bssmap_codec.specs.declared.sccp.Sccp.{Sccp}
 use Rattle.dtap_codec.specs.declared.sapi.Sapi.TheVariants.{Zero}
 use Rattle.msc_end.specs.Switch.{after as switch_after}
 use Rattle.msc_end.specs.SwitchState.{SwitchState}
-use Rattle.relay_items.specs.declared.Item.{Item}
-use Rattle.world_table.specs.declared.event.Event.{Event}
-use Rattle.world_table.specs.declared.event.Event.TheVariants.{AirUp, SwitchTakes}
-use Rattle.world_table.specs.declared.line.OutboxEntry.{OutboxEntry}
-use Rattle.world_table.specs.Queues.{put, taken, pushed, popped, of_source}
-use Rattle.world_table.specs.SwitchSide.{sccp_in}
-use Rattle.world_table.specs.World.{Actors, is_up, outbox_of}
+use Rattle.ruled_relay.specs.declared.item.Item.{Item}
+use Rattle.world_model.specs.declared.event.Event.{Event}
+use Rattle.world_model.specs.declared.event.Event.TheVariants.{AirUp, SwitchTakes}
+use Rattle.world_model.specs.declared.line.OutboxEntry.{OutboxEntry}
+use Rattle.world_model.specs.Queues.{put, taken, pushed, popped, of_source}
+use Rattle.world_model.specs.SwitchSide.{sccp_in}
+use Rattle.world_model.specs.World.{Actors, is_up, outbox_of}
 use Rattle.world.specs.declared.fixed.TheConstants.{FIXED_MOBILE}
 use Rattle.world.specs.declared.world.Scene.{Scene}
 use Rattle.world.specs.declared.world.Scene.TheVariants.{Fixed, Controlled}

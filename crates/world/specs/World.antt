@@ -1,10 +1,10 @@
 -- What events make of a world.
 use Rattle.std.specs.Prelude.{ℕ, ◌+◌, ◌-◌, ◌^◌, min, false, Option, option_map, unwrap_or, is_some, List, [], ◌∷◌, ◌++◌, take, drop, if◌then◌else◌}
 use Rattle.settings.specs.Parameters.{Parameters}
-use Rattle.world_table.specs.declared.event.Event.{Event}
-use Rattle.world_table.specs.declared.event.Event.TheVariants.{BaseDown}
-use Rattle.world_table.specs.Life.{event_after}
-use Rattle.world_table.specs.World.{new_actors}
+use Rattle.world_model.specs.declared.event.Event.{Event}
+use Rattle.world_model.specs.declared.event.Event.TheVariants.{BaseDown}
+use Rattle.world_model.specs.Life.{event_after}
+use Rattle.world_model.specs.World.{new_actors}
 use Rattle.world.specs.declared.world.Scene.{Scene}
 use Rattle.world.specs.declared.world.Scene.TheVariants.{Fixed, Controlled}
 use Rattle.world.specs.Fixed.{fixed_beginning, fixed_after}

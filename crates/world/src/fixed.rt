@@ -1,7 +1,7 @@
 ghost use Rattle.std.specs.Prelude.{◌≡◌, IfOk, IsSome, OnErr};
 ghost use Rattle.dtap_codec.specs.Number.{count_of};
 ghost use Rattle.nsd_filter.specs.AcceptedList.{accepted_list, not_of_the_flow};
-ghost use Rattle.world_table.specs.Takes.{Takes};
+ghost use Rattle.world_model.specs.Takes.{Takes};
 ghost use Rattle.world.specs.Fixed.{fixed_beginning, after_upper, after_air_up, after_air_ack, after_switch_takes, fixed_after};
 
 use crate::Event;

@@ -1,16 +1,16 @@
+//! Laws: each contract states what holds of the definitions that it names. Their bodies are empty.
+
 ghost use Rattle.std.specs.Prelude.{List, ℕ};
 ghost use Rattle.settings.specs.Parameters.{Parameters};
-ghost use Rattle.world_table.specs.declared.event.Event.{Event};
-ghost use Rattle.world_order.specs.OctetEvents.{IsOctetEvent};
-ghost use Rattle.world.specs.Script.{IsLine};
+ghost use Rattle.world_model.specs.declared.event.Event.{Event};
 ghost use Rattle.world.specs.WorldState.{WorldState};
 ghost use Rattle.world.specs.World.{after_all, controlled_world};
 ghost use Rattle.world.specs.Headline.{AreEventsFor, Begins, IsInOrder, QueuesKeepOrder};
 
-/// The order of messages, over every list of events from a beginning: what the switch accepts of a connection's flow is the
-/// beginning of what its mobile's upper layers sent, once and in order; no gap is ever judged; and each relay queue gives
-/// what was put there, in order. With a controller, events are of octets. It is a law on the definitions that `World::run` cites: it
-/// does nothing.
+/// The order of messages, over every list of events from a beginning: what the switch accepts of a connection's flow is
+/// the beginning of what its mobile's upper layers sent, once and in order; no gap is ever judged; and each relay queue
+/// gives what was put there, in order. With a controller, events are of octets. It is a law on the definitions that
+/// `World::run` cites.
 pub fn keeps_order()
     ensures { (begin : WorldState) (events : List Event) → Begins begin → AreEventsFor begin.scene events → IsInOrder begin.scene events (after_all begin events).scene }
 {}
@@ -20,9 +20,4 @@ pub fn keeps_order()
 pub fn queues_keep_order()
     ensures { (settings : Parameters) (events : List Event)
         → QueuesKeepOrder (controlled_world settings).scene events (after_all (controlled_world settings) events).scene }
-{}
-
-/// Law: the event of a script line is of octets, as the order of messages asks of events in a world with a controller.
-pub fn lines_are_of_octets()
-    ensures { (cells : ℕ) (event : Event) (line : List ℕ) → IsLine cells event line → IsOctetEvent event }
 {}

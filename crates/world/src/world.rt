@@ -1,8 +1,8 @@
 ghost use Rattle.std.specs.Prelude.{IsSome, ◌≡◌, ℕ, ◌++◌, List, false, true, IfOk, OnOk, OnErr, is_some, option_map};
 ghost use Rattle.dtap_codec.specs.Number.{count_of};
 ghost use Rattle.settings.specs.Parameters.{Parameters};
-ghost use Rattle.world_table.specs.declared.event.Event.{Event as WorldEvent};
-ghost use Rattle.world_table.specs.Takes.{Takes};
+ghost use Rattle.world_model.specs.declared.event.Event.{Event as WorldEvent};
+ghost use Rattle.world_model.specs.Takes.{Takes};
 ghost use Rattle.world.specs.WorldState.{WorldState};
 ghost use Rattle.world.specs.World.{fixed_world, controlled_world, scene_after, after, after_all, broken};
 ghost use Rattle.world.specs.Views.{sent_list, received_list, taken_list, accepted_list, unnumbered_list};

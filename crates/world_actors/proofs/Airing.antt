@@ -1,30 +1,25 @@
 -- What goes between a mobile and the station of its channel.
-use Rattle.std.proofs.Common.{◌≡◌, ℕ, ◌+◌, ◌-◌, ◌%◌, ◌==◌, ◌&&◌, Bool, true, false, if◌then◌else◌, List, [], ◌∷◌, ◌++◌, length, set, Option, Some, None, Result, Ok, Err, OnErr, IsSome, refl, sym, ap, ◌∙◌, subst}
-use Rattle.std.specs.Option.{is_some, option_and_then, option_map}
+use Rattle.world_actors.proofs.Prelude.{◌≡◌, ℕ, ◌-◌, ◌&&◌, Bool, true, false, if◌then◌else◌, List, [], ◌∷◌, ◌++◌, set, Option, Some, None}
+use Rattle.world_actors.proofs.Prelude.{Result, Ok, Err, OnErr, IsSome, refl, sym, ap, ◌∙◌, subst, option_and_then, option_map, set-get_or}
+use Rattle.world_actors.proofs.Prelude.{Place, Sapi, Memory, at_mobile, by_mobile_in, MobilesState, at_station, told_to, with_spot_of, Seat}
+use Rattle.world_actors.proofs.Prelude.{Asking, On, Moving, Gone, Tenure, by_mobile, only_if, Takes, Actors, Mobile, Station, is_reached}
+use Rattle.world_actors.proofs.Prelude.{no_station, spot_at, station_of, behind_first, first_in}
+use Rattle.std.proofs.Common.{◌+◌, ◌%◌, ◌==◌, length}
+use Rattle.std.specs.Option.{is_some}
 use Rattle.std.proofs.lemmas.Bool.{eq-eqb}
-use Rattle.std.proofs.lemmas.List.{set-get_or}
-use Rattle.conn_messages.specs.declared.channel.Place.{Place}
-use Rattle.conn_table.specs.Streams.{is_dtap}
+use Rattle.world_model.specs.Streams.{is_dtap}
 use Rattle.dtap_codec.specs.declared.report.TheConstants.{REPORT_LENGTH}
-use Rattle.dtap_codec.specs.declared.sapi.Sapi.{Sapi}
 use Rattle.dtap_codec.specs.RrReading.{rr_reading}
 use Rattle.mobile_end.specs.Mobile.{after_acked, is_acknowledged}
-use Rattle.octets.specs.declared.memory.Memory.{Memory}
-use Rattle.world_mobiles.specs.Mobiles.{acknowledging, at_mobile, by_mobile as by_mobile_in}
-use Rattle.world_mobiles.specs.MobilesState.{MobilesState}
-use Rattle.world_stations.specs.Stations.{at_station, reported_on, taken_on, told_to, with_spot_of}
-use Rattle.world_table.specs.declared.line.AirMessage.{AirMessage}
-use Rattle.world_table.specs.declared.seat.Seat.{Seat}
-use Rattle.world_table.specs.declared.seat.Seat.TheVariants.{Asking, On, Moving, Gone}
-use Rattle.world_table.specs.declared.seat.Tenure.{Tenure}
-use Rattle.world_table.specs.Mobiles.{acknowledged, after_air_ack, after_air_down, after_air_down_lost, after_report, brought_down, by_mobile, controlled, hearing, measurement_result, only_if, reported, reported_at, taken_from_air, unheard}
-use Rattle.world_table.specs.Takes.{Takes}
-use Rattle.world_table.specs.World.{Actors, Mobile, Spot, Station, is_reached, new_spot, no_station, spot_at, station_of, with_mobile, with_spot}
-use Rattle.world_table.proofs.Ticketing.{same-number}
+use Rattle.world_ends.specs.Mobiles.{acknowledging}
+use Rattle.world_ends.specs.Stations.{reported_on, taken_on}
+use Rattle.world_model.specs.declared.line.AirMessage.{AirMessage}
+use Rattle.world_model.specs.Mobiles.{acknowledged, after_air_ack, after_air_down, after_air_down_lost, after_report, brought_down, controlled, hearing, measurement_result, reported, reported_at, taken_from_air, unheard}
+use Rattle.world_model.specs.World.{Spot, new_spot, with_mobile, with_spot}
+use Rattle.world_model.proofs.Ticketing.{same-number}
 use Rattle.world_actors.specs.Seats.{reached_by}
 use Rattle.world_actors.proofs.Sitting.{Reached, at_mobile_is, at_reached, put_back_same, same_acts, twice, when_not_reached, when_reached}
 use Rattle.world_actors.proofs.Upper.{by_itself, found_number, mobiles_of, takes_for, with_mobiles}
-use Rattle.world_table.specs.Lists.{behind_first, first_in}
 
 -- an event that isn't taken
 pub idle : (w : Actors) (o : Option Actors) → o ≡ None → Takes w o false w

@@ -1,20 +1,14 @@
 -- A frame of a mobile comes to the station of its channel.
-use Rattle.std.proofs.Common.{◌≡◌, ℕ, ◌-◌, Bool, true, false, if◌then◌else◌, List, Option, Some, None, Result, Ok, Err, OnErr, IsSome, unwrap_or, refl, sym, ap, ◌∙◌, subst}
-use Rattle.std.specs.Option.{option_and_then, option_map}
-use Rattle.std.proofs.lemmas.List.Folds.{find_at}
-use Rattle.conn_messages.specs.declared.channel.Place.{Place}
-use Rattle.dtap_codec.specs.declared.sapi.Sapi.{Sapi}
+use Rattle.world_actors.proofs.Prelude.{◌≡◌, ℕ, ◌-◌, Bool, true, false, if◌then◌else◌, List, Option, Some, None, Result, Ok, Err, OnErr}
+use Rattle.world_actors.proofs.Prelude.{IsSome, refl, sym, ap, ◌∙◌, subst, option_and_then, option_map, find_at, Place, Sapi, Memory}
+use Rattle.world_actors.proofs.Prelude.{by_mobile_in, mobile_in, MobilesState, at_station, with_spot_of, Seat, Asking, On, Moving, Gone}
+use Rattle.world_actors.proofs.Prelude.{Tenure, by_mobile, only_if, Takes, Actors, Mobile, Station, base_of, has_number, is_reached}
+use Rattle.world_actors.proofs.Prelude.{put_back, spot_at, station_of}
+use Rattle.std.proofs.Common.{unwrap_or}
 use Rattle.dtap_codec.specs.declared.sapi.Sapi.TheVariants.{Zero, Three}
-use Rattle.octets.specs.declared.memory.Memory.{Memory}
-use Rattle.world_mobiles.specs.Mobiles.{at_found, by_mobile as by_mobile_in, frame_of, mobile_in, taken_from, taking, with_mobile_in}
-use Rattle.world_mobiles.specs.MobilesState.{MobilesState}
-use Rattle.world_stations.specs.Stations.{at_station, brought_on, with_spot_of}
-use Rattle.world_table.specs.declared.seat.Seat.{Seat}
-use Rattle.world_table.specs.declared.seat.Seat.TheVariants.{Asking, On, Moving, Gone}
-use Rattle.world_table.specs.declared.seat.Tenure.{Tenure}
-use Rattle.world_table.specs.Mobiles.{after_air_up, brought, brought_up, by_mobile, framed, only_if, short_message_brought}
-use Rattle.world_table.specs.Takes.{Takes}
-use Rattle.world_table.specs.World.{Actors, Mobile, Station, base_of, has_number, is_reached, put_back, spot_at, station_of}
+use Rattle.world_ends.specs.Mobiles.{at_found, frame_of, taken_from, taking, with_mobile_in}
+use Rattle.world_ends.specs.Stations.{brought_on}
+use Rattle.world_model.specs.Mobiles.{after_air_up, brought, brought_up, framed, short_message_brought}
 use Rattle.world_actors.specs.Seats.{opens_by, opens_in, reached_by}
 use Rattle.world_actors.proofs.Airing.{done, idle, wants}
 use Rattle.world_actors.proofs.Sitting.{Reached, at_mobile_is, at_reached, reaches, same_acts, twice, when_not_reached, when_reached}

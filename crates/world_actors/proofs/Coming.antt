@@ -1,21 +1,17 @@
 -- How mobiles come.
-use Rattle.std.proofs.Common.{◌≡◌, ℕ, ◌&&◌, nat_lt, Bool, true, false, if◌then◌else◌, List, [], ◌∷◌, ◌++◌, Option, Some, None, Result, Ok, Err, OnOk, OnErr, IsSome, refl, sym, ap, ◌∙◌, subst}
+use Rattle.world_actors.proofs.Prelude.{◌≡◌, ℕ, ◌&&◌, Bool, true, false, if◌then◌else◌, List, [], ◌∷◌, ◌++◌, Option, Some, None, Result, Ok}
+use Rattle.world_actors.proofs.Prelude.{Err, OnOk, OnErr, IsSome, refl, sym, ap, ◌∙◌, subst, find_at, Memory, Rsl, MobilesState, at_station}
+use Rattle.world_actors.proofs.Prelude.{told_to, channel_required, only_if, told, Takes, Actors, Mobile, Station, has_number, is_station_up}
+use Rattle.std.proofs.Common.{nat_lt}
 use Rattle.std.specs.Option.{is_none}
-use Rattle.std.proofs.lemmas.List.Folds.{find_at}
 use Rattle.mobile_end.specs.declared.fault.MobileFault.TheVariants.{BadMessage}
 use Rattle.mobile_end.specs.Lawful.{is_initial}
 use Rattle.mobile_end.specs.Mobile.{refusal_of_connect}
-use Rattle.octets.specs.declared.memory.Memory.{Memory}
 use Rattle.rsl_codec.specs.declared.channel_number.TheConstants.{RACH}
-use Rattle.rsl_codec.specs.declared.rsl.Rsl.{Rsl}
 use Rattle.rsl_codec.specs.declared.rsl.Rsl.TheVariants.{ChannelRequired}
 use Rattle.rsl_codec.specs.RslText.{rsl_write_fault}
-use Rattle.world_mobiles.specs.MobilesState.{MobilesState}
-use Rattle.world_stations.specs.Stations.{at_station, told_to}
-use Rattle.world_stations.proofs.Written.{request_written}
-use Rattle.world_table.specs.Mobiles.{after_connecting, channel_required, connected, only_if, told}
-use Rattle.world_table.specs.Takes.{Takes}
-use Rattle.world_table.specs.World.{Actors, Mobile, Station, has_number, is_station_up}
+use Rattle.world_ends.proofs.Written.{request_written}
+use Rattle.world_model.specs.Mobiles.{after_connecting, connected}
 use Rattle.world_actors.specs.Seats.{is_new_by}
 use Rattle.world_actors.proofs.Airing.{done, idle, wants}
 use Rattle.world_actors.proofs.Upper.{mobiles_of, with_mobiles}

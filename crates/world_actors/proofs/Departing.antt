@@ -1,17 +1,12 @@
 -- How mobiles change their channels.
-use Rattle.std.proofs.Common.{◌≡◌, ℕ, ◌&&◌, Bool, true, false, if◌then◌else◌, List, Option, Some, None, Result, OnErr, IsSome, IfSome, refl, sym, ap, ◌∙◌, subst}
-use Rattle.std.specs.Option.{option_and_then}
-use Rattle.std.proofs.lemmas.List.Folds.{find_at}
-use Rattle.octets.specs.declared.memory.Memory.{Memory}
-use Rattle.world_mobiles.specs.Mobiles.{arriving, at_mobile, is_moving, leaving, mobile_in}
-use Rattle.world_mobiles.specs.MobilesState.{MobilesState}
-use Rattle.world_stations.specs.Stations.{at_station, established_on, left_on, told_to}
-use Rattle.world_table.specs.declared.seat.Seat.{Seat}
-use Rattle.world_table.specs.declared.seat.Seat.TheVariants.{Asking, On, Moving, Gone}
-use Rattle.world_table.specs.declared.seat.Tenure.{Tenure}
-use Rattle.world_table.specs.Mobiles.{after_arriving, after_move, after_return, after_touch, arrived, by_mobile, complete, failure, handover_detection, is_to_handover, left, moved, only_if, returned, seated, told, touched}
-use Rattle.world_table.specs.Takes.{Takes}
-use Rattle.world_table.specs.World.{Actors, Mobile, Station, has_number, is_reached, mobile_of}
+use Rattle.world_actors.proofs.Prelude.{◌≡◌, ℕ, ◌&&◌, Bool, true, false, if◌then◌else◌, List, Option, Some, None, Result, OnErr, IsSome}
+use Rattle.world_actors.proofs.Prelude.{refl, sym, ap, ◌∙◌, subst, option_and_then, find_at, Memory, at_mobile, mobile_in, MobilesState}
+use Rattle.world_actors.proofs.Prelude.{at_station, told_to, Seat, Asking, On, Moving, Gone, Tenure, by_mobile, only_if, told, Takes}
+use Rattle.world_actors.proofs.Prelude.{Actors, Mobile, Station, has_number, is_reached, mobile_of}
+use Rattle.std.proofs.Common.{IfSome}
+use Rattle.world_ends.specs.Mobiles.{arriving, is_moving, leaving}
+use Rattle.world_ends.specs.Stations.{established_on, left_on}
+use Rattle.world_model.specs.Mobiles.{after_arriving, after_move, after_return, after_touch, arrived, complete, failure, handover_detection, is_to_handover, left, moved, returned, seated, touched}
 use Rattle.world_actors.specs.declared.departure.Departure.{Departure}
 use Rattle.world_actors.specs.Seats.{moving_from, of_seat, told_from}
 use Rattle.world_actors.proofs.Airing.{done, idle, wants}

@@ -1,3 +1,4 @@
+mod Prelude
 mod Airing
 mod Bringing
 mod Coming
@@ -8,3 +9,4 @@ mod Sitting
 mod Turning
 mod Upper
 mod Rows
+mod RelayRows

@@ -1,30 +1,23 @@
 -- A station takes a line of its outbox.
-use Rattle.std.proofs.Common.{◌≡◌, ℕ, ◌-◌, not, Bool, true, false, if◌then◌else◌, List, [], ◌∷◌, ◌++◌, set, Option, Some, None, Result, Ok, Err, OnOk, OnErr, IsSome, refl, sym, ap, ◌∙◌}
-use Rattle.std.proofs.lemmas.List.{set-get_or}
-use Rattle.std.proofs.lemmas.List.Folds.{find_at}
-use Rattle.conn_messages.specs.declared.channel.Place.{Place}
-use Rattle.controller_table.specs.Controller.{place_at}
+use Rattle.world_actors.proofs.Prelude.{◌≡◌, ℕ, ◌-◌, Bool, true, false, if◌then◌else◌, List, [], ◌∷◌, ◌++◌, set, Option, Some, None, Result}
+use Rattle.world_actors.proofs.Prelude.{Ok, Err, OnOk, OnErr, IsSome, refl, sym, ap, ◌∙◌, set-get_or, find_at, Place, place_at, Memory, Rsl}
+use Rattle.world_actors.proofs.Prelude.{at_mobile, mobile_in, MobilesState, at_station, told_to, with_spot_of, Seat, Asking, On, Moving}
+use Rattle.world_actors.proofs.Prelude.{Gone, Tenure, behind_first, first_in, Takes, Actors, Mobile, Station, base_of, has_number}
+use Rattle.world_actors.proofs.Prelude.{is_station_up, mobile_of, no_station, outbox_of, spot_at, station_of, tenure_at}
+use Rattle.std.proofs.Common.{not}
 use Rattle.dtap_codec.specs.RrReading.{rr_reading}
 use Rattle.link_model.specs.declared.fault.LinkFault.{LinkFault}
 use Rattle.link_model.specs.Base.{after_activate, after_release, refusal_of_activate}
-use Rattle.octets.specs.declared.memory.Memory.{Memory}
-use Rattle.rsl_codec.specs.declared.rsl.Rsl.{Rsl}
 use Rattle.rsl_codec.specs.declared.rsl.Rsl.TheVariants as messages
-use Rattle.world_mobiles.specs.Mobiles.{assigned_to as assigned_in, at_mobile, mobile_in}
-use Rattle.world_mobiles.specs.MobilesState.{MobilesState}
-use Rattle.world_relay.specs.Links.{taken_of}
-use Rattle.world_relay.specs.RelayState.{RelayState}
-use Rattle.world_stations.specs.Activations.{activated_by}
-use Rattle.world_stations.specs.Stations.{activated_on, activated_unless as unless_on, aired_on, answered_on, at_station, released_on, told_to, with_spot_of}
-use Rattle.world_table.specs.declared.line.AirMessage.{AirMessage}
-use Rattle.world_table.specs.declared.line.OutboxEntry.{OutboxEntry}
-use Rattle.world_table.specs.declared.seat.Seat.{Seat}
-use Rattle.world_table.specs.declared.seat.Seat.TheVariants.{Asking, On, Moving, Gone}
-use Rattle.world_table.specs.declared.seat.Tenure.{Tenure}
-use Rattle.world_table.specs.Lists.{behind_first, first_in}
-use Rattle.world_table.specs.Stations.{activated, activated_unless, after_base_takes, aired, answered, asked_for_link, assigned, assigned_from, assigned_to, link_answer, new_tenure, released, rsl_in, took, took_first}
-use Rattle.world_table.specs.Takes.{Takes}
-use Rattle.world_table.specs.World.{Actors, Mobile, Station, base_of, has_number, is_active_at, is_station_up, mobile_of, no_station, outbox_of, spot_at, station_of, tenure_at, with_outbox}
+use Rattle.world_ends.specs.Mobiles.{assigned_to as assigned_in}
+use Rattle.world_actors.specs.Links.{taken_of}
+use Rattle.world_actors.specs.RelayState.{RelayState}
+use Rattle.world_ends.specs.Activations.{activated_by}
+use Rattle.world_ends.specs.Stations.{activated_on, activated_unless as unless_on, aired_on, answered_on, released_on}
+use Rattle.world_model.specs.declared.line.AirMessage.{AirMessage}
+use Rattle.world_model.specs.declared.line.OutboxEntry.{OutboxEntry}
+use Rattle.world_model.specs.Stations.{activated, activated_unless, after_base_takes, aired, answered, asked_for_link, assigned, assigned_from, assigned_to, link_answer, new_tenure, released, rsl_in, took, took_first}
+use Rattle.world_model.specs.World.{is_active_at, with_outbox}
 use Rattle.world_actors.specs.Seats.{is_asking, is_asking_by, is_asking_in}
 use Rattle.world_actors.specs.Taking.{can_take, is_spent}
 use Rattle.world_actors.proofs.Airing.{done, idle, wants}

@@ -1,14 +1,11 @@
 -- A station's first message goes to the inbox's end.
-use Rattle.std.proofs.Common.{◌≡◌, ℕ, ◌-◌, true, false, List, [], ◌∷◌, set, Option, Some, None, refl, sym, ap, ◌∙◌, subst}
-use Rattle.std.proofs.lemmas.List.{set-get_or}
+use Rattle.world_actors.proofs.Prelude.{◌≡◌, ℕ, ◌-◌, true, false, List, [], ◌∷◌, set, Option, Some, None, refl, sym, ap, ◌∙◌, subst}
+use Rattle.world_actors.proofs.Prelude.{set-get_or, Rsl, Takes, Actors, Station, base_of, no_station, station_of, at_station}
 use Rattle.link_model.specs.Base.{first_message, first_of_messages, messages_behind_first}
-use Rattle.rsl_codec.specs.declared.rsl.Rsl.{Rsl}
-use Rattle.world_table.specs.Relay.{pushed_by_station, station_item}
-use Rattle.world_table.specs.Takes.{Takes}
-use Rattle.world_table.specs.World.{Actors, Station, base_of, no_station, station_of}
-use Rattle.world_relay.specs.Relay.{with_item_in}
-use Rattle.world_relay.specs.RelayState.{RelayState}
-use Rattle.world_stations.specs.Stations.{at_station, given_on}
+use Rattle.world_model.specs.Relay.{pushed_by_station, station_item}
+use Rattle.world_actors.specs.Relay.{with_item_in}
+use Rattle.world_actors.specs.RelayState.{RelayState}
+use Rattle.world_ends.specs.Stations.{given_on}
 use Rattle.world_actors.proofs.Turning.{relay_of, with_relay}
 
 abbrev pushes : ℕ → Actors → Option Rsl → Option Actors

@@ -1,14 +1,12 @@
 -- Where mobiles act, and what stations can take, in worlds of literal events. Mobile 1 is on channel 41 of station 1, in its first tenure.
-use Rattle.std.proofs.Common.{◌≡◌, ℕ, Bool, true, false, List, [], ◌∷◌, Option, Some, None, refl}
+use Rattle.world_actors.proofs.Prelude.{◌≡◌, ℕ, Bool, true, false, List, [], ◌∷◌, Option, Some, None, refl, place_at, On, Moving, Gone}
+use Rattle.world_actors.proofs.Prelude.{Tenure, Actors}
 use Rattle.conn_messages.specs.declared.channel.Change.TheVariants.{Handover}
-use Rattle.controller_table.specs.Controller.{place_at}
-use Rattle.world_table.specs.declared.event.Event.TheVariants.{BaseDown, Connect}
-use Rattle.world_table.specs.declared.seat.Command.{Command}
-use Rattle.world_table.specs.declared.seat.Seat.TheVariants.{On, Moving, Gone}
-use Rattle.world_table.specs.declared.seat.Tenure.{Tenure}
-use Rattle.world_table.specs.World.{Actors, World, new_spot, with_spot}
-use Rattle.world_table.proofs.Rows.{opened}
-use Rattle.world_table.proofs.Worlds.{on_literals, after_all}
+use Rattle.world_model.specs.declared.event.Event.TheVariants.{BaseDown, Connect}
+use Rattle.world_model.specs.declared.seat.Command.{Command}
+use Rattle.world_model.specs.World.{World, new_spot, with_spot}
+use Rattle.world_model.proofs.Rows.{opened}
+use Rattle.world_model.proofs.Worlds.{on_literals, after_all}
 use Rattle.world_actors.specs.Seats.{is_asking, is_asking_by, is_new_by, moving_from, opens_by, reached_by, reached_from, told_from}
 use Rattle.world_actors.specs.Taking.{can_take, is_spent}
 

@@ -1,15 +1,13 @@
 -- The mobile of a number, and the channel that it is on.
-use Rattle.std.proofs.Common.{◌≡◌, ℕ, zero, suc, Bool, true, false, cond, if◌then◌else◌, List, [], ◌∷◌, set, slice_index_or, find, Option, Some, None, refl, sym, ap, ◌∙◌, subst, inl, inr}
-use Rattle.std.specs.Option.{is_some, option_and_then, option_map}
+use Rattle.world_actors.proofs.Prelude.{◌≡◌, ℕ, Bool, true, false, if◌then◌else◌, List, [], ◌∷◌, set, Option, Some, None, refl, sym, ap}
+use Rattle.world_actors.proofs.Prelude.{◌∙◌, subst, option_and_then, option_map, find_at, at_mobile, mobile_in, Seat, Asking, On, Moving}
+use Rattle.world_actors.proofs.Prelude.{Gone, Tenure, by_mobile, Actors, Mobile, Station, has_number, is_reached, mobile_of, no_station}
+use Rattle.world_actors.proofs.Prelude.{put_back}
+use Rattle.std.proofs.Common.{zero, suc, cond, slice_index_or, find, inl, inr}
+use Rattle.std.specs.Option.{is_some}
 use Rattle.std.proofs.lemmas.Bool.{cases_Bool}
-use Rattle.std.proofs.lemmas.List.Folds.{find_at}
-use Rattle.world_mobiles.specs.Mobiles.{at_found, at_mobile, mobile_in, place_in}
-use Rattle.world_table.specs.declared.seat.Command.{Command}
-use Rattle.world_table.specs.declared.seat.Seat.{Seat}
-use Rattle.world_table.specs.declared.seat.Seat.TheVariants.{Asking, On, Moving, Gone}
-use Rattle.world_table.specs.declared.seat.Tenure.{Tenure}
-use Rattle.world_table.specs.Mobiles.{by_mobile}
-use Rattle.world_table.specs.World.{Actors, Mobile, Station, has_number, is_reached, mobile_of, no_station, put_back}
+use Rattle.world_ends.specs.Mobiles.{at_found, place_in}
+use Rattle.world_model.specs.declared.seat.Command.{Command}
 use Rattle.world_actors.specs.Seats.{reached_by, reached_from}
 use Rattle.world_actors.proofs.Upper.{back_at, found_number, mobiles_of}
 

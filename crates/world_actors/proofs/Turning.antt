@@ -1,19 +1,18 @@
 -- What the controller puts joins the outboxes, and nothing else of the world changes.
-use Rattle.std.proofs.Common.{◌≡◌, ℕ, Bool, true, false, if◌then◌else◌, List, [], ◌∷◌, ◌++◌, fold, Option, Some, None, Result, Ok, Err, OnOk, OnErr, IsSome, refl, sym, ap, ◌∙◌, subst}
+use Rattle.world_actors.proofs.Prelude.{◌≡◌, ℕ, Bool, true, false, if◌then◌else◌, List, [], ◌∷◌, ◌++◌, Option, Some, None, Result, Ok, Err}
+use Rattle.world_actors.proofs.Prelude.{OnOk, OnErr, IsSome, refl, sym, ap, ◌∙◌, subst, Memory, Tenure, behind_first, first_in, Takes}
+use Rattle.world_actors.proofs.Prelude.{Actors, outbox_of}
+use Rattle.std.proofs.Common.{fold}
 use Rattle.conn_messages.specs.declared.out.Out.{Out}
-use Rattle.controller_table.specs.Controller.{Turn}
-use Rattle.controller_table.specs.Life.{take, tick}
-use Rattle.octets.specs.declared.memory.Memory.{Memory}
-use Rattle.relay_items.specs.declared.Item.{Item}
-use Rattle.world_table.specs.declared.seat.Tenure.{Tenure}
-use Rattle.world_table.specs.Lists.{behind_first, first_in}
-use Rattle.world_table.specs.Relay.{after_handle, after_tick, entry_of, handled, joined_by, target_in, with_turn}
-use Rattle.world_table.specs.Takes.{Takes}
-use Rattle.world_table.specs.World.{Actors, is_up, outbox_of, with_outbox}
-use Rattle.world_relay.specs.Relay.{handling, ticking}
-use Rattle.world_relay.specs.RelayState.{RelayState}
+use Rattle.controller_model.specs.Controller.{Turn}
+use Rattle.controller_model.specs.Life.{take, tick}
+use Rattle.ruled_relay.specs.declared.item.Item.{Item}
+use Rattle.world_model.specs.Relay.{after_handle, after_tick, entry_of, handled, joined_by, target_in, with_turn}
+use Rattle.world_model.specs.World.{is_up, with_outbox}
+use Rattle.world_actors.specs.Relay.{handling, ticking}
+use Rattle.world_actors.specs.RelayState.{RelayState}
 use Rattle.world_actors.specs.Handling.{after_item}
-use Rattle.world_relay.specs.Links.{all_joined_in, joined_in, outbox_in, with_outbox_in}
+use Rattle.world_actors.specs.Links.{all_joined_in, joined_in, outbox_in, with_outbox_in}
 
 joined_is : (target : Option Tenure) (w : Actors) (out : Out) → joined_by target w out ≡ record w { links = joined_in target w.links out }
 joined_is target w out = by_link (is_up w out.to) where

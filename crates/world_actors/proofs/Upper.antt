@@ -1,16 +1,15 @@
 -- What happens to a mobile happens to the one of its number.
-use Rattle.std.proofs.Common.{◌≡◌, ℕ, zero, suc, ◌+◌, Bool, true, false, cond, not, ◌&&◌, if◌then◌else◌, List, [], ◌∷◌, set, find, Option, Some, None, Result, Ok, Err, IfOk, OnErr, IsSome, refl, sym, ap, ◌∙◌, subst, inl, inr, arith}
-use Rattle.std.specs.Option.{is_none, option_and_then, option_map}
+use Rattle.world_actors.proofs.Prelude.{◌≡◌, ℕ, Bool, true, false, ◌&&◌, if◌then◌else◌, List, [], ◌∷◌, set, Option, Some, None, Result, Ok}
+use Rattle.world_actors.proofs.Prelude.{Err, OnErr, IsSome, refl, sym, ap, ◌∙◌, subst, option_and_then, option_map, find_at, Sapi, Memory}
+use Rattle.world_actors.proofs.Prelude.{by_mobile_in, MobilesState, by_mobile, only_if, Takes, Actors, Mobile, has_number, mobile_of}
+use Rattle.world_actors.proofs.Prelude.{put_back}
+use Rattle.std.proofs.Common.{zero, suc, ◌+◌, cond, not, find, IfOk, inl, inr, arith}
+use Rattle.std.specs.Option.{is_none}
 use Rattle.std.proofs.lemmas.Bool.{cases_Bool, eqb-true}
-use Rattle.std.proofs.lemmas.List.Folds.{find_at}
-use Rattle.dtap_codec.specs.declared.sapi.Sapi.{Sapi}
 use Rattle.mobile_end.specs.Mobile.{after_queue, refusal_of_send}
-use Rattle.octets.specs.declared.memory.Memory.{Memory}
-use Rattle.world_mobiles.specs.Mobiles.{by_mobile as by_mobile_in, place_in, sending, with_mobile_in}
-use Rattle.world_mobiles.specs.MobilesState.{MobilesState}
-use Rattle.world_table.specs.Mobiles.{after_upper, by_mobile, may_send, only_if, sent_by}
-use Rattle.world_table.specs.Takes.{Takes}
-use Rattle.world_table.specs.World.{Actors, Mobile, has_number, mobile_of, put_back, with_mobile}
+use Rattle.world_ends.specs.Mobiles.{place_in, sending, with_mobile_in}
+use Rattle.world_model.specs.Mobiles.{after_upper, may_send, sent_by}
+use Rattle.world_model.specs.World.{with_mobile}
 
 -- ---- the place of a number
 

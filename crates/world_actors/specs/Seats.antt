@@ -1,12 +1,12 @@
 -- The channel that a mobile is on, where it can act there.
 use Rattle.std.specs.Prelude.{ℕ, ◌&&◌, nat_lt, Bool, true, false, if◌then◌else◌, Option, Some, None}
 use Rattle.std.specs.Option.{is_none, option_and_then}
-use Rattle.world_mobiles.specs.Mobiles.{mobile_in}
-use Rattle.world_table.specs.World.{Actors, Mobile, is_reached}
+use Rattle.world_ends.specs.Mobiles.{mobile_in}
+use Rattle.world_model.specs.World.{Actors, Mobile, is_reached}
 use Rattle.world_actors.specs.declared.departure.Departure.{Departure}
-use Rattle.world_table.specs.declared.seat.Seat.{Seat}
-use Rattle.world_table.specs.declared.seat.Seat.TheVariants.{Asking, On, Moving}
-use Rattle.world_table.specs.declared.seat.Tenure.{Tenure}
+use Rattle.world_model.specs.declared.seat.Seat.{Seat}
+use Rattle.world_model.specs.declared.seat.Seat.TheVariants.{Asking, On, Moving}
+use Rattle.world_model.specs.declared.seat.Tenure.{Tenure}
 
 abbrev pub reached_from : Actors → Seat → Option Tenure
 reached_from w (On tenure command) = if is_reached w tenure then Some tenure else None

@@ -1,11 +1,11 @@
 -- Whether a station can take a line of its outbox.
 use Rattle.std.specs.Prelude.{ℕ, ◌==◌, not, Bool, false, Option, Some, None}
-use Rattle.controller_table.specs.Controller.{place_at}
-use Rattle.world_stations.specs.Activations.{activated_by}
-use Rattle.world_table.specs.declared.limits.TheConstants.{MAX_TENURE}
-use Rattle.world_table.specs.declared.line.OutboxEntry.{OutboxEntry}
-use Rattle.world_table.specs.Stations.{rsl_in}
-use Rattle.world_table.specs.World.{Actors, spot_at}
+use Rattle.controller_model.specs.Controller.{place_at}
+use Rattle.world_ends.specs.Activations.{activated_by}
+use Rattle.world_model.specs.declared.limits.TheConstants.{MAX_TENURE}
+use Rattle.world_model.specs.declared.line.OutboxEntry.{OutboxEntry}
+use Rattle.world_model.specs.Stations.{rsl_in}
+use Rattle.world_model.specs.World.{Actors, spot_at}
 
 -- the channel that is to be activated has had its last tenure
 abbrev pub is_spent : Actors → ℕ → Option ℕ → Bool

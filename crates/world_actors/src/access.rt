@@ -1,7 +1,7 @@
 ghost use Rattle.std.specs.Prelude.{◌≡◌, ◌&&◌, IfOk, IsSome, OnErr, OnOk};
 ghost use Rattle.mobile_end.specs.Mobile.{refusal_of_connect};
-ghost use Rattle.world_table.specs.Mobiles.{after_connecting, channel_required, told};
-ghost use Rattle.world_table.specs.Takes.{Takes};
+ghost use Rattle.world_model.specs.Mobiles.{after_connecting, channel_required, told};
+ghost use Rattle.world_model.specs.Takes.{Takes};
 ghost use Rattle.world_actors.specs.Seats.{is_new_by};
 
 use crate::Network;

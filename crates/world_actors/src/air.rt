@@ -1,12 +1,12 @@
 ghost use Rattle.std.specs.Prelude.{◌≡◌, IfOk, IsSome, OnErr};
-ghost use Rattle.world_table.specs.Mobiles.{after_air_ack, after_air_down, after_air_down_lost, after_report};
-ghost use Rattle.world_table.specs.Takes.{Takes};
+ghost use Rattle.world_model.specs.Mobiles.{after_air_ack, after_air_down, after_air_down_lost, after_report};
+ghost use Rattle.world_model.specs.Takes.{Takes};
 ghost use Rattle.world_actors.specs.Seats.{reached_by, reached_from};
 
 use crate::Network;
 use dtap_codec::{REPORT_LENGTH, Sapi};
 use octets::Memory;
-use world_table::{Seat, Tenure};
+use world_model::{Seat, Tenure};
 
 /// What goes between a mobile and the station of its channel.
 impl Network {

@@ -1,13 +1,13 @@
 ghost use Rattle.std.specs.Prelude.{◌≡◌, ◌≢◌, ◌&&◌, if◌then◌else◌, false, IfOk, IsSome, Ok, OnErr, OnOk, Some};
-ghost use Rattle.controller_table.specs.Controller.{place_at};
+ghost use Rattle.controller_model.specs.Controller.{place_at};
 ghost use Rattle.dtap_codec.specs.RrReading.{rr_reading};
 ghost use Rattle.rsl_codec.specs.ChannelNumber.{is_channel};
-ghost use Rattle.world_stations.specs.Activations.{activated_by};
-ghost use Rattle.world_table.specs.declared.limits.TheConstants.{MAX_TENURE as LAST};
-ghost use Rattle.world_table.specs.Lists.{first_in};
-ghost use Rattle.world_table.specs.Stations.{accepts, activated, after_base_takes, aired, asked_for_link, assigned, assigned_to, mobile_on, released, rsl_in as message_in, took};
-ghost use Rattle.world_table.specs.Takes.{Takes};
-ghost use Rattle.world_table.specs.World.{is_active_at, mobile_of, outbox_of, spot_at, tenure_at};
+ghost use Rattle.world_ends.specs.Activations.{activated_by};
+ghost use Rattle.world_model.specs.declared.limits.TheConstants.{MAX_TENURE as LAST};
+ghost use Rattle.world_model.specs.Lists.{first_in};
+ghost use Rattle.world_model.specs.Stations.{accepts, activated, after_base_takes, aired, asked_for_link, assigned, assigned_to, mobile_on, released, rsl_in as message_in, took};
+ghost use Rattle.world_model.specs.Takes.{Takes};
+ghost use Rattle.world_model.specs.World.{is_active_at, mobile_of, outbox_of, spot_at, tenure_at};
 ghost use Rattle.world_actors.specs.Seats.{is_asking, is_asking_by};
 ghost use Rattle.world_actors.specs.Taking.{can_take, is_spent};
 
@@ -16,8 +16,8 @@ use conn_messages::Place;
 use dtap_codec::{RrFault, RrMessage};
 use octets::Memory;
 use rsl_codec::{ChanNo, Rsl};
-use world_stations::{activated_in, rsl_in};
-use world_table::{AirMessage, MAX_TENURE, OutboxEntry, Seat, Tenure};
+use world_ends::{activated_in, rsl_in};
+use world_model::{AirMessage, MAX_TENURE, OutboxEntry, Seat, Tenure};
 
 /// What stations take from the controller.
 impl Network {

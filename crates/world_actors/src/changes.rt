@@ -1,6 +1,6 @@
 ghost use Rattle.std.specs.Prelude.{◌≡◌, IfOk, IsSome, OnErr};
-ghost use Rattle.world_table.specs.Mobiles.{after_arriving, after_move, after_return, after_touch, is_to_handover};
-ghost use Rattle.world_table.specs.Takes.{Takes};
+ghost use Rattle.world_model.specs.Mobiles.{after_arriving, after_move, after_return, after_touch, is_to_handover};
+ghost use Rattle.world_model.specs.Takes.{Takes};
 ghost use Rattle.world_actors.specs.Seats.{moving_from, of_seat, told_from};
 
 use crate::Network;
@@ -8,7 +8,7 @@ use crate::departure::Departure;
 use conn_messages::Change;
 use octets::Memory;
 use rsl_codec::{Detection, Rsl};
-use world_table::Seat;
+use world_model::Seat;
 
 /// How mobiles change their channels.
 impl Network {

@@ -1,4 +1,4 @@
-use world_table::{Command, Tenure};
+use world_model::{Command, Tenure};
 
 /// A mobile's way to another channel.
 #[derive(Clone, Copy)]

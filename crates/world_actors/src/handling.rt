@@ -1,17 +1,17 @@
 ghost use Rattle.std.specs.Prelude.{◌≡◌, IfOk, IsSome, OnErr, OnOk};
-ghost use Rattle.world_table.specs.Relay.{acknowledged_tenure, after_handle, target_in};
-ghost use Rattle.world_table.specs.Stations.{rsl_in as message_in};
-ghost use Rattle.world_table.specs.Takes.{Takes};
+ghost use Rattle.world_model.specs.Relay.{acknowledged_tenure, after_handle, target_in};
+ghost use Rattle.world_model.specs.Stations.{rsl_in as message_in};
+ghost use Rattle.world_model.specs.Takes.{Takes};
 ghost use Rattle.world_actors.specs.Handling.{after_item};
 
 use crate::Network;
 use conn_messages::Place;
 use ipa_framing::Frame;
 use octets::Memory;
-use relay_items::{Item, What};
 use rsl_codec::Rsl;
-use world_stations::rsl_in;
-use world_table::Tenure;
+use ruled_relay::{Item, What};
+use world_ends::rsl_in;
+use world_model::Tenure;
 
 /// The controller's turn.
 impl Network {

@@ -1,5 +1,5 @@
-//! The world with a controller: its mobiles, its base stations, the controller with its queues, and the switch. Its contracts
-//! say that it is the world of `world_table`.
+//! The world with a controller: its mobiles, its base stations and the switch, and the controller with its queues, the inbox and
+//! an outbox for each link. Its contracts say that it is the world of `world_model`.
 #![tactic(auto)]
 
 pub use network::Network;
@@ -9,9 +9,13 @@ mod air;
 mod base_takes;
 mod changes;
 mod departure;
+mod entries;
 mod handling;
+mod link;
+mod links;
 mod network;
 mod queues;
+mod relay;
 mod step;
 mod uplink;
 mod upper_layers;

@@ -1,18 +1,16 @@
 ghost use Rattle.std.specs.Prelude.{◌≡◌, IfOk, if◌then◌else◌};
 ghost use Rattle.dtap_codec.specs.Number.{count_of};
-ghost use Rattle.world_table.specs.World.{is_reached, is_station_up, is_up, modulus_in, new_actors, stations_from, tenure_at};
+ghost use Rattle.world_model.specs.World.{is_reached, is_station_up, is_up, modulus_in, new_actors, stations_from, tenure_at};
 
+use crate::relay::Relay;
 use conn_messages::{Place, SWITCH_LINK};
 use dtap_codec::Modulus;
 use octets::Memory;
 use settings::Settings;
 use std::alloc::Global;
 use std::marker::Model;
-use world_mobiles::Mobiles;
-use world_relay::Relay;
-use world_stations::Stations;
-use world_switch::Switch;
-use world_table::Tenure;
+use world_ends::{Mobiles, Stations, Switch};
+use world_model::Tenure;
 
 /// The actors of a world with a controller. An event of an actor that can't take it changes nothing, and memory is needed only for
 /// one that it can take.
@@ -26,7 +24,7 @@ pub struct Network {
 }
 
 impl Model for Network {
-    ghost use Rattle.world_table.specs.World.{Actors};
+    ghost use Rattle.world_model.specs.World.{Actors};
 
     ghost Value = { Actors };
 

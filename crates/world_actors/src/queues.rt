@@ -1,8 +1,8 @@
 ghost use Rattle.std.specs.Prelude.{◌≡◌, IfOk, IsSome, OnErr, OnOk, Some};
 ghost use Rattle.link_model.specs.Base.{first_message};
-ghost use Rattle.world_table.specs.Relay.{after_base_push, after_break, after_tick, pushed_by_station, pushed_by_switch};
-ghost use Rattle.world_table.specs.Takes.{Takes};
-ghost use Rattle.world_table.specs.World.{base_of};
+ghost use Rattle.world_model.specs.Relay.{after_base_push, after_break, after_tick, pushed_by_station, pushed_by_switch};
+ghost use Rattle.world_model.specs.Takes.{Takes};
+ghost use Rattle.world_model.specs.World.{base_of};
 
 use crate::Network;
 use conn_messages::SWITCH_LINK;

@@ -1,17 +1,17 @@
 ghost use Rattle.std.specs.Prelude.{◌≡◌, IfOk, IsSome, OnErr};
-ghost use Rattle.world_table.specs.Life.{event_after};
-ghost use Rattle.world_table.specs.Relay.{after_tick};
-ghost use Rattle.world_table.specs.Takes.{Takes};
+ghost use Rattle.world_model.specs.Life.{event_after};
+ghost use Rattle.world_model.specs.Relay.{after_tick};
+ghost use Rattle.world_model.specs.Takes.{Takes};
 
 use crate::Network;
 use octets::Memory;
-use world_table::Event;
+use world_model::Event;
 
 /// Any event.
 impl Network {
     /// An event happens, which is taken where its actor can take it. One that isn't taken changes nothing, and memory is
     /// wanted only for one that is.
-    #[tactic(auto, unfolding(world_table::specs::Life::event_after))]
+    #[tactic(auto, unfolding(world_model::specs::Life::event_after))]
     pub fn step(&mut self, event: &Event) -> Result<bool, Memory>
         ensures ok { IfOk result (λ taken. Takes self.old (event_after self.old event.now) taken self.new) }
         ensures memory { OnErr result (IsSome (event_after self.old event.now)) }

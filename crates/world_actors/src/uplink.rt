@@ -1,6 +1,6 @@
 ghost use Rattle.std.specs.Prelude.{◌≡◌, IfOk, IsSome, OnErr};
-ghost use Rattle.world_table.specs.Mobiles.{after_air_up};
-ghost use Rattle.world_table.specs.Takes.{Takes};
+ghost use Rattle.world_model.specs.Mobiles.{after_air_up};
+ghost use Rattle.world_model.specs.Takes.{Takes};
 ghost use Rattle.world_actors.specs.Seats.{opens_by};
 
 use crate::Network;

@@ -1,16 +1,16 @@
 ghost use Rattle.std.specs.Prelude.{◌≡◌, IfOk, IsSome, OnErr, true};
 ghost use Rattle.conn_messages.specs.declared.parameters.TheConstants.{SWITCH_LINK};
-ghost use Rattle.world_table.specs.Mobiles.{after_upper};
-ghost use Rattle.world_table.specs.SwitchSide.{after_switch_does, after_switch_takes};
-ghost use Rattle.world_table.specs.Takes.{Takes};
-ghost use Rattle.world_table.specs.World.{is_up};
-ghost use Rattle.world_table.specs.declared.event.SwitchAction.TheVariants as actions;
+ghost use Rattle.world_model.specs.Mobiles.{after_upper};
+ghost use Rattle.world_model.specs.SwitchSide.{after_switch_does, after_switch_takes};
+ghost use Rattle.world_model.specs.Takes.{Takes};
+ghost use Rattle.world_model.specs.World.{is_up};
+ghost use Rattle.world_model.specs.declared.event.SwitchAction.TheVariants as actions;
 
 use crate::Network;
 use conn_messages::SWITCH_LINK;
 use dtap_codec::Sapi;
 use octets::{MESSAGE_LIMIT, Memory};
-use world_table::SwitchAction;
+use world_model::SwitchAction;
 
 /// What mobiles' upper layers send, and what the switch takes and sends.
 impl Network {

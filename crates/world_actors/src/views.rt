@@ -1,10 +1,10 @@
 ghost use Rattle.std.specs.Prelude.{◌≡◌, option_map};
-ghost use Rattle.world_table.specs.Views.{accepted, received, sent, taken, unnumbered};
-ghost use Rattle.world_table.specs.World.{mobile_of};
+ghost use Rattle.world_model.specs.Views.{accepted, received, sent, taken, unnumbered};
+ghost use Rattle.world_model.specs.World.{mobile_of};
 
 use crate::Network;
 use octets::Octets;
-use world_mobiles::MobileStation;
+use world_ends::MobileStation;
 
 /// What is seen of the world, by the number of a mobile or of a connection of the switch; none where there is none.
 impl Network {

@@ -1,62 +1,41 @@
 -- What the acknowledgements of a channel tell of what is on its way up from it.
-use Rattle.std.proofs.Common.{◌≡◌, ◌≢◌, ℕ, ◌==◌, nat_eq, Bool, true, false, if◌then◌else◌, List, [], ◌∷◌, ◌++◌, map, Option, Some, None, option_to_list, Result, refl, sym, ap, ◌∙◌, subst, append_assoc, inl, inr, arith, ◌≤◌}
-use Rattle.std.specs.List.{flat_map, AllByRecursion}
-use Rattle.std.specs.Result.{result_ok}
-use Rattle.std.proofs.lemmas.Bool.{cases_Bool, cond-true, cond-false, eqb-true, eq-eqb, ne_eqb}
-use Rattle.std.proofs.lemmas.Grind.{flat_map-append}
-use Rattle.std.proofs.lemmas.List.{append-nil}
-use Rattle.std.proofs.lemmas.List.Elements.{filter-append}
-use Rattle.bssmap_codec.specs.declared.sccp.Sccp.{Sccp}
-use Rattle.conn_messages.specs.declared.channel.Place.{Place}
-use Rattle.conn_messages.specs.declared.parameters.TheConstants.{SWITCH_LINK}
-use Rattle.controller_table.specs.Reading.{sapi_of}
-use Rattle.dtap_codec.specs.declared.sapi.Sapi.{Sapi}
-use Rattle.dtap_codec.specs.declared.sapi.Sapi.TheVariants.{Zero, Three}
-use Rattle.lineup.specs.LineUp.{Item as Brought}
-use Rattle.lineup.specs.LineUp.Item.{released}
-use Rattle.link_model.specs.Base.{first_message, first_of_messages, is_active}
-use Rattle.link_model.specs.Tenures.{Tenures, is_bound_of, is_brought_on}
-use Rattle.link_model.specs.Tenures.Tenures.{over, begins, brings as tenure_brings, ends, apart}
-use Rattle.relay_items.specs.declared.Item.{Item}
-use Rattle.relay_items.specs.declared.What.{What}
-use Rattle.relay_items.specs.declared.What.TheVariants as whats
-use Rattle.rsl_codec.specs.declared.rsl.Rsl.{Rsl}
+use Rattle.world_laws.proofs.Prelude.{◌≡◌, ◌≢◌, ℕ, ◌==◌, nat_eq, Bool, true, false, if◌then◌else◌, List, [], ◌∷◌, ◌++◌, map, Option, Some}
+use Rattle.world_laws.proofs.Prelude.{None, option_to_list, refl, sym, ap, ◌∙◌, subst, append_assoc, inl, inr, arith, ◌≤◌, flat_map}
+use Rattle.world_laws.proofs.Prelude.{AllByRecursion, result_ok, cases_Bool, cond-true, cond-false, eqb-true, eq-eqb, ne_eqb}
+use Rattle.world_laws.proofs.Prelude.{flat_map-append, append-nil, filter-append, Sccp, Place, SWITCH_LINK, sapi_of, Sapi, Zero, Three}
+use Rattle.world_laws.proofs.Prelude.{first_message, first_of_messages, is_active, Tenures, is_bound_of, tenure_brings, apart, Item, What}
+use Rattle.world_laws.proofs.Prelude.{Rsl, Parameters, Event, BasePush, BaseDown, actors_after, acknowledgements, due}
+use Rattle.world_laws.proofs.Prelude.{first_of, pushed, all_pushed, all_popped, station_item, switch_item, rsl_in, Actors, base_of, is_up}
+use Rattle.world_laws.proofs.Prelude.{new_actors, outbox_of, Good, end-of, good-new, good-step, IsSound, sound-read, false≢true}
+use Rattle.std.proofs.Common.{Result}
+use Rattle.world_laws.specs.LineUp.Places.{Item as Brought}
+use Rattle.world_laws.specs.LineUp.Places.Item.{released}
+use Rattle.link_model.specs.Tenures.{is_brought_on}
+use Rattle.link_model.specs.Tenures.Tenures.{over, begins, ends}
+use Rattle.ruled_relay.specs.declared.item.What.TheVariants as whats
 use Rattle.rsl_codec.specs.declared.rsl.Rsl.TheVariants as rsl
-use Rattle.settings.specs.Parameters.{Parameters}
-use Rattle.world_table.specs.declared.event.Event.{Event}
-use Rattle.world_table.specs.declared.event.Event.TheVariants.{BasePush, BaseDown}
-use Rattle.world_table.specs.Honest.{given, all_given}
-use Rattle.world_table.specs.Life.{actors_after, actors_after_all}
-use Rattle.world_table.specs.Pipe.{acknowledgements, due}
-use Rattle.world_table.specs.Queues.{first_of, pushed, all_pushed, all_popped}
-use Rattle.world_table.specs.Relay.{station_item, switch_item}
-use Rattle.world_table.specs.Stations.{rsl_in}
-use Rattle.world_table.specs.World.{Actors, base_of, is_up, new_actors, outbox_of}
-use Rattle.world_table.proofs.Heard.{Good, end-of, good-new, good-step}
-use Rattle.world_table.proofs.Honesty.{AreHonest-new}
-use Rattle.world_table.proofs.Outboxes.{KeepsQueues-new}
-use Rattle.world_table.proofs.Piping.{ArePipes-new}
-use Rattle.world_table.proofs.Soundness.{IsSound, sound-read}
+use Rattle.world_model.specs.Honest.{given, all_given}
+use Rattle.world_model.proofs.Honesty.{AreHonest-new}
+use Rattle.world_model.proofs.Outboxes.{KeepsQueues-new}
+use Rattle.world_model.proofs.Piping.{ArePipes-new}
 use Rattle.world_laws.specs.Acknowledged.{read_by, read_of, messages_up, is_release_ack, NoneReleases, ReleasesLast, AllAcksTell, AcksFlow}
 use Rattle.world_laws.specs.ComingUp.{of_main, of_establishment, brings, brings_if, brings_by, brings_in, coming_up}
 use Rattle.world_laws.specs.LineUps.{is_ended}
 use Rattle.world_laws.specs.Staying.{EndsLast}
-
-never : false ≡ true → ⊥
-never h = absurd cc
+use Rattle.world_laws.proofs.Events.{world}
 
 -- ---- what comes of a channel is what a station's messages bring
 
-if-read : (channel : ℕ) (b : Bool) (o : Option Rsl) → (if b then brings_if channel o else []) ≡ flat_map (brings channel) (if b then option_to_list o else [])
+pub if-read : (channel : ℕ) (b : Bool) (o : Option Rsl) → (if b then brings_if channel o else []) ≡ flat_map (brings channel) (if b then option_to_list o else [])
 if-read channel true None = refl
 if-read channel true (Some m) = sym (append-nil (brings channel m))
 if-read channel false o = refl
 
-by-read : (at : Place) (source : ℕ) (what : What) → brings_by at source what ≡ flat_map (brings at.number) (read_by at.station source what)
+pub by-read : (at : Place) (source : ℕ) (what : What) → brings_by at source what ≡ flat_map (brings at.number) (read_by at.station source what)
 by-read at source (whats.Frame frame) = if-read at.number (source == at.station) (rsl_in frame)
 by-read at source whats.Down = refl
 
-inbox-read : (at : Place) (items : List Item) → flat_map (brings_in at) items ≡ flat_map (brings at.number) (flat_map (read_of at.station) items)
+pub inbox-read : (at : Place) (items : List Item) → flat_map (brings_in at) items ≡ flat_map (brings at.number) (flat_map (read_of at.station) items)
 inbox-read at [] = refl
 inbox-read at (item ∷ items) =
     ap (λ (xs : List Brought). xs ++ flat_map (brings_in at) items) (by-read at item.source item.what)
@@ -79,7 +58,7 @@ bound k m ms is = cond-true _ (m ∷ acknowledgements k ms) (acknowledgements k 
 pub brought-unbound : (k : ℕ) (m : Rsl) → is_brought_on k m ≡ true → is_bound_of k m ≡ false
 brought-unbound k (rsl.EstablishIndication e) is = refl
 brought-unbound k (rsl.DataIndication d) is = refl
-brought-unbound k _ is = absurd (never is)
+brought-unbound k _ is = absurd (false≢true is)
 
 -- messages alone, before others
 Leads : List Brought → Type 0
@@ -107,13 +86,13 @@ leads-if false first leads = leads-none
 leads-of : (k : ℕ) (m : Rsl) → is_release_ack m ≡ false → Leads (brings k m)
 leads-of k (rsl.EstablishIndication e) is = leads-if (e.channel == k) (of_establishment (sapi_of e.link) e.l3) (leads-establishment (sapi_of e.link) e.l3)
 leads-of k (rsl.DataIndication d) is = leads-if (d.channel == k) (of_main (sapi_of d.link) d.l3) (leads-main (sapi_of d.link) d.l3)
-leads-of k (rsl.RfChannelReleaseAck channel) is = absurd (never (sym is))
+leads-of k (rsl.RfChannelReleaseAck channel) is = absurd (false≢true (sym is))
 leads-of k _ is = leads-none
 
 brought-leads : (k : ℕ) (m : Rsl) → is_brought_on k m ≡ true → Leads (brings k m)
 brought-leads k (rsl.EstablishIndication e) is = leads-of k (rsl.EstablishIndication e) refl
 brought-leads k (rsl.DataIndication d) is = leads-of k (rsl.DataIndication d) refl
-brought-leads k _ is = absurd (never is)
+brought-leads k _ is = absurd (false≢true is)
 
 pub apart-brings : (k : ℕ) (m : Rsl) → is_brought_on k m ≡ false → is_bound_of k m ≡ false → brings k m ≡ []
 apart-brings k (rsl.EstablishIndication e) is not_bound = cond-false _ (of_establishment (sapi_of e.link) e.l3) [] is
@@ -155,7 +134,7 @@ goes-on k [] none = refl
 goes-on k (m ∷ ms) none = by m none (goes-on k ms (tail-none (is_bound_of k m) m (acknowledgements k ms) none)) where
   releases : (b : Bool) (channel : ℕ) → NoneReleases (if b then rsl.RfChannelReleaseAck channel ∷ acknowledgements k ms else acknowledgements k ms) → is_ended (flat_map (brings k) ms) ≡ false
       → is_ended ((if b then released ∷ [] else []) ++ flat_map (brings k) ms) ≡ false
-  releases true channel all rest = absurd (never (sym all.0))
+  releases true channel all rest = absurd (false≢true (sym all.0))
   releases false channel all rest = rest
 
   by : (x : Rsl) → NoneReleases (acknowledgements k (x ∷ ms)) → is_ended (flat_map (brings k) ms) ≡ false → is_ended (brings k x ++ flat_map (brings k) ms) ≡ false
@@ -174,7 +153,7 @@ station-read station source [] sound = same-if (source == station)
 station-read station source (first ∷ others) sound =
     append-nil (read_of station (station_item source first)) ∙ ap (λ (r : Result Rsl _). if source == station then option_to_list (result_ok r) else []) (sound-read first sound.0)
 
-of-other : (station source : ℕ) (what : What) → source == station ≡ false → read_by station source what ≡ []
+pub of-other : (station source : ℕ) (what : What) → source == station ≡ false → read_by station source what ≡ []
 of-other station source (whats.Frame frame) other = cond-false _ (option_to_list (rsl_in frame)) [] other
 of-other station source whats.Down other = refl
 
@@ -215,11 +194,11 @@ all-read station w (event ∷ events) other good =
 
 -- what was given is what the controller took, and what stands in the inbox
 pub given-read : (settings : Parameters) (events : List Event) (station : ℕ) → station ≢ SWITCH_LINK →
-    all_given station (new_actors settings) events ≡ flat_map (read_of station) (all_popped (new_actors settings) events) ++ flat_map (read_of station) (actors_after_all (new_actors settings) events).inbox
+    all_given station (new_actors settings) events ≡ flat_map (read_of station) (all_popped (new_actors settings) events) ++ flat_map (read_of station) (world settings events).inbox
 given-read settings events station other =
     sym (all-read station (new_actors settings) events other (good-new settings))
     ∙ ap (flat_map (read_of station)) (KeepsQueues-new settings events).inbox
-    ∙ flat_map-append (read_of station) (all_popped (new_actors settings) events) (actors_after_all (new_actors settings) events).inbox
+    ∙ flat_map-append (read_of station) (all_popped (new_actors settings) events) (world settings events).inbox
 
 -- ---- the laws
 
@@ -232,7 +211,7 @@ behind k (x ∷ xs) ys (apart not_brought not_bound t) = behind k xs ys t
 
 pub AllAcksTell-new : (settings : Parameters) (events : List Event) → AllAcksTell settings events
 AllAcksTell-new settings events at other =
-    let w : Actors = actors_after_all (new_actors settings) events in
+    let w : Actors = world settings events in
     let taken : List Rsl = flat_map (read_of at.station) (all_popped (new_actors settings) events) in
     let honest = AreHonest-new settings events at.station other at.number in
     let up = behind at.number taken (messages_up w at.station)
@@ -245,7 +224,7 @@ AllAcksTell-new settings events at other =
 
 pub AcksFlow-new : (settings : Parameters) (events : List Event) → AcksFlow settings events
 AcksFlow-new settings events at least most up =
-    let w : Actors = actors_after_all (new_actors settings) events in
+    let w : Actors = world settings events in
     let taken : List Rsl = flat_map (read_of at.station) (all_popped (new_actors settings) events) in
     let came : List Rsl = flat_map (read_of at.station) w.inbox in
     let made : List Rsl = (base_of w at.station).messages in

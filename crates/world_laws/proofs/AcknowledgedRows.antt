@@ -1,17 +1,11 @@
 -- Definitions of acknowledgements on their way up, at literal values.
-use Rattle.std.proofs.Common.{◌≡◌, ℕ, Bool, true, false, List, [], ◌∷◌, ◌++◌, map, refl}
-use Rattle.controller_table.specs.Controller.{place_at}
-use Rattle.controller_table.proofs.Lives.{usual_settings}
-use Rattle.dtap_codec.specs.declared.sapi.Sapi.TheVariants.{Zero}
-use Rattle.link_model.specs.Message.{activation_ack, data_indication}
-use Rattle.relay_items.specs.declared.Item.{Item}
-use Rattle.relay_items.specs.declared.What.TheVariants as whats
-use Rattle.rsl_codec.specs.declared.rsl.Rsl.{Rsl}
-use Rattle.rsl_codec.specs.declared.rsl.Rsl.TheVariants.{RfChannelRelease, RfChannelReleaseAck}
-use Rattle.world_table.specs.Relay.{station_item}
-use Rattle.world_table.specs.World.{Actors, base_of, new_actors, with_base}
-use Rattle.world_table.proofs.Worlds.{on_literals}
-use Rattle.world_laws.specs.Acknowledged.{read_of, messages_up, acknowledgements_up, acknowledgements_taken, is_release_ack, NoneReleases, ReleasesLast}
+use Rattle.world_laws.proofs.Prelude.{◌≡◌, ℕ, true, false, List, [], ◌∷◌, map, refl, place_at, usual_settings, Zero}
+use Rattle.world_laws.proofs.Prelude.{activation_ack, data_indication, Rsl, RfChannelRelease, RfChannelReleaseAck, station_item}
+use Rattle.world_laws.proofs.Prelude.{Actors, base_of, new_actors, with_base, true≢false, false≢true}
+use Rattle.ruled_relay.specs.declared.item.What.TheVariants as whats
+use Rattle.world_model.proofs.Worlds.{on_literals}
+use Rattle.world_laws.specs.Acknowledged.{read_of, messages_up, acknowledgements_up, acknowledgements_taken, is_release_ack, NoneReleases}
+use Rattle.world_laws.specs.Acknowledged.{ReleasesLast}
 
 abbrev text_on : ℕ → Rsl
 text_on channel = data_indication channel Zero (0x03 ∷ 0x05 ∷ [])
@@ -52,14 +46,10 @@ releases_are : map is_release_ack (RfChannelReleaseAck 0x41 ∷ RfChannelRelease
 releases_are = refl
 
 none_is_there : NoneReleases (activation_ack 0x41 ∷ []) × (NoneReleases (activation_ack 0x41 ∷ RfChannelReleaseAck 0x41 ∷ []) → ⊥)
-none_is_there = ((refl, tt), λ none. absurd (never none.1.0)) where
-  never : true ≡ false → ⊥
-  never h = absurd cc
+none_is_there = ((refl, tt), λ none. absurd (true≢false none.1.0))
 
 last_is : ReleasesLast (activation_ack 0x41 ∷ RfChannelReleaseAck 0x41 ∷ [])
-last_is = ((λ is. absurd (never is)), ((λ is. refl), tt)) where
-  never : false ≡ true → ⊥
-  never h = absurd cc
+last_is = ((λ is. absurd (false≢true is)), ((λ is. refl), tt))
 
 last_isnt : ReleasesLast (RfChannelReleaseAck 0x41 ∷ activation_ack 0x41 ∷ []) → ⊥
 last_isnt last = absurd (never (last.0 refl)) where

@@ -1,24 +1,17 @@
 -- The acknowledgements that came and are on their way are the first of those due.
-use Rattle.std.proofs.Common.{◌≡◌, ◌≤◌, false, List, ◌++◌, ap, ◌∙◌, subst, append_assoc, arith}
-use Rattle.std.specs.List.{flat_map}
-use Rattle.std.proofs.lemmas.List.Elements.{filter-append}
-use Rattle.link_model.specs.Tenures.{is_bound_of}
+use Rattle.world_laws.proofs.Prelude.{◌≡◌, ◌≤◌, false, List, ◌++◌, ap, ◌∙◌, subst, append_assoc, arith, flat_map, filter-append}
+use Rattle.world_laws.proofs.Prelude.{is_bound_of, Rsl, Parameters, Event, acknowledgements, due, all_popped, Actors, base_of, new_actors}
 use Rattle.octets.specs.Lists.{IsPrefix}
-use Rattle.rsl_codec.specs.declared.rsl.Rsl.{Rsl}
-use Rattle.settings.specs.Parameters.{Parameters}
-use Rattle.world_table.specs.declared.event.Event.{Event}
-use Rattle.world_table.specs.Life.{actors_after_all}
-use Rattle.world_table.specs.Pipe.{acknowledgements, due}
-use Rattle.world_table.specs.Queues.{all_popped, all_put}
-use Rattle.world_table.specs.World.{Actors, base_of, new_actors}
-use Rattle.world_table.proofs.Piping.{acks-start}
+use Rattle.world_model.specs.Queues.{all_put}
+use Rattle.world_model.proofs.Piping.{acks-start}
 use Rattle.world_laws.specs.Acknowledged.{messages_up, read_of}
 use Rattle.world_laws.specs.AcksBegin.{AcksBegin}
 use Rattle.world_laws.proofs.Acknowledged.{given-read}
+use Rattle.world_laws.proofs.Events.{world}
 
 pub AcksBegin-new : (settings : Parameters) (events : List Event) → AcksBegin settings events
 AcksBegin-new settings events at least most =
-    let w : Actors = actors_after_all (new_actors settings) events in
+    let w : Actors = world settings events in
     let taken : List Rsl = flat_map (read_of at.station) (all_popped (new_actors settings) events) in
     let came : List Rsl = flat_map (read_of at.station) w.inbox in
     subst (λ (ms : List Rsl). IsPrefix ms (due at.number false (all_put at.station (new_actors settings) events)))

@@ -1,44 +1,28 @@
 -- The station of a channel takes a frame from the air: it joins the end of the line.
-use Rattle.std.proofs.Common.{◌≡◌, ◌≢◌, ℕ, ◌+◌, ◌==◌, ◌&&◌, not, Bool, true, false, if◌then◌else◌, cond, List, [], ◌∷◌, ◌++◌, length, Option, Some, None, refl, sym, ap, ◌∙◌, subst, inl}
-use Rattle.std.specs.List.{AllByRecursion}
-use Rattle.std.proofs.lemmas.List.{append-nil}
-use Rattle.conn_messages.specs.declared.channel.Channel.{Channel}
-use Rattle.conn_messages.specs.declared.channel.Place.{Place}
-use Rattle.conn_messages.specs.declared.parameters.TheConstants.{SWITCH_LINK}
-use Rattle.conn_table.specs.declared.state.Target.{Target}
-use Rattle.conn_table.specs.Connection.{Connection, is_at}
-use Rattle.conn_table.specs.Streams.{undone, target_in}
-use Rattle.controller_table.specs.Controller.{place_of}
-use Rattle.dtap_codec.specs.declared.sapi.Sapi.TheVariants.{Zero}
-use Rattle.lineup.specs.Alive.{Alive}
-use Rattle.lineup.specs.LineUp.{Item, Tenure, Seat, LineUp, with_items, flow}
-use Rattle.lineup.specs.LineUp.Item.{brought}
-use Rattle.lineup.specs.LineUp.Seat.{on_serving, on_target}
-use Rattle.lineup.specs.MobileStep.MobileStep.{taken_on_serving, taken_on_target}
-use Rattle.lineup.proofs.Moving.{Alive-mobile}
-use Rattle.link_model.specs.BaseState.{BaseState}
-use Rattle.link_model.specs.Base.{after_up, after_establish}
-use Rattle.link_model.specs.Message.{establish_indication, data_indication}
-use Rattle.mobile_end.specs.declared.mobile_end.Place.{Place as Whereabouts}
+use Rattle.world_laws.proofs.Prelude.{◌≡◌, ◌≢◌, ℕ, ◌+◌, ◌==◌, ◌&&◌, not, Bool, true, false, if◌then◌else◌, cond, List, [], ◌∷◌, ◌++◌}
+use Rattle.world_laws.proofs.Prelude.{length, Option, Some, None, refl, sym, ap, ◌∙◌, subst, inl, AllByRecursion, append-nil, Channel}
+use Rattle.world_laws.proofs.Prelude.{Place, SWITCH_LINK, Target, Connection, is_at, undone, place_of, Zero, BaseState, after_establish}
+use Rattle.world_laws.proofs.Prelude.{establish_indication, data_indication, Whereabouts, Stage, New, Connected, lent_message}
+use Rattle.world_laws.proofs.Prelude.{after_lending, frame_answer, after_frame, after_frame_at, MobileState, Rsl, AirMessage, Command, On}
+use Rattle.world_laws.proofs.Prelude.{ChannelTenure, frame_in, signalling_brought, framed, Actors, Mobile, is_station_up, base_of}
+use Rattle.world_laws.proofs.Prelude.{with_base, is_reached, reached-up, none-some, AreAway}
+use Rattle.conn_rules.specs.Streams.{target_in}
+use Rattle.world_laws.specs.LineUp.Alive.{Alive}
+use Rattle.world_laws.specs.LineUp.Places.{Item, Tenure, Seat, LineUp, with_items, flow}
+use Rattle.world_laws.specs.LineUp.Places.Item.{brought}
+use Rattle.world_laws.specs.LineUp.Places.Seat.{on_serving, on_target}
+use Rattle.world_laws.specs.LineUp.MobileStep.MobileStep.{taken_on_serving, taken_on_target}
+use Rattle.world_laws.proofs.LineUp.Moving.{Alive-mobile}
+use Rattle.link_model.specs.Base.{after_up}
 use Rattle.mobile_end.specs.declared.mobile_end.Place.TheVariants as places
-use Rattle.mobile_end.specs.declared.mobile_end.Stage.{Stage}
-use Rattle.mobile_end.specs.declared.mobile_end.Stage.TheVariants.{New, Connected}
-use Rattle.mobile_end.specs.DataLink.{lent_message, after_lending}
-use Rattle.mobile_end.specs.Mobile.{frame_answer, frame_answer_at, after_frame, after_frame_at}
-use Rattle.mobile_end.specs.MobileState.{MobileState}
-use Rattle.rsl_codec.specs.declared.rsl.Rsl.{Rsl}
-use Rattle.world_table.specs.declared.line.AirMessage.{AirMessage}
-use Rattle.world_table.specs.declared.seat.Command.{Command}
-use Rattle.world_table.specs.declared.seat.Seat.TheVariants.{On}
-use Rattle.world_table.specs.declared.seat.Tenure.{Tenure as ChannelTenure}
-use Rattle.world_table.specs.Mobiles.{frame_in, signalling_brought, framed, brought as brought_in_world}
-use Rattle.world_table.specs.World.{Actors, Mobile, is_station_up, base_of, with_base, is_reached}
-use Rattle.world_table.proofs.Honesty.{reached-up}
+use Rattle.mobile_end.specs.Mobile.{frame_answer_at}
+use Rattle.world_model.specs.Mobiles.{brought as brought_in_world}
 use Rattle.world_laws.specs.ComingUp.{made_of, coming_up}
 use Rattle.world_laws.specs.GoingDown.{going_down}
-use Rattle.world_laws.specs.LineUps.{seat_from, remembered, old_tenures, serving_hold, serving_tenure, commanded_target, target_tenure, waiting_of, taken_of, assembled, line_up}
+use Rattle.world_laws.specs.LineUps.{seat_from, remembered, old_tenures, serving_hold, serving_tenure, commanded_target, target_tenure}
+use Rattle.world_laws.specs.LineUps.{waiting_of, taken_of, assembled, line_up}
 use Rattle.world_laws.specs.Seated.{Sits, Leads, NoneOn, LinedUp}
-use Rattle.world_laws.proofs.Apart.{all-both, is_at-station, AreOther, target-in, OnServing, OnTarget, on-serving, on-target, SitsOn, sits-on}
+use Rattle.world_laws.proofs.Apart.{all-both, is_at-station, target-in, OnServing, OnTarget, on-serving, on-target, SitsOn, sits-on}
 use Rattle.world_laws.proofs.Apart.SitsOn.{serves, arrived}
 use Rattle.world_laws.proofs.Framing.{AreSame, all-left, all-right, old-same, serving-same, target-same, assembled-same}
 use Rattle.world_laws.proofs.Projecting.{active-there, coming-told}
@@ -55,12 +39,8 @@ pub record Lent (e : MobileState) (frame : List ℕ) : Type 0 where
 pub frame-lent : (e : MobileState) (frame : List ℕ) → frame_in (frame_answer e Zero) ≡ Some frame → Lent e frame
 frame-lent e frame is = by_state e.stage e.place refl refl where
   by_state : (stage : Stage) (place : Whereabouts) → e.stage ≡ stage → e.place ≡ place → Lent e frame
-  by_state New place a b = absurd (none (sym (ap (λ (stage : Stage). frame_in (frame_answer_at stage e.place (lent_message e.zero))) a) ∙ is)) where
-    none : None ≡ Some frame → ⊥
-    none h = absurd cc
-  by_state Connected places.Moving a b = absurd (none (sym (ap (λ (stage : Stage). frame_in (frame_answer_at stage e.place (lent_message e.zero))) a ∙ ap (λ (place : Whereabouts). frame_in (frame_answer_at Connected place (lent_message e.zero))) b) ∙ is)) where
-    none : None ≡ Some frame → ⊥
-    none h = absurd cc
+  by_state New place a b = absurd (none-some _ (sym (ap (λ (stage : Stage). frame_in (frame_answer_at stage e.place (lent_message e.zero))) a) ∙ is))
+  by_state Connected places.Moving a b = absurd (none-some _ (sym (ap (λ (stage : Stage). frame_in (frame_answer_at stage e.place (lent_message e.zero))) a ∙ ap (λ (place : Whereabouts). frame_in (frame_answer_at Connected place (lent_message e.zero))) b) ∙ is))
   by_state Connected places.OnChannel a b = record {
     lent = sym (ap (λ (stage : Stage). frame_in (frame_answer_at stage e.place (lent_message e.zero))) a ∙ ap (λ (place : Whereabouts). frame_in (frame_answer_at Connected place (lent_message e.zero))) b) ∙ is;
     after = ap (λ (stage : Stage). after_frame_at stage e.place e Zero) a ∙ ap (λ (place : Whereabouts). after_frame_at Connected place e Zero) b;
@@ -102,7 +82,7 @@ coming-there : (w : Actors) (p : Mobile) (tenure : ChannelTenure) (frame : List 
 unfolding comes
 coming-there w p tenure frame c reached c_is there = air_up-coming w p tenure frame c reached c_is ∙ ap (λ (b : Bool). coming_up w (place_of c) ++ cond b (brought frame ∷ []) []) there
 
-pub all-other : (w : Actors) (p : Mobile) (tenure : ChannelTenure) (frame : List ℕ) (cs : List Channel) → is_reached w tenure ≡ true → AllByRecursion (λ c. c.station ≢ SWITCH_LINK) cs → AreOther tenure.at cs → AreSame (coming_up (brought_in_world w p tenure.at Zero frame)) (coming_up w) cs
+pub all-other : (w : Actors) (p : Mobile) (tenure : ChannelTenure) (frame : List ℕ) (cs : List Channel) → is_reached w tenure ≡ true → AllByRecursion (λ c. c.station ≢ SWITCH_LINK) cs → AreAway tenure.at cs → AreSame (coming_up (brought_in_world w p tenure.at Zero frame)) (coming_up w) cs
 all-other w p tenure frame cs reached placed others =
     all-both (λ c. c.station ≢ SWITCH_LINK) (λ c. is_at tenure.at c ≡ false) (λ c. coming_up (brought_in_world w p tenure.at Zero frame) (place_of c) ≡ coming_up w (place_of c)) cs (λ c c_is other. coming-other w p tenure frame c reached c_is other) placed others
 

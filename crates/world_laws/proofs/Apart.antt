@@ -1,20 +1,10 @@
 -- Where a place is among the channels of a connection.
-use Rattle.std.proofs.Common.{◌≡◌, ℕ, ◌&&◌, nat_eq, Bool, true, false, List, [], ◌∷◌, ◌++◌, Option, Some, None, unwrap_or, refl, sym, ap, ◌∙◌, subst, inl, inr}
-use Rattle.std.specs.List.{AllByRecursion}
-use Rattle.std.proofs.lemmas.Bool.{cases_Bool, eqb-true, eqb-false, ne_eqb, eq-eqb}
-use Rattle.conn_messages.specs.declared.channel.Channel.{Channel}
-use Rattle.conn_messages.specs.declared.channel.Place.{Place}
-use Rattle.conn_table.specs.declared.state.Stage.TheVariants.{Preparing, Changing}
-use Rattle.conn_table.specs.declared.state.State.{State}
-use Rattle.conn_table.specs.declared.state.State.TheVariants.{Live}
-use Rattle.conn_table.specs.declared.state.Target.{Target}
-use Rattle.conn_table.specs.Connection.{Connection, is_at}
-use Rattle.conn_table.specs.Streams.{IsApart, AreApart, undone, target_in, used_channels}
-use Rattle.controller_table.specs.Controller.{place_of}
-use Rattle.world_table.specs.declared.seat.Command.{Command}
-use Rattle.world_table.specs.declared.seat.Seat.TheVariants.{On, Moving}
-use Rattle.world_table.specs.declared.seat.Tenure.{Tenure}
-use Rattle.world_table.specs.World.{Actors, tenure_at}
+use Rattle.world_laws.proofs.Prelude.{◌≡◌, ℕ, ◌&&◌, nat_eq, Bool, true, false, List, [], ◌∷◌, ◌++◌, Option, Some, None, unwrap_or, refl}
+use Rattle.world_laws.proofs.Prelude.{sym, ap, ◌∙◌, subst, inl, inr, AllByRecursion, cases_Bool, eqb-true, eqb-false, ne_eqb, eq-eqb}
+use Rattle.world_laws.proofs.Prelude.{Channel, Place, Preparing, Changing, State, Live, Target, Connection, is_at, IsApart, AreApart}
+use Rattle.world_laws.proofs.Prelude.{undone, used_channels, place_of, Command, On, Moving, Tenure, Actors, tenure_at, false≢true}
+use Rattle.world_laws.proofs.Prelude.{AreAway}
+use Rattle.conn_rules.specs.Streams.{target_in}
 use Rattle.world_laws.specs.LineUps.{commanded_target}
 use Rattle.world_laws.specs.Seated.{command_to, Remembers, Sits}
 use Rattle.world_laws.specs.Seated.Sits.{stays, came, between}
@@ -42,19 +32,13 @@ pub is_at-station : (at : Place) (c : Channel) → is_at at c ≡ true → at.st
 is_at-station at c is = by_station (nat_eq at.station c.station) refl where
   by_station : (b : Bool) → nat_eq at.station c.station ≡ b → at.station ≡ c.station
   by_station true same = eqb-true at.station c.station same
-  by_station false other = absurd (impossible (sym (ap (λ (b : Bool). b && nat_eq at.number c.number) other) ∙ is)) where
-    impossible : false ≡ true → ⊥
-    impossible h = absurd cc
+  by_station false other = absurd (false≢true (sym (ap (λ (b : Bool). b && nat_eq at.number c.number) other) ∙ is))
 
 pub apart-sym : (c d : Channel) → IsApart c d → is_at (place_of d) c ≡ false
 apart-sym c d apart = ap (λ (b : Bool). b && nat_eq d.number c.number) (eqb-sym d.station c.station) ∙ ap (λ (b : Bool). nat_eq c.station d.station && b) (eqb-sym d.number c.number) ∙ apart
 
--- the channel is none of these
-abbrev pub AreOther : Place → List Channel → Type 0
-AreOther at channels = AllByRecursion (λ c. is_at at c ≡ false) channels
-
 -- a channel in the middle
-middle-apart : (before : List Channel) (c : Channel) (behind : List Channel) → AreApart (before ++ c ∷ behind) → AreOther (place_of c) before × AreOther (place_of c) behind
+middle-apart : (before : List Channel) (c : Channel) (behind : List Channel) → AreApart (before ++ c ∷ behind) → AreAway (place_of c) before × AreAway (place_of c) behind
 middle-apart [] c behind apart = (tt, apart.0)
 middle-apart (d ∷ before) c behind apart =
     let others = middle-apart before c behind apart.1 in
@@ -62,7 +46,7 @@ middle-apart (d ∷ before) c behind apart =
     ((apart-sym d c one.0, others.0), others.1)
 
 -- the last one
-last-apart : (before : List Channel) (c last : Channel) → AreApart (before ++ c ∷ last ∷ []) → AreOther (place_of last) before × (is_at (place_of last) c ≡ false)
+last-apart : (before : List Channel) (c last : Channel) → AreApart (before ++ c ∷ last ∷ []) → AreAway (place_of last) before × (is_at (place_of last) c ≡ false)
 last-apart [] c last apart = (tt, apart-sym c last apart.0.0)
 last-apart (d ∷ before) c last apart =
     let others = last-apart before c last apart.1 in
@@ -80,12 +64,12 @@ target-in _ t is = absurd cc
 -- the place is that of the serving channel
 pub record OnServing (at : Place) (s : Connection) : Type 0 where
   pub at_serving : is_at at s.serving ≡ true
-  pub old : AreOther at (undone s.draining)
-  pub target : AreOther at (target_in s.state)
+  pub old : AreAway at (undone s.draining)
+  pub target : AreAway at (target_in s.state)
 
 pub record OnTarget (at : Place) (s : Connection) (t : Target) : Type 0 where
   pub at_target : is_at at t.channel ≡ true
-  pub old : AreOther at (undone s.draining)
+  pub old : AreAway at (undone s.draining)
   pub serving : is_at at s.serving ≡ false
 
 pub on-serving : (s : Connection) (at : Place) → AreApart (used_channels s) → at ≡ place_of s.serving → OnServing at s

@@ -1,32 +1,22 @@
 -- A station takes the first entry of its outbox: the connections stay lined up.
-use Rattle.std.proofs.Common.{◌≡◌, ℕ, ◌+◌, Bool, true, false, if◌then◌else◌, List, [], ◌∷◌, ◌++◌, length, Option, Some, None, refl, sym, ap, ◌∙◌, subst, arith}
-use Rattle.std.specs.List.{AllByRecursion}
-use Rattle.conn_messages.specs.declared.channel.Channel.{Channel}
-use Rattle.conn_messages.specs.declared.channel.Place.{Place}
-use Rattle.conn_table.specs.declared.state.Drain.{Drain}
-use Rattle.conn_table.specs.declared.state.Stage.TheVariants.{Preparing, Changing}
-use Rattle.conn_table.specs.declared.state.State.{State}
-use Rattle.conn_table.specs.declared.state.State.TheVariants.{Live}
-use Rattle.conn_table.specs.declared.state.Target.{Target}
-use Rattle.conn_table.specs.Connection.{Connection}
-use Rattle.conn_table.specs.Streams.{undone, target_in, used_channels}
-use Rattle.controller_table.specs.Controller.{place_of}
-use Rattle.hold_queue.specs.ChainState.{Tenure as Held}
-use Rattle.lineup.specs.Alive.{Alive}
-use Rattle.lineup.specs.ChangeStep.{ended}
-use Rattle.lineup.specs.LineUp.{Item, Tenure, Seat, flow, with_items}
-use Rattle.lineup.specs.LineUp.Item.{released}
-use Rattle.world_table.specs.declared.line.AirMessage.{AirMessage}
-use Rattle.world_table.specs.declared.seat.Seat.{Seat as MobileSeat}
-use Rattle.world_table.specs.World.{Actors, Mobile, is_station_up, tenure_at}
+use Rattle.world_laws.proofs.Prelude.{◌≡◌, ℕ, ◌+◌, Bool, true, false, if◌then◌else◌, List, [], ◌∷◌, ◌++◌, length, Option, Some, None, refl}
+use Rattle.world_laws.proofs.Prelude.{sym, ap, ◌∙◌, subst, arith, AllByRecursion, Channel, Place, Drain, Preparing, Changing, State, Live}
+use Rattle.world_laws.proofs.Prelude.{Target, Connection, undone, used_channels, place_of, Held, AirMessage, MobileSeat, Actors, Mobile}
+use Rattle.world_laws.proofs.Prelude.{is_station_up, tenure_at, AllByRecursion-so}
+use Rattle.conn_rules.specs.Streams.{target_in}
+use Rattle.world_laws.specs.LineUp.Alive.{Alive}
+use Rattle.world_laws.specs.LineUp.ChangeStep.{ended}
+use Rattle.world_laws.specs.LineUp.Places.{Item, Tenure, Seat, flow, with_items}
+use Rattle.world_laws.specs.LineUp.Places.Item.{released}
 use Rattle.world_laws.specs.ComingUp.{coming_up}
 use Rattle.world_laws.specs.GoingDown.{going_down}
-use Rattle.world_laws.specs.LineUps.{seat_from, remembered, draining_tenure, old_tenure, old_tenures, serving_hold, serving_tenure, commanded_target, target_tenure, waiting_of, taken_of, assembled, line_up}
+use Rattle.world_laws.specs.LineUps.{seat_from, remembered, draining_tenure, old_tenure, old_tenures, serving_hold, serving_tenure}
+use Rattle.world_laws.specs.LineUps.{commanded_target, target_tenure, waiting_of, taken_of, assembled, line_up}
 use Rattle.world_laws.specs.Seated.{Remembers, Sits, Leads, NoneOn, LinedUp}
 use Rattle.world_laws.specs.Seated.Leads.{leads}
 use Rattle.world_laws.specs.Seated.Remembers.{nothing, told}
 use Rattle.world_laws.specs.Seated.Sits.{stays, came, between, gone}
-use Rattle.world_laws.proofs.Framing.{AreUp, all-left, all-right, all-map, lined-same}
+use Rattle.world_laws.proofs.Framing.{AreUp, all-left, all-right, lined-same}
 use Rattle.world_laws.proofs.Likening.{Like, AllLike, like-itself, like-released, Alive-like}
 use Rattle.world_laws.proofs.OwnMoves.{alive-fewer}
 use Rattle.world_laws.proofs.Quiet.{all-of}
@@ -113,7 +103,7 @@ LinedUp-less {m} {w} {v} {s} p sees kept = record {
       (target-like (coming_up v) (coming_up w) up sits s.state rest.1)
       (alive-fewer (line_up w p s) commands (let fewer = sub-length sees.serving in omega arith) kept.alive));
   sits = sits-less sees.on_serving sees.on_target kept.sits;
-  led = all-map (λ a. Leads w a (commanded_target s.state)) (λ a. Leads v a (commanded_target s.state)) (going_down v (place_of s.serving)) (λ a. leads-less sees.on_target) (sub-all (λ a. Leads w a (commanded_target s.state)) sees.serving kept.led);
+  led = AllByRecursion-so (λ a. Leads w a (commanded_target s.state)) (λ a. Leads v a (commanded_target s.state)) (λ a. leads-less sees.on_target) (going_down v (place_of s.serving)) (sub-all (λ a. Leads w a (commanded_target s.state)) sees.serving kept.led);
   none_on_target = none-less w v (commanded_target s.state) sees.target kept.none_on_target;
   apart = kept.apart;
   placed = kept.placed;

@@ -1,58 +1,41 @@
 -- Connections stay lined up at every event in which the relay takes no part, whatever happened before.
-use Rattle.std.proofs.Common.{◌≡◌, ◌≢◌, ℕ, zero, suc, ◌-◌, nat_eq, Bool, true, false, if◌then◌else◌, cond, List, [], ◌∷◌, ◌++◌, find, unwrap_or, slice_set, slice_get, Option, Some, None, Ok, refl, ap, ◌∙◌, subst}
-use Rattle.std.specs.List.{AllByRecursion}
-use Rattle.std.proofs.lemmas.Bool.{eqb-false}
-use Rattle.bssmap_codec.specs.declared.bssap.Bssap.{Bssap}
-use Rattle.bssmap_codec.specs.declared.bssap.Bssap.TheVariants.{Transfer}
-use Rattle.bssmap_codec.specs.declared.sccp.Sccp.{Sccp}
-use Rattle.conn_messages.specs.declared.parameters.TheConstants.{SWITCH_LINK}
-use Rattle.conn_table.specs.Connection.{Connection}
-use Rattle.conn_table.specs.Streams.{used_channels}
-use Rattle.controller_table.specs.Controller.{place_of}
-use Rattle.link_model.specs.Base.{first_message, first_of_messages, after_next}
-use Rattle.msc_end.specs.declared.connection.Connection.{Connection as SwitchConnection}
-use Rattle.msc_end.specs.declared.connection.Stage.TheVariants.{Clearing}
-use Rattle.msc_end.specs.Switch.{after_clear, assignment_request, clear_command, connection_of, connections_after_clear, data_forms_on, dlci_for, with_stage}
-use Rattle.msc_end.specs.SwitchState.{SwitchState}
-use Rattle.rsl_codec.specs.declared.rsl.Rsl.{Rsl}
-use Rattle.rsl_codec.specs.RslReading.{rsl_reading}
-use Rattle.rsl_codec.specs.RslText.{rsl_text}
-use Rattle.settings.specs.Parameters.{Parameters}
+use Rattle.world_laws.proofs.Prelude.{◌≡◌, ◌≢◌, ℕ, zero, suc, ◌-◌, nat_eq, Bool, true, false, if◌then◌else◌, cond, List, [], ◌∷◌, ◌++◌}
+use Rattle.world_laws.proofs.Prelude.{find, Option, Some, None, Ok, refl, ap, ◌∙◌, subst, AllByRecursion, eqb-false, Bssap}
+use Rattle.world_laws.proofs.Prelude.{Transfer, Sccp, SWITCH_LINK, Connection, used_channels, place_of, first_message, first_of_messages}
+use Rattle.world_laws.proofs.Prelude.{after_next, SwitchConnection, Clearing, after_clear, assignment_request, clear_command}
+use Rattle.world_laws.proofs.Prelude.{connections_after_clear, data_forms_on, dlci_for, with_stage, SwitchState, Rsl, rsl_reading, rsl_text}
+use Rattle.world_laws.proofs.Prelude.{Parameters, new_mobile, MobileState, Event, Upper, Connect, AirUp, AirAck, AirDown, AirDownLost, Move}
+use Rattle.world_laws.proofs.Prelude.{Touch, Arrive, Return, BaseTakes, BasePush, Handle, SwitchTakes, SwitchDoes, Tick, BaseDown, Report}
+use Rattle.world_laws.proofs.Prelude.{SwitchAction, Assign, Clear, Dtap, station_item, switch_item, with_item}
+use Rattle.world_laws.proofs.Prelude.{pushed_by_station, pushed_by_switch, after_base_push, may_send_on, sent_on, is_layer_3}
+use Rattle.world_laws.proofs.Prelude.{after_switch_does, Actors, Mobile, modulus_in, new_actors, base_of, with_base, Good, end-of, good-new}
+use Rattle.world_laws.proofs.Prelude.{good-all, after-taken, IsSound, sound-read, same_Some}
+use Rattle.std.proofs.Common.{slice_set, slice_get}
+use Rattle.msc_end.specs.Switch.{connection_of}
 use Rattle.mobile_end.specs.Calls.{Call}
-use Rattle.mobile_end.specs.Mobile.{new_mobile}
-use Rattle.mobile_end.specs.MobileState.{MobileState}
 use Rattle.mobile_end.proofs.Lives.{IsKept-calls}
-use Rattle.world_table.specs.declared.event.Event.{Event}
-use Rattle.world_table.specs.declared.event.Event.TheVariants.{Upper, Connect, AirUp, AirAck, AirDown, AirDownLost, Move, Touch, Arrive, Return, BaseTakes, BasePush, Handle, SwitchTakes, SwitchDoes, Tick, BaseDown, Report}
-use Rattle.world_table.specs.declared.event.SwitchAction.{SwitchAction}
-use Rattle.world_table.specs.declared.event.SwitchAction.TheVariants.{Assign, Clear, Dtap}
-use Rattle.world_table.specs.Life.{event_after, actors_after_all}
-use Rattle.world_table.specs.Relay.{station_item, switch_item, with_item, pushed_by_station, pushed_by_switch, after_base_push}
-use Rattle.world_table.specs.SwitchSide.{may_send_on, sent_on, is_layer_3, after_switch_does}
-use Rattle.world_table.specs.World.{Actors, Mobile, modulus_in, new_actors, base_of, with_base}
-use Rattle.world_table.specs.Calls.{all_calls}
-use Rattle.world_table.specs.Lives.{Lives}
-use Rattle.world_table.proofs.Heard.{Good, end-of, good-new, good-all}
-use Rattle.world_table.proofs.Leads.{OfTaken, after-taken}
-use Rattle.world_table.proofs.Mobility.{MobilesLive-new}
-use Rattle.world_table.proofs.Soundness.{IsSound, sound-read}
+use Rattle.world_model.specs.Life.{event_after}
+use Rattle.world_model.specs.Calls.{all_calls}
+use Rattle.world_model.specs.Lives.{Lives}
+use Rattle.world_model.proofs.Leads.{OfTaken}
+use Rattle.world_model.proofs.Mobility.{MobilesLive-new}
 use Rattle.world_laws.specs.ComingUp.{coming_up}
 use Rattle.world_laws.specs.LineUps.{is_of_peer, taken_in, taken_of}
 use Rattle.world_laws.specs.Staying.{AreLinedUp, is_beside_relay, MobilesKeepLineUps}
 use Rattle.world_laws.proofs.Apart.{all-both}
-use Rattle.world_laws.proofs.MobileEvents.{Before, quiet-stays, upper-stays, ack-stays, frame-stays, heard-stays, lost-stays, move-stays, arrive-stays, return-stays, connect-stays, touch-stays, report-stays}
+use Rattle.world_laws.proofs.MobileEvents.{Before, quiet-stays, upper-stays, ack-stays, frame-stays, heard-stays, lost-stays, move-stays}
+use Rattle.world_laws.proofs.MobileEvents.{arrive-stays, return-stays, connect-stays, touch-stays, report-stays}
 use Rattle.world_laws.proofs.Projecting.{coming-pushed, coming-of_switch}
 use Rattle.world_laws.proofs.Quiet.{down-with_base, all-of}
 use Rattle.world_laws.proofs.Seeing.{SameTenures, SeesSame}
 use Rattle.world_laws.proofs.Spots.{tenure-with_base}
+use Rattle.world_laws.proofs.Events.{world}
 
 -- ---- the first message that a station made goes to the inbox
 
-first-read : (messages : List Rsl) (message : Rsl) → AllByRecursion IsSound messages → first_of_messages messages ≡ Some message → rsl_reading (rsl_text message) ≡ Ok message
+pub first-read : (messages : List Rsl) (message : Rsl) → AllByRecursion IsSound messages → first_of_messages messages ≡ Some message → rsl_reading (rsl_text message) ≡ Ok message
 first-read [] message all is = absurd cc
-first-read (first ∷ others) message all is = sound-read message (subst IsSound (some-same is) all.0) where
-  some-same : {a b : Rsl} → Some a ≡ Some b → a ≡ b
-  some-same {a} e = ap (λ (o : Option Rsl). unwrap_or o a) e
+first-read (first ∷ others) message all is = sound-read message (subst IsSound (same_Some _ _ is) all.0)
 
 sees-pushed : {w : Actors} {s : Connection} (station : ℕ) (message : Rsl) → AllByRecursion (λ c. c.station ≢ SWITCH_LINK) (used_channels s) → station ≢ SWITCH_LINK → first_message (base_of w station) ≡ Some message → rsl_reading (rsl_text message) ≡ Ok message
     → SeesSame w (with_item (station_item station message) (with_base station (after_next (base_of w station)) w)) s
@@ -101,10 +84,7 @@ push-stays {m} {w} {mobile} {p} {s} source good h = by_source (nat_eq source SWI
 -- clearing leaves what it took
 cleared-same : (number n : ℕ) (cs : List SwitchConnection) (c : SwitchConnection) → slice_get cs n ≡ Some c → taken_in (find (is_of_peer number) (slice_set cs n (with_stage c Clearing))) ≡ taken_in (find (is_of_peer number) cs)
 cleared-same number n [] c is = absurd cc
-cleared-same number zero (x ∷ cs) c is = subst (λ (y : SwitchConnection). taken_in (find (is_of_peer number) (with_stage y Clearing ∷ cs)) ≡ taken_in (find (is_of_peer number) (x ∷ cs))) (some-same is) (by_peer (is_of_peer number x)) where
-  some-same : {a b : SwitchConnection} → Some a ≡ Some b → a ≡ b
-  some-same {a} e = ap (λ (o : Option SwitchConnection). unwrap_or o a) e
-
+cleared-same number zero (x ∷ cs) c is = subst (λ (y : SwitchConnection). taken_in (find (is_of_peer number) (with_stage y Clearing ∷ cs)) ≡ taken_in (find (is_of_peer number) (x ∷ cs))) (same_Some _ _ is) (by_peer (is_of_peer number x)) where
   by_peer : (b : Bool) → taken_in (cond b (Some (with_stage x Clearing)) (find (is_of_peer number) cs)) ≡ taken_in (cond b (Some x) (find (is_of_peer number) cs))
   by_peer true = refl
   by_peer false = refl
@@ -177,7 +157,7 @@ beside-stays (BaseDown source) beside good h = absurd cc
 
 pub MobilesKeepLineUps-new : (settings : Parameters) (events : List Event) (event : Event) → MobilesKeepLineUps settings events event
 MobilesKeepLineUps-new settings events event mobile s beside alone lined =
-    let w : Actors = actors_after_all (new_actors settings) events in
+    let w : Actors = world settings events in
     let calls : List Call = all_calls (new_actors settings) events mobile in
     let lives : Lives (modulus_in settings) calls lined.one = MobilesLive-new settings events mobile lined.one lined.found in
     after-taken (λ v. AreLinedUp (modulus_in settings) v mobile s) (event_after w event) w

@@ -1,50 +1,39 @@
 -- The link of a station breaks: the connections stay lined up, those that lose something up to where it is missing.
-use Rattle.std.proofs.Common.{◌≡◌, ◌≢◌, ℕ, zero, suc, ◌+◌, ◌==◌, ◌&&◌, not, nat_eq, Bool, true, false, if◌then◌else◌, List, [], ◌∷◌, ◌++◌, length, map, get_or, set, Option, Some, None, refl, sym, ap, ◌∙◌, subst, inl, inr, arith}
-use Rattle.std.specs.List.{AllByRecursion, flat_map}
-use Rattle.std.proofs.lemmas.Bool.{cases_Bool, eqb-true, eqb-false, ne_eqb}
-use Rattle.std.proofs.lemmas.Grind.{flat_map-append}
-use Rattle.std.proofs.lemmas.List.{append-nil}
-use Rattle.conn_messages.specs.declared.channel.Channel.{Channel}
-use Rattle.conn_messages.specs.declared.channel.Place.{Place}
-use Rattle.conn_messages.specs.declared.parameters.TheConstants.{SWITCH_LINK}
-use Rattle.conn_table.specs.declared.state.Drain.{Drain}
-use Rattle.conn_table.specs.declared.state.Target.{Target}
-use Rattle.conn_table.specs.Connection.{Connection}
-use Rattle.conn_table.specs.Streams.{undone, target_in, used_channels}
-use Rattle.controller_table.specs.Controller.{place_of}
-use Rattle.controller_table.specs.Views.{forwarded}
-use Rattle.hold_queue.specs.ChainState.{Tenure as Held}
-use Rattle.lineup.specs.Alive.{Alive, Stands}
-use Rattle.lineup.specs.Alive.Stays.{remains, left}
-use Rattle.lineup.specs.Alive.Stands.{waits, leaves, arrives, returns}
-use Rattle.lineup.specs.ChangeStep.{ended}
-use Rattle.lineup.specs.LineUp.{Item, Seat, flow, messages_in, controls_in, texts_in}
-use Rattle.lineup.specs.LineUp.Item.{brought, released}
-use Rattle.lineup.proofs.Lines.{messages_in-append, controls-front, texts-front, empty_list}
-use Rattle.link_model.specs.BaseState.{BaseState}
-use Rattle.link_model.specs.Base.{after_take_down}
-use Rattle.relay_items.specs.declared.What.TheVariants as whats
-use Rattle.settings.specs.Parameters.{Parameters}
-use Rattle.world_table.specs.declared.event.Event.{Event}
-use Rattle.world_table.specs.declared.line.AirMessage.{AirMessage}
-use Rattle.world_table.specs.Life.{event_after, actors_after_all}
-use Rattle.world_table.specs.Relay.{with_item, after_break}
-use Rattle.world_table.specs.World.{Actors, Mobile, Link, broken_link, with_link, new_actors, modulus_in, is_up, is_station_up, base_of, with_base, outbox_of, spot_at}
-use Rattle.world_table.proofs.Honesty.{base-elsewhere, base-there}
-use Rattle.world_table.proofs.Leads.{broken-leads, after-taken}
+use Rattle.world_laws.proofs.Prelude.{◌≡◌, ◌≢◌, ℕ, zero, suc, ◌+◌, ◌==◌, ◌&&◌, not, nat_eq, Bool, true, false, if◌then◌else◌, List, [], ◌∷◌}
+use Rattle.world_laws.proofs.Prelude.{◌++◌, length, map, get_or, set, Option, Some, None, refl, sym, ap, ◌∙◌, subst, inl, inr, arith}
+use Rattle.world_laws.proofs.Prelude.{AllByRecursion, flat_map, cases_Bool, eqb-true, eqb-false, ne_eqb, flat_map-append, append-nil}
+use Rattle.world_laws.proofs.Prelude.{Channel, Place, SWITCH_LINK, Drain, Target, Connection, undone, used_channels, place_of, Held}
+use Rattle.world_laws.proofs.Prelude.{BaseState, after_take_down, Parameters, Event, AirMessage, with_item, after_break}
+use Rattle.world_laws.proofs.Prelude.{Actors, Mobile, Link, broken_link, with_link, modulus_in, is_up, is_station_up, base_of}
+use Rattle.world_laws.proofs.Prelude.{with_base, outbox_of, spot_at, base-elsewhere, base-there, broken-leads, after-taken, and-right}
+use Rattle.world_laws.proofs.Prelude.{AllByRecursion-so, no-length}
+use Rattle.conn_rules.specs.Streams.{target_in}
+use Rattle.controller_model.specs.Views.{forwarded}
+use Rattle.world_laws.specs.LineUp.Alive.{Alive, Stands}
+use Rattle.world_laws.specs.LineUp.Alive.Stays.{remains, left}
+use Rattle.world_laws.specs.LineUp.Alive.Stands.{waits, leaves, arrives, returns}
+use Rattle.world_laws.specs.LineUp.ChangeStep.{ended}
+use Rattle.world_laws.specs.LineUp.Places.{Item, Seat, flow, messages_in, controls_in, texts_in}
+use Rattle.world_laws.specs.LineUp.Places.Item.{brought, released}
+use Rattle.world_laws.proofs.LineUp.Lines.{messages_in-append, controls-front, texts-front}
+use Rattle.ruled_relay.specs.declared.item.What.TheVariants as whats
+use Rattle.world_model.specs.Life.{event_after}
 use Rattle.world_laws.specs.ComingUp.{brings_in, made_of, coming_up}
 use Rattle.world_laws.specs.GoingDown.{leading_from_air, leading_from_outbox, going_down}
-use Rattle.world_laws.specs.LineUps.{seat_from, remembered, is_ended, draining_tenure, old_tenure, old_tenures, serving_hold, serving_tenure, came, commanded_target, target_tenure, is_changing, waiting_of, taken_of, assembled, line_up}
+use Rattle.world_laws.specs.LineUps.{seat_from, remembered, is_ended, draining_tenure, old_tenure, old_tenures, serving_hold}
+use Rattle.world_laws.specs.LineUps.{serving_tenure, came, commanded_target, target_tenure, is_changing, waiting_of, taken_of, assembled}
+use Rattle.world_laws.specs.LineUps.{line_up}
 use Rattle.world_laws.specs.Seated.{Leads, NoneOn, LinedUp}
 use Rattle.world_laws.specs.Staying.{AreLinedUp, EndsLast, StationBreaksKeepLineUps}
 use Rattle.world_laws.proofs.Apart.{target-in}
 use Rattle.world_laws.proofs.Cutting.{Cuts, AllCut, cuts-itself, Alive-cut}
 use Rattle.world_laws.proofs.Cutting.Cuts.{whole, breaks}
-use Rattle.world_laws.proofs.Framing.{all-left, all-right, all-map, lined-same}
+use Rattle.world_laws.proofs.Framing.{all-left, all-right, lined-same}
 use Rattle.world_laws.proofs.Quiet.{all-of, ArePlaced, down-with_base}
 use Rattle.world_laws.proofs.Seeing.{SameTenures, Sits-same, Leads-same}
 use Rattle.world_laws.proofs.Spots.{set-apart, tenure-with_base}
 use Rattle.world_laws.proofs.Sublists.{Sub, sub-itself, sub-none, sub-append, sub-flat_map, sub-length, sub-all, sub-nothing, set-related}
+use Rattle.world_laws.proofs.Events.{world}
 
 -- ---- what is on its way up from one channel
 
@@ -82,7 +71,7 @@ target-breaks up now_up was now false none (drops dropped is down parts) =
     let fewer = texts-front now dropped in
     let all = ap texts_in parts in
     let zero_before = none refl in
-    whole refl (empty_list (flow (messages_in now)) (omega arith) ∙ sym (empty_list (flow (messages_in was)) zero_before)) (let counts = ap controls_in parts in let front = controls-front now dropped in omega arith)
+    whole refl (no-length (flow (messages_in now)) (omega arith) ∙ sym (no-length (flow (messages_in was)) zero_before)) (let counts = ap controls_in parts in let front = controls-front now dropped in omega arith)
     (ap (λ (b : Bool). not b && false) down ∙ sym (ap (λ (b : Bool). not b && false) is))
 
 -- ---- all tenures
@@ -124,12 +113,10 @@ target-breaks-in : (before after : Place → List Item) (up now_up : ℕ → Boo
 target-breaks-in before after up now_up seat None broken none = cuts-itself (target_tenure before up seat None)
 target-breaks-in before after up now_up seat (Some t) broken none = target-breaks (up t.channel.station) (now_up t.channel.station) (before (place_of t.channel)) (after (place_of t.channel)) (came seat) none (broken t refl)
 
+-- a target is lost only where its mobile came
 pub target-came : (after : Place → List Item) (now_up : ℕ → Bool) (seat : Seat) (o : Option Target) → (target_tenure after now_up seat o).is_lost ≡ true → came seat ≡ true
 target-came after now_up seat None is = absurd cc
-target-came after now_up seat (Some t) is = right (not (now_up t.channel.station)) (came seat) is where
-  right : (a b : Bool) → a && b ≡ true → b ≡ true
-  right true b is = is
-  right false b is = absurd cc
+target-came after now_up seat (Some t) is = and-right (not (now_up t.channel.station)) (came seat) is
 
 -- ---- the world
 
@@ -193,7 +180,7 @@ keeps-broken {m} {w} {s} p station station_is up last kept = record {
       (target-breaks-in (coming_up w) (coming_up v) (is_station_up w) (is_station_up v) sits (commanded_target s.state) of_target (target-bare (coming_up w) (is_station_up w) sits (commanded_target s.state) kept.alive.stands))
       (target-came (coming_up v) (is_station_up v) sits (commanded_target s.state)) kept.alive);
   sits = Sits-same same_tenures kept.sits;
-  led = all-map (λ a. Leads w a (commanded_target s.state)) (λ a. Leads v a (commanded_target s.state)) (going_down v (place_of s.serving)) (λ a. Leads-same same_tenures) (sub-all (λ a. Leads w a (commanded_target s.state)) (down-broken w station (place_of s.serving)) kept.led);
+  led = AllByRecursion-so (λ a. Leads w a (commanded_target s.state)) (λ a. Leads v a (commanded_target s.state)) (λ a. Leads-same same_tenures) (going_down v (place_of s.serving)) (sub-all (λ a. Leads w a (commanded_target s.state)) (down-broken w station (place_of s.serving)) kept.led);
   none_on_target = none_on (commanded_target s.state) kept.none_on_target;
   apart = kept.apart;
   placed = kept.placed;
@@ -234,6 +221,6 @@ keeps-broken {m} {w} {s} p station station_is up last kept = record {
 pub StationBreaksKeepLineUps-new : (settings : Parameters) (events : List Event) (station : ℕ) → StationBreaksKeepLineUps settings events station
 unfolding event_after
 StationBreaksKeepLineUps-new settings events station mobile s station_is last lined =
-    let w : Actors = actors_after_all (new_actors settings) events in
+    let w : Actors = world settings events in
     after-taken (λ v. AreLinedUp (modulus_in settings) v mobile s) (after_break w station) w
     (broken-leads (λ v. AreLinedUp (modulus_in settings) v mobile s) w station (λ up is. absurd (station_is is)) (λ up _. record { one = lined.one; found = lined.found; lined = keeps-broken lined.one station station_is up last lined.lined })) lined

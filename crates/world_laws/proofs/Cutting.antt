@@ -1,16 +1,15 @@
 -- A line that is cut where a link broke.
-use Rattle.std.proofs.Common.{◌≡◌, ℕ, ◌≤◌, Bool, true, false, ◌||◌, ◌&&◌, not, if◌then◌else◌, List, [], ◌∷◌, ◌++◌, length, refl, sym, ap, ◌∙◌, subst, append_assoc, length-append, arith}
-use Rattle.std.proofs.lemmas.List.{append-nil}
-use Rattle.conn_table.specs.declared.state.State.{State}
-use Rattle.lineup.specs.Alive.{Alive, FirstRelays, Condition, Follows, some_lost}
-use Rattle.lineup.specs.Alive.Stays.{remains}
-use Rattle.lineup.specs.Alive.Condition.{sound, left_the_cell, lost_old, lost_serving, lost_target}
-use Rattle.lineup.specs.LineUp.{Tenure, Seat, flow, messages_in, part_of, parts_of, controls_of, controls_in, texts_in}
-use Rattle.lineup.specs.LineUp.Seat.{on_serving, on_target, moving, gone}
-use Rattle.lineup.proofs.Following.{Follows-line, Follows-front}
-use Rattle.lineup.proofs.Lines.{flow-append, controls-append}
-use Rattle.lineup.proofs.Standing.{Stands-fewer}
-use Rattle.mobile_end.specs.DataLinkState.{DataLinkState}
+use Rattle.world_laws.proofs.Prelude.{◌≡◌, ℕ, ◌≤◌, Bool, true, false, ◌||◌, ◌&&◌, not, if◌then◌else◌, List, [], ◌∷◌, ◌++◌, length, refl}
+use Rattle.world_laws.proofs.Prelude.{sym, ap, ◌∙◌, subst, append_assoc, length-append, arith, append-nil, State, DataLinkState}
+use Rattle.world_laws.proofs.Prelude.{true≢false, false≢true}
+use Rattle.world_laws.specs.LineUp.Alive.{Alive, FirstRelays, Condition, Follows, some_lost}
+use Rattle.world_laws.specs.LineUp.Alive.Stays.{remains}
+use Rattle.world_laws.specs.LineUp.Alive.Condition.{sound, left_the_cell, lost_old, lost_serving, lost_target}
+use Rattle.world_laws.specs.LineUp.Places.{Tenure, Seat, flow, messages_in, part_of, parts_of, controls_of, controls_in, texts_in}
+use Rattle.world_laws.specs.LineUp.Places.Seat.{on_serving, on_target, moving, gone}
+use Rattle.world_laws.proofs.LineUp.Following.{Follows-line, Follows-front}
+use Rattle.world_laws.proofs.LineUp.Lines.{flow-append, controls-append}
+use Rattle.world_laws.proofs.LineUp.Standing.{Stands-fewer}
 use Rattle.world_laws.specs.LineUps.{came, is_gone, is_confirmed, is_intact, assembled}
 
 -- ---- tenures
@@ -70,10 +69,8 @@ cut-line (t ∷ ts) (u ∷ us) all = by_cut all.0 (cut-line ts us all.1) where
         ∙ ap (λ (xs : List (List ℕ)). xs ++ (if t.is_lost then [] else parts_of ts)) (sym (append_assoc (flow u.hold) (flow (messages_in u.items)) (flow dropped)))
         ∙ append_assoc (part_of u) (flow dropped) (if t.is_lost then [] else parts_of ts)
         ∙ ap (λ (xs : List (List ℕ)). xs ++ (flow dropped ++ (if t.is_lost then [] else parts_of ts))) (sym (append-nil (part_of u)) ∙ ap (λ (b : Bool). part_of u ++ (if b then [] else parts_of us)) (sym lost));
-    none = λ is. absurd (never (sym (ap (λ (b : Bool). b || some_lost us) lost) ∙ is));
-  } where
-    never : true ≡ false → ⊥
-    never h = absurd cc
+    none = λ is. absurd (true≢false (sym (ap (λ (b : Bool). b || some_lost us) lost) ∙ is));
+  }
   by_cut (whole hold messages controls lost) rest = by_lost t.is_lost refl where
     same : part_of t ≡ part_of u
     same = part-whole t u hold messages
@@ -82,10 +79,8 @@ cut-line (t ∷ ts) (u ∷ us) all = by_cut all.0 (cut-line ts us all.1) where
     by_lost true is = record {
       more = [];
       parts = ap (λ (x : Bool). part_of t ++ (if x then [] else parts_of ts)) is ∙ ap (λ (xs : List (List ℕ)). xs ++ []) same ∙ ap (λ (x : Bool). part_of u ++ (if x then [] else parts_of us)) (sym (lost ∙ is)) ∙ sym (append-nil (part_of u ++ (if u.is_lost then [] else parts_of us)));
-      none = λ none. absurd (never (sym (ap (λ (x : Bool). x || some_lost us) (lost ∙ is)) ∙ none));
-    } where
-      never : true ≡ false → ⊥
-      never h = absurd cc
+      none = λ none. absurd (true≢false (sym (ap (λ (x : Bool). x || some_lost us) (lost ∙ is)) ∙ none));
+    }
     by_lost false is = record {
       more = rest.more;
       parts = ap (λ (x : Bool). part_of t ++ (if x then [] else parts_of ts)) is ∙ ap (λ (xs : List (List ℕ)). xs ++ parts_of ts) same ∙ ap (λ (xs : List (List ℕ)). part_of u ++ xs) rest.parts ∙ sym (append_assoc (part_of u) (parts_of us) rest.more)
@@ -114,9 +109,7 @@ pub condition-of : (seat : Seat) (old serving target : Bool) → (target ≡ tru
 condition-of gone old serving target there = left_the_cell
 condition-of on_serving true serving target there = lost_old
 condition-of on_serving false true target there = lost_serving
-condition-of on_serving false false true there = absurd (never (there refl)) where
-  never : false ≡ true → ⊥
-  never h = absurd cc
+condition-of on_serving false false true there = absurd (false≢true (there refl))
 condition-of on_serving false false false there = sound
 condition-of on_target true serving target there = lost_old
 condition-of on_target false true target there = lost_serving
@@ -124,9 +117,7 @@ condition-of on_target false false true there = lost_target remains
 condition-of on_target false false false there = sound
 condition-of moving true serving target there = lost_old
 condition-of moving false true target there = lost_serving
-condition-of moving false false true there = absurd (never (there refl)) where
-  never : false ≡ true → ⊥
-  never h = absurd cc
+condition-of moving false false true there = absurd (false≢true (there refl))
 condition-of moving false false false there = sound
 
 -- of the whole line

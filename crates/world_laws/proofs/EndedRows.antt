@@ -1,15 +1,10 @@
 -- A connection that ends while a message of it waits for the switch.
-use Rattle.std.proofs.Common.{◌≡◌, ℕ, List, [], ◌∷◌, map, Some, refl}
-use Rattle.dtap_codec.specs.declared.sapi.Sapi.TheVariants.{Zero, Three}
-use Rattle.dtap_codec.specs.Places.{Carries}
-use Rattle.dtap_codec.specs.Places.Rise.{over, next}
-use Rattle.controller_table.specs.Views.{forwarded}
-use Rattle.lineup.specs.LineUp.{flow}
-use Rattle.world_table.specs.declared.event.Event.TheVariants.{Upper, AirUp, AirAck, BasePush, BaseDown, Handle, SwitchTakes}
-use Rattle.world_table.specs.Queues.{put}
-use Rattle.world_table.specs.World.{World}
-use Rattle.world_table.proofs.Rows.{opened}
-use Rattle.world_table.proofs.Worlds.{on_literals, after_all}
+use Rattle.world_laws.proofs.Prelude.{◌≡◌, [], ◌∷◌, map, refl, Zero, Three, Carries, next, Upper, AirUp, AirAck, BasePush}
+use Rattle.world_laws.proofs.Prelude.{BaseDown, Handle, SwitchTakes, put, World, opened, after_all}
+use Rattle.dtap_codec.specs.Places.Rise.{over}
+use Rattle.controller_model.specs.Views.{forwarded}
+use Rattle.world_laws.specs.LineUp.Places.{flow}
+use Rattle.world_model.proofs.Worlds.{on_literals}
 use Rattle.world_laws.specs.Ended.{HasEnded, PutsNoMore}
 use Rattle.world_laws.specs.LineUps.{taken_of, waiting_of}
 use Rattle.world_laws.specs.Staying.{carried_for}

@@ -1,45 +1,27 @@
 -- A connection that closed or went stays in order, whatever happens.
-use Rattle.std.proofs.Common.{◌≡◌, ℕ, ◌≤◌, ◌==◌, ◌&&◌, nat_eq, Bool, true, false, if◌then◌else◌, List, [], ◌∷◌, ◌++◌, find, map, Option, Some, None, refl, sym, ap, ◌∙◌, subst, append_assoc}
-use Rattle.std.specs.List.{AllByRecursion}
-use Rattle.std.proofs.lemmas.List.{append-nil, map-append}
-use Rattle.bssmap_codec.specs.declared.bssap.Bssap.{Bssap}
-use Rattle.bssmap_codec.specs.declared.bssap.Bssap.TheVariants.{Transfer}
-use Rattle.bssmap_codec.specs.declared.sccp.Sccp.{Sccp}
-use Rattle.conn_messages.specs.declared.out.Out.{Out}
-use Rattle.conn_messages.specs.declared.parameters.TheConstants.{SWITCH_LINK}
-use Rattle.conn_table.specs.Connection.{Connection}
-use Rattle.controller_table.specs.declared.forwarded.Forwarded.{Forwarded}
-use Rattle.controller_table.specs.Life.{take, tick}
-use Rattle.controller_table.specs.Views.{forwarded}
-use Rattle.dtap_codec.specs.Places.{Rise}
-use Rattle.lineup.specs.LineUp.{flow}
-use Rattle.lineup.specs.Order.{Ended}
-use Rattle.lineup.proofs.Lines.{flow-append}
-use Rattle.lineup.proofs.Ordering.{Ended-alive, Ended-loses, Ended-sends, IsInOrder-rise}
-use Rattle.msc_end.specs.Switch.{after_clear, assignment_request, clear_command, connection_of, data_forms_on, dlci_for}
-use Rattle.msc_end.specs.SwitchState.{SwitchState}
-use Rattle.settings.specs.Parameters.{Parameters}
-use Rattle.world_table.specs.declared.event.Event.{Event}
-use Rattle.world_table.specs.declared.event.Event.TheVariants.{Upper, Connect, AirUp, AirAck, AirDown, AirDownLost, Move, Touch, Arrive, Return, BaseTakes, BasePush, Handle, SwitchTakes, SwitchDoes, Tick, BaseDown, Report}
-use Rattle.world_table.specs.declared.event.SwitchAction.{SwitchAction}
-use Rattle.world_table.specs.declared.event.SwitchAction.TheVariants.{Assign, Clear, Dtap}
-use Rattle.world_table.specs.declared.line.OutboxEntry.{OutboxEntry}
-use Rattle.world_table.specs.Life.{actors_after, actors_after_all, event_after}
-use Rattle.world_table.specs.Queues.{first_of, put, taken}
-use Rattle.world_table.specs.Relay.{target_in}
-use Rattle.world_table.specs.Stations.{rsl_in, after_base_takes}
-use Rattle.world_table.specs.SwitchSide.{sccp_in, sent_on, may_send_on, is_layer_3, after_switch_does, after_switch_takes, switch_took}
-use Rattle.world_table.specs.World.{Actors, Link, Mobile, broken_link, modulus_in, new_actors, is_up, outbox_of, with_outbox}
-use Rattle.world_table.proofs.Leads.{OfTaken, after-taken, only_if-leads, connect-leads}
-use Rattle.world_table.proofs.Outboxes.{Step, step}
-use Rattle.world_table.proofs.Outboxes.Step.{goes, breaks}
-use Rattle.world_laws.specs.Ended.{DeliversAt, EndedAreInOrder, EndedStayInOrder, HasEnded, LineUpsMayEnd, PutsNoMore}
+use Rattle.world_laws.proofs.Prelude.{◌≡◌, ℕ, List, [], ◌∷◌, ◌++◌, map}
+use Rattle.world_laws.proofs.Prelude.{refl, sym, ap, ◌∙◌, subst, append_assoc, AllByRecursion, append-nil, map-append}
+use Rattle.world_laws.proofs.Prelude.{Out, SWITCH_LINK, Connection, Forwarded, Rise}
+use Rattle.world_laws.proofs.Prelude.{Parameters, Event}
+use Rattle.world_laws.proofs.Prelude.{OutboxEntry, actors_after}
+use Rattle.world_laws.proofs.Prelude.{put, taken}
+use Rattle.world_laws.proofs.Prelude.{Actors, Link}
+use Rattle.world_laws.proofs.Prelude.{modulus_in, outbox_of}
+use Rattle.world_laws.proofs.Prelude.{breaks}
+use Rattle.controller_model.specs.Views.{forwarded}
+use Rattle.world_laws.specs.LineUp.Places.{flow}
+use Rattle.world_laws.specs.LineUp.Order.{Ended}
+use Rattle.world_laws.proofs.LineUp.Lines.{flow-append}
+use Rattle.world_laws.proofs.LineUp.Ordering.{Ended-alive, Ended-loses, Ended-sends, IsInOrder-rise}
+use Rattle.world_model.proofs.Outboxes.{Step, step}
+use Rattle.world_model.proofs.Outboxes.Step.{goes}
+use Rattle.world_laws.specs.Ended.{EndedAreInOrder, EndedStayInOrder, LineUpsMayEnd, PutsNoMore}
 use Rattle.world_laws.specs.LineUps.{taken_of, waiting_of}
-use Rattle.world_laws.specs.Staying.{AreLinedUp, DeliversFirst, carried_for}
-use Rattle.world_laws.proofs.OwnRow.{flow-twice}
+use Rattle.world_laws.specs.Staying.{carried_for}
 use Rattle.world_laws.proofs.Others.{forwarded-append}
 use Rattle.world_laws.proofs.SentGrows.{HasSent, sent-grows}
 use Rattle.world_laws.proofs.SwitchTook.{switch-stays, waiting_in}
+use Rattle.world_laws.proofs.Events.{world}
 
 -- ---- it ends
 
@@ -87,7 +69,7 @@ moved-by {m} {sent} {w} {v} {event} number (breaks broken nothing nobody) none t
 
 pub EndedStayInOrder-new : (settings : Parameters) (events : List Event) (event : Event) → EndedStayInOrder settings events event
 EndedStayInOrder-new settings events event mobile number delivers none ended =
-    let w : Actors = actors_after_all (new_actors settings) events in
+    let w : Actors = world settings events in
     let m : ℕ = modulus_in settings in
     let has : HasSent mobile ended.one.end.sent (actors_after w event) = sent-grows mobile w event ended.one ended.found in
     record {

@@ -1,23 +1,12 @@
 -- The line-up stays where what it is seen by stays.
-use Rattle.std.proofs.Common.{◌≡◌, ℕ, ◌+◌, ◌&&◌, not, Bool, true, false, if◌then◌else◌, List, [], ◌∷◌, ◌++◌, length, Some, refl, ap, ◌∙◌}
-use Rattle.std.specs.List.{AllByRecursion}
-use Rattle.conn_messages.specs.declared.channel.Channel.{Channel}
-use Rattle.conn_messages.specs.declared.channel.Place.{Place}
-use Rattle.conn_table.specs.declared.state.Drain.{Drain}
-use Rattle.conn_table.specs.declared.state.Stage.TheVariants.{Preparing, Changing}
-use Rattle.conn_table.specs.declared.state.State.{State}
-use Rattle.conn_table.specs.declared.state.State.TheVariants.{Live}
-use Rattle.conn_table.specs.Connection.{Connection}
-use Rattle.conn_table.specs.Streams.{undone, target_in, used_channels}
-use Rattle.controller_table.specs.Controller.{place_of}
-use Rattle.hold_queue.specs.ChainState.{Tenure as Held}
-use Rattle.lineup.specs.ChangeStep.{ended}
-use Rattle.lineup.specs.LineUp.{Item, Tenure, Seat, flow}
-use Rattle.mobile_end.specs.DataLinkState.{DataLinkState}
-use Rattle.world_table.specs.declared.line.AirMessage.{AirMessage}
-use Rattle.world_table.specs.declared.seat.Seat.{Seat as MobileSeat}
-use Rattle.world_table.specs.World.{Mobile}
-use Rattle.world_laws.specs.LineUps.{seat_from, remembered, draining_tenure, old_tenure, old_tenures, serving_tenure, serving_hold, came, commanded_target, target_tenure, assembled, lined}
+use Rattle.world_laws.proofs.Prelude.{◌≡◌, ℕ, ◌+◌, ◌&&◌, not, Bool, true, false, if◌then◌else◌, List, [], ◌∷◌, ◌++◌, length, Some, refl, ap}
+use Rattle.world_laws.proofs.Prelude.{◌∙◌, AllByRecursion, Channel, Place, Drain, Preparing, Changing, State, Live, Connection, undone}
+use Rattle.world_laws.proofs.Prelude.{used_channels, place_of, Held, DataLinkState, AirMessage, MobileSeat, Mobile}
+use Rattle.conn_rules.specs.Streams.{target_in}
+use Rattle.world_laws.specs.LineUp.ChangeStep.{ended}
+use Rattle.world_laws.specs.LineUp.Places.{Item, Tenure, Seat, flow}
+use Rattle.world_laws.specs.LineUps.{seat_from, remembered, draining_tenure, old_tenure, old_tenures, serving_tenure, serving_hold, came}
+use Rattle.world_laws.specs.LineUps.{commanded_target, target_tenure, assembled, lined}
 
 -- ---- all of a list
 
@@ -28,10 +17,6 @@ all-left P (x ∷ xs) ys all = (all.0, all-left P xs ys all.1)
 pub all-right : {X : Type 0} (P : X → Type 0) (xs ys : List X) → AllByRecursion P (xs ++ ys) → AllByRecursion P ys
 all-right P [] ys all = all
 all-right P (x ∷ xs) ys all = all-right P xs ys all.1
-
-pub all-map : {X : Type 0} (P Q : X → Type 0) (xs : List X) → ((x : X) → P x → Q x) → AllByRecursion P xs → AllByRecursion Q xs
-all-map P Q [] h all = tt
-all-map P Q (x ∷ xs) h all = (h x all.0, all-map P Q xs h all.1)
 
 -- ---- tenures
 

@@ -1,21 +1,15 @@
 -- Definitions of what is handled for a connection, at literal values.
-use Rattle.std.proofs.Common.{◌≡◌, ℕ, Bool, true, false, if◌then◌else◌, List, [], ◌∷◌, ◌++◌, map, Some, None, refl, arith}
-use Rattle.conn_messages.specs.declared.channel.Change.TheVariants.{Assignment, Handover}
-use Rattle.conn_table.specs.declared.input.Input.TheVariants as inputs
-use Rattle.conn_messages.specs.declared.channel.Channel.{Channel}
-use Rattle.conn_messages.specs.declared.channel.Place.{Place}
-use Rattle.conn_table.specs.Connection.{Connection, new_connection}
-use Rattle.conn_table.specs.declared.state.Stage.TheVariants.{Active, Preparing, Changing, Draining}
-use Rattle.conn_table.specs.declared.state.State.TheVariants.{WaitActivation, WaitEstablish, WaitConfirm, Live, Removed}
-use Rattle.conn_table.specs.Roles.RoleStep.{stays as roles_stay, commands as role_commands, completes as role_completes, goes_back as role_goes_back}
-use Rattle.controller_table.specs.Controller.{place_at}
-use Rattle.dtap_codec.specs.declared.sapi.Sapi.TheVariants.{Zero, Three}
-use Rattle.lineup.specs.LineUp.{Item}
-use Rattle.lineup.specs.LineUp.Item.{brought, released}
-use Rattle.lineup.specs.LineUp.Seat.{on_serving, on_target, moving, gone}
+use Rattle.world_laws.proofs.Prelude.{◌≡◌, ℕ, Bool, true, false, if◌then◌else◌, List, [], ◌∷◌, ◌++◌, map, Some, None, refl, arith}
+use Rattle.world_laws.proofs.Prelude.{Assignment, Handover, Channel, Place, Connection, new_connection, Active, Preparing, Changing}
+use Rattle.world_laws.proofs.Prelude.{Draining, WaitActivation, WaitEstablish, WaitConfirm, Live, Removed, roles_stay, role_commands}
+use Rattle.world_laws.proofs.Prelude.{role_completes, role_goes_back, place_at, Zero, Three, same_place}
+use Rattle.conn_rules.specs.declared.input.Input.TheVariants as inputs
+use Rattle.world_laws.specs.LineUp.Places.{Item}
+use Rattle.world_laws.specs.LineUp.Places.Item.{brought, released}
+use Rattle.world_laws.specs.LineUp.Places.Seat.{on_serving, on_target, moving, gone}
 use Rattle.world_laws.specs.Handled.{awaited_in}
 use Rattle.world_laws.specs.OwnFrame.{IsRequested}
-use Rattle.world_laws.specs.OwnItem.{is_same, said_by, IsRead, IsBesideTarget, CommandsAfter, seat_after, Finds}
+use Rattle.world_laws.specs.OwnItem.{said_by, IsRead, IsBesideTarget, CommandsAfter, seat_after, Finds}
 
 -- ---- what an input brings
 
@@ -43,7 +37,7 @@ a_command_is_put = (omega arith, λ two. omega arith)
 no_command_is_put : CommandsAfter roles_stay 1 1 × (CommandsAfter roles_stay 0 1 → ⊥)
 no_command_is_put = (omega arith, λ one. omega arith)
 
-same_places : map (λ at. is_same at (place_at 1 0x41)) (place_at 1 0x41 ∷ place_at 1 0x0a ∷ place_at 2 0x41 ∷ []) ≡ true ∷ false ∷ false ∷ []
+same_places : map (λ at. same_place at (place_at 1 0x41)) (place_at 1 0x41 ∷ place_at 1 0x0a ∷ place_at 2 0x41 ∷ []) ≡ true ∷ false ∷ false ∷ []
 same_places = refl
 
 an_initial_message_brings : said_by (inputs.EstablishIndication (place_at 1 0x41) Zero (Some (0x05 ∷ 0x24 ∷ []))) [] (place_at 1 0x41) ≡ brought (0x05 ∷ 0x24 ∷ []) ∷ []
@@ -95,16 +89,16 @@ abbrev complete_text : List ℕ
 complete_text = 0x06 ∷ 0x29 ∷ 0x00 ∷ []
 
 complete_comes : Place → List Item
-complete_comes place = if is_same place (place_at 1 0x0a) then brought complete_text ∷ brought (0x03 ∷ 0x45 ∷ []) ∷ [] else []
+complete_comes place = if same_place place (place_at 1 0x0a) then brought complete_text ∷ brought (0x03 ∷ 0x45 ∷ []) ∷ [] else []
 
 text_comes : Place → List Item
-text_comes place = if is_same place (place_at 1 0x0a) then brought (0x03 ∷ 0x45 ∷ []) ∷ [] else []
+text_comes place = if same_place place (place_at 1 0x0a) then brought (0x03 ∷ 0x45 ∷ []) ∷ [] else []
 
 complete_is_found : Finds (inputs.Complete (place_at 1 0x0a) Assignment (record { 0 = 0 })) complete_text complete_comes text_comes changing_connection
 unfolding complete_comes text_comes
 complete_is_found = record {
   read = refl;
-  first = λ at. by (is_same at (place_at 1 0x0a));
+  first = λ at. by (same_place at (place_at 1 0x0a));
   old_end = tt;
   others_go_on = (refl, (refl, tt));
   silent = λ beside. absurd beside;

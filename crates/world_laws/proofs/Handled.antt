@@ -1,35 +1,16 @@
 -- A frame keeps the line-up of the connection that it says an input to.
-use Rattle.std.proofs.Common.{◌≡◌, ◌≢◌, ℕ, not, Bool, true, false, List, [], ◌∷◌, ◌++◌, Option, Some, None, option_map, refl, ap, ◌∙◌, subst}
-use Rattle.std.specs.List.{AllByRecursion}
-use Rattle.std.specs.Option.{option_and_then}
-use Rattle.bssmap_codec.specs.Layer3.{IsLayer3}
-use Rattle.conn_messages.specs.declared.channel.Channel.{Channel}
-use Rattle.conn_messages.specs.declared.channel.Place.{Place}
-use Rattle.conn_messages.specs.declared.parameters.TheConstants.{SWITCH_LINK}
-use Rattle.conn_table.proofs.DownlinkMessages.{AllByRecursion-filter}
-use Rattle.conn_table.specs.declared.input.Input.{Input}
-use Rattle.conn_table.specs.declared.state.Stage.TheVariants.{Active, Preparing, Changing, Draining}
-use Rattle.conn_table.specs.declared.state.State.{State}
-use Rattle.conn_table.specs.declared.state.State.TheVariants.{WaitActivation, WaitEstablish, WaitConfirm, Live, Closed, Removed}
-use Rattle.conn_table.specs.Connection.{Connection}
-use Rattle.conn_table.specs.Standing.{Stands}
-use Rattle.conn_table.specs.Streams.{target_in, undone, used_channels}
-use Rattle.controller_laws.specs.History.{connection_of}
-use Rattle.controller_table.specs.declared.channel_state.ChannelState.{ChannelState}
-use Rattle.controller_table.specs.declared.channel_state.ChannelState.TheVariants.{Free, InUse, Releasing}
-use Rattle.controller_table.specs.declared.word.Word.{Word}
-use Rattle.controller_table.specs.Controller.{Controller, Entry, channel_state, entry_of, holder, place_of}
-use Rattle.controller_table.specs.Reading.{word_of}
-use Rattle.lineup.specs.LineUp.{Item, messages_in}
-use Rattle.mobile_end.specs.Control.{is_control}
-use Rattle.settings.specs.Parameters.{Parameters}
-use Rattle.world_table.specs.declared.event.Event.{Event}
-use Rattle.world_table.specs.Life.{actors_after_all}
-use Rattle.world_table.specs.World.{Actors, new_actors}
+use Rattle.world_laws.proofs.Prelude.{◌≡◌, ◌≢◌, ℕ, not, false, List, [], ◌∷◌, Option, Some, option_map, ap}
+use Rattle.world_laws.proofs.Prelude.{◌∙◌, AllByRecursion, option_and_then, IsLayer3, Channel, SWITCH_LINK}
+use Rattle.world_laws.proofs.Prelude.{AllByRecursion-filter, Input, Active, Preparing, Changing, Draining, State, WaitActivation}
+use Rattle.world_laws.proofs.Prelude.{WaitEstablish, WaitConfirm, Live, Closed, Removed, Connection, undone, used_channels}
+use Rattle.world_laws.proofs.Prelude.{connection_of, ChannelState, Free, InUse, Releasing, Word, Controller, Entry, channel_state, entry_of}
+use Rattle.world_laws.proofs.Prelude.{holder, place_of, is_control, Parameters, Event, Actors}
+use Rattle.conn_rules.specs.Streams.{target_in}
+use Rattle.world_laws.specs.LineUp.Places.{Item, messages_in}
 use Rattle.world_laws.specs.Acknowledged.{acknowledgements_up, NoneReleases, ReleasesLast}
 use Rattle.world_laws.specs.ComingUp.{coming_up}
 use Rattle.world_laws.specs.GoingDown.{going_down}
-use Rattle.world_laws.specs.Handled.{awaited_in, IsReadyFor, FramesKeepLineUps}
+use Rattle.world_laws.specs.Handled.{awaited_in, FramesKeepLineUps}
 use Rattle.world_laws.specs.LineUps.{commanded_target, is_ended}
 use Rattle.world_laws.specs.OwnFrame.{IsSaidTo}
 use Rattle.world_laws.specs.OwnFrame.IsSaidTo.{on_channel, on_connection}
@@ -45,6 +26,7 @@ use Rattle.world_laws.proofs.OwnHandled.{HandleKeepsLineUps-new}
 use Rattle.world_laws.proofs.Quiet.{all-of}
 use Rattle.world_laws.proofs.Standing.{ConnectionsStand-new}
 use Rattle.world_laws.proofs.Whole.{MessagesAreWhole-new}
+use Rattle.world_laws.proofs.Events.{world}
 
 -- ---- it is one of the controller's connections
 
@@ -79,7 +61,7 @@ none-on-target w Removed none awaited = tt
 
 pub FramesKeepLineUps-new : (settings : Parameters) (events : List Event) → FramesKeepLineUps settings events
 FramesKeepLineUps-new settings events mobile s item items input offer r stood comes ready read lined =
-    let w : Actors = actors_after_all (new_actors settings) events in
+    let w : Actors = world settings events in
     let there = said-there comes.said in
     let handled = FrameIsHandled-new w item s input offer r comes in
     let placed = lined.lined.placed in

@@ -1,12 +1,9 @@
 -- What the switch accepts of a connection that is lined up is in order.
-use Rattle.std.proofs.Common.{◌≡◌, ℕ, List, [], ◌∷◌, ◌++◌, ap, ◌∙◌, subst, append_assoc}
-use Rattle.conn_table.specs.Connection.{Connection}
-use Rattle.dtap_codec.specs.Places.{Rise}
-use Rattle.lineup.specs.LineUp.{LineUp, flow, parts_of, line}
-use Rattle.lineup.specs.Order.{coming}
-use Rattle.lineup.proofs.Following.{Follows-rise}
-use Rattle.lineup.proofs.Ordering.{IsInOrder-rise}
-use Rattle.world_table.specs.World.{Actors}
+use Rattle.world_laws.proofs.Prelude.{◌≡◌, ℕ, List, [], ◌∷◌, ◌++◌, ap, ◌∙◌, subst, append_assoc, Connection, Rise, Actors}
+use Rattle.world_laws.specs.LineUp.Places.{LineUp, flow, parts_of, line}
+use Rattle.world_laws.specs.LineUp.Order.{coming}
+use Rattle.world_laws.proofs.LineUp.Following.{Follows-rise}
+use Rattle.world_laws.proofs.LineUp.Ordering.{IsInOrder-rise}
 use Rattle.world_laws.specs.InOrder.{LineUpsAreInOrder}
 use Rattle.world_laws.specs.LineUps.{taken_of, line_up}
 use Rattle.world_laws.proofs.OwnRow.{flow-twice}

@@ -1,7 +1,10 @@
+mod Prelude
+mod Usual
 pub mod Spots
 pub mod Framing
 pub mod Likening
 pub mod Projecting
+pub mod Events
 pub mod Seeing
 pub mod Apart
 pub mod AirUp
@@ -73,3 +76,11 @@ pub mod OrderServes
 pub mod OwnerRun
 pub mod Remaining
 mod RemainingRows
+pub mod Channels
+pub mod Owners
+pub mod Targets
+pub mod References
+pub mod Access
+pub mod Handling
+pub mod Order
+pub mod LineUp

@@ -1,14 +1,12 @@
 -- Tenures that are the same on the line.
-use Rattle.std.proofs.Common.{◌≡◌, ℕ, Bool, ◌||◌, if◌then◌else◌, List, [], ◌∷◌, ◌++◌, length, refl, sym, ap, ◌∙◌, subst, arith}
-use Rattle.std.proofs.lemmas.List.{append-nil}
-use Rattle.conn_table.specs.declared.state.State.{State}
-use Rattle.lineup.specs.Alive.{Alive, Follows, FirstRelays, Condition, some_lost}
-use Rattle.lineup.specs.LineUp.{Tenure, Seat, flow, messages_in, part_of, parts_of, with_items, controls_of}
-use Rattle.lineup.specs.LineUp.Item.{released}
-use Rattle.lineup.proofs.Following.{Follows-line}
-use Rattle.lineup.proofs.Lines.{messages_in-append}
-use Rattle.lineup.proofs.Standing.{Stands-fewer}
-use Rattle.mobile_end.specs.DataLinkState.{DataLinkState}
+use Rattle.world_laws.proofs.Prelude.{◌≡◌, ℕ, Bool, ◌||◌, if◌then◌else◌, List, [], ◌∷◌, ◌++◌, length, refl, sym, ap, ◌∙◌, subst, arith}
+use Rattle.world_laws.proofs.Prelude.{append-nil, State, DataLinkState}
+use Rattle.world_laws.specs.LineUp.Alive.{Alive, Follows, FirstRelays, Condition, some_lost}
+use Rattle.world_laws.specs.LineUp.Places.{Tenure, Seat, flow, messages_in, part_of, parts_of, with_items, controls_of}
+use Rattle.world_laws.specs.LineUp.Places.Item.{released}
+use Rattle.world_laws.proofs.LineUp.Following.{Follows-line}
+use Rattle.world_laws.proofs.LineUp.Lines.{messages_in-append}
+use Rattle.world_laws.proofs.LineUp.Standing.{Stands-fewer}
 use Rattle.world_laws.specs.LineUps.{is_confirmed, is_intact, assembled}
 
 pub record Like (t u : Tenure) : Type 0 where

@@ -1,44 +1,25 @@
 -- Connections stay lined up at events in which the relay takes no part.
-use Rattle.std.proofs.Common.{◌≡◌, ◌≢◌, ℕ, ◌+◌, ◌==◌, ◌&&◌, ◌%◌, nat_eq, nat_le, Bool, true, false, if◌then◌else◌, cond, List, [], ◌∷◌, ◌++◌, find, unwrap_or, Option, Some, None, Result, Ok, Err, refl, sym, ap, ◌∙◌, subst, append_assoc}
-use Rattle.std.specs.List.{flat_map}
-use Rattle.std.specs.Option.{is_none}
-use Rattle.std.proofs.lemmas.Bool.{eqb-true, eqb-false}
-use Rattle.std.proofs.lemmas.List.{append-nil}
-use Rattle.conn_messages.specs.declared.channel.Change.{Change}
-use Rattle.conn_messages.specs.declared.channel.Change.TheVariants.{Assignment, Handover}
-use Rattle.conn_table.specs.Connection.{Connection}
-use Rattle.conn_table.specs.Streams.{is_dtap, used_channels}
-use Rattle.controller_table.specs.Controller.{place_of}
-use Rattle.dtap_codec.specs.declared.rr.RrMessage.{RrMessage}
-use Rattle.dtap_codec.specs.declared.rr.RrMessage.TheVariants.{AssignmentCommand, HandoverCommand, ChannelRelease}
-use Rattle.dtap_codec.specs.declared.rr_fault.RrFault.{RrFault}
-use Rattle.dtap_codec.specs.declared.sapi.Sapi.{Sapi}
-use Rattle.dtap_codec.specs.declared.sapi.Sapi.TheVariants.{Zero, Three}
-use Rattle.dtap_codec.specs.RrReading.{rr_reading}
-use Rattle.lineup.specs.LineUp.{Item}
-use Rattle.link_model.specs.BaseState.{BaseState}
-use Rattle.link_model.specs.Base.{after_tell, after_up, after_establish}
-use Rattle.link_model.specs.Message.{establish_indication, data_indication}
-use Rattle.mobile_end.specs.declared.mobile_end.Place.{Place as Whereabouts}
+use Rattle.world_laws.proofs.Prelude.{◌≡◌, ◌≢◌, ℕ, ◌+◌, ◌==◌, ◌&&◌, ◌%◌, nat_eq, nat_le, Bool, true, false, if◌then◌else◌, List, [], ◌∷◌}
+use Rattle.world_laws.proofs.Prelude.{◌++◌, find, Option, Some, None, refl, sym, ap, ◌∙◌, subst, append_assoc, flat_map, is_none, eqb-true}
+use Rattle.world_laws.proofs.Prelude.{eqb-false, append-nil, Connection, used_channels, place_of, Sapi, Zero, Three, BaseState, after_tell}
+use Rattle.world_laws.proofs.Prelude.{after_establish, establish_indication, data_indication, Whereabouts, Stage, New, Connected}
+use Rattle.world_laws.proofs.Prelude.{frame_answer, after_queue, refusal_of_send, after_acked, after_frame, after_frame_at, after_leave}
+use Rattle.world_laws.proofs.Prelude.{after_arrival, refusal_of_connect, MobileState, sapi_of, FIRST_SDCCH, MAIN_LINK_SAPI_3, SACCH_SAPI_3}
+use Rattle.world_laws.proofs.Prelude.{AirMessage, Command, On, Moving, Tenure, may_send, sent_by, connected, channel_required, is_new}
+use Rattle.world_laws.proofs.Prelude.{frame_in, signalling_brought, short_message_brought, framed, brought, hearing, seated, complete}
+use Rattle.world_laws.proofs.Prelude.{failure, Asking, handover_detection, measurement_result, after_upper, after_connecting, after_air_up}
+use Rattle.world_laws.proofs.Prelude.{after_air_ack, after_air_down, after_air_down_lost, after_move, after_touch, after_arriving}
+use Rattle.world_laws.proofs.Prelude.{after_return, after_report, Actors, Mobile, Spot, has_number, mobile_of, put_back, with_mobile}
+use Rattle.world_laws.proofs.Prelude.{is_station_up, base_of, with_base, spot_at, with_spot, is_reached, back-found, back-other}
+use Rattle.world_laws.proofs.Prelude.{found-number, base-with_spot, reached-up, up-right, and-left, and-right, only_if-leads}
+use Rattle.world_laws.proofs.Prelude.{by_mobile-leads, connect-leads, air_up-leads, air_ack-leads, air_down-leads, air_down_lost-leads}
+use Rattle.world_laws.proofs.Prelude.{move-leads, touch-leads, arrive-leads, return-leads, report-leads, hearing-number, control-complete}
+use Rattle.world_laws.proofs.Prelude.{same_Some, spot-with_base, found-front}
+use Rattle.world_laws.specs.LineUp.Places.{Item}
+use Rattle.link_model.specs.Base.{after_up}
 use Rattle.mobile_end.specs.declared.mobile_end.Place.TheVariants as places
-use Rattle.mobile_end.specs.declared.mobile_end.Stage.{Stage}
-use Rattle.mobile_end.specs.declared.mobile_end.Stage.TheVariants.{New, Connected}
-use Rattle.mobile_end.specs.Control.{is_control}
-use Rattle.mobile_end.specs.Mobile.{frame_answer, after_queue, refusal_of_send, after_acked, after_frame, after_frame_at, after_leave, after_arrival, refusal_of_connect}
-use Rattle.mobile_end.specs.MobileState.{MobileState}
-use Rattle.controller_table.specs.Reading.{sapi_of}
-use Rattle.rsl_codec.specs.declared.channel_number.TheConstants.{FIRST_SDCCH}
-use Rattle.rsl_codec.specs.declared.link_identifier.TheConstants.{MAIN_LINK_SAPI_3, SACCH_SAPI_3}
-use Rattle.world_table.specs.declared.line.AirMessage.{AirMessage}
-use Rattle.world_table.specs.declared.seat.Command.{Command}
-use Rattle.world_table.specs.declared.seat.Seat.{Seat}
-use Rattle.world_table.specs.declared.seat.Seat.TheVariants.{Asking, On, Moving, Gone}
-use Rattle.world_table.specs.declared.seat.Tenure.{Tenure}
-use Rattle.world_table.specs.Mobiles.{may_send, sent_by, connected, channel_required, is_new, frame_in, signalling_brought, short_message_brought, reported_at, framed, brought, remembering, controlled, hearing, left, seated, complete, failure, handover_detection, measurement_result, after_upper, after_connecting, after_air_up, after_air_ack, after_air_down, after_air_down_lost, after_move, after_touch, after_arriving, after_return, after_report}
-use Rattle.world_table.specs.World.{Actors, Mobile, Spot, has_number, mobile_of, put_back, with_mobile, is_station_up, base_of, with_base, spot_at, with_spot, is_reached}
-use Rattle.world_table.proofs.Found.{back-found, back-other, found-number}
-use Rattle.world_table.proofs.Honesty.{base-with_spot, reached-up, up-right}
-use Rattle.world_table.proofs.Leads.{OfTaken, FromAir, and-left, and-right, only_if-leads, by_mobile-leads, connect-leads, air_up-leads, air_ack-leads, air_down-leads, air_down_lost-leads, move-leads, touch-leads, arrive-leads, return-leads, report-leads}
+use Rattle.world_model.specs.Mobiles.{reported_at, left}
+use Rattle.world_model.proofs.Leads.{OfTaken, FromAir}
 use Rattle.world_laws.specs.ComingUp.{of_main, made_of}
 use Rattle.world_laws.specs.GoingDown.{leading_from_air}
 use Rattle.world_laws.specs.Seated.{IsAlone, LinedUp}
@@ -48,7 +29,8 @@ use Rattle.world_laws.proofs.OwnMobile.{own-upper, own-air_ack}
 use Rattle.world_laws.proofs.OwnMoves.{own-lost, own-heard, own-move, sees-established, own-arrive, own-return}
 use Rattle.world_laws.proofs.Quiet.{ArePlaced, down-with_base, sees-itself, sees-mobiles, sees-told, sees-spot, sees-elsewhere}
 use Rattle.world_laws.proofs.Seeing.{SameTenures, SeesSame, LinedUp-same}
-use Rattle.world_laws.proofs.Spots.{spot-with_base, tenure-with_base}
+use Rattle.world_laws.proofs.Spots.{tenure-with_base}
+use Rattle.world_model.proofs.Mobility.{control-failure}
 
 -- ---- whose event it is
 
@@ -58,11 +40,8 @@ data Whose (number mobile : ℕ) (p q : Mobile) : Type 0 where
 
 whose : (w : Actors) (number mobile : ℕ) (p q : Mobile) → mobile_of w mobile ≡ Some p → mobile_of w number ≡ Some q → Whose number mobile p q
 whose w number mobile p q found acts = by_number (nat_eq number mobile) refl where
-  some_same : {x y : Mobile} → Some x ≡ Some y → x ≡ y
-  some_same {x} e = ap (λ (o : Option Mobile). unwrap_or o x) e
-
   by_number : (b : Bool) → nat_eq number mobile ≡ b → Whose number mobile p q
-  by_number true is = own (eqb-true number mobile is) (some_same (sym acts ∙ ap (mobile_of w) (eqb-true number mobile is) ∙ found))
+  by_number true is = own (eqb-true number mobile is) (same_Some _ _ (sym acts ∙ ap (mobile_of w) (eqb-true number mobile is) ∙ found))
   by_number false is = other (eqb-false number mobile is)
 
 own-stays : {m : ℕ} {s : Connection} (w u : Actors) (mobile : ℕ) (p q : Mobile) → mobile_of w mobile ≡ Some p → u.mobiles ≡ w.mobiles → q.number ≡ p.number → LinedUp m (with_mobile q u) q s → AreLinedUp m (with_mobile q u) mobile s
@@ -120,7 +99,7 @@ ack-stays {m} {w} {mobile} {p} {s} number sapi h = air_ack-leads (λ v. AreLined
 sees-short_message : {w : Actors} {s : Connection} (tenure : Tenure) (up : Bool) (frame : List ℕ) → ArePlaced (used_channels s) → is_reached w tenure ≡ true
     → SeesSame w (with_spot tenure.at (record (spot_at w tenure.at) { sapi_three_up = true }) (with_base tenure.at.station (short_message_brought (base_of w tenure.at.station) tenure.at.number up frame) w)) s
 sees-short_message {w} {s} tenure up frame placed reached =
-    let same = spot-with_base w tenure.at.station (short_message_brought (base_of w tenure.at.station) tenure.at.number up frame) tenure.at in
+    let same = spot-with_base tenure.at.station (short_message_brought (base_of w tenure.at.station) tenure.at.number up frame) w tenure.at in
     sees-spot tenure.at (record (spot_at w tenure.at) { sapi_three_up = true }) (sym (ap (λ (x : Spot). flat_map leading_from_air x.air) same)) (sym (ap (λ (x : Spot). x.tenure) same)) (telling up) where
       base : BaseState
       base = base_of w tenure.at.station
@@ -189,26 +168,8 @@ frame-stays {m} {w} {mobile} {p} {s} number sapi h = air_up-leads (λ v. AreLine
 
 -- ---- messages from the air
 
-hearing-number : (p : Mobile) (a : AirMessage) → (hearing p a).number ≡ p.number
-hearing-number p a = by_kind (is_dtap a.message) where
-  by_seat : (change : Change) (target : Tenure) (seat : Seat) → (remembering p change target seat).number ≡ p.number
-  by_seat change target Asking = refl
-  by_seat change target (On tenure command) = refl
-  by_seat change target (Moving from command) = refl
-  by_seat change target Gone = refl
-
-  by_message : (target : Option Tenure) (r : Result RrMessage RrFault) → (controlled p target r).number ≡ p.number
-  by_message target (Ok (ChannelRelease cause)) = refl
-  by_message (Some target) (Ok (AssignmentCommand channel)) = by_seat Assignment target p.seat
-  by_message (Some target) (Ok (HandoverCommand cell channel reference)) = by_seat Handover target p.seat
-  by_message None (Ok (AssignmentCommand channel)) = refl
-  by_message None (Ok (HandoverCommand cell channel reference)) = refl
-  by_message target (Ok _) = refl
-  by_message target (Err fault) = refl
-
-  by_kind : (b : Bool) → (if b then record p { received = p.received ++ a.message ∷ [] } else controlled p a.target (rr_reading a.message)).number ≡ p.number
-  by_kind true = refl
-  by_kind false = by_message a.target (rr_reading a.message)
+pub on-asks : {tenure : Tenure} {command : Option Command} → On tenure command ≡ Asking → ⊥
+on-asks is = absurd cc
 
 -- of another mobile
 air-other : {m : ℕ} {w : Actors} {mobile : ℕ} {p : Mobile} {s : Connection} (number : ℕ) (q after : Mobile) (tenure : Tenure) (command : Option Command) (spot : Spot) → Before m w mobile p s → number ≢ mobile → mobile_of w number ≡ Some q → q.seat ≡ On tenure command → is_reached w tenure ≡ true → after.number ≡ q.number → spot.tenure ≡ (spot_at w tenure.at).tenure
@@ -248,14 +209,6 @@ move-stays {m} {w} {mobile} {p} {s} number h = move-leads (λ v. AreLinedUp m v 
       (λ seat. own-stays w _ mobile p (record p { end = after_leave p.end; seat = Moving tenure command; opens = false }) h.found refl refl (own-move tenure command seat h.lined)) seat
   by_whose q (other differs) tenure command acts seat reached = air-other number q (record q { end = after_leave q.end; seat = Moving tenure command; opens = false }) tenure (Some command) (record (spot_at w tenure.at) { air = []; sapi_three_up = false }) h differs acts seat reached refl refl
 
-control-complete : (change : Change) → is_control (complete change) ≡ true
-control-complete Assignment = refl
-control-complete Handover = refl
-
-control-failure : (change : Change) → is_control (failure change) ≡ true
-control-failure Assignment = refl
-control-failure Handover = refl
-
 pub arrive-stays : {m : ℕ} {w : Actors} {mobile : ℕ} {p : Mobile} {s : Connection} (number : ℕ) → Before m w mobile p s → OfTaken (λ v. AreLinedUp m v mobile s) (after_arriving w number)
 arrive-stays {m} {w} {mobile} {p} {s} number h = arrive-leads (λ v. AreLinedUp m v mobile s) w number (λ q from command acts seat reached. by_whose q (whose w number mobile p q h.found acts) from command acts seat reached) where
   by_whose : (q : Mobile) → Whose number mobile p q → (from : Tenure) (command : Command) → mobile_of w number ≡ Some q → q.seat ≡ Moving from command → is_reached w command.target ≡ true → AreLinedUp m (seated w q command.target (complete command.change)) mobile s
@@ -275,16 +228,10 @@ return-stays {m} {w} {mobile} {p} {s} number h = return-leads (λ v. AreLinedUp 
 pub connect-stays : {m : ℕ} {w : Actors} {mobile : ℕ} {p : Mobile} {s : Connection} (number station : ℕ) (initial : List ℕ) (accepts : Bool) → Before m w mobile p s → OfTaken (λ v. AreLinedUp m v mobile s) (after_connecting w number station initial accepts)
 connect-stays {m} {w} {mobile} {p} {s} number station initial accepts h = connect-leads (λ v. AreLinedUp m v mobile s) w number station initial accepts (λ may. record {
   one = p;
-  found = behind w.mobiles h.found;
+  found = found-front mobile p w.mobiles (connected w.modulus number initial accepts ∷ []) h.found;
   lined = LinedUp-same p p (sees-told station (after_tell (base_of w station) (channel_required number)) (channel_required number ∷ []) h.lined.placed
       (and-right (is_new w number) (is_station_up w station) (and-left (is_new w number && is_station_up w station) (is_none (refusal_of_connect (Some initial))) may)) (λ k. refl) refl refl (λ channel. refl) (sees-mobiles _ (sees-itself w s))) refl refl refl h.lined;
-}) where
-  behind : (ms : List Mobile) → find (has_number mobile) ms ≡ Some p → find (has_number mobile) (ms ++ connected w.modulus number initial accepts ∷ []) ≡ Some p
-  behind [] found = absurd cc
-  behind (x ∷ ms) found = by_number (has_number mobile x) (behind ms) found where
-    by_number : (b : Bool) → (find (has_number mobile) ms ≡ Some p → find (has_number mobile) (ms ++ connected w.modulus number initial accepts ∷ []) ≡ Some p) → cond b (Some x) (find (has_number mobile) ms) ≡ Some p → cond b (Some x) (find (has_number mobile) (ms ++ connected w.modulus number initial accepts ∷ [])) ≡ Some p
-    by_number true others found = found
-    by_number false others found = others found
+})
 
 pub touch-stays : {m : ℕ} {w : Actors} {mobile : ℕ} {p : Mobile} {s : Connection} (number : ℕ) → Before m w mobile p s → OfTaken (λ v. AreLinedUp m v mobile s) (after_touch w number)
 touch-stays {m} {w} {mobile} {p} {s} number h = touch-leads (λ v. AreLinedUp m v mobile s) w number (λ command reached.

@@ -1,19 +1,15 @@
 -- A connection is lined up from the row on that puts CR with its initial message.
-use Rattle.std.proofs.Common.{◌≡◌, ℕ, ◌+◌, Bool, true, false, not, List, [], ◌∷◌, ◌++◌, refl, sym, ap, ◌∙◌, subst, arith}
-use Rattle.std.proofs.lemmas.List.{append-nil}
-use Rattle.conn_table.specs.declared.state.State.TheVariants.{WaitConfirm}
-use Rattle.controller_table.specs.Controller.{place_of}
-use Rattle.lineup.specs.Alive.{Alive}
-use Rattle.lineup.specs.Alive.Condition.{sound}
-use Rattle.lineup.specs.Alive.Follows.{goes_on}
-use Rattle.lineup.specs.Alive.Stands.{rests}
-use Rattle.lineup.specs.Alive.Stays.{remains}
-use Rattle.lineup.specs.LineUp.{Item, fresh, flow, messages_in, with_items, controls_of, controls_in}
-use Rattle.lineup.specs.LineUp.Seat.{on_serving}
-use Rattle.lineup.proofs.Following.{Follows-line}
-use Rattle.lineup.proofs.Lines.{flow-cons}
-use Rattle.mobile_end.specs.DataLink.{to_be_taken}
-use Rattle.mobile_end.specs.DataLinkState.{DataLinkState}
+use Rattle.world_laws.proofs.Prelude.{◌≡◌, ℕ, ◌+◌, Bool, true, false, not, List, [], ◌∷◌, ◌++◌, refl, sym, ap, ◌∙◌, subst, arith}
+use Rattle.world_laws.proofs.Prelude.{append-nil, WaitConfirm, place_of, to_be_taken, DataLinkState, false≢true}
+use Rattle.world_laws.specs.LineUp.Alive.{Alive}
+use Rattle.world_laws.specs.LineUp.Alive.Condition.{sound}
+use Rattle.world_laws.specs.LineUp.Alive.Follows.{goes_on}
+use Rattle.world_laws.specs.LineUp.Alive.Stands.{rests}
+use Rattle.world_laws.specs.LineUp.Alive.Stays.{remains}
+use Rattle.world_laws.specs.LineUp.Places.{Item, fresh, flow, messages_in, with_items, controls_of, controls_in}
+use Rattle.world_laws.specs.LineUp.Places.Seat.{on_serving}
+use Rattle.world_laws.proofs.LineUp.Following.{Follows-line}
+use Rattle.world_laws.proofs.LineUp.Lines.{flow-cons}
 use Rattle.mobile_end.specs.GoesOn.{GoesOn}
 use Rattle.world_laws.specs.LineUps.{serving_tenure, assembled}
 use Rattle.world_laws.specs.OwnRow.{over, OpeningLinesUp}
@@ -40,10 +36,7 @@ cuts-fresh false items = breaks [] refl (sym (append-nil (messages_in items))) r
 pub OpeningLinesUp-new : (m : ℕ) → OpeningLinesUp m
 OpeningLinesUp-new m sent link initial coming up s opens =
     subst (Alive m) (sym reads)
-    (Alive-cut sent link on_serving WaitConfirm 0 0 [] [] (with_items fresh (coming (place_of s.serving))) (serving_tenure coming up s.serving []) fresh fresh (flow (initial ∷ [])) [] (omega arith) tt (cuts-fresh (up s.serving.station) (coming (place_of s.serving))) (cuts-itself fresh) (λ is. absurd (never is))
+    (Alive-cut sent link on_serving WaitConfirm 0 0 [] [] (with_items fresh (coming (place_of s.serving))) (serving_tenure coming up s.serving []) fresh fresh (flow (initial ∷ [])) [] (omega arith) tt (cuts-fresh (up s.serving.station) (coming (place_of s.serving))) (cuts-itself fresh) (λ is. absurd (false≢true is))
     (whole-opening sent link initial (coming (place_of s.serving)) opens.goes_on opens.no_control)) where
-      never : false ≡ true → ⊥
-      never h = absurd cc
-
       reads : over coming up s sent link on_serving 0 (flow (initial ∷ [])) [] ≡ assembled sent link on_serving WaitConfirm 0 [] (serving_tenure coming up s.serving []) fresh (flow (initial ∷ [])) []
       reads = rw (opens.awaits, opens.none_drains, opens.none_held) refl

@@ -1,61 +1,35 @@
 -- What the controller hears of a channel by an item of the inbox.
-use Rattle.std.proofs.Common.{◌≡◌, ◌≢◌, inl, inr, ℕ, ◌==◌, ◌&&◌, ◌≤◌, not, Bool, true, false, cond, if◌then◌else◌, List, [], ◌∷◌, option_to_list, Option, Some, None, Result, Ok, Err, refl, sym, ap, ◌∙◌, subst, true≢false}
-use Rattle.std.proofs.lemmas.Bool.{cases_Bool, eqb-true, eq-eqb, ne_eqb}
-use Rattle.std.specs.Result.{result_ok}
-use Rattle.bssmap_codec.specs.declared.bssap.Bssap.{Bssap}
-use Rattle.bssmap_codec.specs.declared.bssap.Bssap.TheVariants.{Management, Transfer}
-use Rattle.bssmap_codec.specs.declared.bssmap.Bssmap.{Bssmap}
+use Rattle.world_laws.proofs.Prelude.{◌≡◌, ◌≢◌, inl, inr, ℕ, ◌==◌, ◌&&◌, ◌≤◌, not, Bool, true, false, cond, if◌then◌else◌, List, [], ◌∷◌}
+use Rattle.world_laws.proofs.Prelude.{option_to_list, Option, Some, None, Ok, Err, refl, sym, ap, ◌∙◌, subst, true≢false, cases_Bool}
+use Rattle.world_laws.proofs.Prelude.{eqb-true, eq-eqb, ne_eqb, result_ok, Bssap, Management, Transfer, Bssmap, InterfaceFault, Sccp}
+use Rattle.world_laws.proofs.Prelude.{bssap_reading, Place, SWITCH_LINK, Input, is_dtap, free≢release, is_there, state_else, state_here}
+use Rattle.world_laws.proofs.Prelude.{ChannelState, Free, InUse, Releasing, Word, Nothing, Ping, Asks, OnChannel, Reports, OnConnection}
+use Rattle.world_laws.proofs.Prelude.{Controller, channel_state, place_at, body_word, bssap_word, change_word, data_word}
+use Rattle.world_laws.proofs.Prelude.{management_of_link, management_word, of_sapi, report_word, result_word, rr_word, rsl_word, sapi_of}
+use Rattle.world_laws.proofs.Prelude.{station_word, switch_word, radio_signalling, connection_control, link_management, other}
+use Rattle.world_laws.proofs.Prelude.{report_reading, RrMessage, RrFault, Sapi, Zero, Three, Frame, CCM_STREAM, PING, RSL_STREAM}
+use Rattle.world_laws.proofs.Prelude.{SCCP_STREAM, is_bound_of, Item, Rsl, rsl_reading, rsl_text, said_by, acknowledgements, rsl_in}
+use Rattle.world_laws.proofs.Prelude.{IsKnown, heard_of, hear, RequestReference}
+use Rattle.std.proofs.Common.{Result}
 use Rattle.bssmap_codec.specs.declared.bssmap.Bssmap.TheVariants as bssmap
-use Rattle.bssmap_codec.specs.declared.fault.InterfaceFault.{InterfaceFault}
-use Rattle.bssmap_codec.specs.declared.sccp.Sccp.{Sccp}
 use Rattle.bssmap_codec.specs.declared.sccp.Sccp.TheVariants as sccp
-use Rattle.bssmap_codec.specs.BssapReading.{bssap_reading}
 use Rattle.bssmap_codec.specs.SccpReading.{sccp_reading}
-use Rattle.conn_messages.specs.declared.channel.Place.{Place}
-use Rattle.conn_messages.specs.declared.parameters.TheConstants.{SWITCH_LINK}
-use Rattle.conn_table.specs.declared.input.Input.{Input}
-use Rattle.conn_table.specs.declared.input.Input.TheVariants as inputs
-use Rattle.conn_table.specs.Streams.{is_dtap}
-use Rattle.controller_laws.proofs.Places.{free≢release, is_there, state_else, state_here}
-use Rattle.controller_laws.proofs.UsingWords.{IsNoNack}
-use Rattle.controller_table.specs.declared.channel_state.ChannelState.{ChannelState}
-use Rattle.controller_table.specs.declared.channel_state.ChannelState.TheVariants.{Free, InUse, Releasing}
-use Rattle.controller_table.specs.declared.word.Word.{Word}
-use Rattle.controller_table.specs.declared.word.Word.TheVariants.{Nothing, Ping, Asks, OnChannel, Reports, OnConnection}
-use Rattle.controller_table.specs.Controller.{Controller, channel_state, place_at}
-use Rattle.controller_table.specs.Reading.{body_word, bssap_word, change_word, data_word, management_of_link, management_word, of_sapi, report_word, result_word, rr_word, rsl_word, sapi_of, station_word, switch_word, word_of}
-use Rattle.controller_table.specs.Reading.Carried.{radio_signalling, connection_control, link_management, other}
-use Rattle.controller_table.specs.Reports.{report_reading}
+use Rattle.conn_rules.specs.declared.input.Input.TheVariants as inputs
+use Rattle.controller_model.proofs.LifeLaws.UsingWords.{IsNoNack}
+use Rattle.controller_model.specs.Reading.{word_of}
 use Rattle.dtap_codec.specs.declared.report.Report.{Report}
-use Rattle.dtap_codec.specs.declared.rr.RrMessage.{RrMessage}
 use Rattle.dtap_codec.specs.declared.rr.RrMessage.TheVariants as rr
-use Rattle.dtap_codec.specs.declared.rr_fault.RrFault.{RrFault}
-use Rattle.dtap_codec.specs.declared.sapi.Sapi.{Sapi}
-use Rattle.dtap_codec.specs.declared.sapi.Sapi.TheVariants.{Zero, Three}
 use Rattle.dtap_codec.specs.RrReading.{rr_reading}
-use Rattle.ipa_framing.specs.declared.frame.Frame.{Frame}
-use Rattle.ipa_framing.specs.declared.streams.TheConstants.{CCM_STREAM, PING, RSL_STREAM, SCCP_STREAM}
-use Rattle.link_model.specs.Tenures.{is_bound_of}
-use Rattle.relay_items.specs.declared.Item.{Item}
-use Rattle.relay_items.specs.declared.What.TheVariants as whats
-use Rattle.rsl_codec.specs.declared.rsl.Rsl.{Rsl}
+use Rattle.ruled_relay.specs.declared.item.What.TheVariants as whats
 use Rattle.rsl_codec.specs.declared.rsl.Rsl.TheVariants as rsl
-use Rattle.rsl_codec.specs.RslReading.{rsl_reading}
-use Rattle.rsl_codec.specs.RslText.{rsl_text}
-use Rattle.world_table.specs.OwnerLines.{said_by}
-use Rattle.world_table.specs.Pipe.{acknowledgements}
-use Rattle.world_table.specs.Reading.{frame_of}
-use Rattle.world_table.specs.Stations.{rsl_in}
-use Rattle.world_table.proofs.OwnerItems.{IsKnown}
-use Rattle.world_table.proofs.OwnerRuns.{heard_of}
-use Rattle.world_table.proofs.OwnerTurn.{hear}
-use Rattle.world_table.proofs.Soundness.{is_nack}
+use Rattle.world_model.specs.Reading.{frame_of}
+use Rattle.world_model.proofs.Soundness.{is_nack}
 use Rattle.world_laws.proofs.OrderTurns.{NoNackWord, freed_by, heard_by}
 
 -- ---- words that free no channel
 
 -- neither RF CHANNEL RELEASE ACK nor CHANNEL ACTIVATION NACK
-pub FreesNone : Word → Type 0
+unfoldable pub FreesNone : Word → Type 0
 FreesNone (OnChannel p (inputs.ReleaseAck q)) = ⊥
 FreesNone (OnChannel p (inputs.ActivationNack q)) = ⊥
 FreesNone _ = Unit {0}
@@ -123,61 +97,84 @@ switch-frees frame = by (frame.stream == CCM_STREAM) (frame.stream == SCCP_STREA
 
 -- ---- of a station
 
-sapi-none : (p : Place) (o : Option Sapi) (input : Sapi → Input) → ((s : Sapi) → FreesNone (OnChannel p (input s))) → FreesNone (of_sapi p o input)
-unfolding FreesNone
-sapi-none p None input none = tt
-sapi-none p (Some s) input none = none s
+-- nor does it ask for a channel
+unfoldable pub IsPlain : Word → Type 0
+IsPlain (Asks request delay) = ⊥
+IsPlain word = FreesNone word
 
-change-none : (p : Place) (r : Result RrMessage RrFault) → FreesNone (change_word p r)
-unfolding FreesNone
-change-none p (Ok (rr.AssignmentComplete cause)) = tt
-change-none p (Ok (rr.HandoverComplete cause)) = tt
-change-none p (Ok (rr.AssignmentFailure cause)) = tt
-change-none p (Ok (rr.HandoverFailure cause)) = tt
-change-none p _ = tt
+plain-none : (word : Word) → IsPlain word → FreesNone word
+unfolding IsPlain
+plain-none (Asks request delay) plain = absurd plain
+plain-none (OnChannel p input) plain = plain
+plain-none Nothing plain = plain
+plain-none Ping plain = plain
+plain-none (Reports p of report) plain = plain
+plain-none (OnConnection m input) plain = plain
 
-rr-none : (p : Place) (o : Option Sapi) (l3 : List ℕ) → FreesNone (rr_word p o l3)
-unfolding FreesNone
-rr-none p (Some Zero) l3 = change-none p (rr_reading l3)
-rr-none p (Some Three) l3 = tt
-rr-none p None l3 = tt
+pub plain-asks : (word : Word) (request : RequestReference) (delay : ℕ) → IsPlain word → word ≡ Asks request delay → ⊥
+unfolding IsPlain
+plain-asks (Asks q d) request delay plain is = plain
+plain-asks (OnChannel p input) request delay plain is = absurd cc
+plain-asks Nothing request delay plain is = absurd cc
+plain-asks Ping request delay plain is = absurd cc
+plain-asks (Reports p of report) request delay plain is = absurd cc
+plain-asks (OnConnection m input) request delay plain is = absurd cc
 
-data-none : (b : Bool) (p : Place) (o : Option Sapi) (l3 : List ℕ) → FreesNone (data_word b p o l3)
-unfolding FreesNone
-data-none true p o l3 = sapi-none p o (λ s. inputs.Dtap p s l3) (λ s. tt)
-data-none false p o l3 = rr-none p o l3
+pub sapi-plain : (p : Place) (o : Option Sapi) (input : Sapi → Input) → ((s : Sapi) → IsPlain (OnChannel p (input s))) → IsPlain (of_sapi p o input)
+unfolding IsPlain FreesNone
+sapi-plain p None input none = tt
+sapi-plain p (Some s) input none = none s
 
-valid-none : (b : Bool) (p : Place) (number : ℕ) (report : Report) → FreesNone (if b then Reports p number report else Nothing)
-unfolding FreesNone
-valid-none true p number report = tt
-valid-none false p number report = tt
+change-plain : (p : Place) (r : Result RrMessage RrFault) → IsPlain (change_word p r)
+unfolding IsPlain FreesNone
+change-plain p (Ok (rr.AssignmentComplete cause)) = tt
+change-plain p (Ok (rr.HandoverComplete cause)) = tt
+change-plain p (Ok (rr.AssignmentFailure cause)) = tt
+change-plain p (Ok (rr.HandoverFailure cause)) = tt
+change-plain p _ = tt
 
-report-none : (p : Place) (number : ℕ) (r : Result RrMessage RrFault) → FreesNone (report_word p number r)
-unfolding FreesNone
-report-none p number (Ok (rr.MeasurementReport value)) = valid-none (report_reading value).valid p number (report_reading value)
-report-none p number _ = tt
+rr-plain : (p : Place) (o : Option Sapi) (l3 : List ℕ) → IsPlain (rr_word p o l3)
+unfolding IsPlain FreesNone
+rr-plain p (Some Zero) l3 = change-plain p (rr_reading l3)
+rr-plain p (Some Three) l3 = tt
+rr-plain p None l3 = tt
 
-result-none : (p : Place) (number : ℕ) (o : Option (List ℕ)) → FreesNone (result_word p number o)
-unfolding FreesNone
-result-none p number None = tt
-result-none p number (Some l3) = report-none p number (rr_reading l3)
+pub data-plain : (b : Bool) (p : Place) (o : Option Sapi) (l3 : List ℕ) → IsPlain (data_word b p o l3)
+unfolding IsPlain FreesNone
+data-plain true p o l3 = sapi-plain p o (λ s. inputs.Dtap p s l3) (λ s. tt)
+data-plain false p o l3 = rr-plain p o l3
+
+valid-plain : (b : Bool) (p : Place) (number : ℕ) (report : Report) → IsPlain (if b then Reports p number report else Nothing)
+unfolding IsPlain FreesNone
+valid-plain true p number report = tt
+valid-plain false p number report = tt
+
+report-plain : (p : Place) (number : ℕ) (r : Result RrMessage RrFault) → IsPlain (report_word p number r)
+unfolding IsPlain FreesNone
+report-plain p number (Ok (rr.MeasurementReport value)) = valid-plain (report_reading value).valid p number (report_reading value)
+report-plain p number _ = tt
+
+pub result-plain : (p : Place) (number : ℕ) (o : Option (List ℕ)) → IsPlain (result_word p number o)
+unfolding IsPlain FreesNone
+result-plain p number None = tt
+result-plain p number (Some l3) = report-plain p number (rr_reading l3)
 
 is_end : Rsl → Bool
 is_end (rsl.RfChannelReleaseAck channel) = true
 is_end message = false
 
 message-none : (source : ℕ) (message : Rsl) → is_nack message ≡ false → is_end message ≡ false → FreesNone (rsl_word source message)
-unfolding FreesNone is_end
+unfolding IsPlain FreesNone is_end
 message-none source (rsl.ChannelRequired r) no_nack no_end = tt
 message-none source (rsl.ChannelActivationAck a) no_nack no_end = tt
 message-none source (rsl.ChannelActivationNack f) no_nack no_end = absurd (true≢false no_nack)
-message-none source (rsl.EstablishIndication e) no_nack no_end = sapi-none (place_at source e.channel) (sapi_of e.link) (λ s. inputs.EstablishIndication (place_at source e.channel) s e.l3) (λ s. tt)
-message-none source (rsl.EstablishConfirm l) no_nack no_end = sapi-none (place_at source l.channel) (sapi_of l.link) (λ s. inputs.EstablishConfirm (place_at source l.channel) s) (λ s. tt)
-message-none source (rsl.ReleaseIndication l) no_nack no_end = sapi-none (place_at source l.channel) (sapi_of l.link) (λ s. inputs.ReleaseIndication (place_at source l.channel) s) (λ s. tt)
-message-none source (rsl.ErrorIndication e) no_nack no_end = sapi-none (place_at source e.channel) (sapi_of e.link) (λ s. inputs.ErrorIndication (place_at source e.channel) s) (λ s. tt)
+message-none source (rsl.EstablishIndication e) no_nack no_end = plain-none _ (sapi-plain (place_at source e.channel) (sapi_of e.link) (λ s. inputs.EstablishIndication (place_at source e.channel) s e.l3) (λ s. tt))
+message-none source (rsl.EstablishConfirm l) no_nack no_end = plain-none _ (sapi-plain (place_at source l.channel) (sapi_of l.link) (λ s. inputs.EstablishConfirm (place_at source l.channel) s) (λ s. tt))
+message-none source (rsl.ReleaseIndication l) no_nack no_end = plain-none _ (sapi-plain (place_at source l.channel) (sapi_of l.link) (λ s. inputs.ReleaseIndication (place_at source l.channel) s) (λ s. tt))
+message-none source (rsl.ErrorIndication e) no_nack no_end = plain-none _ (sapi-plain (place_at source e.channel) (sapi_of e.link) (λ s. inputs.ErrorIndication (place_at source e.channel) s) (λ s. tt))
 message-none source (rsl.ConnectionFailure f) no_nack no_end = tt
-message-none source (rsl.DataIndication d) no_nack no_end = data-none (is_dtap d.l3) (place_at source d.channel) (sapi_of d.link) d.l3
-message-none source (rsl.MeasurementResult m) no_nack no_end = result-none (place_at source m.channel) m.number.0 m.l3
+message-none source (rsl.DataIndication d) no_nack no_end = plain-none _ (data-plain (is_dtap d.l3) (place_at source d.channel) (sapi_of d.link) d.l3)
+message-none source (rsl.MeasurementResult m) no_nack no_end = plain-none _ (result-plain (place_at source m.channel) m.number.0 m.l3)
 message-none source (rsl.RfChannelReleaseAck channel) no_nack no_end = absurd (true≢false no_end)
 message-none source _ no_nack no_end = tt
 

@@ -1,37 +1,16 @@
 -- On which channel a COMMAND goes, and to which it leads: both are in use by one connection.
-use Rattle.std.proofs.Common.{◌≡◌, ℕ, ◌==◌, Bool, true, false, ◌∷◌, option_map, Option, Some, None, refl, sym, ap, ◌∙◌, subst, inl, inr}
-use Rattle.std.proofs.lemmas.Bool.{cases_Bool, and_parts, eqb-true}
-use Rattle.std.specs.List.{AllByRecursion}
-use Rattle.conn_messages.specs.declared.channel.Channel.{Channel}
-use Rattle.conn_messages.specs.declared.channel.Place.{Place}
-use Rattle.conn_messages.specs.declared.message.Message.TheVariants.{Station}
-use Rattle.conn_messages.specs.declared.out.Out.{Out}
-use Rattle.conn_messages.specs.Out.{out_of, outs_of}
-use Rattle.conn_table.specs.declared.input.Input.TheVariants as inputs
-use Rattle.conn_table.specs.declared.state.Stage.TheVariants.{Active, Preparing, Changing, Draining}
-use Rattle.conn_table.specs.declared.state.State.{State}
-use Rattle.conn_table.specs.declared.state.State.TheVariants.{WaitActivation, WaitEstablish, WaitConfirm, Live, Closed, Removed}
-use Rattle.conn_table.specs.Connection.{Connection, is_at}
-use Rattle.conn_table.specs.Roles.{target_channels, target_role}
-use Rattle.conn_table.specs.Steps.{Row}
-use Rattle.conn_table.specs.Streams.{IsOpen}
-use Rattle.conn_table.specs.Table.{row_of, row_if, assign_immediately, command_to, on_activation_ack}
-use Rattle.controller_laws.specs.Owning.{AreIn}
-use Rattle.controller_laws.specs.Sending.{IsSent}
-use Rattle.controller_laws.proofs.OwningWords.{owns_entry}
-use Rattle.controller_laws.proofs.SeenStations.{same_channel}
-use Rattle.controller_laws.proofs.UsingWords.{Ready, here_of}
-use Rattle.controller_table.specs.declared.channel_state.ChannelState.{ChannelState}
-use Rattle.controller_table.specs.declared.channel_state.ChannelState.TheVariants.{Free, InUse, Releasing}
-use Rattle.controller_table.specs.Controller.{Controller, Entry, channel_state, entry_of, ignoring, place_of, state_in}
-use Rattle.controller_table.specs.Life.{by_fitting, concerning, entry_at, on_state, row_in}
+use Rattle.world_laws.proofs.Prelude.{◌≡◌, ℕ, ◌==◌, ◌∷◌, option_map, Option, Some, None, refl, sym, ap, ◌∙◌, subst, inl, inr, cases_Bool}
+use Rattle.world_laws.proofs.Prelude.{eqb-true, AllByRecursion, Channel, Place, Station, Out, outs_of, Active, Preparing, Changing}
+use Rattle.world_laws.proofs.Prelude.{Draining, State, WaitActivation, WaitEstablish, WaitConfirm, Live, Closed, Removed, Connection}
+use Rattle.world_laws.proofs.Prelude.{is_at, target_channels, target_role, Row, IsOpen, assign_immediately, command_to, on_activation_ack}
+use Rattle.world_laws.proofs.Prelude.{AreIn, IsSent, owns_entry, same_channel, Ready, here_of, ChannelState, Free, InUse, Releasing}
+use Rattle.world_laws.proofs.Prelude.{Controller, Entry, channel_state, entry_of, ignoring, place_of, state_in, by_fitting, concerning}
+use Rattle.world_laws.proofs.Prelude.{entry_at, on_state, row_in, DataMessage, rsl_text, asker, said_to, none-some, place-is, if_is}
+use Rattle.conn_messages.specs.Out.{out_of}
+use Rattle.conn_rules.specs.declared.input.Input.TheVariants as inputs
+use Rattle.conn_rules.specs.Table.{row_of}
 use Rattle.rsl_codec.specs.declared.common_channel.ImmediateAssignment.{ImmediateAssignment as Assignment}
-use Rattle.rsl_codec.specs.declared.radio_link.Data.{Data as DataMessage}
-use Rattle.rsl_codec.specs.declared.rsl.Rsl.{Rsl}
 use Rattle.rsl_codec.specs.declared.rsl.Rsl.TheVariants as rsl
-use Rattle.rsl_codec.specs.RslText.{rsl_text}
-use Rattle.world_table.specs.OwnerLines.{asker}
-use Rattle.world_table.proofs.OwnerPuts.{said_to}
 use Rattle.world_laws.proofs.OrderTexts.{assignment_apart, read-of, said-other, said-own}
 
 -- a DATA REQUEST on the channel is of the connection that uses it, and the channel p too
@@ -45,49 +24,47 @@ pub record LeadsUser (at p : Place) (c : Controller) : Type 0 where
 abbrev pub LeadsOut : Place → Place → Controller → Out → Type 0
 LeadsOut at p c out = (d : DataMessage) → said_to at out ≡ Some (rsl.DataRequest d) → d.channel ≡ at.number → LeadsUser at p c
 
-none-said : {y : Rsl} → None ≡ Some y → ⊥
-none-said is = absurd cc
-
 -- an assignment is no DATA REQUEST
-assignment-leads : (at p : Place) (c : Controller) (n station : ℕ) (i : Assignment) → IsSent (out_of n (Station station (rsl.ImmediateAssignCommand i))) → LeadsOut at p c (out_of n (Station station (rsl.ImmediateAssignCommand i)))
-assignment-leads at p c n station i sent d is same = elim (cases_Bool (station == at.station)) [
-  | inr miss ↦ absurd (none-said (sym (said-other at n station (rsl.ImmediateAssignCommand i) miss) ∙ is))
+pub no-request : {X : Type 0} (at : Place) (n station : ℕ) (i : Assignment) (d : DataMessage) → IsSent (out_of n (Station station (rsl.ImmediateAssignCommand i)))
+    → said_to at (out_of n (Station station (rsl.ImmediateAssignCommand i))) ≡ Some (rsl.DataRequest d) → X
+no-request at n station i d sent is = elim (cases_Bool (station == at.station)) [
+  | inr miss ↦ absurd (none-some _ (sym (said-other at n station (rsl.ImmediateAssignCommand i) miss) ∙ is))
   | inl hit ↦
       let read = read-of n station (rsl.ImmediateAssignCommand i) sent in
       let said : read.0 ≡ rsl.DataRequest d = (let both : Some read.0 ≡ Some (rsl.DataRequest d) = sym (said-own at n station (rsl.ImmediateAssignCommand i) read.0 hit read.1) ∙ is in cc) in
       absurd (assignment_apart i d (read.1.text ∙ ap rsl_text said))
 ]
 
--- a COMMAND on the serving channel
-command-leads : (at p : Place) (c : Controller) (n m : ℕ) (serving : Channel) (r : DataMessage) → r.channel ≡ serving.number → channel_state c (place_of serving) ≡ InUse n → channel_state c p ≡ InUse n → asker c n ≡ Some m → IsSent (out_of n (Station serving.station (rsl.DataRequest r))) → LeadsOut at p c (out_of n (Station serving.station (rsl.DataRequest r)))
-command-leads at p c n m serving r on used there asks sent d is same = elim (cases_Bool (serving.station == at.station)) [
-  | inr miss ↦ absurd (none-said (sym (said-other at n serving.station (rsl.DataRequest r) miss) ∙ is))
+assignment-leads : (at p : Place) (c : Controller) (n station : ℕ) (i : Assignment) → IsSent (out_of n (Station station (rsl.ImmediateAssignCommand i))) → LeadsOut at p c (out_of n (Station station (rsl.ImmediateAssignCommand i)))
+assignment-leads at p c n station i sent d is same = no-request at n station i d sent is
+
+-- a DATA REQUEST is of the channel that it names
+pub request-place : (at : Place) (n : ℕ) (serving : Channel) (r d : DataMessage) → r.channel ≡ serving.number → IsSent (out_of n (Station serving.station (rsl.DataRequest r)))
+    → said_to at (out_of n (Station serving.station (rsl.DataRequest r))) ≡ Some (rsl.DataRequest d) → d.channel ≡ at.number → place_of serving ≡ at
+request-place at n serving r d on sent is same = elim (cases_Bool (serving.station == at.station)) [
+  | inr miss ↦ absurd (none-some _ (sym (said-other at n serving.station (rsl.DataRequest r) miss) ∙ is))
   | inl hit ↦
       let read = read-of n serving.station (rsl.DataRequest r) sent in
       let said : read.0 ≡ rsl.DataRequest d = (let both : Some read.0 ≡ Some (rsl.DataRequest d) = sym (said-own at n serving.station (rsl.DataRequest r) read.0 hit read.1) ∙ is in cc) in
       let channel : r.channel ≡ d.channel = same_channel r d (read.1.text ∙ ap rsl_text said) in
-      let place : place_of serving ≡ at = ap (λ (s : ℕ). record { station = s; number = serving.number }) (eqb-true serving.station at.station hit) ∙ ap (λ (k : ℕ). record { station = at.station; number = k }) (sym on ∙ channel ∙ same) in
-      record { number = n; mobile = m; here = ap (state_in c.channels) (sym place) ∙ used; there = there; asks = asks }
+      ap (λ (s : ℕ). record { station = s; number = serving.number }) (eqb-true serving.station at.station hit) ∙ ap (λ (k : ℕ). record { station = at.station; number = k }) (sym on ∙ channel ∙ same)
 ]
+
+-- a COMMAND on the serving channel
+command-leads : (at p : Place) (c : Controller) (n m : ℕ) (serving : Channel) (r : DataMessage) → r.channel ≡ serving.number → channel_state c (place_of serving) ≡ InUse n → channel_state c p ≡ InUse n → asker c n ≡ Some m → IsSent (out_of n (Station serving.station (rsl.DataRequest r))) → LeadsOut at p c (out_of n (Station serving.station (rsl.DataRequest r)))
+command-leads at p c n m serving r on used there asks sent d is same =
+    let place = request-place at n serving r d on sent is same in
+    record { number = n; mobile = m; here = ap (state_in c.channels) (sym place) ∙ used; there = there; asks = asks }
 
 abbrev AllLead : Place → Place → Controller → ℕ → Row → Type 0
 AllLead at p c n r = AllByRecursion IsSent (outs_of n r.outs) → AllByRecursion (LeadsOut at p c) (outs_of n r.outs)
 
-fits-at : (b : Bool) (r q : Row) → row_if b r ≡ Some q → (b ≡ true) × (r ≡ q)
-fits-at true r q is = (refl, cc)
-fits-at false r q is = absurd cc
-
-place-is : (p : Place) (c : Channel) → is_at p c ≡ true → p ≡ place_of c
-place-is p c hit =
-    let parts = and_parts (p.station == c.station) (p.number == c.number) hit in
-    ap (λ (s : ℕ). record { station = s; number = p.number }) (eqb-true p.station c.station parts.0) ∙ ap (λ (k : ℕ). record { station = c.station; number = k }) (eqb-true p.number c.number parts.1)
-
 ack-row : (at p : Place) (c : Controller) (n m : ℕ) (state : State) (s : Connection) (r : Row) → s.state ≡ state → on_activation_ack state s p ≡ Some r → (IsOpen state → AreIn c.channels (InUse n) (s.serving ∷ target_channels (target_role state))) → asker c n ≡ Some m → AllLead at p c n r
 ack-row at p c n m WaitActivation s r is fits used asks =
-    let parts = fits-at (is_at p s.serving) (assign_immediately s) r fits in
+    let parts = if_is (is_at p s.serving) (assign_immediately s) r fits in
     subst (AllLead at p c n) parts.1 (λ sent. (assignment-leads at p c n s.serving.station _ sent.0, tt))
 ack-row at p c n m (Live reference (Preparing target)) s r is fits used asks =
-    let parts = fits-at (is_at p target.channel) (command_to reference target s) r fits in
+    let parts = if_is (is_at p target.channel) (command_to reference target s) r fits in
     let all = used tt in
     subst (AllLead at p c n) parts.1 (λ sent. (command-leads at p c n m s.serving _ refl all.0 (ap (state_in c.channels) (place-is p target.channel parts.0) ∙ all.1.0) asks sent.0, tt))
 ack-row at p c n m (Live reference Active) s r is fits used asks = absurd cc

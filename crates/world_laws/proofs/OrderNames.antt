@@ -1,44 +1,21 @@
 -- Whom an IMMEDIATE ASSIGNMENT on a channel names: the mobile of the connection that uses it.
-use Rattle.std.proofs.Common.{◌≡◌, ℕ, ◌==◌, ◌≤◌, Bool, if◌then◌else◌, List, [], ◌∷◌, slice_index_or, Option, Some, None, Result, Ok, refl, sym, ap, ◌∙◌, subst, inl, inr}
-use Rattle.std.proofs.lemmas.Bool.{cases_Bool, eqb-true}
-use Rattle.std.specs.List.{AllByRecursion}
-use Rattle.conn_messages.specs.declared.channel.Channel.{Channel}
-use Rattle.conn_messages.specs.declared.channel.Place.{Place}
-use Rattle.conn_messages.specs.declared.message.Message.{Message}
-use Rattle.conn_messages.specs.declared.message.Message.TheVariants.{Station, Request, Data, ReleaseComplete}
-use Rattle.conn_messages.specs.declared.out.Out.{Out}
-use Rattle.conn_messages.specs.Out.{out_of, outs_of}
-use Rattle.conn_messages.specs.StationMessage.{immediate_assign_command, immediate_assignment}
-use Rattle.conn_table.proofs.DownlinkMessages.{AllByRecursion-filter}
-use Rattle.conn_table.specs.declared.input.Input.{Input}
-use Rattle.conn_table.specs.declared.input.Input.TheVariants as inputs
-use Rattle.conn_table.specs.Connection.{Connection}
-use Rattle.conn_table.specs.Roles.{ChangesRoles, RoleEnd, Roles, TargetRole, end_messages, roles_of, those_that_go, to_stations}
-use Rattle.conn_table.specs.Roles.ChangesRoles.{goes_on, ends, had_ended}
-use Rattle.conn_table.specs.Roles.RoleEnd.{refused, drops, dismisses}
-use Rattle.conn_table.specs.Steps.{Row}
-use Rattle.conn_table.specs.Streams.{IsOpen, OfRow}
-use Rattle.conn_table.specs.Table.{row_of}
-use Rattle.controller_laws.specs.Naming.{Names}
-use Rattle.controller_laws.specs.Sending.{IsSent}
-use Rattle.controller_laws.proofs.Naming.{IsNamed, row_named}
-use Rattle.controller_table.specs.declared.channel_state.ChannelState.TheVariants.{InUse}
-use Rattle.controller_table.specs.Controller.{Controller, channel_state, place_of}
-use Rattle.dtap_codec.specs.declared.rr.ChannelDescription.{ChannelDescription}
-use Rattle.dtap_codec.specs.declared.rr.RrMessage.{RrMessage}
-use Rattle.dtap_codec.specs.declared.rr.RrMessage.TheVariants.{ImmediateAssignment}
-use Rattle.dtap_codec.specs.declared.rr_fault.RrFault.{RrFault}
+use Rattle.world_laws.proofs.Prelude.{◌≡◌, ℕ, ◌==◌, ◌≤◌, Bool, if◌then◌else◌, List, [], ◌∷◌, slice_index_or, Option, Some, None, Ok, refl}
+use Rattle.world_laws.proofs.Prelude.{sym, ap, ◌∙◌, subst, inl, inr, cases_Bool, eqb-true, AllByRecursion, Channel, Place, Message, Station}
+use Rattle.world_laws.proofs.Prelude.{Request, Data, ReleaseComplete, Out, outs_of, immediate_assign_command, immediate_assignment}
+use Rattle.world_laws.proofs.Prelude.{AllByRecursion-filter, Input, Connection, ChangesRoles, RoleEnd, Roles, TargetRole, end_messages}
+use Rattle.world_laws.proofs.Prelude.{roles_of, those_that_go, goes_on, ends, had_ended, refused, drops, dismisses, Row, IsOpen, OfRow}
+use Rattle.world_laws.proofs.Prelude.{Names, IsSent, InUse, Controller, channel_state, place_of, ChannelDescription, RrMessage, none-some}
+use Rattle.world_laws.proofs.Prelude.{ImmediateAssignment, RrFault, rr_text, Rsl, RequestReference, rsl_text, asker, rsl_in, said_to}
+use Rattle.std.proofs.Common.{Result}
+use Rattle.conn_messages.specs.Out.{out_of}
+use Rattle.conn_rules.specs.declared.input.Input.TheVariants as inputs
+use Rattle.conn_rules.specs.Roles.{to_stations}
+use Rattle.conn_rules.specs.Table.{row_of}
+use Rattle.controller_model.proofs.LifeLaws.Naming.{IsNamed, row_named}
 use Rattle.dtap_codec.specs.RrReading.{immediate_assignment_at, pseudo_at, rr_reading, three_at}
-use Rattle.dtap_codec.specs.RrText.{rr_text}
 use Rattle.octets.specs.Front.{octet_at}
 use Rattle.rsl_codec.specs.declared.common_channel.ImmediateAssignment.{ImmediateAssignment as Assignment}
-use Rattle.rsl_codec.specs.declared.rsl.Rsl.{Rsl}
 use Rattle.rsl_codec.specs.declared.rsl.Rsl.TheVariants as rsl
-use Rattle.rsl_codec.specs.declared.values.RequestReference.{RequestReference}
-use Rattle.rsl_codec.specs.RslText.{rsl_text}
-use Rattle.world_table.specs.OwnerLines.{asker}
-use Rattle.world_table.specs.Stations.{rsl_in}
-use Rattle.world_table.proofs.OwnerPuts.{said_to}
 use Rattle.world_laws.proofs.OrderTexts.{assignment_back, no-switch, read-of, said-other, said-own}
 
 -- where it is of this channel, the channel is in use by a connection of that mobile
@@ -64,9 +41,6 @@ none-named at c (Some (rsl.ImmediateAssignCommand i)) none = absurd (none i refl
 none-named at c None none = tt
 none-named at c (Some _) none = tt
 
-never-some : {y : Rsl} → None ≡ Some y → ⊥
-never-some is = absurd cc
-
 no-assignment : (at : Place) (c : Controller) (n : ℕ) (m : Message) → 1 ≤ at.station → IsSent (out_of n m) → NoAssignment m → NamesOut at c (out_of n m)
 unfolding out_of
 no-assignment at c n (Station station x) least sent free = none-named at c (said_to at (out_of n (Station station x))) (λ i is. elim (cases_Bool (station == at.station)) [
@@ -75,7 +49,7 @@ no-assignment at c n (Station station x) least sent free = none-named at c (said
       let said : read.0 ≡ rsl.ImmediateAssignCommand i = (let both : Some read.0 ≡ Some (rsl.ImmediateAssignCommand i) = sym (said-own at n station x read.0 hit read.1) ∙ is in cc) in
       let back = assignment_back x i (read.1.text ∙ ap rsl_text said) in
       subst (λ (z : Rsl). NoAssignment (Station station z)) back.1 free
-  | inr miss ↦ never-some (sym (said-other at n station x miss) ∙ is)
+  | inr miss ↦ none-some _ (sym (said-other at n station x miss) ∙ is)
 ])
 no-assignment at c n (Request message) least sent free = subst (NamesIn at c) (sym (ap (λ (b : Bool). if b then rsl_in (out_of n (Request message)).frame else None) (no-switch at least))) tt
 no-assignment at c n (Data destination message) least sent free = subst (NamesIn at c) (sym (ap (λ (b : Bool). if b then rsl_in (out_of n (Data destination message)).frame else None) (no-switch at least))) tt
@@ -112,15 +86,15 @@ shut-assigns s input offer r (had_ended was_shut is_shut nothing) shut = station
 
 -- ---- one that is named
 
-record AssignmentRead (c : Channel) (request : RequestReference) (delay : ℕ) : Type 0 where
-  channel : ChannelDescription
-  named : List ℕ
-  advance : ℕ
-  reads : rr_reading (rr_text (immediate_assignment c request delay)) ≡ Ok (ImmediateAssignment channel named advance)
-  number : channel.channel.0 ≡ c.number
-  access : slice_index_or named 0 0 ≡ request.access
+pub record AssignmentRead (c : Channel) (request : RequestReference) (delay : ℕ) : Type 0 where
+  pub channel : ChannelDescription
+  pub named : List ℕ
+  pub advance : ℕ
+  pub reads : rr_reading (rr_text (immediate_assignment c request delay)) ≡ Ok (ImmediateAssignment channel named advance)
+  pub number : channel.channel.0 ≡ c.number
+  pub access : slice_index_or named 0 0 ≡ request.access
 
-assignment-read : (c : Channel) (request : RequestReference) (delay : ℕ) → AssignmentRead c request delay
+pub assignment-read : (c : Channel) (request : RequestReference) (delay : ℕ) → AssignmentRead c request delay
 unfolding rr_reading pseudo_at immediate_assignment_at three_at octet_at
 assignment-read c request delay = record { channel = _; named = _; advance = _; reads = refl; number = refl; access = refl }
 
@@ -133,14 +107,14 @@ station-in : Message → ℕ
 station-in (Station station x) = station
 station-in _ = 0
 
-information-in : Message → List ℕ
+abbrev pub information-in : Message → List ℕ
 information-in (Station station (rsl.ImmediateAssignCommand i)) = i.information
 information-in _ = []
 
 -- it is of the serving channel, and names the request
 assigns-user : (at : Place) (c : Controller) (n station : ℕ) (serving : Channel) (request : RequestReference) (delay : ℕ) (i j : Assignment) → station ≡ at.station → i.information ≡ j.information → Station station (rsl.ImmediateAssignCommand i) ≡ immediate_assign_command serving request delay
     → (place_of serving ≡ at → channel_state c at ≡ InUse n) → asker c n ≡ Some request.access → NamesUser at c (rr_reading j.information)
-unfolding station-in information-in
+unfolding station-in
 assigns-user at c n station serving request delay i j here same is used asks =
     let read = assignment-read serving request delay in
     let there : serving.station ≡ at.station = sym (ap station-in is) ∙ here in
@@ -160,7 +134,7 @@ named-message at c n serving request (Station station x) least sent names used a
           let back = assignment_back x j (read.1.text ∙ ap rsl_text said) in
           let assigns : (delay : ℕ) × (Station station (rsl.ImmediateAssignCommand back.0) ≡ immediate_assign_command serving request delay) = subst (λ (z : Rsl). Names serving request (Station station z)) back.1 names in
           assigns-user at c n station serving request assigns.0 back.0 j (eqb-true station at.station hit) back.2 assigns.1 used asks
-      | inr miss ↦ absurd (never-some (sym (said-other at n station x miss) ∙ is))
+      | inr miss ↦ absurd (none-some _ (sym (said-other at n station x miss) ∙ is))
     ])
 named-message at c n serving request (Request message) least sent names used asks = no-assignment at c n (Request message) least sent tt
 named-message at c n serving request (Data destination message) least sent names used asks = no-assignment at c n (Data destination message) least sent tt

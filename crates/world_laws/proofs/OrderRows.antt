@@ -1,39 +1,21 @@
 -- What a row of the table does to one channel: at most one of its messages activates or releases it.
-use Rattle.std.proofs.Common.{◌≡◌, ◌≢◌, ◌⊎◌, inl, inr, ℕ, ◌==◌, ◌&&◌, ◌≤◌, ◌<◌, Bool, true, false, if◌then◌else◌, List, [], ◌∷◌, ◌++◌, filter, fold, Option, Some, None, refl, sym, ap, ◌∙◌, subst, true≢false}
-use Rattle.std.specs.List.{AllByRecursion}
-use Rattle.conn_messages.specs.declared.channel.Change.{Change}
-use Rattle.conn_messages.specs.declared.channel.Change.TheVariants.{Assignment, Handover}
-use Rattle.conn_messages.specs.declared.channel.Channel.{Channel}
-use Rattle.conn_messages.specs.declared.channel.Place.{Place}
-use Rattle.conn_messages.specs.declared.message.Message.{Message}
-use Rattle.conn_messages.specs.declared.message.Message.TheVariants.{Station, Request, Data, ReleaseComplete}
-use Rattle.conn_messages.specs.Out.{out_of, outs_of}
-use Rattle.conn_messages.specs.StationMessage.{change_activation, rf_channel_release}
-use Rattle.conn_table.proofs.DownlinkMessages.{AllByRecursion-append}
-use Rattle.conn_table.specs.declared.input.Input.{Input}
-use Rattle.conn_table.specs.declared.input.Input.TheVariants as inputs
-use Rattle.conn_table.specs.declared.state.Target.{Target}
-use Rattle.conn_table.specs.Connection.{Connection}
-use Rattle.conn_table.specs.Roles.{ChangesRoles, MayBegin, RoleEnd, RoleStep, Roles, TargetRole, after_step, begin_orders, end_messages, is_order, is_to_station, roles_of, step_by, step_orders, target_channels, those_that_go, to_stations}
-use Rattle.conn_table.specs.Roles.ChangesRoles.{goes_on, ends, had_ended}
-use Rattle.conn_table.specs.Roles.RoleEnd.{refused, drops, dismisses}
-use Rattle.conn_table.specs.Roles.RoleStep.{stays, commands, completes, goes_back, leaves}
-use Rattle.conn_table.specs.Steps.{Row}
-use Rattle.conn_table.specs.Streams.{IsOpen}
-use Rattle.controller_laws.specs.Owning.{AreIn}
-use Rattle.controller_laws.specs.Sending.{IsSent}
-use Rattle.controller_laws.proofs.Keeping.{Avoids, from_stations, that_go_avoid}
-use Rattle.controller_laws.proofs.Places.{IsIn, free≢use, is_there, state_else, state_here, still_there}
-use Rattle.controller_table.specs.declared.channel_state.ChannelState.{ChannelState}
-use Rattle.controller_table.specs.declared.channel_state.ChannelState.TheVariants.{Free, InUse, Releasing}
-use Rattle.controller_table.specs.declared.limits.TheConstants.{CHANNEL_NUMBERS}
-use Rattle.controller_table.specs.Controller.{channels_after, place_of, state_in}
-use Rattle.rsl_codec.specs.declared.dedicated_channel.Activation.{Activation}
+use Rattle.world_laws.proofs.Prelude.{◌≡◌, ◌≢◌, ◌⊎◌, inl, inr, ℕ, ◌==◌, ◌&&◌, ◌≤◌, ◌<◌, Bool, true, false, if◌then◌else◌, List, [], ◌∷◌}
+use Rattle.world_laws.proofs.Prelude.{◌++◌, filter, fold, Option, Some, None, refl, sym, ap, ◌∙◌, subst, true≢false, AllByRecursion}
+use Rattle.world_laws.proofs.Prelude.{Change, Assignment, Handover, Channel, Place, Message, Station, Request, Data, ReleaseComplete}
+use Rattle.world_laws.proofs.Prelude.{outs_of, change_activation, rf_channel_release, AllByRecursion-append, Input, Target, Connection}
+use Rattle.world_laws.proofs.Prelude.{ChangesRoles, MayBegin, RoleEnd, RoleStep, Roles, TargetRole, after_step, begin_orders}
+use Rattle.world_laws.proofs.Prelude.{end_messages, is_order, roles_of, step_by, step_orders, target_channels, those_that_go, goes_on}
+use Rattle.world_laws.proofs.Prelude.{ends, had_ended, refused, drops, dismisses, stays, commands, completes, goes_back, leaves, Row}
+use Rattle.world_laws.proofs.Prelude.{IsOpen, AreIn, IsSent, Avoids, IsIn, free≢use, is_there, state_else, state_here, ChannelState, Free}
+use Rattle.world_laws.proofs.Prelude.{InUse, Releasing, CHANNEL_NUMBERS, place_of, state_in, Activation, cases_Bool, eqb-true, eq-eqb}
+use Rattle.world_laws.proofs.Prelude.{and_parts, Goes, Runs, runs, first_passes, activates, over, passes, releases, AllByRecursion-filter}
+use Rattle.conn_messages.specs.Out.{out_of}
+use Rattle.conn_rules.specs.declared.input.Input.TheVariants as inputs
+use Rattle.conn_rules.specs.Roles.{is_to_station, to_stations}
+use Rattle.controller_model.proofs.LifeLaws.Keeping.{from_stations, that_go_avoid}
+use Rattle.controller_model.proofs.LifeLaws.Places.{still_there}
+use Rattle.controller_model.specs.Controller.{channels_after}
 use Rattle.rsl_codec.specs.declared.rsl.Rsl.TheVariants as rsl
-use Rattle.std.proofs.lemmas.Bool.{cases_Bool, eqb-true, eq-eqb, and_parts}
-use Rattle.world_table.proofs.OwnerPuts.{Goes, Runs}
-use Rattle.world_table.proofs.OwnerPuts.Goes.{runs, first_passes, activates}
-use Rattle.world_table.proofs.OwnerPuts.Runs.{over, passes, releases}
 use Rattle.world_laws.proofs.OrderTexts.{seen-activation, seen-avoids, seen-release}
 
 abbrev pub States : Type 0
@@ -66,16 +48,9 @@ unfiltered P at test free (m ∷ ms) = by (test m) refl (unfiltered P at test fr
 refiltered : (P : Message → Type 0) (at : Place) (test : Message → Bool) (ms : List Message) → OneOrder P at ms → OneOrder P at (filter test ms) ⊎ AllByRecursion (Avoids at) (filter test ms)
 refiltered P at test [] one = inl one
 refiltered P at test (m ∷ ms) (here p all) = by (test m) where
-  fewer : (xs : List Message) → AllByRecursion (Avoids at) xs → AllByRecursion (Avoids at) (filter test xs)
-  fewer [] all = tt
-  fewer (x ∷ xs) all = of (test x) (fewer xs all.1) where
-    of : (b : Bool) → AllByRecursion (Avoids at) (filter test xs) → AllByRecursion (Avoids at) (if b then x ∷ filter test xs else filter test xs)
-    of true rest = (all.0, rest)
-    of false rest = rest
-
   by : (b : Bool) → OneOrder P at (if b then m ∷ filter test ms else filter test ms) ⊎ AllByRecursion (Avoids at) (if b then m ∷ filter test ms else filter test ms)
-  by true = inl (here p (fewer ms all))
-  by false = inr (fewer ms all)
+  by true = inl (here p (AllByRecursion-filter (Avoids at) test ms all))
+  by false = inr (AllByRecursion-filter (Avoids at) test ms all)
 refiltered P at test (m ∷ ms) (later avoids one) = by (test m) (refiltered P at test ms one) where
   by : (b : Bool) → OneOrder P at (filter test ms) ⊎ AllByRecursion (Avoids at) (filter test ms) → OneOrder P at (if b then m ∷ filter test ms else filter test ms) ⊎ AllByRecursion (Avoids at) (if b then m ∷ filter test ms else filter test ms)
   by true (inl found) = inl (later avoids found)

@@ -1,45 +1,27 @@
 -- The controller serves each channel, by the laws of its life.
-use Rattle.std.proofs.Common.{◌≡◌, ◌⊎◌, inl, inr, ℕ, zero, suc, ◌==◌, ◌≤◌, nat_eq, Bool, true, false, cond, if◌then◌else◌, List, [], ◌∷◌, option_map, set, slice_index_or, Contains, Option, Some, None, Result, Ok, Err, refl, sym, ap, ◌∙◌, subst, arith, true≢false}
-use Rattle.std.proofs.lemmas.Bool.{cases_Bool, eqb-true}
+use Rattle.world_laws.proofs.Prelude.{◌≡◌, ◌⊎◌, inl, inr, ℕ, zero, suc, ◌==◌, ◌≤◌, nat_eq, Bool, true, false, cond, if◌then◌else◌, List, []}
+use Rattle.world_laws.proofs.Prelude.{◌∷◌, option_map, set, slice_index_or, Contains, Option, Some, None, Ok, Err, refl, sym, ap, ◌∙◌}
+use Rattle.world_laws.proofs.Prelude.{subst, arith, true≢false, cases_Bool, eqb-true, AllByRecursion, Place, Out, connection_of}
+use Rattle.world_laws.proofs.Prelude.{NamesItsMobile, SameRequest, is_link_up, AreUsed, links_with, step_goes, find_above, contains_none}
+use Rattle.world_laws.proofs.Prelude.{Ready, ChannelState, Free, InUse, Releasing, Step, Take, Controller, Entry, channel_state, entry_of}
+use Rattle.world_laws.proofs.Prelude.{hears, step, RrMessage, ImmediateAssignment, RrFault, What, DataMessage, Rsl, Tenure, Agrees, asker}
+use Rattle.world_laws.proofs.Prelude.{tenure_behind, rsl_in, Actors, is_up, entries_to, said_to, Serves, hear}
+use Rattle.std.proofs.Common.{Result}
 use Rattle.std.proofs.lemmas.Option.{unwrap_or-slice_get}
-use Rattle.std.specs.List.{AllByRecursion}
-use Rattle.conn_messages.specs.declared.channel.Place.{Place}
-use Rattle.conn_messages.specs.declared.out.Out.{Out}
-use Rattle.controller_laws.specs.History.{connection_of}
-use Rattle.controller_laws.specs.Naming.{NamesItsMobile, SameRequest}
-use Rattle.controller_laws.specs.Owning.{is_link_up}
-use Rattle.controller_laws.specs.Reach.{GoesToUp}
-use Rattle.controller_laws.specs.Sending.{SendsMessages}
-use Rattle.controller_laws.specs.Using.{AreUsed, used_places}
-use Rattle.controller_laws.proofs.Beside.{links_with, step_goes}
-use Rattle.controller_laws.proofs.Entries.{find_above}
-use Rattle.controller_laws.proofs.UsingRows.{contains_none}
-use Rattle.controller_laws.proofs.UsingWords.{Ready}
-use Rattle.controller_table.specs.declared.channel_state.ChannelState.{ChannelState}
-use Rattle.controller_table.specs.declared.channel_state.ChannelState.TheVariants.{Free, InUse, Releasing}
-use Rattle.controller_table.specs.declared.step.Step.{Step}
-use Rattle.controller_table.specs.declared.step.Step.TheVariants.{Take, Tick}
-use Rattle.controller_table.specs.Controller.{Controller, Entry, channel_state, entry_of, is_up as hears}
-use Rattle.controller_table.specs.Life.{step}
-use Rattle.dtap_codec.specs.declared.rr.RrMessage.{RrMessage}
-use Rattle.dtap_codec.specs.declared.rr.RrMessage.TheVariants.{ImmediateAssignment}
-use Rattle.dtap_codec.specs.declared.rr_fault.RrFault.{RrFault}
+use Rattle.controller_model.specs.LifeLaws.Reach.{GoesToUp}
+use Rattle.controller_model.specs.LifeLaws.Sending.{SendsMessages}
+use Rattle.controller_model.specs.LifeLaws.Using.{used_places}
+use Rattle.controller_model.specs.declared.step.Step.TheVariants.{Tick}
 use Rattle.dtap_codec.specs.RrReading.{rr_reading}
-use Rattle.relay_items.specs.declared.What.{What}
-use Rattle.relay_items.specs.declared.What.TheVariants as whats
-use Rattle.rsl_codec.specs.declared.radio_link.Data.{Data as DataMessage}
-use Rattle.rsl_codec.specs.declared.rsl.Rsl.{Rsl}
+use Rattle.ruled_relay.specs.declared.item.What.TheVariants as whats
 use Rattle.rsl_codec.specs.declared.rsl.Rsl.TheVariants as rsl
-use Rattle.world_table.specs.declared.seat.Tenure.{Tenure}
-use Rattle.world_table.specs.OwnerLines.{Agrees, AssignsIn, asker, tenure_behind}
-use Rattle.world_table.specs.Relay.{commands, entry_of as outbox_entry}
-use Rattle.world_table.specs.Stations.{rsl_in}
-use Rattle.world_table.specs.Tickets.{LeadsBy}
-use Rattle.world_table.specs.World.{Actors, is_up}
-use Rattle.world_table.proofs.OwnerPuts.{FitAll, FitsBeside, entries_to, said_to}
-use Rattle.world_table.proofs.OwnerTurn.{Serves, hear}
+use Rattle.world_model.specs.OwnerLines.{AssignsIn}
+use Rattle.world_model.specs.Relay.{commands, entry_of as outbox_entry}
+use Rattle.world_model.specs.Tickets.{LeadsBy}
+use Rattle.world_model.proofs.OwnerPuts.{FitAll, FitsBeside}
 use Rattle.world_laws.proofs.OrderNames.{NamesIn, NamesOut, NamesUser}
 use Rattle.world_laws.proofs.OrderTurns.{Serving}
+use Rattle.world_laws.proofs.Others.{entry-out}
 
 -- ---- links
 
@@ -73,14 +55,10 @@ heard-before c (Tick ms) link up = ap (λ (links : List Bool). is_link_up links 
 
 -- ---- what is put goes to links that are up
 
-outbox-out : (target : Option Tenure) (out : Out) → (outbox_entry target out).out ≡ out
-outbox-out None out = refl
-outbox-out (Some tenure) out = refl
-
 pub none-to : (next : Controller) (at : Place) (target : Option Tenure) (outs : List Out) → AllByRecursion (λ out. hears next out.to ≡ true) outs → hears next at.station ≡ false → entries_to at target outs ≡ []
 none-to next at target [] all down = refl
 none-to next at target (out ∷ outs) all down =
-    ap (λ (o : Out). cond (nat_eq o.to at.station) (outbox_entry target out ∷ entries_to at target outs) (entries_to at target outs)) (outbox-out target out)
+    ap (λ (o : Out). cond (nat_eq o.to at.station) (outbox_entry target out ∷ entries_to at target outs) (entries_to at target outs)) (entry-out target out)
     ∙ ap (λ (b : Bool). cond b (outbox_entry target out ∷ entries_to at target outs) (entries_to at target outs)) (other (cases_Bool (out.to == at.station)))
     ∙ none-to next at target outs all.1 down
   where
@@ -114,7 +92,7 @@ users-of c s at number mobile laws asks used = by number asks (laws.used.using a
 
 -- ---- what is put fits the tenures
 
-use-free : (heard : List Rsl) (state : ChannelState) (number : ℕ) → state ≡ InUse number → hear heard state ≡ Free → ⊥
+pub use-free : (heard : List Rsl) (state : ChannelState) (number : ℕ) → state ≡ InUse number → hear heard state ≡ Free → ⊥
 use-free [] state number used free = absurd (let both : InUse number ≡ Free = sym used ∙ free in cc)
 use-free (rsl.RfChannelReleaseAck channel ∷ rest) (Releasing m) number used free = absurd cc
 use-free (rsl.RfChannelReleaseAck channel ∷ rest) Free number used free = absurd cc

@@ -1,50 +1,27 @@
 -- What breaks of links and timers do to one channel: nothing is activated, and nobody assigned.
-use Rattle.std.proofs.Common.{◌≡◌, ◌≢◌, ℕ, ◌==◌, ◌≤◌, Bool, true, false, if◌then◌else◌, List, [], ◌∷◌, ◌++◌, set, slice_index_or, Option, Some, None, refl, sym, ap, subst}
+use Rattle.world_laws.proofs.Prelude.{◌≡◌, ◌≢◌, ℕ, ◌==◌, ◌≤◌, Bool, true, false, if◌then◌else◌, List, [], ◌∷◌, ◌++◌, set, slice_index_or}
+use Rattle.world_laws.proofs.Prelude.{Option, Some, None, refl, sym, ap, subst, AllByRecursion, Channel, Place, Out, SWITCH_LINK}
+use Rattle.world_laws.proofs.Prelude.{AllByRecursion-append, Input, Connection, roles_of, Row, IsOpen, AreRising, IsSent, own_carried}
+use Rattle.world_laws.proofs.Prelude.{break_shut, timer_shut, Holds, changes_of, owns_entry, IsHere, Ready, ChannelState, Free}
+use Rattle.world_laws.proofs.Prelude.{request_offer, Controller, Entry, Turn, turn, each, channel_state, entry_of, freed_station, state_in}
+use Rattle.world_laws.proofs.Prelude.{with_down, all_aged, break_of, by_fitting, expiry, on_break, row_in, timed, Goes, Runs, runs, over}
+use Rattle.world_laws.proofs.Prelude.{passes, releases}
 use Rattle.std.proofs.lemmas.List.{get_or-set_other}
-use Rattle.std.specs.List.{AllByRecursion}
-use Rattle.conn_messages.specs.declared.channel.Channel.{Channel}
-use Rattle.conn_messages.specs.declared.channel.Place.{Place}
-use Rattle.conn_messages.specs.declared.out.Out.{Out}
-use Rattle.conn_messages.specs.declared.parameters.TheConstants.{SWITCH_LINK}
-use Rattle.conn_table.proofs.DownlinkMessages.{AllByRecursion-append}
-use Rattle.conn_table.specs.declared.input.Input.{Input}
-use Rattle.conn_table.specs.Connection.{Connection}
-use Rattle.conn_table.specs.Roles.{roles_of}
-use Rattle.conn_table.specs.Steps.{Row}
-use Rattle.conn_table.specs.Streams.{IsOpen}
-use Rattle.conn_table.specs.Table.{row_of}
-use Rattle.controller_laws.specs.Numbers.{AreRising}
-use Rattle.controller_laws.specs.Sending.{IsSent}
-use Rattle.controller_laws.proofs.Fitting.{own_carried}
-use Rattle.controller_laws.proofs.OwningLife.{break_shut, expiry_holds, timer_shut, told_holds}
-use Rattle.controller_laws.proofs.OwningWords.{Holds, changes_of, owns_entry}
-use Rattle.controller_laws.proofs.Turns.{IsDue, all_found, expiry_own, told_tame, timed_tame}
-use Rattle.controller_laws.proofs.UsingLife.{aged_ready, all_here, expiry_numbers, still_here, told_numbers}
-use Rattle.controller_laws.proofs.UsingWords.{IsHere, Ready}
-use Rattle.controller_table.specs.declared.channel_state.ChannelState.{ChannelState}
-use Rattle.controller_table.specs.declared.channel_state.ChannelState.TheVariants.{Free}
-use Rattle.controller_table.specs.Channels.{request_offer}
-use Rattle.controller_table.specs.Controller.{Controller, Entry, Turn, turn, each, channel_state, entry_of, free_channels, freed_station, state_in, with_down}
-use Rattle.controller_table.specs.Life.{all_aged, break_of, by_fitting, expiry, on_break, on_expiry as expires, row_in, tick, timed, told}
-use Rattle.world_table.proofs.OwnerPuts.{Goes, Runs}
-use Rattle.world_table.proofs.OwnerPuts.Goes.{runs}
-use Rattle.world_table.proofs.OwnerPuts.Runs.{over, passes, releases}
+use Rattle.conn_rules.specs.Table.{row_of}
+use Rattle.controller_model.proofs.LifeLaws.OwningLife.{expiry_holds, told_holds}
+use Rattle.controller_model.proofs.LifeLaws.Turns.{IsDue, all_found, expiry_own, told_tame, timed_tame}
+use Rattle.controller_model.proofs.LifeLaws.UsingLife.{aged_ready, all_here, expiry_numbers, still_here, told_numbers}
+use Rattle.controller_model.specs.Controller.{free_channels}
+use Rattle.controller_model.specs.Life.{on_expiry as expires, tick, told}
 use Rattle.world_laws.proofs.OrderNames.{NamesOut, no-assignments, shut-assigns}
 use Rattle.world_laws.proofs.OrderRows.{States, ends-run, row-ends}
 use Rattle.world_laws.proofs.OrderTurns.{Serving, of-owns}
+use Rattle.world_laws.proofs.Framing.{all-left, all-right}
 
 runs-on : {at : Place} {state middle end : ChannelState} {xs ys : List Out} → Runs at state xs middle → Runs at middle ys end → Runs at state (xs ++ ys) end
 runs-on over next = next
 runs-on (passes beside rest) next = passes beside (runs-on rest next)
 runs-on (releases says rest) next = releases says (runs-on rest next)
-
-front-sent : (xs ys : List Out) → AllByRecursion IsSent (xs ++ ys) → AllByRecursion IsSent xs
-front-sent [] ys all = tt
-front-sent (x ∷ xs) ys all = (all.0, front-sent xs ys all.1)
-
-behind-sent : (xs ys : List Out) → AllByRecursion IsSent (xs ++ ys) → AllByRecursion IsSent ys
-behind-sent [] ys all = all
-behind-sent (x ∷ xs) ys all = behind-sent xs ys all.1
 
 -- a step that ends connections alone
 abbrev RunsOn : Place → Controller → Controller → Turn → Type 0
@@ -67,8 +44,8 @@ each-runs : (at : Place) (c : Controller) (links : List Bool) (f : Controller �
 each-runs at c links f order leaves numbers keeps d [] sorted own holds = λ sent. (over, tt)
 each-runs at c links f order leaves numbers keeps d (x ∷ xs) sorted own holds = λ sent.
     let one = keeps d x own.0 holds in
-    let first = one.1 (front-sent (f d x).outs (each f (f d x).next xs).outs sent) in
-    let others = each-runs at c links f order leaves numbers keeps (f d x).next xs sorted.1 (still_here links f d x xs order leaves numbers sorted.0 own.1) one.0 (behind-sent (f d x).outs (each f (f d x).next xs).outs sent) in
+    let first = one.1 (all-left IsSent (f d x).outs (each f (f d x).next xs).outs sent) in
+    let others = each-runs at c links f order leaves numbers keeps (f d x).next xs sorted.1 (still_here links f d x xs order leaves numbers sorted.0 own.1) one.0 (all-right IsSent (f d x).outs (each f (f d x).next xs).outs sent) in
     (runs-on first.0 others.0, AllByRecursion-append (NamesOut at c) (f d x).outs (each f (f d x).next xs).outs first.1 others.1)
 
 -- ---- a break
@@ -76,7 +53,7 @@ each-runs at c links f order leaves numbers keeps d (x ∷ xs) sorted own holds 
 freed-else : (channels : States) (source : ℕ) (at : Place) → at.station ≢ source → state_in (set channels source free_channels) at ≡ state_in channels at
 freed-else channels source at differ = ap (λ (row : List ChannelState). slice_index_or row at.number Free) (get_or-set_other channels source at.station free_channels [] differ)
 
-without-same : (b : Bool) (source : ℕ) (c : Controller) (at : Place) → at.station ≢ source → channel_state (if b then c else freed_station source c) at ≡ channel_state c at
+pub without-same : (b : Bool) (source : ℕ) (c : Controller) (at : Place) → at.station ≢ source → channel_state (if b then c else freed_station source c) at ≡ channel_state c at
 without-same true source c at differ = refl
 without-same false source c at differ = freed-else c.channels source at differ
 

@@ -1,26 +1,15 @@
 -- Activations, releases and assignments, and the texts that carry them.
-use Rattle.std.proofs.Common.{◌≡◌, ◌≢◌, ℕ, ◌==◌, ◌&&◌, ◌≤◌, Bool, true, false, if◌then◌else◌, List, drop, slice_index_or, Some, None, Ok, refl, sym, ap, ◌∙◌, subst, inl, inr, arith, true≢false, append-nil}
-use Rattle.std.proofs.lemmas.Bool.{cases_Bool, eqb-true, eq-eqb}
-use Rattle.std.specs.Result.{result_ok}
-use Rattle.conn_messages.specs.declared.channel.Place.{Place}
-use Rattle.conn_messages.specs.declared.message.Message.{Message}
-use Rattle.conn_messages.specs.declared.message.Message.TheVariants.{Station, Request, Data, ReleaseComplete}
-use Rattle.conn_messages.specs.declared.out.Out.{Out}
-use Rattle.conn_messages.specs.declared.parameters.TheConstants.{SWITCH_LINK}
-use Rattle.conn_messages.specs.Out.{IsReadOf, out_of}
-use Rattle.controller_laws.specs.Sending.{IsSent}
-use Rattle.controller_laws.proofs.Keeping.{Avoids}
-use Rattle.controller_laws.proofs.SeenFrames.{apart}
+use Rattle.world_laws.proofs.Prelude.{◌≡◌, ◌≢◌, ℕ, ◌==◌, ◌&&◌, ◌≤◌, Bool, true, false, if◌then◌else◌, List, drop, slice_index_or, Some}
+use Rattle.world_laws.proofs.Prelude.{None, Ok, refl, sym, ap, ◌∙◌, subst, inl, inr, arith, true≢false, cases_Bool, eqb-true, eq-eqb}
+use Rattle.world_laws.proofs.Prelude.{result_ok, Place, Message, Station, Request, Data, ReleaseComplete, Out, SWITCH_LINK, IsReadOf}
+use Rattle.world_laws.proofs.Prelude.{IsSent, Avoids, Activation, DataMessage, Rsl, rsl_reading, rsl_text, Passes, said_to, rsl_in}
+use Rattle.std.proofs.Common.{append-nil}
+use Rattle.conn_messages.specs.Out.{out_of}
+use Rattle.controller_model.proofs.LifeLaws.SeenFrames.{apart}
 use Rattle.rsl_codec.specs.declared.common_channel.ImmediateAssignment.{ImmediateAssignment as Assignment}
-use Rattle.rsl_codec.specs.declared.dedicated_channel.Activation.{Activation}
-use Rattle.rsl_codec.specs.declared.radio_link.Data.{Data as DataMessage}
-use Rattle.rsl_codec.specs.declared.rsl.Rsl.{Rsl}
 use Rattle.rsl_codec.specs.declared.rsl.Rsl.TheVariants as rsl
-use Rattle.rsl_codec.specs.RslReading.{rsl_reading}
-use Rattle.rsl_codec.specs.RslText.{rsl_element_text, rsl_text}
+use Rattle.rsl_codec.specs.RslText.{rsl_element_text}
 use Rattle.rsl_codec.specs.RslType.{rsl_discriminator, rsl_octet, type_of}
-use Rattle.world_table.proofs.OwnerPuts.{Passes, said_to}
-use Rattle.world_table.specs.Stations.{rsl_in}
 
 -- ---- messages of a kind, by the first two octets of their texts
 

@@ -1,44 +1,24 @@
 -- What each turn of the controller does to one channel, and whom its assignments name.
-use Rattle.std.proofs.Common.{◌≡◌, ◌≢◌, ◌⊎◌, inl, inr, ℕ, ◌==◌, ◌&&◌, ◌≤◌, ◌<◌, Bool, true, false, if◌then◌else◌, List, [], ◌∷◌, ◌++◌, option_map, Option, Some, None, refl, sym, ap, ◌∙◌, subst, true≢false}
-use Rattle.std.proofs.lemmas.Bool.{eq-eqb}
-use Rattle.std.specs.List.{AllByRecursion}
-use Rattle.conn_messages.specs.declared.channel.Channel.{Channel}
-use Rattle.conn_messages.specs.declared.channel.Place.{Place}
-use Rattle.conn_messages.specs.StationMessage.{access_activation}
-use Rattle.conn_table.specs.declared.input.Input.{Input}
-use Rattle.conn_table.specs.declared.input.Input.TheVariants as inputs
-use Rattle.conn_table.specs.Connection.{Connection}
-use Rattle.conn_table.specs.Roles.{Roles, TargetRole, roles_of, target_channels}
-use Rattle.conn_table.specs.Standing.{Stands}
-use Rattle.conn_table.specs.Steps.{Row}
-use Rattle.conn_table.specs.Streams.{AreApart, IsOpen, undone}
-use Rattle.conn_table.specs.Table.{row_of, serving_after}
-use Rattle.controller_laws.specs.Owning.{Owns, used_in}
-use Rattle.controller_laws.specs.Sending.{IsSent}
-use Rattle.controller_laws.proofs.Owning.{IsOffered}
-use Rattle.controller_laws.proofs.OwningSteps.{IsRow, IsShaped, offered_free}
-use Rattle.controller_laws.proofs.OwningWords.{Holds, assignment_offers, changes_of, freed_shaped, owns_entry}
-use Rattle.controller_laws.proofs.Places.{all_at, release≢use, still_in}
-use Rattle.controller_laws.proofs.UsingWords.{IsNoNack, Ready, here_of}
-use Rattle.controller_table.specs.declared.channel_kind.ChannelKind.TheVariants.{Sdcch}
-use Rattle.controller_table.specs.declared.channel_state.ChannelState.{ChannelState}
-use Rattle.controller_table.specs.declared.channel_state.ChannelState.TheVariants.{Free, InUse, Releasing}
-use Rattle.controller_table.specs.declared.word.Word.{Word}
-use Rattle.controller_table.specs.declared.word.Word.TheVariants.{Nothing, Ping, Asks, OnChannel, Reports, OnConnection}
-use Rattle.controller_table.specs.Channels.{access_channel, handover_offer, kind_of, request_offer}
-use Rattle.controller_table.specs.Controller.{Controller, Entry, Turn, turn, ignoring, channel_state, entry_of, freed, place_of, state_in, with_entry, with_state}
-use Rattle.controller_table.specs.Life.{by_fitting, concerning, concerning_too, entry_at, given, may_open, measured, measures, on_decision, on_report, on_state, on_word, pong, row_in, with_report}
-use Rattle.controller_table.specs.Reports.{decision_over}
+use Rattle.world_laws.proofs.Prelude.{◌≡◌, ◌≢◌, ◌⊎◌, inl, inr, ℕ, ◌==◌, ◌&&◌, ◌≤◌, ◌<◌, Bool, true, false, if◌then◌else◌, List, [], ◌∷◌}
+use Rattle.world_laws.proofs.Prelude.{◌++◌, option_map, Option, Some, None, refl, sym, ap, ◌∙◌, subst, true≢false, eq-eqb, AllByRecursion}
+use Rattle.world_laws.proofs.Prelude.{Channel, Place, access_activation, Input, Connection, Roles, TargetRole, roles_of, target_channels}
+use Rattle.world_laws.proofs.Prelude.{Stands, Row, AreApart, IsOpen, undone, Owns, IsSent, IsOffered, offered_free, Holds, changes_of}
+use Rattle.world_laws.proofs.Prelude.{owns_entry, Ready, here_of, Sdcch, ChannelState, Free, InUse, Releasing, Word, Nothing, Ping, Asks}
+use Rattle.world_laws.proofs.Prelude.{OnChannel, Reports, OnConnection, access_channel, handover_offer, request_offer, Controller, Entry}
+use Rattle.world_laws.proofs.Prelude.{Turn, turn, ignoring, channel_state, entry_of, freed, place_of, state_in, with_entry, with_state}
+use Rattle.world_laws.proofs.Prelude.{by_fitting, concerning, concerning_too, entry_at, given, may_open, measured, measures, on_decision}
+use Rattle.world_laws.proofs.Prelude.{on_report, on_state, on_word, pong, row_in, with_report, decision_over, Decision, Stay}
+use Rattle.world_laws.proofs.Prelude.{RequestReference, Parameters, asker, rsl_in, Goes, Passes, said_to, runs, over, passes}
+use Rattle.conn_rules.specs.declared.input.Input.TheVariants as inputs
+use Rattle.conn_rules.specs.Table.{row_of, serving_after}
+use Rattle.controller_model.specs.LifeLaws.Owning.{used_in}
+use Rattle.controller_model.proofs.LifeLaws.OwningSteps.{IsRow, IsShaped}
+use Rattle.controller_model.proofs.LifeLaws.OwningWords.{assignment_offers, freed_shaped}
+use Rattle.controller_model.proofs.LifeLaws.Places.{all_at, release≢use, still_in}
+use Rattle.controller_model.proofs.LifeLaws.UsingWords.{IsNoNack}
+use Rattle.controller_model.specs.Channels.{kind_of}
 use Rattle.dtap_codec.specs.declared.report.Report.{Report}
-use Rattle.ho_decision.specs.declared.decision.Decision.{Decision}
-use Rattle.ho_decision.specs.declared.decision.Decision.TheVariants.{Stay, Move}
-use Rattle.rsl_codec.specs.declared.values.RequestReference.{RequestReference}
-use Rattle.settings.specs.Parameters.{Parameters}
-use Rattle.world_table.specs.OwnerLines.{asker}
-use Rattle.world_table.specs.Stations.{rsl_in}
-use Rattle.world_table.proofs.OwnerPuts.{Goes, Passes, said_to}
-use Rattle.world_table.proofs.OwnerPuts.Goes.{runs}
-use Rattle.world_table.proofs.OwnerPuts.Runs.{over, passes}
+use Rattle.controller_model.specs.Decision.TheVariants.{Move}
 use Rattle.world_laws.proofs.OrderNames.{NamesIn, NamesOut, no-assignments, row-names}
 use Rattle.world_laws.proofs.OrderRows.{IsFreeThere, IsOf, States, Touches, place-or, row-touches, station-activates, touches-goes}
 use Rattle.world_laws.proofs.OrderRows.OneOrder.{here}

@@ -1,40 +1,27 @@
 -- What the controller does for others leaves a connection lined up.
-use Rattle.std.proofs.Common.{◌≡◌, ℕ, ◌==◌, ◌&&◌, not, nat_eq, Bool, true, false, if◌then◌else◌, List, [], ◌∷◌, ◌++◌, fold, map, find, Option, Some, None, refl, sym, ap, ◌∙◌, subst, append_assoc, inl, inr}
-use Rattle.std.specs.List.{AllByRecursion, flat_map}
-use Rattle.std.proofs.lemmas.Bool.{cases_Bool, eqb-true, eqb-false}
-use Rattle.std.proofs.lemmas.Grind.{flat_map-append}
-use Rattle.std.proofs.lemmas.List.{append-nil, map-append}
-use Rattle.conn_messages.specs.declared.channel.Channel.{Channel}
-use Rattle.conn_messages.specs.declared.out.Out.{Out}
-use Rattle.conn_messages.specs.declared.parameters.TheConstants.{SWITCH_LINK}
-use Rattle.conn_table.specs.declared.state.Target.{Target}
-use Rattle.conn_table.specs.Connection.{Connection}
-use Rattle.conn_table.specs.Streams.{used_channels}
-use Rattle.controller_table.specs.declared.forwarded.Forwarded.{Forwarded}
-use Rattle.controller_table.specs.Controller.{Turn, place_of}
-use Rattle.controller_table.specs.Life.{take, tick}
-use Rattle.controller_table.specs.Views.{forwarded}
-use Rattle.lineup.specs.LineUp.{Item}
-use Rattle.relay_items.specs.declared.Item.{Item as RelayItem}
-use Rattle.settings.specs.Parameters.{Parameters}
-use Rattle.world_table.specs.declared.event.Event.{Event}
-use Rattle.world_table.specs.declared.line.AirMessage.{AirMessage}
-use Rattle.world_table.specs.declared.line.OutboxEntry.{OutboxEntry}
-use Rattle.world_table.specs.declared.seat.Tenure.{Tenure}
-use Rattle.world_table.specs.Life.{event_after, actors_after_all}
-use Rattle.world_table.specs.Relay.{entry_of, joined_by, with_turn, target_in, after_handle}
-use Rattle.world_table.specs.World.{Actors, Link, broken_link, link_of, with_outbox, outbox_of, new_actors, modulus_in, has_number, is_up, base_of, spot_at}
-use Rattle.world_table.proofs.Leads.{handle-leads, after-taken}
+use Rattle.world_laws.proofs.Prelude.{◌≡◌, ℕ, ◌==◌, ◌&&◌, not, nat_eq, Bool, true, false, if◌then◌else◌, List, [], ◌∷◌, ◌++◌, fold, map}
+use Rattle.world_laws.proofs.Prelude.{find, Option, Some, None, refl, sym, ap, ◌∙◌, subst, append_assoc, inl, inr, AllByRecursion, flat_map}
+use Rattle.world_laws.proofs.Prelude.{cases_Bool, eqb-true, eqb-false, flat_map-append, append-nil, map-append, Channel, Out, SWITCH_LINK}
+use Rattle.world_laws.proofs.Prelude.{Target, Connection, used_channels, Forwarded, Turn, place_of, RelayItem, Parameters, Event}
+use Rattle.world_laws.proofs.Prelude.{AirMessage, OutboxEntry, Tenure, joined_by, with_turn, target_in, after_handle}
+use Rattle.world_laws.proofs.Prelude.{Actors, Link, broken_link, link_of, with_outbox, outbox_of, modulus_in, has_number, is_up}
+use Rattle.world_laws.proofs.Prelude.{base_of, spot_at, handle-leads, after-taken, AllByRecursion-so}
+use Rattle.controller_model.specs.Life.{take, tick}
+use Rattle.controller_model.specs.Views.{forwarded}
+use Rattle.world_laws.specs.LineUp.Places.{Item}
+use Rattle.world_model.specs.Life.{event_after}
+use Rattle.world_model.specs.Relay.{entry_of}
 use Rattle.world_laws.specs.ComingUp.{brings_in, made_of, coming_up}
 use Rattle.world_laws.specs.GoingDown.{leading_from_air, leading_from_outbox, going_down}
 use Rattle.world_laws.specs.LineUps.{commanded_target}
 use Rattle.world_laws.specs.Seated.{commanded_channels}
 use Rattle.world_laws.specs.Staying.{AreLinedUp, carried_for, IsForOthers, BringsNothing, IsOthers, RelayLeavesOthers, TimeLeavesOthers}
-use Rattle.world_laws.proofs.Framing.{all-map}
 use Rattle.world_laws.proofs.Quiet.{sees-itself}
 use Rattle.world_laws.proofs.Seeing.{SameTenures, SeesSame, LinedUp-same}
 use Rattle.world_laws.proofs.Spots.{set-same, set-apart}
 use Rattle.world_laws.proofs.SwitchTakes.{forwarded-first}
+use Rattle.world_laws.proofs.SwitchTook.{waiting_in}
+use Rattle.world_laws.proofs.Events.{world}
 
 -- ---- what waits for the switch
 
@@ -44,9 +31,6 @@ forwarded-append [] more number = refl
 forwarded-append (out ∷ outs) more number =
     forwarded-first out (outs ++ more) number ∙ ap (λ (fs : List Forwarded). forwarded (out ∷ []) number ++ fs) (forwarded-append outs more number)
     ∙ sym (append_assoc (forwarded (out ∷ []) number) (forwarded outs number) (forwarded more number)) ∙ ap (λ (fs : List Forwarded). fs ++ forwarded more number) (sym (forwarded-first out outs number))
-
-abbrev waiting_in : List OutboxEntry → ℕ → List (List ℕ)
-waiting_in entries number = map (λ f. f.message) (forwarded (map (λ entry. entry.out) entries) number)
 
 pub entry-out : (target : Option Tenure) (out : Out) → (entry_of target out).out ≡ out
 entry-out None out = refl
@@ -120,7 +104,7 @@ turn-mobiles target (out ∷ outs) u = turn-mobiles target outs (joined_by targe
 sees-handled : {w : Actors} {s : Connection} (item : RelayItem) (items : List RelayItem) → w.inbox ≡ item ∷ items → BringsNothing s item → SeesSame w (record w { inbox = items }) s
 unfolding SameTenures
 sees-handled {w} {s} item items stood nothing = record {
-  coming = all-map (λ c. brings_in (place_of c) item ≡ []) (λ c. coming_up (record w { inbox = items }) (place_of c) ≡ coming_up w (place_of c)) (used_channels s) (λ c none. gone c none) nothing;
+  coming = AllByRecursion-so (λ c. brings_in (place_of c) item ≡ []) (λ c. coming_up (record w { inbox = items }) (place_of c) ≡ coming_up w (place_of c)) (λ c none. gone c none) (used_channels s) nothing;
   up = λ n. refl;
   serving = refl;
   target = λ t is. refl;
@@ -137,7 +121,7 @@ leaves {mobile} lined same sees = record { one = lined.one; found = ap (λ (ms :
 pub RelayLeavesOthers-new : (settings : Parameters) (events : List Event) → RelayLeavesOthers settings events
 unfolding event_after
 RelayLeavesOthers-new settings events mobile s others lined =
-    let w : Actors = actors_after_all (new_actors settings) events in
+    let w : Actors = world settings events in
     after-taken (λ v. AreLinedUp (modulus_in settings) v mobile s) (after_handle w) w
     (handle-leads (λ v. AreLinedUp (modulus_in settings) v mobile s) w (λ item items stood.
     let both : BringsNothing s item × AllByRecursion (IsForOthers (target_in w item.source item.what) s) (take item w.controller).outs = subst (IsOthers w s) stood others in
@@ -146,5 +130,5 @@ RelayLeavesOthers-new settings events mobile s others lined =
 pub TimeLeavesOthers-new : (settings : Parameters) (events : List Event) (ms : ℕ) → TimeLeavesOthers settings events ms
 unfolding event_after
 TimeLeavesOthers-new settings events ms mobile s others lined =
-    let w : Actors = actors_after_all (new_actors settings) events in
+    let w : Actors = world settings events in
     leaves lined (turn-mobiles None (tick ms w.controller).outs _) (sees-turn None (tick ms w.controller) others (sees-itself w s))

@@ -1,60 +1,31 @@
 -- What the controller puts by a frame is its connection's alone.
-use Rattle.std.proofs.Common.{◌≡◌, ◌≢◌, ℕ, ◌==◌, ◌&&◌, Bool, List, [], ◌∷◌, map, Option, Some, Result, Ok, Err, refl, sym, ap, ◌∙◌, subst, inl, inr}
-use Rattle.std.specs.List.{AllByRecursion, flat_map}
-use Rattle.std.specs.Result.{result_ok}
-use Rattle.std.proofs.lemmas.Bool.{cases_Bool, cond-false, eqb-true, ne_eqb}
+use Rattle.world_laws.proofs.Prelude.{◌≡◌, ◌≢◌, ℕ, ◌==◌, ◌&&◌, Bool, List, [], ◌∷◌, map, Option, Some, Ok, Err, refl, sym, ap, ◌∙◌, subst}
+use Rattle.world_laws.proofs.Prelude.{inl, inr, AllByRecursion, flat_map, result_ok, cases_Bool, cond-false, eqb-true, ne_eqb, Channel}
+use Rattle.world_laws.proofs.Prelude.{Message, Station, Request, Data, ReleaseComplete, Out, SWITCH_LINK, outs_of, Active, Preparing}
+use Rattle.world_laws.proofs.Prelude.{Changing, Draining, State, WaitActivation, WaitEstablish, WaitConfirm, Live, Closed, Removed}
+use Rattle.world_laws.proofs.Prelude.{Connection, roles_of, target_channels, target_role, connection_of, Owns, OwnsOpen, IsSent, conn_of}
+use Rattle.world_laws.proofs.Prelude.{life_owns, IsNotOn, IsText, life_sends, InUse, Forwarded, Take, Controller, channel_state, place_at}
+use Rattle.world_laws.proofs.Prelude.{place_of, step, concerned, forwarded_by, RelayItem, What, RslFault, DataMessage, Rsl, rsl_reading}
+use Rattle.world_laws.proofs.Prelude.{rsl_text, AreAllowed, Parameters, Event, Tenure, target_in, rsl_in, all_steps}
+use Rattle.world_laws.proofs.Prelude.{Actors, new_actors, LivesByTable-new}
+use Rattle.std.proofs.Common.{Result}
 use Rattle.bssmap_codec.specs.SccpReading.{sccp_reading}
-use Rattle.conn_messages.specs.declared.channel.Channel.{Channel}
-use Rattle.conn_messages.specs.declared.message.Message.{Message}
-use Rattle.conn_messages.specs.declared.message.Message.TheVariants.{Station, Request, Data, ReleaseComplete}
-use Rattle.conn_messages.specs.declared.out.Out.{Out}
-use Rattle.conn_messages.specs.declared.parameters.TheConstants.{SWITCH_LINK}
-use Rattle.conn_messages.specs.Out.{out_of, outs_of}
-use Rattle.conn_table.specs.declared.state.Stage.TheVariants.{Active, Preparing, Changing, Draining}
-use Rattle.conn_table.specs.declared.state.State.{State}
-use Rattle.conn_table.specs.declared.state.State.TheVariants.{WaitActivation, WaitEstablish, WaitConfirm, Live, Closed, Removed}
-use Rattle.conn_table.specs.Connection.{Connection}
-use Rattle.conn_table.specs.Roles.{roles_of, target_channels, target_role}
-use Rattle.controller_laws.specs.History.{connection_of}
-use Rattle.controller_laws.specs.Owning.{Owns, OwnsOpen}
-use Rattle.controller_laws.specs.Sending.{IsSent}
-use Rattle.controller_laws.proofs.Acting.{conn_of}
-use Rattle.controller_laws.proofs.OwningLife.{life_owns}
-use Rattle.controller_laws.proofs.Passing.{IsNotOn, PassesBy, frame_passes, read_request}
-use Rattle.controller_laws.proofs.SeenFrames.{IsText, texts_back, texts_of}
-use Rattle.controller_laws.proofs.SoundLife.{life_sends}
-use Rattle.controller_table.specs.declared.channel_state.ChannelState.TheVariants.{InUse}
-use Rattle.controller_table.specs.declared.forwarded.Forwarded.{Forwarded}
-use Rattle.controller_table.specs.declared.step.Step.TheVariants.{Take}
-use Rattle.controller_table.specs.Controller.{Controller, channel_state, place_at, place_of}
-use Rattle.controller_table.specs.Life.{life, step, take}
-use Rattle.controller_table.specs.Ownership.{concerned}
-use Rattle.controller_table.specs.Reading.{word_of}
-use Rattle.controller_table.specs.Views.{forwarded, forwarded_by}
-use Rattle.relay_items.specs.declared.Item.{Item as RelayItem}
-use Rattle.relay_items.specs.declared.What.{What}
-use Rattle.relay_items.specs.declared.What.TheVariants as whats
-use Rattle.rsl_codec.specs.declared.fault.RslFault.{RslFault}
-use Rattle.rsl_codec.specs.declared.radio_link.Data.{Data as DataMessage}
-use Rattle.rsl_codec.specs.declared.rsl.Rsl.{Rsl}
+use Rattle.conn_messages.specs.Out.{out_of}
+use Rattle.controller_model.proofs.LifeLaws.Passing.{PassesBy, frame_passes, read_request}
+use Rattle.controller_model.proofs.LifeLaws.SeenFrames.{texts_back, texts_of}
+use Rattle.controller_model.specs.Life.{life, take}
+use Rattle.controller_model.specs.Reading.{word_of}
+use Rattle.controller_model.specs.Views.{forwarded}
+use Rattle.ruled_relay.specs.declared.item.What.TheVariants as whats
 use Rattle.rsl_codec.specs.declared.rsl.Rsl.TheVariants as rsl
-use Rattle.rsl_codec.specs.RslReading.{rsl_reading}
-use Rattle.rsl_codec.specs.RslText.{rsl_text}
-use Rattle.settings.specs.Parameters.{AreAllowed, Parameters}
-use Rattle.world_table.specs.declared.event.Event.{Event}
-use Rattle.world_table.specs.declared.seat.Tenure.{Tenure}
-use Rattle.world_table.specs.Life.{actors_after_all}
-use Rattle.world_table.specs.Relay.{entry_of, target_in}
-use Rattle.world_table.specs.Stations.{rsl_in}
-use Rattle.world_table.specs.Steps.{all_steps}
-use Rattle.world_table.specs.World.{Actors, new_actors}
-use Rattle.world_table.proofs.Living.{LivesByTable-new}
+use Rattle.world_model.specs.Relay.{entry_of}
 use Rattle.world_laws.specs.GoingDown.{leading, leading_by, leading_from_outbox}
 use Rattle.world_laws.specs.LineUps.{commanded_target}
 use Rattle.world_laws.specs.OthersFrame.{FramesAreForOthers}
 use Rattle.world_laws.specs.Seated.{commanded_channels}
 use Rattle.world_laws.specs.Staying.{IsForOthers, carried_for}
 use Rattle.world_laws.proofs.Others.{entry-out}
+use Rattle.world_laws.proofs.Events.{world}
 
 -- ---- one output
 
@@ -131,7 +102,7 @@ owns-of p steps s allowed there = subst (OwnsOpen (life p steps).next.channels (
 
 pub FramesAreForOthers-new : (settings : Parameters) (events : List Event) → FramesAreForOthers settings events
 FramesAreForOthers-new settings events s item allowed octets had another =
-    let w : Actors = actors_after_all (new_actors settings) events in
+    let w : Actors = world settings events in
     let steps = all_steps (new_actors settings) events in
     let c : Controller = (life settings steps).next in
     let lives : w.controller ≡ c = LivesByTable-new settings events in

@@ -1,18 +1,10 @@
 -- What may still come stands for what is on its way up of a connection's channels, before its input is taken and after it.
-use Rattle.std.proofs.Common.{◌≡◌, ℕ, ◌&&◌, ◌||◌, not, Bool, true, false, if◌then◌else◌, List, [], ◌∷◌, ◌++◌, refl, sym, ap, ◌∙◌, subst, append_assoc, inl, inr}
-use Rattle.std.specs.List.{AllByRecursion}
-use Rattle.std.proofs.lemmas.Bool.{cases_Bool, cond-true, cond-false}
-use Rattle.conn_messages.specs.declared.channel.Channel.{Channel}
-use Rattle.conn_messages.specs.declared.channel.Place.{Place}
-use Rattle.conn_table.specs.declared.input.Input.{Input}
-use Rattle.conn_table.specs.declared.input.Input.TheVariants as inputs
-use Rattle.conn_table.specs.Connection.{is_at}
-use Rattle.conn_table.specs.Streams.{Future, IsApart, from_input}
-use Rattle.controller_table.specs.Controller.{place_of}
-use Rattle.dtap_codec.specs.declared.sapi.Sapi.TheVariants.{Zero}
-use Rattle.lineup.specs.LineUp.{Item, messages_in}
-use Rattle.lineup.specs.LineUp.Item.{released}
-use Rattle.mobile_end.specs.Control.{without_control}
+use Rattle.world_laws.proofs.Prelude.{◌≡◌, ℕ, ◌&&◌, ◌||◌, not, Bool, true, false, if◌then◌else◌, List, [], ◌∷◌, ◌++◌, refl, sym, ap, ◌∙◌}
+use Rattle.world_laws.proofs.Prelude.{subst, append_assoc, inl, inr, AllByRecursion, cases_Bool, cond-true, cond-false, Channel, Place}
+use Rattle.world_laws.proofs.Prelude.{Input, is_at, Future, IsApart, from_input, place_of, Zero, without_control, Both-empty}
+use Rattle.conn_rules.specs.declared.input.Input.TheVariants as inputs
+use Rattle.world_laws.specs.LineUp.Places.{Item, messages_in}
+use Rattle.world_laws.specs.LineUp.Places.Item.{released}
 use Rattle.world_laws.specs.LineUps.{is_ended}
 use Rattle.world_laws.specs.OwnItem.{said_by, IsRead, IsBesideTarget}
 use Rattle.world_laws.specs.Staying.{EndsLast}
@@ -143,10 +135,6 @@ serving-after input text targets before after up c first none heard = (
 
 -- ---- on the target
 
-front-none : (xs ys : List (List ℕ)) → xs ++ ys ≡ [] → (xs ≡ []) × (ys ≡ [])
-front-none [] ys none = (refl, none)
-front-none (x ∷ xs) ys none = absurd cc
-
 abbrev pub MayCome : Future → (Place → List Item) → Channel → Type 0
 MayCome future coming c = (b : Bool) × (future (place_of c) ≡ texts_of (coming (place_of c)) ++ mark b) × AreLayer3 (texts_of (coming (place_of c)))
 
@@ -162,7 +150,7 @@ silent-texts : {input : Input} {text : List ℕ} {targets : List Channel} {befor
     → (texts_of (before (place_of c)) ≡ []) × (texts_of (said_by input text (place_of c)) ≡ []) × (texts_of (after (place_of c)) ≡ [])
 silent-texts {input} {text} {targets} {before} {after} {c} t passes =
     let none : texts_of (before (place_of c)) ≡ [] = ap without_control (t.silent (passes-beside input targets (place_of c) passes)) in
-    let both = front-none (texts_of (said_by input text (place_of c))) (texts_of (after (place_of c))) (sym (texts-append (said_by input text (place_of c)) (after (place_of c))) ∙ ap texts_of (sym t.first) ∙ none) in
+    let both = Both-empty (texts_of (said_by input text (place_of c))) (texts_of (after (place_of c))) (sym (sym (texts-append (said_by input text (place_of c)) (after (place_of c))) ∙ ap texts_of (sym t.first) ∙ none)) in
     (none, both.0, both.1)
 
 pub passed : (input : Input) (text : List ℕ) (targets : List Channel) (after : Place → List Item) (up : ℕ → Bool) (place : Place) → passes_target input targets place ≡ true → to_come input text targets after up place ≡ []

@@ -1,18 +1,12 @@
 -- The COMMAND that a row puts leads its mobile to the target.
-use Rattle.std.proofs.Common.{◌≡◌, ℕ, ◌==◌, Bool, true, if◌then◌else◌, [], ◌∷◌, Option, Some, None, refl, ap, ◌∙◌}
-use Rattle.std.specs.Result.{result_ok}
-use Rattle.conn_messages.specs.declared.channel.Change.{Change}
-use Rattle.conn_messages.specs.declared.channel.Change.TheVariants.{Assignment, Handover}
-use Rattle.conn_messages.specs.declared.channel.Channel.{Channel}
-use Rattle.conn_messages.specs.Out.{IsReadOf, out_of}
+use Rattle.world_laws.proofs.Prelude.{◌≡◌, ℕ, ◌==◌, Bool, true, if◌then◌else◌, [], ◌∷◌, Option, Some, None, refl, ap, ◌∙◌, result_ok}
+use Rattle.world_laws.proofs.Prelude.{Change, Assignment, Handover, Channel, IsReadOf, rr_text, Rsl, Tenure}
+use Rattle.conn_messages.specs.Out.{out_of}
 use Rattle.conn_messages.specs.StationMessage.{change_command, command}
 use Rattle.dtap_codec.specs.RrReading.{assignment_command_at, handover_command_at, rr_reading, three_at, typed_at}
-use Rattle.dtap_codec.specs.RrText.{rr_text}
 use Rattle.dtap_codec.specs.RrType.{rr_type}
 use Rattle.octets.specs.Front.{octet_at}
-use Rattle.rsl_codec.specs.declared.rsl.Rsl.{Rsl}
-use Rattle.world_table.specs.declared.seat.Tenure.{Tenure}
-use Rattle.world_table.specs.Relay.{commands, entry_of, is_change_command}
+use Rattle.world_model.specs.Relay.{commands, entry_of, is_change_command}
 use Rattle.world_laws.specs.GoingDown.{leading, leading_by, leading_from_outbox}
 use Rattle.world_laws.specs.Seated.{change_in}
 

@@ -1,29 +1,21 @@
 -- The row that fits an input keeps its connection's line-up: what it does to the channels, by the step that the input brings.
-use Rattle.std.proofs.Common.{◌≡◌, ℕ, suc, ◌+◌, Bool, true, false, if◌then◌else◌, List, [], ◌∷◌, ◌++◌, length, Option, Some, None, refl, sym, ap, ◌∙◌, subst, arith}
-use Rattle.std.specs.List.{AllByRecursion}
-use Rattle.conn_messages.specs.declared.channel.Channel.{Channel}
-use Rattle.conn_messages.specs.declared.channel.Place.{Place}
-use Rattle.conn_table.specs.declared.input.Input.{Input}
-use Rattle.conn_table.specs.declared.state.Drain.{Drain}
-use Rattle.conn_table.specs.declared.state.State.{State}
-use Rattle.conn_table.specs.declared.state.State.TheVariants.{WaitActivation, WaitEstablish, WaitConfirm, Live, Closed, Removed}
-use Rattle.conn_table.specs.Connection.{Connection}
-use Rattle.conn_table.specs.Roles.{TargetRole, Roles, RoleStep, target_role, roles_of, after_step, target_channels, commanded, completed}
-use Rattle.conn_table.specs.Roles.RoleStep.{stays as roles_stay, commands as role_commands, completes as role_completes, goes_back as role_goes_back, leaves as role_leaves}
-use Rattle.conn_table.specs.Standing.{IsHeldTenure, Stands, StandsBy}
-use Rattle.conn_table.specs.Streams.{AreApart, Future, IsApart, from_input, target_in, undone, used_channels}
-use Rattle.conn_table.proofs.RolesApart.{target_in-role}
-use Rattle.controller_table.specs.Controller.{place_of}
-use Rattle.dtap_codec.specs.declared.sapi.Sapi.TheVariants.{Zero}
-use Rattle.hold_queue.specs.ChainState.{Tenure as Held}
-use Rattle.lineup.specs.LineUp.{Item, messages_in}
+use Rattle.world_laws.proofs.Prelude.{◌≡◌, ℕ, suc, ◌+◌, Bool, true, false, if◌then◌else◌, List, [], ◌∷◌, ◌++◌, length, Option, Some, None}
+use Rattle.world_laws.proofs.Prelude.{refl, sym, ap, ◌∙◌, subst, arith, AllByRecursion, Channel, Place, Input, Drain, State, WaitActivation}
+use Rattle.world_laws.proofs.Prelude.{WaitEstablish, WaitConfirm, Live, Closed, Removed, Connection, TargetRole, Roles, RoleStep}
+use Rattle.world_laws.proofs.Prelude.{target_role, roles_of, after_step, target_channels, commanded, completed, roles_stay, role_commands}
+use Rattle.world_laws.proofs.Prelude.{role_completes, role_goes_back, role_leaves, Stands, StandsBy, AreApart, Future, IsApart, from_input}
+use Rattle.world_laws.proofs.Prelude.{undone, used_channels, target_in-role, place_of, Zero, Held, apart_behind, AllByRecursion-so}
+use Rattle.conn_rules.specs.Standing.{IsHeldTenure}
+use Rattle.conn_rules.specs.Streams.{target_in}
+use Rattle.world_laws.specs.LineUp.Places.{Item, messages_in}
 use Rattle.world_laws.specs.LineUps.{is_ended}
 use Rattle.world_laws.specs.OwnItem.{said_by, IsBesideTarget, Finds}
 use Rattle.world_laws.specs.Staying.{EndsLast}
 use Rattle.world_laws.specs.ToCome.{AreLayer3, texts_of, AsOld, AsServing, AsTarget, AreHeld, StandsFor}
 use Rattle.world_laws.proofs.Apart.{all-both}
-use Rattle.world_laws.proofs.Framing.{all-left, all-right, all-map}
-use Rattle.world_laws.proofs.OwnChannels.{passes_target, passes-apart, to_come, IsHeard, MayCome, IsTarget, old-before, old-after, serving-before, serving-after, target-before, target-after, goes-on}
+use Rattle.world_laws.proofs.Framing.{all-left, all-right}
+use Rattle.world_laws.proofs.OwnChannels.{passes_target, passes-apart, to_come, IsHeard, MayCome, IsTarget, old-before, old-after}
+use Rattle.world_laws.proofs.OwnChannels.{serving-before, serving-after, target-before, target-after, goes-on}
 use Rattle.world_laws.proofs.RolesAfter.{commanded_of, commanded-role, ChannelsAfter}
 
 -- ---- lists
@@ -36,10 +28,6 @@ all-under P (x ∷ xs) h = (λ a. (h a).0, all-under P xs (λ a. (h a).1))
 pub apart-from : (xs ys : List Channel) → AreApart (xs ++ ys) → AllByRecursion (λ c. AllByRecursion (IsApart c) ys) xs
 apart-from [] ys apart = tt
 apart-from (x ∷ xs) ys apart = (all-right (IsApart x) xs ys apart.0, apart-from xs ys apart.1)
-
-pub apart-right : (xs ys : List Channel) → AreApart (xs ++ ys) → AreApart ys
-apart-right [] ys apart = apart
-apart-right (x ∷ xs) ys apart = apart-right xs ys apart.1
 
 -- ---- what is held
 
@@ -73,7 +61,7 @@ pub record IsKnown (input : Input) (text : List ℕ) (before after : Place → L
 
 pub passes-old : {input : Input} {text : List ℕ} {before after : Place → List Item} {s : Connection} → IsKnown input text before after s → AllByRecursion (λ c. passes_target input (target_in s.state) (place_of c) ≡ false) (undone s.draining)
 passes-old {input} {s = s} known =
-    all-map (λ c. AllByRecursion (IsApart c) (s.serving ∷ target_in s.state)) (λ c. passes_target input (target_in s.state) (place_of c) ≡ false) (undone s.draining) (λ c apart. passes-apart input (target_in s.state) c apart.1) (apart-from (undone s.draining) (s.serving ∷ target_in s.state) known.apart)
+    AllByRecursion-so (λ c. AllByRecursion (IsApart c) (s.serving ∷ target_in s.state)) (λ c. passes_target input (target_in s.state) (place_of c) ≡ false) (λ c apart. passes-apart input (target_in s.state) c apart.1) (undone s.draining) (apart-from (undone s.draining) (s.serving ∷ target_in s.state) known.apart)
 
 pub whole-old : {input : Input} {text : List ℕ} {before after : Place → List Item} {s : Connection} → IsKnown input text before after s → AllByRecursion (λ c. AreLayer3 (texts_of (before (place_of c)))) (undone s.draining)
 whole-old {before = before} {s = s} known = all-left (λ c. AreLayer3 (texts_of (before (place_of c)))) (undone s.draining) (s.serving ∷ target_in s.state) known.finds.whole
@@ -84,7 +72,7 @@ whole-rest {before = before} {s = s} known = all-right (λ c. AreLayer3 (texts_o
 pub serving-heard : {input : Input} {text : List ℕ} {before after : Place → List Item} {s : Connection} → IsKnown input text before after s → IsHeard input text (target_in s.state) before s.serving
 serving-heard {input} {text} {before} {after} {s} known = record {
   goes_on = (goes-on input text before after (place_of s.serving) (known.finds.first (place_of s.serving)) known.finds.others_go_on.0).0;
-  passes_not = passes-apart input (target_in s.state) s.serving (apart-right (undone s.draining) (s.serving ∷ target_in s.state) known.apart).0;
+  passes_not = passes-apart input (target_in s.state) s.serving (apart_behind (undone s.draining) (s.serving ∷ target_in s.state) known.apart).0;
   whole = (whole-rest known).0;
 }
 
@@ -111,7 +99,7 @@ stands-before {input} {text} {before} {after} {s} up known stands = record {
   serving = serving-before input text (target_in s.state) before after up s.serving known.finds.read (known.finds.first (place_of s.serving)) known.finds.others_go_on.0 (serving-heard known);
   target = subst (AsTarget (from_input Zero input (to_come input text (target_in s.state) after up)) before) (sym (commanded-role s.state))
       (of-role (from_input Zero input (to_come input text (target_in s.state) after up)) before (target_role s.state) (subst (AllByRecursion (MayCome (from_input Zero input (to_come input text (target_in s.state) after up)) before)) (sym (target_in-role s.state))
-      (all-map (IsTarget input text (target_in s.state) before after) (MayCome (from_input Zero input (to_come input text (target_in s.state) after up)) before) (target_in s.state) (λ c t. target-before input text (target_in s.state) before after up c t) (are-targets known))));
+      (AllByRecursion-so (IsTarget input text (target_in s.state) before after) (MayCome (from_input Zero input (to_come input text (target_in s.state) after up)) before) (λ c t. target-before input text (target_in s.state) before after up c t) (target_in s.state) (are-targets known))));
   held = are-held s stands;
 }
 
@@ -143,10 +131,10 @@ pub stands-after : {input : Input} {text : List ℕ} {before after : Place → L
     → StandsFor (to_come input text (target_in s.state) after up) after up next
 stands-after {input} {text} {before} {after} {s} up step next known stands now old serving serving_goes_on = record {
   old = subst (λ (ds : List Drain). AllByRecursion (AsOld F after up) (undone ds)) (sym now.draining)
-      (all-map (IsHeard input text (target_in s.state) before) (AsOld F after up) (undone (after_step step (roles_of s)).draining) (λ c heard. old-after input text (target_in s.state) before after up c (known.finds.first (place_of c)) heard) old);
+      (AllByRecursion-so (IsHeard input text (target_in s.state) before) (AsOld F after up) (λ c heard. old-after input text (target_in s.state) before after up c (known.finds.first (place_of c)) heard) (undone (after_step step (roles_of s)).draining) old);
   serving = subst (AsServing F after up) (sym now.serving) (serving-after input text (target_in s.state) before after up (after_step step (roles_of s)).serving (known.finds.first (place_of (after_step step (roles_of s)).serving)) serving_goes_on serving);
   target = subst (AsTarget F after) (sym now.target) (of-role F after (after_step step (roles_of s)).target (kept-targets (MayCome F after) step (roles_of s) (subst (AllByRecursion (MayCome F after)) (sym (target_in-role s.state))
-      (all-map (IsTarget input text (target_in s.state) before after) (MayCome F after) (target_in s.state) (λ c t. target-after input text (target_in s.state) before after up c t) (are-targets known)))));
+      (AllByRecursion-so (IsTarget input text (target_in s.state) before after) (MayCome F after) (λ c t. target-after input text (target_in s.state) before after up c t) (target_in s.state) (are-targets known)))));
   held = are-held next stands;
 } where
   F : Future

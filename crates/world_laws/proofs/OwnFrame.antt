@@ -1,32 +1,19 @@
 -- What a frame brings is what it says to its connection.
-use Rattle.std.proofs.Common.{◌≡◌, ℕ, ◌==◌, ◌&&◌, not, nat_eq, Bool, true, false, if◌then◌else◌, List, [], ◌∷◌, Option, Some, None, Result, Ok, Err, refl, ap, ◌∙◌}
-use Rattle.conn_messages.specs.declared.channel.Place.{Place}
-use Rattle.conn_table.specs.declared.input.Input.{Input}
-use Rattle.conn_table.specs.declared.input.Input.TheVariants as inputs
-use Rattle.conn_table.specs.Streams.{is_dtap}
-use Rattle.controller_table.specs.declared.word.Word.{Word}
-use Rattle.controller_table.specs.declared.word.Word.TheVariants.{Nothing, OnChannel, OnConnection, Reports}
-use Rattle.controller_table.specs.Controller.{place_at}
-use Rattle.controller_table.specs.Reading.{sapi_of, of_sapi, change_word, data_word, report_word, result_word, rsl_word}
-use Rattle.controller_table.specs.Reports.{report_reading}
-use Rattle.dtap_codec.specs.declared.rr.RrMessage.{RrMessage}
-use Rattle.dtap_codec.specs.declared.rr.RrMessage.TheVariants.{AssignmentComplete, HandoverComplete, AssignmentFailure, HandoverFailure, MeasurementReport}
-use Rattle.dtap_codec.specs.declared.rr_fault.RrFault.{RrFault}
-use Rattle.dtap_codec.specs.declared.sapi.Sapi.{Sapi}
-use Rattle.dtap_codec.specs.declared.sapi.Sapi.TheVariants.{Zero, Three}
+use Rattle.world_laws.proofs.Prelude.{◌≡◌, ℕ, ◌==◌, ◌&&◌, not, nat_eq, Bool, true, false, if◌then◌else◌, List, [], ◌∷◌, Option, Some, None}
+use Rattle.world_laws.proofs.Prelude.{Ok, Err, refl, ap, ◌∙◌, Place, Input, is_dtap, Word, Nothing, OnChannel, OnConnection, Reports}
+use Rattle.world_laws.proofs.Prelude.{place_at, sapi_of, of_sapi, change_word, data_word, report_word, result_word, rsl_word}
+use Rattle.world_laws.proofs.Prelude.{report_reading, RrMessage, AssignmentComplete, HandoverComplete, AssignmentFailure, HandoverFailure}
+use Rattle.world_laws.proofs.Prelude.{MeasurementReport, RrFault, Sapi, Zero, Three, is_control, Establishment, Rsl, Tenure}
+use Rattle.world_laws.proofs.Prelude.{acknowledged_tenure, Actors, tenure_at, same_place}
+use Rattle.std.proofs.Common.{Result}
+use Rattle.conn_rules.specs.declared.input.Input.TheVariants as inputs
 use Rattle.dtap_codec.specs.RrReading.{rr_reading}
-use Rattle.lineup.specs.LineUp.{Item}
-use Rattle.lineup.specs.LineUp.Item.{brought, released}
-use Rattle.mobile_end.specs.Control.{is_control}
+use Rattle.world_laws.specs.LineUp.Places.{Item}
+use Rattle.world_laws.specs.LineUp.Places.Item.{brought, released}
 use Rattle.rsl_codec.specs.declared.radio_link.Data.{Data}
-use Rattle.rsl_codec.specs.declared.radio_link.Establishment.{Establishment}
-use Rattle.rsl_codec.specs.declared.rsl.Rsl.{Rsl}
 use Rattle.rsl_codec.specs.declared.rsl.Rsl.TheVariants as rsl
-use Rattle.world_table.specs.declared.seat.Tenure.{Tenure}
-use Rattle.world_table.specs.Relay.{acknowledged_tenure}
-use Rattle.world_table.specs.World.{Actors, tenure_at}
 use Rattle.world_laws.specs.ComingUp.{brings, of_main, of_establishment}
-use Rattle.world_laws.specs.OwnItem.{is_same, said_by, IsRead}
+use Rattle.world_laws.specs.OwnItem.{said_by, IsRead}
 use Rattle.world_laws.proofs.Apart.{eqb-sym}
 
 -- of a station
@@ -55,7 +42,7 @@ SaysWord station message (OnConnection number input) = ⊥
 SaysWord station message _ = Unit {0}
 
 -- on one place
-one-place : (station channel : ℕ) (items : List Item) (place : Place) → (if station == place.station then (if channel == place.number then items else []) else []) ≡ (if is_same place (place_at station channel) then items else [])
+pub one-place : (station channel : ℕ) (items : List Item) (place : Place) → (if station == place.station then (if channel == place.number then items else []) else []) ≡ (if same_place place (place_at station channel) then items else [])
 one-place station channel items place =
     both (nat_eq station place.station) (nat_eq channel place.number)
     ∙ ap (λ (b : Bool). if (b && nat_eq channel place.number) then items else []) (eqb-sym station place.station)
@@ -79,7 +66,7 @@ nowhere false = refl
 -- ---- message by message
 
 -- whether a message is of radio resource management
-control-or : (l3 : List ℕ) → is_control l3 ≡ not (is_dtap l3)
+pub control-or : (l3 : List ℕ) → is_control l3 ≡ not (is_dtap l3)
 control-or [] = refl
 control-or (first ∷ rest) = by (is_control (first ∷ rest)) where
   by : (b : Bool) → b ≡ not (not b)
@@ -114,7 +101,7 @@ establish-says station e (Some Zero) is = by e.l3 refl where
 
 change-says : (station : ℕ) (d : Data) (r : Result RrMessage RrFault) → sapi_of d.link ≡ Some Zero → is_control d.l3 ≡ true → SaysWord station (rsl.DataIndication d) (change_word (place_at station d.channel) r)
 change-says station d r is control = by r where
-  here : (place : Place) → brings_of station (rsl.DataIndication d) place ≡ (if is_same place (place_at station d.channel) then brought d.l3 ∷ [] else [])
+  here : (place : Place) → brings_of station (rsl.DataIndication d) place ≡ (if same_place place (place_at station d.channel) then brought d.l3 ∷ [] else [])
   here place = ap (λ (o : Option Sapi). if station == place.station then (if d.channel == place.number then of_main o d.l3 else []) else []) is ∙ one-place station d.channel (brought d.l3 ∷ []) place
 
   by : (r : Result RrMessage RrFault) → SaysWord station (rsl.DataIndication d) (change_word (place_at station d.channel) r)

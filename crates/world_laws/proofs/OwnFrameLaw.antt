@@ -1,37 +1,20 @@
 -- The controller does the row that fits for the connection that a frame says an input to, and puts nothing else.
-use Rattle.std.proofs.Common.{◌≡◌, ℕ, ◌&&◌, not, Bool, true, false, if◌then◌else◌, [], Option, Some, None, refl, sym, ap, ◌∙◌, subst, inl, inr}
-use Rattle.std.proofs.lemmas.Bool.{cases_Bool}
-use Rattle.conn_messages.specs.declared.channel.Channel.{Channel}
-use Rattle.conn_messages.specs.declared.channel.Place.{Place}
-use Rattle.conn_messages.specs.Out.{outs_of}
-use Rattle.conn_table.specs.declared.input.Input.{Input}
-use Rattle.conn_table.specs.declared.input.Input.TheVariants as inputs
-use Rattle.conn_table.specs.declared.state.Stage.TheVariants.{Active, Preparing, Changing, Draining}
-use Rattle.conn_table.specs.declared.state.State.{State}
-use Rattle.conn_table.specs.declared.state.State.TheVariants.{WaitConfirm, Live}
-use Rattle.conn_table.specs.Connection.{Connection, is_at, drain_at}
-use Rattle.conn_table.specs.Roles.{TargetRole, RoleStep, target_role, roles_of, awaits_at, changes_by, is_target_at, leaves_at, step_by}
-use Rattle.conn_table.specs.Roles.RoleStep.{stays as roles_stay, commands as role_commands, completes as role_completes, goes_back as role_goes_back}
-use Rattle.conn_table.specs.Steps.{Row}
-use Rattle.conn_table.specs.Table.{command_to, on_activation_ack, on_establish_indication, row_if, row_of}
-use Rattle.controller_table.specs.declared.word.Word.{Word}
-use Rattle.controller_table.specs.Controller.{Controller, Entry, channel_state, freed, ignoring, place_of, turn}
-use Rattle.controller_table.specs.Life.{by_fitting, concerning, concerning_too, frees, on_freed, on_word, on_what, row_in, take}
-use Rattle.dtap_codec.specs.declared.sapi.Sapi.TheVariants.{Zero}
-use Rattle.ipa_framing.specs.declared.frame.Frame.{Frame}
-use Rattle.relay_items.specs.declared.Item.{Item as RelayItem}
-use Rattle.relay_items.specs.declared.What.{What}
-use Rattle.world_table.specs.declared.seat.Tenure.{Tenure}
-use Rattle.world_table.specs.Relay.{target_in as tenure_in}
-use Rattle.world_table.specs.Stations.{rsl_in}
-use Rattle.world_table.specs.World.{Actors, tenure_at}
+use Rattle.world_laws.proofs.Prelude.{◌≡◌, ℕ, ◌&&◌, not, Bool, true, false, if◌then◌else◌, [], Option, Some, None, refl, sym, ap, ◌∙◌}
+use Rattle.world_laws.proofs.Prelude.{subst, inl, inr, cases_Bool, Channel, Place, outs_of, Input, Active, Preparing, Changing, Draining}
+use Rattle.world_laws.proofs.Prelude.{State, WaitConfirm, Live, Connection, is_at, drain_at, TargetRole, RoleStep, target_role, roles_of}
+use Rattle.world_laws.proofs.Prelude.{awaits_at, changes_by, is_target_at, leaves_at, step_by, roles_stay, role_commands, role_completes}
+use Rattle.world_laws.proofs.Prelude.{role_goes_back, Row, command_to, on_activation_ack, on_establish_indication, row_if, Word, Controller}
+use Rattle.world_laws.proofs.Prelude.{Entry, channel_state, freed, ignoring, turn, by_fitting, concerning, concerning_too, frees}
+use Rattle.world_laws.proofs.Prelude.{on_freed, on_word, on_what, row_in, Zero, Frame, RelayItem, What, Tenure, tenure_in, rsl_in, Actors}
+use Rattle.world_laws.proofs.Prelude.{tenure_at, place-is}
+use Rattle.conn_rules.specs.declared.input.Input.TheVariants as inputs
+use Rattle.conn_rules.specs.Table.{row_of}
+use Rattle.controller_model.specs.Life.{take}
 use Rattle.world_laws.specs.ComingUp.{brings_by}
 use Rattle.world_laws.specs.LineUps.{is_opening}
 use Rattle.world_laws.specs.OwnFrame.{IsRequested, freed_for, IsSaidTo, FrameIsHandled}
 use Rattle.world_laws.specs.OwnFrame.IsSaidTo.{on_channel, on_connection}
 use Rattle.world_laws.specs.OwnHandle.{BeginsTenure}
-use Rattle.world_laws.proofs.Apart.{is_at-station}
-use Rattle.world_laws.proofs.OwnReleases.{at-number}
 use Rattle.world_laws.proofs.OwnFrame.{IsPlain, TenureOf}
 use Rattle.world_laws.proofs.OwnFrames.{ReadInput, ReadWord, of-frame}
 
@@ -99,9 +82,6 @@ acked (Live reference (Changing target)) s at r requested fits = absurd cc
 acked (Live reference Draining) s at r requested fits = absurd cc
 acked _ s at r requested fits = absurd requested
 
-same-place : (at : Place) (c : Channel) → is_at at c ≡ true → at ≡ place_of c
-same-place at c here = ap (λ (n : ℕ). record { station = n; number = at.number }) (is_at-station at c here) ∙ ap (λ (n : ℕ). record { station = c.station; number = n }) (at-number at c here)
-
 begins-of : (w : Actors) (s : Connection) (input : Input) (offer : Option Channel) (r : Row) (tenure : Option Tenure) → IsRequested s.state → row_of s input offer ≡ Some r → TenureOf w input tenure → BeginsTenure w (step_by input (roles_of s)) (target_role s.state) tenure
 unfolding row_of
 begins-of w s (inputs.ActivationAck at) offer r tenure requested fits is =
@@ -109,7 +89,7 @@ begins-of w s (inputs.ActivationAck at) offer r tenure requested fits is =
     let step : step_by (inputs.ActivationAck at) (roles_of s) ≡ role_commands =
     ap (λ (o : Option TargetRole). if awaits_at at o then role_commands else roles_stay) a.is ∙ ap (λ (b : Bool). if (not b && is_at at a.t.target.channel) then role_commands else roles_stay) a.waits ∙ ap (λ (b : Bool). if b then role_commands else roles_stay) a.here in
     subst (λ (x : RoleStep). BeginsTenure w x (target_role s.state) tenure) (sym step)
-    (subst (λ (o : Option TargetRole). BeginsTenure w role_commands o tenure) (sym a.is) (is ∙ ap (λ (p : Place). Some (tenure_at w p)) (same-place at a.t.target.channel a.here)))
+    (subst (λ (o : Option TargetRole). BeginsTenure w role_commands o tenure) (sym a.is) (is ∙ ap (λ (p : Place). Some (tenure_at w p)) (place-is at a.t.target.channel a.here)))
 begins-of w s (inputs.ActivationNack at) offer r tenure requested fits none = by (awaits_at at (target_role s.state)) where
   by : (b : Bool) → BeginsTenure w (if b then role_goes_back else roles_stay) (target_role s.state) tenure
   by true = none

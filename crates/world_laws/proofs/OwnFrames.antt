@@ -1,32 +1,16 @@
 -- The controller handles a frame for the connection that it says an input to.
-use Rattle.std.proofs.Common.{◌≡◌, ℕ, ◌==◌, ◌&&◌, not, Bool, true, false, if◌then◌else◌, List, [], ◌∷◌, Option, Some, None, Result, Ok, Err, refl, sym, ap, ◌∙◌}
-use Rattle.std.specs.Result.{result_ok}
-use Rattle.std.proofs.lemmas.Bool.{eqb-true}
-use Rattle.bssmap_codec.specs.declared.bssap.Bssap.{Bssap}
-use Rattle.bssmap_codec.specs.declared.bssap.Bssap.TheVariants.{Management, Transfer}
-use Rattle.bssmap_codec.specs.declared.bssmap.Bssmap.{Bssmap}
+use Rattle.world_laws.proofs.Prelude.{◌≡◌, ℕ, ◌==◌, ◌&&◌, not, Bool, true, false, if◌then◌else◌, List, [], ◌∷◌, Option, Some, None, Ok, Err}
+use Rattle.world_laws.proofs.Prelude.{refl, sym, ap, ◌∙◌, result_ok, eqb-true, Bssap, Management, Transfer, Bssmap, InterfaceFault, Sccp}
+use Rattle.world_laws.proofs.Prelude.{bssap_reading, Place, SWITCH_LINK, Input, Word, Nothing, Ping, OnChannel, OnConnection}
+use Rattle.world_laws.proofs.Prelude.{management_word, bssap_word, switch_word, station_word, management_of_link, body_word}
+use Rattle.world_laws.proofs.Prelude.{radio_signalling, connection_control, link_management, other, Frame, RSL_STREAM, SCCP_STREAM}
+use Rattle.world_laws.proofs.Prelude.{CCM_STREAM, PING, RslFault, Rsl, rsl_reading, acknowledged_tenure, rsl_in, Actors, true≢false}
+use Rattle.std.proofs.Common.{Result}
 use Rattle.bssmap_codec.specs.declared.bssmap.Bssmap.TheVariants as bssmap
-use Rattle.bssmap_codec.specs.declared.fault.InterfaceFault.{InterfaceFault}
-use Rattle.bssmap_codec.specs.declared.sccp.Sccp.{Sccp}
 use Rattle.bssmap_codec.specs.declared.sccp.Sccp.TheVariants as sccp
-use Rattle.bssmap_codec.specs.BssapReading.{bssap_reading}
 use Rattle.bssmap_codec.specs.SccpReading.{sccp_reading}
-use Rattle.conn_messages.specs.declared.channel.Place.{Place}
-use Rattle.conn_messages.specs.declared.parameters.TheConstants.{SWITCH_LINK}
-use Rattle.conn_table.specs.declared.input.Input.{Input}
-use Rattle.controller_table.specs.declared.word.Word.{Word}
-use Rattle.controller_table.specs.declared.word.Word.TheVariants.{Nothing, Ping, OnChannel, OnConnection}
-use Rattle.controller_table.specs.Reading.{management_word, bssap_word, switch_word, station_word, management_of_link, body_word, word_of, Carried}
-use Rattle.controller_table.specs.Reading.Carried.{radio_signalling, connection_control, link_management, other}
-use Rattle.ipa_framing.specs.declared.frame.Frame.{Frame}
-use Rattle.ipa_framing.specs.declared.streams.TheConstants.{RSL_STREAM, SCCP_STREAM, CCM_STREAM, PING}
-use Rattle.lineup.specs.LineUp.{Item}
-use Rattle.rsl_codec.specs.declared.fault.RslFault.{RslFault}
-use Rattle.rsl_codec.specs.declared.rsl.Rsl.{Rsl}
-use Rattle.rsl_codec.specs.RslReading.{rsl_reading}
-use Rattle.world_table.specs.Relay.{acknowledged_tenure}
-use Rattle.world_table.specs.Stations.{rsl_in}
-use Rattle.world_table.specs.World.{Actors}
+use Rattle.controller_model.specs.Reading.{word_of, Carried}
+use Rattle.world_laws.specs.LineUp.Places.{Item}
 use Rattle.world_laws.specs.ComingUp.{brings_if}
 use Rattle.world_laws.specs.OwnItem.{said_by, IsRead}
 use Rattle.world_laws.proofs.OwnFrame.{IsPlain, TenureOf, SaysWord, message-says}
@@ -34,7 +18,7 @@ use Rattle.world_laws.proofs.OwnFrame.{IsPlain, TenureOf, SaysWord, message-says
 -- ---- what a frame says
 
 -- of the message in it, where there is one
-abbrev brings_read : ℕ → Option Rsl → Place → List Item
+abbrev pub brings_read : ℕ → Option Rsl → Place → List Item
 brings_read source o place = if source == place.station then brings_if place.number o else []
 
 pub record ReadInput (source : ℕ) (o : Option Rsl) (input : Input) : Type 0 where
@@ -91,10 +75,10 @@ of-link source o (first ∷ rest) = by (first == PING) where
   by false = tt
 
 -- by what the stream is
-abbrev carried_by : Bool → Bool → Bool → Bool → Carried
+abbrev pub carried_by : Bool → Bool → Bool → Bool → Carried
 carried_by management switch control signalling = if management then link_management else if switch && control then connection_control else if not switch && signalling then radio_signalling else other
 
-control-only : (stream : ℕ) → (stream == SCCP_STREAM) ≡ true → (stream == RSL_STREAM) ≡ false
+pub control-only : (stream : ℕ) → (stream == SCCP_STREAM) ≡ true → (stream == RSL_STREAM) ≡ false
 control-only stream is = ap (λ (n : ℕ). n == RSL_STREAM) (eqb-true stream SCCP_STREAM is)
 
 pub of-frame : (source : ℕ) (frame : Frame) → ReadWord source (rsl_in frame) (word_of source frame)
@@ -105,9 +89,7 @@ of-frame source frame = by (frame.stream == CCM_STREAM) (source == SWITCH_LINK) 
 
   by : (a b c d : Bool) → (frame.stream == RSL_STREAM) ≡ d → (c ≡ true → (frame.stream == RSL_STREAM) ≡ false) → ReadWord source (if d then result_ok (rsl_reading frame.body) else None) (body_word (carried_by a b c d) source frame.body)
   by true b c d is alone = of-link source (if d then result_ok (rsl_reading frame.body) else None) frame.body
-  by false true true true is alone = absurd (both (sym is ∙ alone refl)) where
-    both : true ≡ false → ⊥
-    both h = absurd cc
+  by false true true true is alone = absurd (true≢false (sym is ∙ alone refl))
   by false true true false is alone = of-switch source (sccp_reading frame.body)
   by false true false d is alone = tt
   by false false c true is alone = of-station source (rsl_reading frame.body)

@@ -1,18 +1,13 @@
 -- What may still come of a connection's messages, by what is on its way up before its input is taken, and after it.
-use Rattle.std.proofs.Common.{◌≡◌, ℕ, ◌||◌, not, Bool, true, false, if◌then◌else◌, List, [], ◌∷◌, ◌++◌, Some, refl, sym, ap, ◌∙◌}
-use Rattle.std.proofs.lemmas.Bool.{cond-true, cond-false}
-use Rattle.std.proofs.lemmas.List.Elements.{filter-append}
-use Rattle.conn_messages.specs.declared.channel.Place.{Place}
-use Rattle.conn_table.specs.declared.input.Input.{Input}
-use Rattle.conn_table.specs.declared.input.Input.TheVariants as inputs
-use Rattle.conn_table.specs.Streams.{Future, from_input}
-use Rattle.dtap_codec.specs.declared.sapi.Sapi.TheVariants.{Zero}
-use Rattle.lineup.specs.LineUp.{Item, messages_in}
-use Rattle.lineup.specs.LineUp.Item.{brought, released}
-use Rattle.lineup.proofs.Lines.{messages_in-append}
-use Rattle.mobile_end.specs.Control.{is_control, without_control}
+use Rattle.world_laws.proofs.Prelude.{◌≡◌, ℕ, ◌||◌, not, Bool, true, false, if◌then◌else◌, List, [], ◌∷◌, ◌++◌, Some, refl, sym, ap, ◌∙◌}
+use Rattle.world_laws.proofs.Prelude.{cond-true, cond-false, filter-append, Place, Input, Future, from_input, Zero, is_control}
+use Rattle.world_laws.proofs.Prelude.{without_control, same_place}
+use Rattle.conn_rules.specs.declared.input.Input.TheVariants as inputs
+use Rattle.world_laws.specs.LineUp.Places.{Item, messages_in}
+use Rattle.world_laws.specs.LineUp.Places.Item.{brought, released}
+use Rattle.world_laws.proofs.LineUp.Lines.{messages_in-append}
 use Rattle.world_laws.specs.LineUps.{is_ended}
-use Rattle.world_laws.specs.OwnItem.{is_same, said_by, IsRead}
+use Rattle.world_laws.specs.OwnItem.{said_by, IsRead}
 use Rattle.world_laws.specs.ToCome.{texts_of}
 
 -- ---- what an input brings
@@ -33,23 +28,23 @@ control-goes message is = cond-false (not (is_control message)) (message ∷ [])
 
 -- what may come from an input on: what it brings, and then what may come
 pub from-said : (input : Input) (text : List ℕ) (future : Future) (place : Place) → IsRead input text → from_input Zero input future place ≡ texts_of (said_by input text place) ++ future place
-from-said (inputs.Dtap at Zero message) text future place read = by (is_same place at) where
+from-said (inputs.Dtap at Zero message) text future place read = by (same_place place at) where
   by : (b : Bool) → (if b then message ∷ future place else future place) ≡ texts_of (if b then brought message ∷ [] else []) ++ future place
   by true = ap (λ (xs : List (List ℕ)). xs ++ future place) (sym (text-stays message read))
   by false = refl
-from-said (inputs.EstablishIndication at Zero (Some initial)) text future place read = by (is_same place at) where
+from-said (inputs.EstablishIndication at Zero (Some initial)) text future place read = by (same_place place at) where
   by : (b : Bool) → (if b then initial ∷ future place else future place) ≡ texts_of (if b then brought initial ∷ [] else []) ++ future place
   by true = ap (λ (xs : List (List ℕ)). xs ++ future place) (sym (text-stays initial read))
   by false = refl
-from-said (inputs.Complete at change cause) text future place read = by (is_same place at) where
+from-said (inputs.Complete at change cause) text future place read = by (same_place place at) where
   by : (b : Bool) → future place ≡ texts_of (if b then brought text ∷ [] else []) ++ future place
   by true = ap (λ (xs : List (List ℕ)). xs ++ future place) (sym (control-goes text read))
   by false = refl
-from-said (inputs.Failure at change cause) text future place read = by (is_same place at) where
+from-said (inputs.Failure at change cause) text future place read = by (same_place place at) where
   by : (b : Bool) → future place ≡ texts_of (if b then brought text ∷ [] else []) ++ future place
   by true = ap (λ (xs : List (List ℕ)). xs ++ future place) (sym (control-goes text read))
   by false = refl
-from-said (inputs.ReleaseAck at) text future place read = by (is_same place at) where
+from-said (inputs.ReleaseAck at) text future place read = by (same_place place at) where
   by : (b : Bool) → future place ≡ texts_of (if b then released ∷ [] else []) ++ future place
   by true = refl
   by false = refl
@@ -57,23 +52,23 @@ from-said _ text future place read = refl
 
 -- an end is an RF CHANNEL RELEASE ACK alone
 pub ended-said : (input : Input) (text : List ℕ) (place : Place) → is_ended (said_by input text place) ≡ true → said_by input text place ≡ released ∷ []
-ended-said (inputs.Dtap at Zero message) text place is = by (is_same place at) is where
+ended-said (inputs.Dtap at Zero message) text place is = by (same_place place at) is where
   by : (b : Bool) → is_ended (if b then brought message ∷ [] else []) ≡ true → (if b then brought message ∷ [] else []) ≡ released ∷ []
   by true is = absurd cc
   by false is = absurd cc
-ended-said (inputs.EstablishIndication at Zero (Some initial)) text place is = by (is_same place at) is where
+ended-said (inputs.EstablishIndication at Zero (Some initial)) text place is = by (same_place place at) is where
   by : (b : Bool) → is_ended (if b then brought initial ∷ [] else []) ≡ true → (if b then brought initial ∷ [] else []) ≡ released ∷ []
   by true is = absurd cc
   by false is = absurd cc
-ended-said (inputs.Complete at change cause) text place is = by (is_same place at) is where
+ended-said (inputs.Complete at change cause) text place is = by (same_place place at) is where
   by : (b : Bool) → is_ended (if b then brought text ∷ [] else []) ≡ true → (if b then brought text ∷ [] else []) ≡ released ∷ []
   by true is = absurd cc
   by false is = absurd cc
-ended-said (inputs.Failure at change cause) text place is = by (is_same place at) is where
+ended-said (inputs.Failure at change cause) text place is = by (same_place place at) is where
   by : (b : Bool) → is_ended (if b then brought text ∷ [] else []) ≡ true → (if b then brought text ∷ [] else []) ≡ released ∷ []
   by true is = absurd cc
   by false is = absurd cc
-ended-said (inputs.ReleaseAck at) text place is = by (is_same place at) is where
+ended-said (inputs.ReleaseAck at) text place is = by (same_place place at) is where
   by : (b : Bool) → is_ended (if b then released ∷ [] else []) ≡ true → (if b then released ∷ [] else []) ≡ released ∷ []
   by true is = refl
   by false is = absurd cc

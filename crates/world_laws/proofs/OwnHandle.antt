@@ -1,28 +1,19 @@
 -- What the controller does for a connection keeps it lined up.
-use Rattle.std.proofs.Common.{◌≡◌, ℕ, ◌≤◌, ◌&&◌, nat_eq, Bool, true, false, if◌then◌else◌, List, [], ◌∷◌, ◌++◌, fold, length, Option, Some, None, refl, sym, ap, ◌∙◌, subst, append_assoc, inl, inr, arith}
-use Rattle.std.specs.List.{AllByRecursion, flat_map}
-use Rattle.std.proofs.lemmas.Bool.{cases_Bool, eq-eqb}
-use Rattle.conn_messages.specs.declared.channel.Channel.{Channel}
-use Rattle.conn_messages.specs.declared.channel.Place.{Place}
-use Rattle.conn_messages.specs.declared.out.Out.{Out}
-use Rattle.conn_messages.specs.Out.{IsReadOf, out_of, outs_of}
+use Rattle.world_laws.proofs.Prelude.{◌≡◌, ℕ, ◌≤◌, ◌&&◌, nat_eq, Bool, true, false, if◌then◌else◌, List, [], ◌∷◌, ◌++◌, fold, length}
+use Rattle.world_laws.proofs.Prelude.{Option, Some, None, refl, sym, ap, ◌∙◌, subst, append_assoc, inl, inr, arith, AllByRecursion}
+use Rattle.world_laws.proofs.Prelude.{flat_map, cases_Bool, eq-eqb, Channel, Place, Out, IsReadOf, outs_of, Input, Connection, is_at}
+use Rattle.world_laws.proofs.Prelude.{drain_at, TargetRole, Roles, RoleStep, target_role, roles_of, awaits_at, changes_by, is_target_at}
+use Rattle.world_laws.proofs.Prelude.{leaves_at, step_by, GoesOn, roles_stay, role_commands, role_completes, role_goes_back, role_leaves}
+use Rattle.world_laws.proofs.Prelude.{Row, AreApart, IsApart, undone, used_channels, Turn, place_of, rr_text, RelayItem, AirMessage, Tenure}
+use Rattle.world_laws.proofs.Prelude.{joined_by, with_turn, tenure_in, Actors, base_of, is_up, outbox_of, with_outbox, tenure_at}
+use Rattle.world_laws.proofs.Prelude.{turn-leads, apart_behind}
+use Rattle.conn_messages.specs.Out.{out_of}
 use Rattle.conn_messages.specs.StationMessage.{change_command, command}
-use Rattle.conn_table.specs.declared.input.Input.{Input}
-use Rattle.conn_table.specs.declared.input.Input.TheVariants as inputs
-use Rattle.conn_table.specs.Connection.{Connection, is_at, drain_at}
-use Rattle.conn_table.specs.Roles.{TargetRole, Roles, RoleStep, target_role, roles_of, commanded as role_commanded, awaits_at, changes_by, is_target_at, leaves_at, step_by, GoesOn, IsCommand}
-use Rattle.conn_table.specs.Roles.RoleStep.{stays as roles_stay, commands as role_commands, completes as role_completes, goes_back as role_goes_back, leaves as role_leaves}
-use Rattle.conn_table.specs.Steps.{Row}
-use Rattle.conn_table.specs.Streams.{AreApart, IsApart, target_in, undone, used_channels}
-use Rattle.controller_table.specs.Controller.{Turn, place_of}
-use Rattle.controller_table.specs.Life.{take}
-use Rattle.dtap_codec.specs.RrText.{rr_text}
-use Rattle.relay_items.specs.declared.Item.{Item as RelayItem}
-use Rattle.world_table.specs.declared.line.AirMessage.{AirMessage}
-use Rattle.world_table.specs.declared.seat.Tenure.{Tenure}
-use Rattle.world_table.specs.Relay.{entry_of, joined_by, with_turn, target_in as tenure_in}
-use Rattle.world_table.specs.World.{Actors, base_of, is_up, outbox_of, with_outbox, tenure_at}
-use Rattle.world_table.proofs.Leads.{turn-leads}
+use Rattle.conn_rules.specs.declared.input.Input.TheVariants as inputs
+use Rattle.conn_rules.specs.Roles.{commanded as role_commanded, IsCommand}
+use Rattle.conn_rules.specs.Streams.{target_in}
+use Rattle.controller_model.specs.Life.{take}
+use Rattle.world_model.specs.Relay.{entry_of}
 use Rattle.world_laws.specs.ComingUp.{brings_in, coming_up, made_of}
 use Rattle.world_laws.specs.GoingDown.{leading_from_outbox, going_down}
 use Rattle.world_laws.specs.OwnHandle.{BeginsTenure, HandlesFor, IsPutAsRead}
@@ -30,7 +21,6 @@ use Rattle.world_laws.specs.Seated.{Leads}
 use Rattle.world_laws.specs.Seated.Leads.{leads}
 use Rattle.world_laws.proofs.Others.{down-joined}
 use Rattle.world_laws.proofs.OwnCommand.{change-read, command-leads}
-use Rattle.world_laws.proofs.OwnDoes.{apart-right}
 use Rattle.world_laws.proofs.OwnInput.{targets-of, Awaits, awaited}
 use Rattle.world_laws.proofs.OwnSeats.{Downs}
 use Rattle.world_laws.proofs.OwnSeats.Downs.{same, commanded}
@@ -144,7 +134,7 @@ downs-of {w} {item} items {s} {input} {offer} {r} handles read apart goes = by (
         outs = handles.outs;
         puts = puts;
         read = (subst (AllByRecursion (λ m. IsReadOf s.number m (out_of s.number m).frame.body)) puts read.read).0;
-        apart = (subst (AllByRecursion (IsApart s.serving)) (targets-of s awaits.t awaits.is) (apart-right (undone s.draining) (s.serving ∷ target_in s.state) apart).0).0;
+        apart = (subst (AllByRecursion (IsApart s.serving)) (targets-of s awaits.t awaits.is) (apart_behind (undone s.draining) (s.serving ∷ target_in s.state) apart).0).0;
       })
   by roles_stay is none goes = others-down w item items s r.next none
   by role_completes is none goes = others-down w item items s r.next none

@@ -1,33 +1,19 @@
 -- The controller handles an item for a connection: the connection stays lined up.
-use Rattle.std.proofs.Common.{◌≡◌, ℕ, ◌+◌, Bool, true, false, if◌then◌else◌, unwrap_or, List, [], ◌∷◌, ◌++◌, find, map, length, Option, Some, None, refl, sym, ap, ◌∙◌, subst, arith}
-use Rattle.std.specs.List.{AllByRecursion}
-use Rattle.conn_messages.specs.declared.channel.Channel.{Channel}
-use Rattle.conn_messages.specs.declared.channel.Place.{Place}
-use Rattle.conn_messages.specs.declared.out.Out.{Out}
-use Rattle.conn_table.specs.declared.input.Input.{Input}
-use Rattle.conn_table.specs.declared.state.Target.{Target}
-use Rattle.conn_table.specs.Connection.{Connection}
-use Rattle.conn_table.specs.Roles.{KeepsChannels, RoleStep, TargetRole, after_step, roles_of, step_by, target_channels, GoesOn}
-use Rattle.conn_table.specs.Roles.RoleStep.{stays as roles_stay, commands as role_commands, completes as role_completes, goes_back as role_goes_back, leaves as role_leaves}
-use Rattle.conn_table.specs.Steps.{Row}
-use Rattle.conn_table.specs.Streams.{AreApart, relayed, used_channels}
-use Rattle.conn_table.proofs.Channels.{keeps_channels}
-use Rattle.conn_table.proofs.RolesApart.{target_in-role}
-use Rattle.controller_table.specs.Controller.{place_of}
-use Rattle.controller_table.specs.Life.{take}
-use Rattle.controller_table.specs.Views.{forwarded}
-use Rattle.dtap_codec.specs.declared.sapi.Sapi.TheVariants.{Zero}
-use Rattle.lineup.specs.Alive.{Alive}
-use Rattle.lineup.specs.LineUp.{Item, Seat, controls_of, flow}
-use Rattle.lineup.proofs.Lines.{flow-append}
-use Rattle.mobile_end.specs.DataLink.{to_be_taken}
-use Rattle.relay_items.specs.declared.Item.{Item as RelayItem}
-use Rattle.settings.specs.Parameters.{Parameters}
-use Rattle.world_table.specs.declared.event.Event.{Event}
-use Rattle.world_table.specs.Life.{event_after, actors_after_all}
-use Rattle.world_table.specs.Relay.{handled, target_in as tenure_in}
-use Rattle.world_table.specs.World.{Actors, Mobile, has_number, is_station_up, modulus_in, new_actors, tenure_at}
-use Rattle.world_table.proofs.Leads.{turn-leads}
+use Rattle.world_laws.proofs.Prelude.{◌≡◌, ℕ, ◌+◌, Bool, true, false, if◌then◌else◌, unwrap_or, List, [], ◌∷◌, ◌++◌, find, map, length}
+use Rattle.world_laws.proofs.Prelude.{Option, Some, None, refl, sym, ap, ◌∙◌, subst, arith, AllByRecursion, Channel, Place, Out, Input}
+use Rattle.world_laws.proofs.Prelude.{Target, Connection, RoleStep, TargetRole, after_step, roles_of, step_by, target_channels, GoesOn}
+use Rattle.world_laws.proofs.Prelude.{roles_stay, role_commands, role_completes, role_goes_back, role_leaves, Row, AreApart, relayed}
+use Rattle.world_laws.proofs.Prelude.{used_channels, target_in-role, place_of, Zero, to_be_taken, RelayItem, Parameters, Event}
+use Rattle.world_laws.proofs.Prelude.{handled, tenure_in, Actors, Mobile, has_number, is_station_up, modulus_in}
+use Rattle.world_laws.proofs.Prelude.{tenure_at, turn-leads, AllByRecursion-so}
+use Rattle.conn_rules.specs.Roles.{KeepsChannels}
+use Rattle.conn_rules.proofs.Channels.{keeps_channels}
+use Rattle.controller_model.specs.Life.{take}
+use Rattle.controller_model.specs.Views.{forwarded}
+use Rattle.world_laws.specs.LineUp.Alive.{Alive}
+use Rattle.world_laws.specs.LineUp.Places.{Item, Seat, controls_of, flow}
+use Rattle.world_laws.proofs.LineUp.Lines.{flow-append}
+use Rattle.world_model.specs.Life.{event_after}
 use Rattle.world_laws.specs.ComingUp.{coming_up}
 use Rattle.world_laws.specs.GoingDown.{going_down}
 use Rattle.world_laws.specs.LineUps.{commanded_target, seat_from, waiting_of, taken_of, line_up, remembered}
@@ -37,7 +23,7 @@ use Rattle.world_laws.specs.OwnRow.{DoesRow, over}
 use Rattle.world_laws.specs.Seated.{LinedUp, Leads}
 use Rattle.world_laws.specs.Staying.{AreLinedUp}
 use Rattle.world_laws.proofs.Apart.{on-target}
-use Rattle.world_laws.proofs.Framing.{all-map, lined-same}
+use Rattle.world_laws.proofs.Framing.{lined-same}
 use Rattle.world_laws.proofs.Others.{turn-mobiles, TimeLeavesOthers-new}
 use Rattle.world_laws.proofs.OwnDoes.{kept-targets}
 use Rattle.world_laws.proofs.OwnHandle.{handled_by, handling, first-coming, downs-of}
@@ -49,6 +35,7 @@ use Rattle.world_laws.proofs.OwnTurn.{turn-stations, turn-waiting}
 use Rattle.world_laws.proofs.Quiet.{all-of}
 use Rattle.world_laws.proofs.RolesAfter.{commanded_of, channels-after}
 use Rattle.world_laws.proofs.Seeing.{SameTenures, Sits-same, Leads-same}
+use Rattle.world_laws.proofs.Events.{world}
 
 -- ---- the row, in the world
 
@@ -120,7 +107,7 @@ unfolding SameTenures
 own-lined {m} {w} {p} {item} items {s} {input} {offer} {r} {text} stood handles order read lined = record {
   alive = alive_now;
   sits = Sits-same same_tenures rest.sits;
-  led = all-map (λ a. Leads w a (commanded_target r.next.state)) (λ a. Leads v a (commanded_target r.next.state)) (going_down v (place_of r.next.serving)) (λ a. Leads-same same_tenures) rest.led;
+  led = AllByRecursion-so (λ a. Leads w a (commanded_target r.next.state)) (λ a. Leads v a (commanded_target r.next.state)) (λ a. Leads-same same_tenures) (going_down v (place_of r.next.serving)) rest.led;
   none_on_target = rest.none;
   apart = read.apart;
   placed = read.placed;
@@ -184,7 +171,7 @@ own-lined {m} {w} {p} {item} items {s} {input} {offer} {r} {text} stood handles 
 pub HandleKeepsLineUps-new : (settings : Parameters) (events : List Event) → HandleKeepsLineUps settings events
 unfolding event_after
 HandleKeepsLineUps-new settings events mobile s item items input offer r text stood handles order read lined =
-    let w : Actors = actors_after_all (new_actors settings) events in
+    let w : Actors = world settings events in
     let now : AreLinedUp (modulus_in settings) (handled_by w item items) mobile r.next = record {
       one = lined.one;
       found = ap (λ (ms : List Mobile). find (has_number mobile) ms) (turn-mobiles (tenure_in w item.source item.what) (take item w.controller).outs (handling w items (take item w.controller))) ∙ lined.found;

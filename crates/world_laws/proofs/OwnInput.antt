@@ -1,42 +1,27 @@
 -- The row that fits an input keeps its connection's line-up.
-use Rattle.std.proofs.Common.{◌≡◌, ℕ, ◌+◌, ◌≤◌, ◌&&◌, ◌||◌, not, nat_eq, Bool, true, false, if◌then◌else◌, List, [], ◌∷◌, ◌++◌, length, Option, Some, None, refl, sym, ap, ◌∙◌, subst, inl, inr, length-append, arith}
-use Rattle.std.specs.List.{AllByRecursion}
-use Rattle.std.proofs.lemmas.Bool.{cases_Bool, eq-eqb}
-use Rattle.conn_messages.specs.declared.channel.Change.{Change}
-use Rattle.conn_messages.specs.declared.channel.Channel.{Channel}
-use Rattle.conn_messages.specs.declared.channel.Place.{Place}
-use Rattle.conn_table.specs.declared.input.Input.{Input}
-use Rattle.conn_table.specs.declared.input.Input.TheVariants as inputs
-use Rattle.conn_table.specs.declared.state.Stage.TheVariants.{Preparing, Changing}
-use Rattle.conn_table.specs.declared.state.State.{State}
-use Rattle.conn_table.specs.declared.state.State.TheVariants.{Live}
-use Rattle.dtap_codec.specs.declared.sapi.Sapi.TheVariants.{Zero}
-use Rattle.conn_table.specs.declared.state.Target.{Target}
-use Rattle.conn_table.specs.Connection.{Connection, is_at, drain_at}
-use Rattle.conn_table.specs.Roles.{TargetRole, RoleStep, target_role, roles_of, after_step, target_channels, completed, awaits_at, changes_by, is_target_at, leaves_at, step_by, ChangesRoles, ChangesRolesBy, GoesOn}
-use Rattle.conn_table.specs.Roles.RoleStep.{stays as roles_stay, commands as role_commands, completes as role_completes, goes_back as role_goes_back, leaves as role_leaves}
-use Rattle.conn_table.specs.Roles.ChangesRoles.{goes_on, ends, had_ended}
-use Rattle.conn_table.specs.Standing.{Stands}
-use Rattle.conn_table.specs.Steps.{Row, done_at}
-use Rattle.conn_table.specs.Streams.{AreApart, Ends, IsOpen, OfRow, target_in, undone}
-use Rattle.conn_table.proofs.RolesAccount.{undone-still_draining}
-use Rattle.conn_table.proofs.RolesApart.{target_in-role}
-use Rattle.conn_table.proofs.RolesTable.{ChangesRoles-row}
-use Rattle.conn_table.proofs.StandingTable.{Stands-row}
-use Rattle.controller_table.specs.Controller.{place_of}
-use Rattle.lineup.specs.LineUp.{Item, Seat, messages_in, controls_of, controls_in, texts_in, flow}
-use Rattle.lineup.specs.LineUp.Item.{brought, released}
-use Rattle.lineup.proofs.Lines.{controls-append, controls-first, flow-append, messages_in-append}
-use Rattle.mobile_end.specs.Control.{is_control}
-use Rattle.world_table.proofs.Leads.{and-left, and-right}
+use Rattle.world_laws.proofs.Prelude.{◌≡◌, ℕ, ◌+◌, ◌≤◌, ◌&&◌, ◌||◌, not, nat_eq, Bool, true, false, if◌then◌else◌, List, [], ◌∷◌, ◌++◌}
+use Rattle.world_laws.proofs.Prelude.{length, Option, Some, None, refl, sym, ap, ◌∙◌, subst, inl, inr, length-append, arith, AllByRecursion}
+use Rattle.world_laws.proofs.Prelude.{cases_Bool, eq-eqb, Change, Channel, Place, Input, Preparing, Changing, State, Live, Zero, Target}
+use Rattle.world_laws.proofs.Prelude.{Connection, is_at, drain_at, TargetRole, RoleStep, target_role, roles_of, after_step, target_channels}
+use Rattle.world_laws.proofs.Prelude.{completed, awaits_at, changes_by, is_target_at, leaves_at, step_by, ChangesRoles, ChangesRolesBy}
+use Rattle.world_laws.proofs.Prelude.{GoesOn, roles_stay, role_commands, role_completes, role_goes_back, role_leaves, goes_on, ends}
+use Rattle.world_laws.proofs.Prelude.{had_ended, Stands, Row, done_at, AreApart, IsOpen, OfRow, undone, target_in-role, ChangesRoles-row}
+use Rattle.world_laws.proofs.Prelude.{place_of, is_control, and-left, and-right, same_place, AllByRecursion-so}
+use Rattle.conn_rules.specs.declared.input.Input.TheVariants as inputs
+use Rattle.conn_rules.specs.Streams.{Ends, target_in}
+use Rattle.conn_rules.proofs.RolesAccount.{undone-still_draining}
+use Rattle.conn_rules.proofs.StandingTable.{Stands-row}
+use Rattle.world_laws.specs.LineUp.Places.{Item, Seat, messages_in, controls_of, controls_in, texts_in, flow}
+use Rattle.world_laws.specs.LineUp.Places.Item.{brought, released}
+use Rattle.world_laws.proofs.LineUp.Lines.{controls-append, controls-first, flow-append, messages_in-append}
 use Rattle.world_laws.specs.LineUps.{is_ended, commanded_target}
-use Rattle.world_laws.specs.OwnItem.{is_same, said_by, IsBesideTarget, CommandsAfter, seat_after, TakesInput, InputKeepsLineUp}
+use Rattle.world_laws.specs.OwnItem.{said_by, IsBesideTarget, CommandsAfter, seat_after, TakesInput, InputKeepsLineUp}
 use Rattle.world_laws.specs.OwnRow.{DoesRow}
 use Rattle.world_laws.specs.OwnStep.{some_lacks, target_items, OwnStep}
 use Rattle.world_laws.specs.OwnStep.OwnStep.{stays}
 use Rattle.world_laws.specs.ToCome.{AreLayer3, mark, texts_of}
 use Rattle.world_laws.proofs.Apart.{at-itself}
-use Rattle.world_laws.proofs.Framing.{all-left, all-map}
+use Rattle.world_laws.proofs.Framing.{all-left}
 use Rattle.world_laws.proofs.OwnChannels.{passed, to_come, IsHeard, ended-same, goes-on}
 use Rattle.world_laws.proofs.OwnDoes.{IsKnown, serving-heard, old-heard, whole-old, whole-rest, stands-before, stands-after}
 use Rattle.world_laws.proofs.OwnReleases.{same-at, released-elsewhere, undone-none, undone-done, undone-push, are-released, lacks-same}
@@ -128,7 +113,7 @@ finish {s} {input} {offer} {r} {text} {before} {after} {commands} {commands2} up
 covers-of : (s : Connection) (input : Input) (text : List ℕ) (before after : Place → List Item) (up : ℕ → Bool) → ((at : Place) → before at ≡ said_by input text at ++ after at) → AllByRecursion (λ c. is_ended (said_by input text (place_of c)) ≡ false) (undone s.draining)
     → some_lacks after up s.draining ≡ false → some_lacks before up s.draining ≡ false
 covers-of s input text before after up first none_ends none =
-    lacks-same before after up s.draining (all-map (λ c. is_ended (said_by input text (place_of c)) ≡ false) (λ c. is_ended (before (place_of c)) ≡ is_ended (after (place_of c))) (undone s.draining) (λ c goes_on_now. ended-same input text before after (place_of c) (first (place_of c)) goes_on_now) none_ends) ∙ none
+    lacks-same before after up s.draining (AllByRecursion-so (λ c. is_ended (said_by input text (place_of c)) ≡ false) (λ c. is_ended (before (place_of c)) ≡ is_ended (after (place_of c))) (λ c goes_on_now. ended-same input text before after (place_of c) (first (place_of c)) goes_on_now) (undone s.draining) none_ends) ∙ none
 
 -- ---- step by step
 
@@ -147,8 +132,8 @@ input-leaves : {s : Connection} {offer : Option Channel} {r : Row} {text : List 
 input-leaves {s} {offer} {r} {text} {before} {after} up seat at place found takes =
     finish up seat (role_leaves place) is takes (subst (AllByRecursion (IsHeard (inputs.ReleaseAck at) text (target_in s.state) before)) (sym (undone-still_draining (done_at place s.draining)))
     (undone-done (IsHeard (inputs.ReleaseAck at) text (target_in s.state) before) at place s.draining found (apart-left (undone s.draining) (s.serving ∷ target_in s.state) takes.apart)
-    (all-map (λ c. AreLayer3 (texts_of (before (place_of c)))) (λ c. is_at at c ≡ false → IsHeard (inputs.ReleaseAck at) text (target_in s.state) before c) (undone s.draining)
-    (λ c whole other. record { goes_on = ap is_ended (released-elsewhere text at c other); passes_not = refl; whole = whole }) (whole-old (known-of takes)))))
+    (AllByRecursion-so (λ c. AreLayer3 (texts_of (before (place_of c)))) (λ c. is_at at c ≡ false → IsHeard (inputs.ReleaseAck at) text (target_in s.state) before c)
+    (λ c whole other. record { goes_on = ap is_ended (released-elsewhere text at c other); passes_not = refl; whole = whole }) (undone s.draining) (whole-old (known-of takes)))))
     (serving-heard (known-of takes)) takes.finds.others_go_on.0
     (own-leaves s (inputs.ReleaseAck at) offer r seat at place found (goes-of (role_leaves place) is takes) (is-less (inputs.ReleaseAck at) text up s takes.finds.first) (told-of (role_leaves place) is takes) (are-released text before after up at s.draining takes.finds.first)) where
       is : step_by (inputs.ReleaseAck at) (roles_of s) ≡ role_leaves place
@@ -233,7 +218,7 @@ brought-unended message true = refl
 brought-unended message false = refl
 
 -- COMPLETE and FAILURE are taken from their channel
-control-taken : (text : List ℕ) (before after : Place → List Item) (at : Place) (c : Channel) → is_control text ≡ true → before (place_of c) ≡ (if is_same (place_of c) at then brought text ∷ [] else []) ++ after (place_of c) → is_at at c ≡ true → controls_in (after (place_of c)) + 1 ≤ controls_in (before (place_of c))
+control-taken : (text : List ℕ) (before after : Place → List Item) (at : Place) (c : Channel) → is_control text ≡ true → before (place_of c) ≡ (if same_place (place_of c) at then brought text ∷ [] else []) ++ after (place_of c) → is_at at c ≡ true → controls_in (after (place_of c)) + 1 ≤ controls_in (before (place_of c))
 control-taken text before after at c control first here =
     controls-one text (before (place_of c)) (after (place_of c)) (first ∙ ap (λ (b : Bool). (if b then brought text ∷ [] else []) ++ after (place_of c)) (same-at at c ∙ here)) (controls-first text (messages_in (after (place_of c))) control)
 
@@ -253,21 +238,21 @@ does-row s (inputs.Complete at change cause) offer r text before after up comman
   | inl both ↦ let a = changing change (target_role s.state) (and-right (is_target_at at (target_role s.state)) (changes_by change (target_role s.state)) both) in
       input-completes up seat at change cause a.t a.is a.told_to
       (control-taken text before after at a.t.target.channel takes.finds.read (takes.finds.first (place_of a.t.target.channel)) (sym (ap (is_target_at at) a.is) ∙ and-left (is_target_at at (target_role s.state)) (changes_by change (target_role s.state)) both))
-      (ap (λ (b : Bool). if b then role_completes else roles_stay) both) takes (all-of _ (undone s.draining) (λ c. brought-unended text (is_same (place_of c) at)))
-  | inr not_so ↦ input-stays up seat (ap (λ (b : Bool). if b then role_completes else roles_stay) not_so) takes (all-of _ (undone s.draining) (λ c. brought-unended text (is_same (place_of c) at)))
+      (ap (λ (b : Bool). if b then role_completes else roles_stay) both) takes (all-of _ (undone s.draining) (λ c. brought-unended text (same_place (place_of c) at)))
+  | inr not_so ↦ input-stays up seat (ap (λ (b : Bool). if b then role_completes else roles_stay) not_so) takes (all-of _ (undone s.draining) (λ c. brought-unended text (same_place (place_of c) at)))
 ]
 does-row s (inputs.Failure at change cause) offer r text before after up commands commands2 seat takes = elim (cases_Bool (is_at at s.serving && changes_by change (target_role s.state))) [
   | inl both ↦ let a = changing change (target_role s.state) (and-right (is_at at s.serving) (changes_by change (target_role s.state)) both) in
       input-goes_back up seat a.t a.is a.told_to (control-taken text before after at s.serving takes.finds.read (takes.finds.first (place_of s.serving)) (and-left (is_at at s.serving) (changes_by change (target_role s.state)) both))
-      (ap (λ (b : Bool). if b then role_goes_back else roles_stay) both) takes (all-of _ (undone s.draining) (λ c. brought-unended text (is_same (place_of c) at)))
-  | inr not_so ↦ input-stays up seat (ap (λ (b : Bool). if b then role_goes_back else roles_stay) not_so) takes (all-of _ (undone s.draining) (λ c. brought-unended text (is_same (place_of c) at)))
+      (ap (λ (b : Bool). if b then role_goes_back else roles_stay) both) takes (all-of _ (undone s.draining) (λ c. brought-unended text (same_place (place_of c) at)))
+  | inr not_so ↦ input-stays up seat (ap (λ (b : Bool). if b then role_goes_back else roles_stay) not_so) takes (all-of _ (undone s.draining) (λ c. brought-unended text (same_place (place_of c) at)))
 ]
 does-row s (inputs.ReleaseAck at) offer r text before after up commands commands2 seat takes = by (drain_at at s.draining) refl where
   by : (o : Option ℕ) → drain_at at s.draining ≡ o → DoesRow s (inputs.ReleaseAck at) offer r before after up commands commands2 seat (seat_after (step_by (inputs.ReleaseAck at) (roles_of s)) seat)
   by (Some place) found = input-leaves up seat at place found takes
-  by None none = input-stays up seat (ap leaves_at none) takes (all-map (λ c. is_at at c ≡ false) (λ c. is_ended (said_by (inputs.ReleaseAck at) text (place_of c)) ≡ false) (undone s.draining) (λ c other. ap is_ended (released-elsewhere text at c other)) (undone-none at s.draining none))
-does-row s (inputs.Dtap at Zero message) offer r text before after up commands commands2 seat takes = input-stays up seat refl takes (all-of _ (undone s.draining) (λ c. brought-unended message (is_same (place_of c) at)))
-does-row s (inputs.EstablishIndication at Zero (Some initial)) offer r text before after up commands commands2 seat takes = input-stays up seat refl takes (all-of _ (undone s.draining) (λ c. brought-unended initial (is_same (place_of c) at)))
+  by None none = input-stays up seat (ap leaves_at none) takes (AllByRecursion-so (λ c. is_at at c ≡ false) (λ c. is_ended (said_by (inputs.ReleaseAck at) text (place_of c)) ≡ false) (λ c other. ap is_ended (released-elsewhere text at c other)) (undone s.draining) (undone-none at s.draining none))
+does-row s (inputs.Dtap at Zero message) offer r text before after up commands commands2 seat takes = input-stays up seat refl takes (all-of _ (undone s.draining) (λ c. brought-unended message (same_place (place_of c) at)))
+does-row s (inputs.EstablishIndication at Zero (Some initial)) offer r text before after up commands commands2 seat takes = input-stays up seat refl takes (all-of _ (undone s.draining) (λ c. brought-unended initial (same_place (place_of c) at)))
 does-row s _ offer r text before after up commands commands2 seat takes = input-stays up seat refl takes (all-of _ (undone s.draining) (λ c. refl))
 
 pub InputKeepsLineUp-new : (m : ℕ) (s : Connection) (input : Input) (offer : Option Channel) (r : Row) → InputKeepsLineUp m s input offer r

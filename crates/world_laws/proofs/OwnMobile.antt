@@ -1,29 +1,19 @@
 -- What the mobile of a connection does keeps the connection lined up.
-use Rattle.std.proofs.Common.{◌≡◌, ℕ, ◌&&◌, ◌%◌, not, Bool, true, false, if◌then◌else◌, List, [], ◌∷◌, ◌++◌, length, Some, None, refl, sym, subst, inl, inr}
-use Rattle.std.specs.Option.{is_none}
-use Rattle.std.proofs.lemmas.Bool.{cases_Bool}
-use Rattle.conn_table.specs.Connection.{Connection}
-use Rattle.dtap_codec.specs.declared.sapi.Sapi.{Sapi}
-use Rattle.dtap_codec.specs.declared.sapi.Sapi.TheVariants.{Zero, Three}
-use Rattle.dtap_codec.specs.Message.{is_flow_message}
-use Rattle.dtap_codec.specs.Number.{with_number}
-use Rattle.lineup.specs.Alive.{Alive}
-use Rattle.lineup.specs.MobileStep.MobileStep.{sends_numbered, sends_other, acknowledged}
-use Rattle.lineup.proofs.Moving.{Alive-mobile}
+use Rattle.world_laws.proofs.Prelude.{◌≡◌, ℕ, ◌&&◌, ◌%◌, not, Bool, true, false, if◌then◌else◌, List, [], ◌∷◌, ◌++◌, length, Some, None}
+use Rattle.world_laws.proofs.Prelude.{refl, sym, subst, inl, inr, is_none, cases_Bool, Connection, Sapi, Zero, Three, is_flow_message}
+use Rattle.world_laws.proofs.Prelude.{with_number, Whereabouts, Stage, New, Connected, is_control, after_acknowledgement, after_number}
+use Rattle.world_laws.proofs.Prelude.{after_queue, refusal_of_send, after_acked, after_acked_at, MobileState, Actors, Mobile}
+use Rattle.world_laws.specs.LineUp.Alive.{Alive}
+use Rattle.world_laws.specs.LineUp.MobileStep.MobileStep.{sends_numbered, sends_other, acknowledged}
+use Rattle.world_laws.proofs.LineUp.Moving.{Alive-mobile}
 use Rattle.mobile_end.specs.declared.fault.MobileFault.TheVariants.{BadMessage}
-use Rattle.mobile_end.specs.declared.mobile_end.Place.{Place as Whereabouts}
 use Rattle.mobile_end.specs.declared.mobile_end.Place.TheVariants as places
-use Rattle.mobile_end.specs.declared.mobile_end.Stage.{Stage}
-use Rattle.mobile_end.specs.declared.mobile_end.Stage.TheVariants.{New, Connected}
-use Rattle.mobile_end.specs.Control.{is_control}
-use Rattle.mobile_end.specs.DataLink.{waits as waits_in, after_acknowledgement}
+use Rattle.mobile_end.specs.DataLink.{waits as waits_in}
 use Rattle.mobile_end.specs.Lawful.{is_sendable, has_clear_number}
-use Rattle.mobile_end.specs.Mobile.{link_of, with_link, after_number, after_queue, refusal_before_connect, refusal_of_send, after_acked, after_acked_at}
-use Rattle.mobile_end.specs.MobileState.{MobileState}
+use Rattle.mobile_end.specs.Mobile.{link_of, with_link, refusal_before_connect}
 use Rattle.mobile_end.proofs.Lives.{is_sendable-clear}
 use Rattle.mobile_end.proofs.Numbering.{IsClear-flow}
 use Rattle.octets.specs.Refusal.{first_refusal}
-use Rattle.world_table.specs.World.{Actors, Mobile}
 use Rattle.world_laws.specs.LineUps.{commanded_target, line_up}
 use Rattle.world_laws.specs.Seated.{Sits, LinedUp}
 

@@ -1,53 +1,40 @@
 -- What the mobile of a connection hears, and where it goes, keeps the connection lined up.
-use Rattle.std.proofs.Common.{◌≡◌, ◌≢◌, ℕ, ◌+◌, ◌≤◌, ◌==◌, ◌&&◌, not, Bool, true, false, if◌then◌else◌, List, [], ◌∷◌, ◌++◌, length, unwrap_or, Option, Some, None, Result, Ok, Err, refl, sym, ap, ◌∙◌, subst, append_assoc, length-append, arith}
-use Rattle.std.specs.List.{AllByRecursion, flat_map}
-use Rattle.conn_messages.specs.declared.channel.Change.{Change}
-use Rattle.conn_messages.specs.declared.channel.Change.TheVariants.{Assignment, Handover}
-use Rattle.conn_messages.specs.declared.channel.Channel.{Channel}
-use Rattle.conn_messages.specs.declared.channel.Place.{Place}
-use Rattle.conn_messages.specs.declared.parameters.TheConstants.{SWITCH_LINK}
-use Rattle.conn_table.specs.declared.state.Target.{Target}
-use Rattle.conn_table.specs.Connection.{Connection, is_at}
-use Rattle.conn_table.specs.Streams.{is_dtap, undone, target_in, used_channels}
-use Rattle.controller_table.specs.Controller.{place_of}
-use Rattle.dtap_codec.specs.declared.rr.RrMessage.{RrMessage}
-use Rattle.dtap_codec.specs.declared.rr.RrMessage.TheVariants.{AssignmentCommand, HandoverCommand, ChannelRelease}
-use Rattle.dtap_codec.specs.declared.rr_fault.RrFault.{RrFault}
-use Rattle.dtap_codec.specs.declared.sapi.Sapi.TheVariants.{Zero}
+use Rattle.world_laws.proofs.Prelude.{◌≡◌, ◌≢◌, ℕ, ◌+◌, ◌≤◌, ◌==◌, ◌&&◌, not, Bool, true, false, if◌then◌else◌, List, [], ◌∷◌, ◌++◌, length}
+use Rattle.world_laws.proofs.Prelude.{unwrap_or, Option, Some, None, Ok, Err, refl, sym, ap, ◌∙◌, subst, append_assoc, length-append, arith}
+use Rattle.world_laws.proofs.Prelude.{AllByRecursion, flat_map, Change, Assignment, Handover, Channel, Place, SWITCH_LINK, Target}
+use Rattle.world_laws.proofs.Prelude.{Connection, is_at, is_dtap, undone, used_channels, place_of, RrMessage, AssignmentCommand}
+use Rattle.world_laws.proofs.Prelude.{HandoverCommand, ChannelRelease, RrFault, Zero, after_establish, establish_indication, is_control}
+use Rattle.world_laws.proofs.Prelude.{after_resume, after_leave, after_arrival, AirMessage, Command, MobileSeat, On, Moving, Gone}
+use Rattle.world_laws.proofs.Prelude.{ChannelTenure, remembering, controlled, hearing, seated, Actors, Mobile, Spot, put_back, base_of}
+use Rattle.world_laws.proofs.Prelude.{with_base, is_station_up, outbox_of, spot_at, with_spot, tenure_at, is_reached, reached-up, up-right}
+use Rattle.world_laws.proofs.Prelude.{same_Some, AllByRecursion-so}
+use Rattle.std.proofs.Common.{Result}
+use Rattle.conn_rules.specs.Streams.{target_in}
 use Rattle.dtap_codec.specs.RrReading.{rr_reading}
-use Rattle.lineup.specs.Alive.{Alive, Stands}
-use Rattle.lineup.specs.Alive.Condition.{left_the_cell}
-use Rattle.lineup.specs.Alive.Stands.{opens, rests, waits, arrives, returns}
-use Rattle.lineup.specs.LineUp.{Item, Tenure, Seat, LineUp, flow}
-use Rattle.lineup.specs.LineUp.Seat.{on_serving, on_target, moving, gone}
-use Rattle.lineup.specs.MobileStep.MobileStep.{follows_command, arrives as arrives_step, returns as returns_step, dismissed_from_serving, dismissed_from_target}
-use Rattle.lineup.proofs.Following.{Follows-line}
-use Rattle.lineup.proofs.Lines.{parts-tail, last_part}
-use Rattle.lineup.proofs.Moving.{Alive-mobile}
-use Rattle.lineup.proofs.Standing.{Stands-fewer}
-use Rattle.link_model.specs.Base.{after_establish}
-use Rattle.link_model.specs.Message.{establish_indication}
-use Rattle.mobile_end.specs.Control.{is_control}
-use Rattle.mobile_end.specs.DataLink.{after_resume}
-use Rattle.mobile_end.specs.Mobile.{after_leave, after_arrival}
-use Rattle.world_table.specs.declared.line.AirMessage.{AirMessage}
-use Rattle.world_table.specs.declared.seat.Command.{Command}
-use Rattle.world_table.specs.declared.seat.Seat.{Seat as MobileSeat}
-use Rattle.world_table.specs.declared.seat.Seat.TheVariants.{On, Moving, Gone}
-use Rattle.world_table.specs.declared.seat.Tenure.{Tenure as ChannelTenure}
-use Rattle.world_table.specs.Mobiles.{remembering, controlled, hearing, left, seated}
-use Rattle.world_table.specs.World.{Actors, Mobile, Spot, put_back, base_of, with_base, is_station_up, outbox_of, spot_at, with_spot, tenure_at, is_reached}
-use Rattle.world_table.proofs.Honesty.{reached-up, up-right}
+use Rattle.world_laws.specs.LineUp.Alive.{Alive, Stands}
+use Rattle.world_laws.specs.LineUp.Alive.Condition.{left_the_cell}
+use Rattle.world_laws.specs.LineUp.Alive.Stands.{opens, rests, waits, arrives, returns}
+use Rattle.world_laws.specs.LineUp.Places.{Item, Tenure, Seat, LineUp, flow}
+use Rattle.world_laws.specs.LineUp.Places.Seat.{on_serving, on_target, moving, gone}
+use Rattle.world_laws.specs.LineUp.MobileStep.MobileStep.{follows_command, arrives as arrives_step, returns as returns_step}
+use Rattle.world_laws.specs.LineUp.MobileStep.MobileStep.{dismissed_from_serving, dismissed_from_target}
+use Rattle.world_laws.proofs.LineUp.Following.{Follows-line}
+use Rattle.world_laws.proofs.LineUp.Lines.{parts-tail, last_part}
+use Rattle.world_laws.proofs.LineUp.Moving.{Alive-mobile}
+use Rattle.world_laws.proofs.LineUp.Standing.{Stands-fewer}
+use Rattle.world_model.specs.Mobiles.{left}
 use Rattle.world_laws.specs.ComingUp.{coming_up}
 use Rattle.world_laws.specs.GoingDown.{leading, leading_from_air, leading_from_outbox, going_down}
-use Rattle.world_laws.specs.LineUps.{seat_from, remembered, is_intact, old_tenures, serving_hold, serving_tenure, commanded_target, target_tenure, waiting_of, taken_of, assembled, lined, line_up}
+use Rattle.world_laws.specs.LineUps.{seat_from, remembered, is_intact, old_tenures, serving_hold, serving_tenure, commanded_target}
+use Rattle.world_laws.specs.LineUps.{target_tenure, waiting_of, taken_of, assembled, lined, line_up}
 use Rattle.world_laws.specs.Seated.{change_in, Remembers, Sits, Leads, NoneOn, LinedUp}
 use Rattle.world_laws.specs.Seated.Leads.{leads}
 use Rattle.world_laws.specs.Seated.Remembers.{nothing, told}
 use Rattle.world_laws.specs.Seated.Sits.{stays, came, between, gone as is_gone_now}
-use Rattle.world_laws.proofs.Apart.{is_at-station, target-in, OnServing, OnTarget, on-serving, on-target, SitsOn, sits-on, SitsBetween, sits-between}
+use Rattle.world_laws.proofs.Apart.{is_at-station, target-in, OnServing, OnTarget, on-serving, on-target, SitsOn, sits-on, SitsBetween}
+use Rattle.world_laws.proofs.Apart.{sits-between}
 use Rattle.world_laws.proofs.Apart.SitsOn.{serves, arrived}
-use Rattle.world_laws.proofs.Framing.{AreSame, AreUp, all-right, all-map, lined-same}
+use Rattle.world_laws.proofs.Framing.{AreSame, AreUp, all-right, lined-same}
 use Rattle.world_laws.proofs.OwnMobile.{LinedUp-end}
 use Rattle.world_laws.proofs.Quiet.{all-of, ArePlaced, coming-with_spot, sees-itself, sees-mobiles, sees-told, sees-spot}
 use Rattle.world_laws.proofs.Spots.{spot-elsewhere, spot-there, tenure-with_spot}
@@ -115,7 +102,7 @@ lined-but {m} {w} {v} {s} {p} q sees alive sits led kept = record {
       (sym (lined-same (coming_up v) (coming_up w) (is_station_up v) (is_station_up w) (going_down v (place_of s.serving)) (going_down v (place_of s.serving)) (waiting_of v s.number) (waiting_of w s.number) (taken_of v s.number) (taken_of w s.number) q q s
       sees.coming sees.up refl sees.waiting sees.taken refl refl refl)) alive;
   sits = Sits-same sees.tenures sits;
-  led = all-map (λ a. Leads w a (commanded_target s.state)) (λ a. Leads v a (commanded_target s.state)) (going_down v (place_of s.serving)) (λ a. Leads-same sees.tenures) led;
+  led = AllByRecursion-so (λ a. Leads w a (commanded_target s.state)) (λ a. Leads v a (commanded_target s.state)) (λ a. Leads-same sees.tenures) (going_down v (place_of s.serving)) led;
   none_on_target = none-same w v (commanded_target s.state) sees.target kept.none_on_target;
   apart = kept.apart;
   placed = kept.placed;
@@ -279,12 +266,7 @@ led-to {w} {s} tenure first others target is air leads_to kept =
 
 -- and the mobile remembers it
 remembers-it : {w : Actors} {o : Option Target} {a : AirMessage} (goal : ChannelTenure) (change : Change) → change_in (rr_reading a.message) ≡ Some change → a.target ≡ Some goal → Leads w a o → Remembers w o (Some (record { change = change; target = goal }))
-remembers-it goal change is to (leads {target} by at) = told (rw (some_change (sym is ∙ by), some_tenure (sym to ∙ at)) refl) where
-  some_change : {x y : Change} → Some x ≡ Some y → x ≡ y
-  some_change {x} e = ap (λ (o : Option Change). unwrap_or o x) e
-
-  some_tenure : {x y : ChannelTenure} → Some x ≡ Some y → x ≡ y
-  some_tenure {x} e = ap (λ (o : Option ChannelTenure). unwrap_or o x) e
+remembers-it goal change is to (leads {target} by at) = told (rw (same_Some _ _ (sym is ∙ by), same_Some _ _ (sym to ∙ at)) refl)
 
 -- a command on the serving channel is remembered
 heard-command : {m : ℕ} {w : Actors} {p : Mobile} {s : Connection} (tenure : ChannelTenure) (command : Option Command) (first : AirMessage) (others : List AirMessage) (change : Change) (target : ChannelTenure) (q : Mobile) → is_reached w tenure ≡ true → p.seat ≡ On tenure command → (spot_at w tenure.at).air ≡ first ∷ others

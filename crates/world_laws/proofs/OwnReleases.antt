@@ -1,37 +1,27 @@
 -- What an RF CHANNEL RELEASE ACK leaves of the old channels.
-use Rattle.std.proofs.Common.{◌≡◌, ℕ, suc, ◌&&◌, ◌||◌, not, nat_eq, Bool, true, false, if◌then◌else◌, cond, List, [], ◌∷◌, ◌++◌, Option, Some, None, option_map, unwrap_or, refl, sym, ap, ◌∙◌, subst, inl, inr}
-use Rattle.std.specs.List.{AllByRecursion}
-use Rattle.std.proofs.lemmas.Bool.{cases_Bool, eqb-true}
-use Rattle.conn_messages.specs.declared.channel.Channel.{Channel}
-use Rattle.conn_messages.specs.declared.channel.Place.{Place}
-use Rattle.conn_table.specs.declared.input.Input.TheVariants as inputs
-use Rattle.conn_table.specs.declared.state.Drain.{Drain}
-use Rattle.conn_table.specs.Connection.{is_at, drain_at}
-use Rattle.conn_table.specs.Steps.{done_at}
-use Rattle.conn_table.specs.Streams.{AreApart, IsApart, undone}
-use Rattle.controller_table.specs.Controller.{place_of}
-use Rattle.lineup.specs.LineUp.{Item}
-use Rattle.lineup.specs.LineUp.Item.{released}
-use Rattle.world_table.proofs.Leads.{and-left, and-right}
+use Rattle.world_laws.proofs.Prelude.{◌≡◌, ℕ, suc, ◌&&◌, ◌||◌, not, nat_eq, Bool, true, false, if◌then◌else◌, cond, List, [], ◌∷◌, ◌++◌}
+use Rattle.world_laws.proofs.Prelude.{Option, Some, None, option_map, unwrap_or, refl, sym, ap, ◌∙◌, subst, inl, inr, AllByRecursion}
+use Rattle.world_laws.proofs.Prelude.{cases_Bool, eqb-true, Channel, Place, Drain, is_at, drain_at, done_at, AreApart, IsApart, undone}
+use Rattle.world_laws.proofs.Prelude.{place_of, and-left, and-right, same_place}
+use Rattle.conn_rules.specs.declared.input.Input.TheVariants as inputs
+use Rattle.world_laws.specs.LineUp.Places.{Item}
+use Rattle.world_laws.specs.LineUp.Places.Item.{released}
 use Rattle.world_laws.specs.LineUps.{is_ended}
-use Rattle.world_laws.specs.OwnItem.{is_same, said_by}
+use Rattle.world_laws.specs.OwnItem.{said_by}
 use Rattle.world_laws.specs.OwnStep.{lacks, some_lacks}
-use Rattle.world_laws.proofs.Apart.{eqb-sym, is_at-station}
+use Rattle.world_laws.proofs.Apart.{eqb-sym}
 use Rattle.world_laws.proofs.OwnChannels.{and-false, ended-same}
 use Rattle.world_laws.proofs.Quiet.{all-of}
 use Rattle.world_laws.proofs.RolesAfter.{AreReleased}
+use Rattle.conn_rules.proofs.UplinkPlaces.{away-of}
 
 -- ---- places
 
-pub same-at : (at : Place) (c : Channel) → is_same (place_of c) at ≡ is_at at c
+pub same-at : (at : Place) (c : Channel) → same_place (place_of c) at ≡ is_at at c
 same-at at c = ap (λ (b : Bool). b && nat_eq c.number at.number) (eqb-sym c.station at.station) ∙ ap (λ (b : Bool). nat_eq at.station c.station && b) (eqb-sym c.number at.number)
 
 pub at-number : (at : Place) (c : Channel) → is_at at c ≡ true → at.number ≡ c.number
 at-number at c is = eqb-true at.number c.number (and-right (nat_eq at.station c.station) (nat_eq at.number c.number) is)
-
--- a place on a channel is on no channel apart from it
-pub apart-at : (at : Place) (c other : Channel) → is_at at c ≡ true → IsApart c other → is_at at other ≡ false
-apart-at at c other here apart = ap (λ (n : ℕ). nat_eq n other.station && nat_eq at.number other.number) (is_at-station at c here) ∙ ap (λ (n : ℕ). nat_eq c.station other.station && nat_eq n other.number) (at-number at c here) ∙ apart
 
 pub released-here : (text : List ℕ) (at : Place) (c : Channel) → is_at at c ≡ true → said_by (inputs.ReleaseAck at) text (place_of c) ≡ released ∷ []
 released-here text at c here = ap (λ (b : Bool). if b then released ∷ [] else []) (same-at at c ∙ here)
@@ -92,7 +82,7 @@ undone-done Q at place (d ∷ ds) found apart all = elim (cases_Bool (is_at at d
   first false is here apart all = others (undone ds) apart.0 all.1 where
     others : (cs : List Channel) → AllByRecursion (IsApart d.channel) cs → AllByRecursion (λ c. is_at at c ≡ false → Q c) cs → AllByRecursion Q cs
     others [] apart all = tt
-    others (c ∷ cs) apart all = (all.0 (apart-at at d.channel c (and-left (is_at at d.channel) (not d.is_done) here) apart.0), others cs apart.1 all.1)
+    others (c ∷ cs) apart all = (all.0 (away-of at d.channel c apart.0 (and-left (is_at at d.channel) (not d.is_done) here)), others cs apart.1 all.1)
 
   behind : (later : ℕ) (b : Bool) → d.is_done ≡ b → is_at at d.channel && not d.is_done ≡ false → AreApart (if b then undone ds else d.channel ∷ undone ds) → AllIf (λ c. is_at at c ≡ false → Q c) b d ds
       → (AreApart (undone ds) → AllByRecursion (λ c. is_at at c ≡ false → Q c) (undone ds) → AllByRecursion Q (undone (done_at later ds))) → AllByRecursion Q (undone (d ∷ done_at later ds))

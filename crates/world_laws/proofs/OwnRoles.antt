@@ -1,20 +1,15 @@
 -- The step of a line-up that a row does, by the step that it does to the roles of channels.
-use Rattle.std.proofs.Common.{◌≡◌, ℕ, ◌+◌, ◌≤◌, Bool, true, false, ◌&&◌, ◌||◌, not, if◌then◌else◌, List, [], ◌∷◌, ◌++◌, Option, Some, None, refl, sym, ap, ◌∙◌}
-use Rattle.conn_messages.specs.declared.channel.Channel.{Channel}
-use Rattle.conn_messages.specs.declared.channel.Place.{Place}
-use Rattle.conn_table.specs.declared.input.Input.{Input}
-use Rattle.conn_table.specs.declared.state.Drain.{Drain}
-use Rattle.conn_table.specs.Connection.{Connection, drain_at}
-use Rattle.conn_table.specs.Roles.{TargetRole, target_role, roles_of, commanded, completed, GoesOn}
-use Rattle.conn_table.specs.Roles.RoleStep.{stays as roles_stay, commands as role_commands, completes as role_completes, goes_back as role_goes_back, leaves as role_leaves}
-use Rattle.conn_table.specs.Steps.{Row}
-use Rattle.controller_table.specs.Controller.{place_of}
-use Rattle.lineup.specs.ChangeStep.{after_complete}
-use Rattle.lineup.specs.LineUp.{Item, Seat, messages_in, controls_in, texts_in}
+use Rattle.world_laws.proofs.Prelude.{◌≡◌, ℕ, ◌+◌, ◌≤◌, Bool, true, false, ◌&&◌, ◌||◌, not, if◌then◌else◌, List, [], ◌∷◌, ◌++◌, Option}
+use Rattle.world_laws.proofs.Prelude.{Some, None, refl, sym, ap, ◌∙◌, Channel, Place, Input, Drain, Connection, drain_at, TargetRole}
+use Rattle.world_laws.proofs.Prelude.{target_role, roles_of, commanded, completed, GoesOn, roles_stay, role_commands, role_completes}
+use Rattle.world_laws.proofs.Prelude.{role_goes_back, role_leaves, Row, place_of}
+use Rattle.world_laws.specs.LineUp.ChangeStep.{after_complete}
+use Rattle.world_laws.specs.LineUp.Places.{Item, Seat, messages_in, controls_in, texts_in}
 use Rattle.world_laws.specs.LineUps.{is_ended, commanded_target}
 use Rattle.world_laws.specs.OwnStep.{lacks, some_lacks, target_items, OwnStep}
 use Rattle.world_laws.specs.OwnStep.OwnStep.{stays, tells, completes, goes_back}
-use Rattle.world_laws.proofs.RolesAfter.{commanded_of, commanded-role, ChannelsAfter, channels-after, both-false, AreReleased, leaves-covers}
+use Rattle.world_laws.proofs.RolesAfter.{commanded_of, commanded-role, ChannelsAfter, channels-after, both-false, AreReleased}
+use Rattle.world_laws.proofs.RolesAfter.{leaves-covers}
 
 -- what is on its way up is what it was, or less
 pub record IsLess (before after : Place → List Item) (up : ℕ → Bool) (s : Connection) : Type 0 where

@@ -1,25 +1,17 @@
 -- A row of the table keeps its connection's line-up, where the change of channel stands as before and nothing more is missing.
-use Rattle.std.proofs.Common.{◌≡◌, ℕ, Bool, true, false, not, if◌then◌else◌, List, [], ◌∷◌, ◌++◌, Option, Some, None, refl, sym, ap, ◌∙◌, subst, append_assoc, inl, inr}
-use Rattle.std.proofs.lemmas.Bool.{cases_Bool, cond-true, cond-false}
-use Rattle.conn_messages.specs.declared.channel.Place.{Place}
-use Rattle.conn_table.specs.declared.state.Drain.{Drain}
-use Rattle.conn_table.specs.declared.state.State.{State}
-use Rattle.conn_table.specs.declared.state.State.TheVariants.{WaitActivation, WaitEstablish, WaitConfirm, Live, Closed, Removed}
-use Rattle.conn_table.specs.declared.state.Target.{Target}
-use Rattle.conn_table.specs.Connection.{Connection}
-use Rattle.conn_table.specs.Standing.{FirstIsEmpty, StandsBy, Stands as StandsAlone}
-use Rattle.controller_table.specs.Controller.{place_of}
-use Rattle.dtap_codec.specs.Message.{is_flow_message}
-use Rattle.hold_queue.specs.ChainState.{Tenure as Held}
-use Rattle.lineup.specs.Alive.{Alive, FirstRelays, Follows, Stands, some_lost}
-use Rattle.lineup.specs.Alive.Follows.{rises}
-use Rattle.lineup.specs.ChangeStep.{ended}
-use Rattle.lineup.specs.LineUp.{Item, Seat, flow, parts_of, controls_of, controls_in, texts_in}
-use Rattle.lineup.proofs.Following.{Follows-line, Follows-rise}
-use Rattle.lineup.proofs.Lines.{flow-append}
-use Rattle.mobile_end.specs.DataLink.{to_be_taken}
-use Rattle.mobile_end.specs.DataLinkState.{DataLinkState}
-use Rattle.world_laws.specs.LineUps.{draining_tenure, old_tenure, old_tenures, serving_hold, serving_tenure, commanded_target, target_tenure, is_changing, is_confirmed, is_intact, is_opening, assembled}
+use Rattle.world_laws.proofs.Prelude.{◌≡◌, ℕ, Bool, true, false, not, if◌then◌else◌, List, [], ◌∷◌, ◌++◌, Option, Some, None, refl, sym, ap}
+use Rattle.world_laws.proofs.Prelude.{◌∙◌, subst, append_assoc, inl, inr, cases_Bool, cond-true, cond-false, Place, Drain, State}
+use Rattle.world_laws.proofs.Prelude.{WaitActivation, WaitEstablish, WaitConfirm, Live, Closed, Removed, Target, Connection, StandsBy}
+use Rattle.world_laws.proofs.Prelude.{place_of, is_flow_message, Held, to_be_taken, DataLinkState, false≢true}
+use Rattle.conn_rules.specs.Standing.{FirstIsEmpty, Stands as StandsAlone}
+use Rattle.world_laws.specs.LineUp.Alive.{Alive, FirstRelays, Follows, Stands, some_lost}
+use Rattle.world_laws.specs.LineUp.Alive.Follows.{rises}
+use Rattle.world_laws.specs.LineUp.ChangeStep.{ended}
+use Rattle.world_laws.specs.LineUp.Places.{Item, Seat, flow, parts_of, controls_of, controls_in, texts_in}
+use Rattle.world_laws.proofs.LineUp.Following.{Follows-line, Follows-rise}
+use Rattle.world_laws.proofs.LineUp.Lines.{flow-append}
+use Rattle.world_laws.specs.LineUps.{draining_tenure, old_tenure, old_tenures, serving_hold, serving_tenure, commanded_target}
+use Rattle.world_laws.specs.LineUps.{target_tenure, is_changing, is_confirmed, is_intact, is_opening, assembled}
 use Rattle.world_laws.proofs.Breaks.{target-came}
 use Rattle.world_laws.proofs.Cutting.{condition-of}
 
@@ -38,9 +30,7 @@ none-held (d ∷ ds) (t ∷ ts) coming up first = old-hold coming up d t.zero �
 
 -- before CC no channel drains
 none-drains : (tenures : List Held) (coming : Place → List Item) (up : ℕ → Bool) (draining : List Drain) → draining ≡ [] → FirstRelays false (old_tenures coming up draining tenures) (serving_hold draining tenures)
-none-drains tenures coming up [] none = λ is. absurd (never is) where
-  never : false ≡ true → ⊥
-  never h = absurd cc
+none-drains tenures coming up [] none = λ is. absurd (false≢true is)
 none-drains tenures coming up (d ∷ ds) none = absurd cc
 
 pub first-relays : (s : Connection) (coming : Place → List Item) (up : ℕ → Bool) → StandsAlone s → FirstRelays (is_confirmed s.state) (old_tenures coming up s.draining s.up.tenures) (serving_hold s.draining s.up.tenures)

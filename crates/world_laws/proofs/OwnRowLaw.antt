@@ -1,18 +1,10 @@
 -- A row of the table keeps its connection's line-up: the steps put together.
-use Rattle.std.proofs.Common.{◌≡◌, ℕ, Bool, true, ◌&&◌, not, List, Option, Some, sym, ap, ◌∙◌, subst}
-use Rattle.conn_messages.specs.declared.channel.Channel.{Channel}
-use Rattle.conn_messages.specs.declared.channel.Place.{Place}
-use Rattle.conn_table.specs.declared.input.Input.{Input}
-use Rattle.conn_table.specs.Connection.{Connection}
-use Rattle.conn_table.specs.Standing.{Stands}
-use Rattle.conn_table.specs.Steps.{Row}
-use Rattle.conn_table.specs.Streams.{KeepsUplink, OfRow, relayed}
-use Rattle.conn_table.proofs.StandingTable.{Stands-row}
-use Rattle.conn_table.proofs.UplinkTable.{row-keeps}
-use Rattle.dtap_codec.specs.declared.sapi.Sapi.TheVariants.{Zero}
-use Rattle.lineup.specs.LineUp.{Item, Seat}
-use Rattle.mobile_end.specs.DataLink.{to_be_taken}
-use Rattle.lineup.specs.LineUp.{controls_of}
+use Rattle.world_laws.proofs.Prelude.{◌≡◌, ℕ, Bool, true, ◌&&◌, not, List, Option, Some, sym, ap, ◌∙◌, subst, Channel, Place, Input}
+use Rattle.world_laws.proofs.Prelude.{Connection, Stands, Row, KeepsUplink, OfRow, relayed, Zero, to_be_taken}
+use Rattle.conn_rules.proofs.StandingTable.{Stands-row}
+use Rattle.conn_rules.proofs.UplinkTable.{row-keeps}
+use Rattle.world_laws.specs.LineUp.Places.{Item, Seat}
+use Rattle.world_laws.specs.LineUp.Places.{controls_of}
 use Rattle.world_laws.specs.LineUps.{old_tenures, serving_hold, serving_tenure, commanded_target, target_tenure, is_gone, is_intact}
 use Rattle.world_laws.specs.OwnRow.{RowKeepsLineUp}
 use Rattle.world_laws.specs.OwnStep.{some_lacks}

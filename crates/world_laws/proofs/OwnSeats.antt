@@ -1,23 +1,13 @@
 -- Where the mobile of a connection is seen after a row, and which commands are on their way to it.
-use Rattle.std.proofs.Common.{◌≡◌, ℕ, ◌+◌, ◌≤◌, Bool, true, false, if◌then◌else◌, List, [], ◌++◌, length, Option, Some, None, refl, sym, ap, ◌∙◌, subst, arith}
-use Rattle.std.specs.List.{AllByRecursion}
-use Rattle.std.proofs.lemmas.List.{append-nil}
-use Rattle.conn_messages.specs.declared.channel.Channel.{Channel}
-use Rattle.conn_messages.specs.declared.channel.Place.{Place}
-use Rattle.conn_table.specs.declared.state.Target.{Target}
-use Rattle.conn_table.specs.Connection.{Connection, is_at}
-use Rattle.conn_table.proofs.Standing.{nothing as no-length}
-use Rattle.controller_table.specs.Controller.{place_of}
-use Rattle.lineup.specs.Alive.{Stands, Stays}
-use Rattle.lineup.specs.Alive.Stands.{opens, rests, waits, leaves, arrives, returns}
-use Rattle.lineup.specs.Alive.Stays.{remains, left}
-use Rattle.lineup.specs.ChangeStep.{after_complete}
-use Rattle.lineup.specs.LineUp.{Item, Seat, controls_in}
-use Rattle.lineup.specs.LineUp.Seat.{on_serving, on_target, moving}
-use Rattle.world_table.specs.declared.line.AirMessage.{AirMessage}
-use Rattle.world_table.specs.declared.seat.Seat.{Seat as MobileSeat}
-use Rattle.world_table.specs.declared.seat.Tenure.{Tenure}
-use Rattle.world_table.specs.World.{Actors, tenure_at}
+use Rattle.world_laws.proofs.Prelude.{◌≡◌, ℕ, ◌+◌, ◌≤◌, Bool, true, false, if◌then◌else◌, List, [], ◌++◌, length, Option, Some, None, refl}
+use Rattle.world_laws.proofs.Prelude.{sym, ap, ◌∙◌, subst, arith, AllByRecursion, append-nil, Channel, Place, Target, Connection, is_at}
+use Rattle.world_laws.proofs.Prelude.{place_of, AirMessage, MobileSeat, Tenure, Actors, tenure_at, none-some, no-length}
+use Rattle.world_laws.specs.LineUp.Alive.{Stands, Stays}
+use Rattle.world_laws.specs.LineUp.Alive.Stands.{opens, rests, waits, leaves, arrives, returns}
+use Rattle.world_laws.specs.LineUp.Alive.Stays.{remains, left}
+use Rattle.world_laws.specs.LineUp.ChangeStep.{after_complete}
+use Rattle.world_laws.specs.LineUp.Places.{Item, Seat, controls_in}
+use Rattle.world_laws.specs.LineUp.Places.Seat.{on_serving, on_target, moving}
 use Rattle.world_laws.specs.GoingDown.{going_down}
 use Rattle.world_laws.specs.LineUps.{seat_from, remembered, is_opening, commanded_target}
 use Rattle.world_laws.specs.OwnStep.{OwnStep}
@@ -119,9 +109,7 @@ pub record OwnBefore (w : Actors) (seat : MobileSeat) (s : Connection) (before :
   pub apart : (t : Target) → commanded_target s.state ≡ Some t → is_at (place_of t.channel) s.serving ≡ false
 
 some-none : {X : Type 0} {o : Option X} {x : X} → o ≡ None → o ≡ Some x → ⊥
-some-none {X} {o} {x} none some = differs (sym none ∙ some) where
-  differs : None ≡ Some x → ⊥
-  differs is = absurd cc
+some-none {X} {o} {x} none some = none-some _ (sym none ∙ some)
 
 -- the channels have the roles that they had
 rest-stays : {w v : Actors} {seat : MobileSeat} {s next : Connection} {before after : Place → List Item} {up : ℕ → Bool} {seat1 : Seat} {link : ℕ} → OwnBefore w seat s before link seat1 → ((c : Channel) → going_down v (place_of c) ≡ going_down w (place_of c)) → next.serving ≡ s.serving → commanded_target next.state ≡ commanded_target s.state

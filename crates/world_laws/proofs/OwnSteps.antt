@@ -1,23 +1,18 @@
 -- How a change of channel stands after a row, by what the row does to the roles of channels.
-use Rattle.std.proofs.Common.{◌≡◌, ℕ, Bool, true, false, ◌&&◌, ◌||◌, not, if◌then◌else◌, List, [], ◌∷◌, length, Option, Some, None, refl, sym, ap, ◌∙◌, subst, arith}
-use Rattle.conn_messages.specs.declared.channel.Place.{Place}
-use Rattle.conn_table.specs.declared.state.Drain.{Drain}
-use Rattle.conn_table.specs.declared.state.State.{State}
-use Rattle.conn_table.specs.declared.state.State.TheVariants.{WaitActivation, WaitEstablish, WaitConfirm, Live, Closed, Removed}
-use Rattle.conn_table.specs.declared.state.Target.{Target}
-use Rattle.conn_table.specs.Connection.{Connection}
-use Rattle.controller_table.specs.Controller.{place_of}
-use Rattle.hold_queue.specs.ChainState.{Tenure as Held}
-use Rattle.lineup.specs.Alive.{Stands, Stays, some_lost}
-use Rattle.lineup.specs.Alive.Stands.{opens, rests}
-use Rattle.lineup.specs.Alive.Stays.{remains, left}
-use Rattle.lineup.specs.ChangeStep.{after_complete, ended}
-use Rattle.lineup.specs.LineUp.{Item, Seat, flow, controls_of, controls_in, texts_in}
-use Rattle.lineup.specs.LineUp.Seat.{on_serving, on_target, moving, gone}
-use Rattle.lineup.proofs.Standing.{Stands-fewer, Stands-commands, Stands-completes, Stands-goes_back}
+use Rattle.world_laws.proofs.Prelude.{◌≡◌, ℕ, Bool, true, false, ◌&&◌, ◌||◌, not, if◌then◌else◌, List, [], ◌∷◌, length, Option, Some, None}
+use Rattle.world_laws.proofs.Prelude.{refl, sym, ap, ◌∙◌, subst, arith, Place, Drain, State, WaitActivation, WaitEstablish, WaitConfirm}
+use Rattle.world_laws.proofs.Prelude.{Live, Closed, Removed, Target, Connection, place_of, Held, none-some}
+use Rattle.world_laws.specs.LineUp.Alive.{Stands, Stays, some_lost}
+use Rattle.world_laws.specs.LineUp.Alive.Stands.{opens, rests}
+use Rattle.world_laws.specs.LineUp.Alive.Stays.{remains, left}
+use Rattle.world_laws.specs.LineUp.ChangeStep.{after_complete, ended}
+use Rattle.world_laws.specs.LineUp.Places.{Item, Seat, flow, controls_of, controls_in, texts_in}
+use Rattle.world_laws.specs.LineUp.Places.Seat.{on_serving, on_target, moving, gone}
+use Rattle.world_laws.proofs.LineUp.Standing.{Stands-fewer, Stands-commands, Stands-completes, Stands-goes_back}
 use Rattle.world_laws.specs.OwnStep.{lacks, some_lacks, target_items, OwnStep, StillAwaits}
 use Rattle.world_laws.specs.OwnStep.OwnStep.{stays, tells, completes, goes_back}
-use Rattle.world_laws.specs.LineUps.{is_ended, draining_tenure, old_tenure, old_tenures, came, is_gone, commanded_target, target_tenure, is_changing, is_opening}
+use Rattle.world_laws.specs.LineUps.{is_ended, draining_tenure, old_tenure, old_tenures, came, is_gone, commanded_target, target_tenure}
+use Rattle.world_laws.specs.LineUps.{is_changing, is_opening}
 
 -- ---- whether something is missing, whatever is held
 
@@ -56,9 +51,7 @@ opening-unchanging (Closed clearing) is = refl
 opening-unchanging Removed is = refl
 
 some-none : {t : Target} {o : Option Target} → o ≡ None → o ≡ Some t → ⊥
-some-none {t} none is = differs (sym none ∙ is) where
-  differs : None ≡ Some t → ⊥
-  differs is = absurd cc
+some-none {t} none is = none-some _ (sym none ∙ is)
 
 -- the COMMAND is put behind the connection request
 commanded : {opening : Bool} {c s x t k : ℕ} {seat : Seat} → (opening ≡ true → ⊥) → Stands opening false c seat s x t k → Stands opening true 1 seat s x t k

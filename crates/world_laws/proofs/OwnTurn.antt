@@ -1,25 +1,12 @@
 -- What the controller puts in a turn, as the connection's outboxes have it after.
-use Rattle.std.proofs.Common.{◌≡◌, ℕ, ◌==◌, ◌&&◌, not, Bool, true, false, if◌then◌else◌, cond, List, [], ◌∷◌, ◌++◌, fold, map, Option, Some, None, refl, sym, ap, ◌∙◌, subst, append_assoc, inl, inr}
-use Rattle.std.specs.List.{flat_map}
-use Rattle.std.proofs.lemmas.Bool.{cases_Bool, eqb-true, eqb-false}
-use Rattle.std.proofs.lemmas.Grind.{flat_map-append}
-use Rattle.std.proofs.lemmas.List.{append-nil, map-append}
+use Rattle.world_laws.proofs.Prelude.{◌≡◌, ℕ, ◌==◌, ◌&&◌, not, Bool, true, false, if◌then◌else◌, cond, List, [], ◌∷◌, ◌++◌, fold, map}
+use Rattle.world_laws.proofs.Prelude.{Option, Some, None, refl, sym, ap, ◌∙◌, subst, append_assoc, inl, inr, flat_map, cases_Bool, eqb-true}
+use Rattle.world_laws.proofs.Prelude.{eqb-false, flat_map-append, append-nil, map-append, Channel, Out, SWITCH_LINK, Forwarded, place_of}
+use Rattle.world_laws.proofs.Prelude.{forwarded_by, Rsl, DataRequest, AirMessage, OutboxEntry, Tenure, joined_by, rsl_in, Actors, Link}
+use Rattle.world_laws.proofs.Prelude.{broken_link, link_of, is_up, is_station_up, outbox_of, with_outbox, spot_at, changed_link}
 use Rattle.bssmap_codec.specs.SccpReading.{sccp_reading}
-use Rattle.conn_messages.specs.declared.channel.Channel.{Channel}
-use Rattle.conn_messages.specs.declared.out.Out.{Out}
-use Rattle.conn_messages.specs.declared.parameters.TheConstants.{SWITCH_LINK}
-use Rattle.controller_table.specs.declared.forwarded.Forwarded.{Forwarded}
-use Rattle.controller_table.specs.Controller.{place_of}
-use Rattle.controller_table.specs.Views.{forwarded, forwarded_by}
-use Rattle.rsl_codec.specs.declared.rsl.Rsl.{Rsl}
-use Rattle.rsl_codec.specs.declared.rsl.Rsl.TheVariants.{DataRequest}
-use Rattle.world_table.specs.declared.line.AirMessage.{AirMessage}
-use Rattle.world_table.specs.declared.line.OutboxEntry.{OutboxEntry}
-use Rattle.world_table.specs.declared.seat.Tenure.{Tenure}
-use Rattle.world_table.specs.Relay.{entry_of, joined_by}
-use Rattle.world_table.specs.Stations.{rsl_in}
-use Rattle.world_table.specs.World.{Actors, Link, broken_link, link_of, is_up, is_station_up, outbox_of, with_outbox, spot_at}
-use Rattle.world_table.proofs.Outboxes.{changed_link}
+use Rattle.controller_model.specs.Views.{forwarded}
+use Rattle.world_model.specs.Relay.{entry_of}
 use Rattle.world_laws.specs.GoingDown.{leading, leading_by, leading_from_air, leading_from_outbox, going_down}
 use Rattle.world_laws.specs.LineUps.{waiting_of}
 use Rattle.world_laws.proofs.Framing.{AreUp}
@@ -44,7 +31,7 @@ turn-stations target outs u n = ap (λ (b : Bool). not (n == SWITCH_LINK) && b) 
 
 -- ---- what waits for the switch
 
-abbrev messages_of : List Forwarded → List (List ℕ)
+abbrev pub messages_of : List Forwarded → List (List ℕ)
 messages_of fs = map (λ f. f.message) fs
 
 -- only what goes to the switch is forwarded
@@ -96,7 +83,7 @@ turn-waiting target (out ∷ outs) u number up =
 -- ---- the commands
 
 -- an output without a target leads nowhere
-none-leads : (channel : ℕ) (out : Out) → leading_from_outbox channel (entry_of None out) ≡ []
+pub none-leads : (channel : ℕ) (out : Out) → leading_from_outbox channel (entry_of None out) ≡ []
 none-leads channel out = by (rsl_in out.frame) where
   by : (o : Option Rsl) → leading_by channel None o ≡ []
   by (Some (DataRequest d)) = either (d.channel == channel) where

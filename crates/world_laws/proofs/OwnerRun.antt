@@ -1,66 +1,38 @@
 -- In every run what stations take agrees with the ownership that the run gives.
-use Rattle.std.proofs.Common.{◌≡◌, ◌≢◌, ◌⊎◌, inl, inr, ℕ, ◌+◌, ◌==◌, ◌≤◌, ◌<◌, nat_eq, Bool, true, false, cond, if◌then◌else◌, List, [], ◌∷◌, ◌++◌, length, option_to_list, Option, Some, None, refl, sym, ap, ◌∙◌, subst, arith, true≢false}
-use Rattle.std.proofs.lemmas.Bool.{cases_Bool, eqb-true, eq-eqb, ne_eqb}
-use Rattle.std.specs.List.{AllByRecursion, flat_map}
-use Rattle.conn_messages.specs.declared.channel.Place.{Place}
-use Rattle.conn_messages.specs.declared.out.Out.{Out}
-use Rattle.conn_messages.specs.declared.parameters.TheConstants.{SWITCH_LINK}
-use Rattle.conn_table.proofs.DownlinkMessages.{AllByRecursion-append}
-use Rattle.conn_table.specs.declared.input.Input.TheVariants as inputs
-use Rattle.controller_laws.specs.Owning.{is_link_up}
-use Rattle.controller_laws.specs.Sending.{ComesInOctets, IsSent}
-use Rattle.controller_laws.proofs.Beside.{links_with, step_goes}
-use Rattle.controller_laws.proofs.NamingLife.{life_names}
-use Rattle.controller_laws.proofs.Places.{IsIn, is_there}
-use Rattle.controller_laws.proofs.SoundLife.{life_sends}
-use Rattle.controller_laws.proofs.UsingLife.{life_reaches, life_ready, life_uses}
-use Rattle.controller_laws.proofs.UsingWords.{Ready}
-use Rattle.controller_table.specs.declared.channel_state.ChannelState.{ChannelState}
-use Rattle.controller_table.specs.declared.channel_state.ChannelState.TheVariants.{Free, InUse}
-use Rattle.controller_table.specs.declared.step.Step.{Step}
-use Rattle.controller_table.specs.declared.step.Step.TheVariants.{Take, Tick}
-use Rattle.controller_table.specs.declared.word.Word.{Word}
-use Rattle.controller_table.specs.declared.word.Word.TheVariants.{OnChannel}
-use Rattle.controller_table.specs.Controller.{Controller, channel_state, each, ignoring, is_up as hears, new_controller, place_at}
-use Rattle.controller_table.specs.Life.{life, on_break, on_what, on_word, step, take, tick}
-use Rattle.controller_table.specs.Reading.{rsl_word, word_of}
-use Rattle.ipa_framing.specs.declared.frame.Frame.{Frame}
-use Rattle.relay_items.specs.declared.Item.{Item}
-use Rattle.relay_items.specs.declared.What.{What}
-use Rattle.relay_items.specs.declared.What.TheVariants as whats
-use Rattle.rsl_codec.specs.declared.dedicated_channel.ActivationAck.{ActivationAck}
-use Rattle.rsl_codec.specs.declared.rsl.Rsl.{Rsl}
+use Rattle.world_laws.proofs.Prelude.{◌≡◌, ◌≢◌, ◌⊎◌, inl, inr, ℕ, ◌+◌, ◌==◌, ◌≤◌, ◌<◌, nat_eq, Bool, true, false, cond, if◌then◌else◌, List}
+use Rattle.world_laws.proofs.Prelude.{[], ◌∷◌, ◌++◌, length, option_to_list, Option, Some, None, refl, sym, ap, ◌∙◌, subst, arith}
+use Rattle.world_laws.proofs.Prelude.{true≢false, cases_Bool, eqb-true, eq-eqb, ne_eqb, AllByRecursion, flat_map, Place, Out, SWITCH_LINK}
+use Rattle.world_laws.proofs.Prelude.{AllByRecursion-append, is_link_up, ComesInOctets, IsSent, links_with, step_goes, life_names}
+use Rattle.world_laws.proofs.Prelude.{is_there, life_sends, life_ready, life_uses, Ready, ChannelState, Free, InUse, Step, Take, Word}
+use Rattle.world_laws.proofs.Prelude.{OnChannel, Controller, channel_state, each, ignoring, hears, new_controller, place_at, on_break}
+use Rattle.world_laws.proofs.Prelude.{on_what, on_word, step, rsl_word, Frame, Item, What, ActivationAck, Rsl, AreAllowed, Parameters}
+use Rattle.world_laws.proofs.Prelude.{Event}
+use Rattle.world_laws.proofs.Prelude.{Handle, Tenure, actors_after, actors_after_all}
+use Rattle.world_laws.proofs.Prelude.{Agrees, AllAgree, acknowledged_in, asker, said, tenure_behind, to_come, owner_in, acknowledgements}
+use Rattle.world_laws.proofs.Prelude.{due, acknowledged_tenure, target_in, rsl_in, all_steps, first_taken, step_at, Actors, base_of}
+use Rattle.world_laws.proofs.Prelude.{is_active_at, is_up, new_actors, outbox_of, spot_at, tenure_at, LivesByTable-new, IsKnown}
+use Rattle.world_laws.proofs.Prelude.{IsKnownItem, known-inbox, runs, over, heard_of, Serves, hear, Both-empty, acks-append, free≢use}
+use Rattle.conn_rules.specs.declared.input.Input.TheVariants as inputs
+use Rattle.controller_model.proofs.LifeLaws.UsingLife.{life_reaches}
+use Rattle.controller_model.specs.declared.step.Step.TheVariants.{Tick}
+use Rattle.controller_model.specs.Life.{life, take, tick}
+use Rattle.controller_model.specs.Reading.{word_of}
+use Rattle.ruled_relay.specs.declared.item.What.TheVariants as whats
 use Rattle.rsl_codec.specs.declared.rsl.Rsl.TheVariants as rsl
-use Rattle.settings.specs.Parameters.{AreAllowed, Parameters}
-use Rattle.world_table.specs.declared.event.Event.{Event}
-use Rattle.world_table.specs.declared.event.Event.TheVariants.{Upper, Connect, AirUp, AirAck, AirDown, AirDownLost, Move, Touch, Arrive, Return, BaseTakes, BasePush, Handle, SwitchTakes, SwitchDoes, BaseDown, Report}
-use Rattle.world_table.specs.declared.event.Event.TheVariants as events
-use Rattle.world_table.specs.declared.seat.Tenure.{Tenure}
-use Rattle.world_table.specs.Life.{actors_after, actors_after_all}
-use Rattle.world_table.specs.OwnerLines.{Agrees, AllAgree, acknowledged_in, asker, said, tenure_behind, to_come}
-use Rattle.world_table.specs.Owners.{owner_in}
-use Rattle.world_table.specs.Pipe.{acknowledgements, due}
-use Rattle.world_table.specs.Relay.{acknowledged_tenure, target_in}
-use Rattle.world_table.specs.Stations.{rsl_in}
-use Rattle.world_table.specs.Steps.{all_steps, first_taken, step_at}
-use Rattle.world_table.specs.World.{Actors, base_of, is_active_at, is_up, new_actors, outbox_of, spot_at, tenure_at}
-use Rattle.world_table.proofs.Living.{LivesByTable-new}
-use Rattle.world_table.proofs.OwnerItems.{IsKnown, IsKnownItem, known-inbox}
-use Rattle.world_table.proofs.OwnerKeeping.{one-at-most}
-use Rattle.world_table.proofs.OwnerLines.{none-due}
-use Rattle.world_table.proofs.OwnerPuts.Goes.{runs}
-use Rattle.world_table.proofs.OwnerPuts.Runs.{over}
-use Rattle.world_table.proofs.OwnerRuns.{ServesAt, ServesThrough, heard_of, owned-run}
-use Rattle.world_table.proofs.OwnerTurn.{Serves, hear}
-use Rattle.world_table.proofs.Outboxes.{Both-empty}
-use Rattle.world_table.proofs.Piping.{acks-append}
-use Rattle.world_table.proofs.Ticketing.{AllSitBy-new, OneMobileEach-new}
+use Rattle.world_model.specs.declared.event.Event.TheVariants as events
+use Rattle.world_model.proofs.OwnerKeeping.{one-at-most}
+use Rattle.world_model.proofs.OwnerLines.{none-due}
+use Rattle.world_model.proofs.OwnerRuns.{ServesAt, ServesThrough, owned-run}
+use Rattle.world_model.proofs.Ticketing.{AllSitBy-new, OneMobileEach-new}
 use Rattle.world_laws.specs.Owned.{MobilesSitOnTheirs, OneSendsEach, TenuresAreOwned}
-use Rattle.world_laws.proofs.OrderHeard.{FreesNone, none-frees, none-nacks, other-heard, read-known, station-heard, switch-frees, word-known}
+use Rattle.world_laws.proofs.OrderHeard.{FreesNone, none-frees, none-nacks, other-heard, read-known, station-heard, switch-frees}
+use Rattle.world_laws.proofs.OrderHeard.{word-known}
 use Rattle.world_laws.proofs.OrderLeads.{LeadsOut, ack-leads}
 use Rattle.world_laws.proofs.OrderServes.{Lawful, LeadsOwn, broken-down, heard-before, serves-by}
 use Rattle.world_laws.proofs.OrderSteps.{break-serves, tick-serves}
 use Rattle.world_laws.proofs.OrderTurns.{Serving, word-serves}
+use Rattle.world_laws.proofs.Events.{snoc-actors, world}
+use Rattle.world_laws.proofs.Framing.{all-left, all-right}
 
 -- ---- the controller of a life
 
@@ -149,15 +121,20 @@ first-heard w p item items frame a stands is says same =
     ∙ ap (λ (o : Option Rsl). acknowledgements p.number (option_to_list o)) says
     ∙ ap (λ (b : Bool). cond b (rsl.ChannelActivationAck a ∷ []) []) (eq-eqb a.channel p.number same))
 
+pub not-zero : (n : ℕ) → n ≢ 0 → 1 ≤ n
+not-zero n is = omega (arith, is)
+
+-- a channel that isn't free is one of a station of the settings
+pub within-settings : (settings : Parameters) (c : Controller) (at : Place) → c.settings ≡ settings → Ready c → channel_state c at ≢ Free → at.station ≤ length settings.cells
+within-settings settings c at same ready busy =
+    subst (λ (p : Parameters). at.station ≤ length p.cells) same (less at.station (length c.channels) (length c.settings.cells) (is_there c.channels at busy).station ready.holds.shaped.links) where
+      less : (a b d : ℕ) → a < b → b ≡ d + 1 → a ≤ d
+      less a b d small is = omega (arith, small, is)
+
 module _ (settings : Parameters) (owner : Tenure → ℕ) (w : Actors) (agree : AllAgree settings owner w) (same_settings : w.controller.settings ≡ settings) (ready : Ready w.controller) where
   -- a channel that is in use is one of a station of the settings
   within : (p : Place) (number : ℕ) → channel_state w.controller p ≡ InUse number → p.station ≤ length settings.cells
-  within p number used =
-      let there : IsIn w.controller.channels p = is_there w.controller.channels p (λ free. (let both : Free ≡ InUse number = sym free ∙ used in absurd cc)) in
-      subst (λ (x : Parameters). p.station ≤ length x.cells) same_settings (less p.station (length w.controller.channels) (length w.controller.settings.cells) there.station ready.holds.shaped.links)
-    where
-      less : (a b d : ℕ) → a < b → b ≡ d + 1 → a ≤ d
-      less a b d small is = omega (arith, small, is)
+  within p number used = within-settings settings w.controller p same_settings ready (λ free. free≢use number (sym free ∙ used))
 
   acks-lead : (at : Place) (source : ℕ) (frame : Frame) (items : List Item) (a : ActivationAck) (outs : List Out) → 1 ≤ at.station → at.station ≤ length settings.cells → source ≢ SWITCH_LINK → hears w.controller source ≡ true → w.inbox ≡ record { source = source; what = whats.Frame frame } ∷ items → rsl_in frame ≡ Some (rsl.ChannelActivationAck a) → hears w.controller at.station ≡ true → is_up w at.station ≡ true
       → AllByRecursion (LeadsOut at (place_at source a.channel) w.controller) outs → AllByRecursion (LeadsOwn owner w at (Some (tenure_at w (place_at source a.channel)))) outs
@@ -166,15 +143,13 @@ module _ (settings : Parameters) (owner : Tenure → ℕ) (w : Actors) (agree : 
     λ tenure is d said same.
         let user = leads.0 d said same in
         let p : Place = place_at source a.channel in
-        let own : owner (tenure_at w p) ≡ user.mobile = acknowledged-own owner w p user.number user.mobile (rsl.ChannelActivationAck a) (acknowledged_in p items) (agree p (one source station) (within p user.number user.there)) up user.there user.asks
+        let own : owner (tenure_at w p) ≡ user.mobile = acknowledged-own owner w p user.number user.mobile (rsl.ChannelActivationAck a) (acknowledged_in p items) (agree p (not-zero source station) (within p user.number user.there)) up user.there user.asks
         (first-heard w p (record { source = source; what = whats.Frame frame }) items frame a stands refl says refl) in
         let there : owner (tenure_behind w at) ≡ user.mobile = (agree at least most).own user.number user.mobile hearing user.here user.asks (λ down silent. true≢false (sym at_up ∙ down)) in
         let tenure_is : tenure_at w p ≡ tenure = (let both : Some (tenure_at w p) ≡ Some tenure = is in cc) in
         (user.number, user.here, ap owner (sym tenure_is) ∙ own ∙ sym there),
     acks-lead at source frame items a outs least most station up stands says hearing at_up leads.1,
-  ) where
-    one : (k : ℕ) → k ≢ 0 → 1 ≤ k
-    one k is = omega (arith, is)
+  )
 
   -- by what a station made
   message-leads : (at : Place) (source : ℕ) (frame : Frame) (items : List Item) (m : Rsl) (outs : List Out) → 1 ≤ at.station → at.station ≤ length settings.cells → source ≢ SWITCH_LINK → hears w.controller source ≡ true → w.inbox ≡ record { source = source; what = whats.Frame frame } ∷ items → rsl_in frame ≡ Some m → hears w.controller at.station ≡ true → is_up w at.station ≡ true
@@ -219,26 +194,14 @@ module _ (settings : Parameters) (owner : Tenure → ℕ) (w : Actors) (agree : 
 
 -- ---- over all events
 
-pub snoc-actors : (w : Actors) (xs : List Event) (e : Event) → actors_after_all w (xs ++ e ∷ []) ≡ actors_after (actors_after_all w xs) e
-snoc-actors w [] e = refl
-snoc-actors w (x ∷ xs) e = snoc-actors (actors_after w x) xs e
-
-pub front-all : (P : Step → Type 0) (xs ys : List Step) → AllByRecursion P (xs ++ ys) → AllByRecursion P xs
-front-all P [] ys all = tt
-front-all P (x ∷ xs) ys all = (all.0, front-all P xs ys all.1)
-
-pub behind-all : (P : Step → Type 0) (xs ys : List Step) → AllByRecursion P (xs ++ ys) → AllByRecursion P ys
-behind-all P [] ys all = all
-behind-all P (x ∷ xs) ys all = behind-all P xs ys all.1
-
 pub snoc-steps : (P : Step → Type 0) (w : Actors) (xs : List Event) (e : Event) → AllByRecursion P (all_steps w xs) → AllByRecursion P (step_at (actors_after_all w xs) e) → AllByRecursion P (all_steps w (xs ++ e ∷ []))
 snoc-steps P w [] e all own = AllByRecursion-append P (step_at w e) [] own tt
 snoc-steps P w (x ∷ xs) e all own =
-    AllByRecursion-append P (step_at w x) (all_steps (actors_after w x) (xs ++ e ∷ [])) (front-all P (step_at w x) (all_steps (actors_after w x) xs) all)
-    (snoc-steps P (actors_after w x) xs e (behind-all P (step_at w x) (all_steps (actors_after w x) xs) all) own)
+    AllByRecursion-append P (step_at w x) (all_steps (actors_after w x) (xs ++ e ∷ [])) (all-left P (step_at w x) (all_steps (actors_after w x) xs) all)
+    (snoc-steps P (actors_after w x) xs e (all-right P (step_at w x) (all_steps (actors_after w x) xs) all) own)
 
 -- the actors after the events that are done
-pub serves-event : (settings : Parameters) (owner : Tenure → ℕ) (done : List Event) (w : Actors) (event : Event) → w ≡ actors_after_all (new_actors settings) done → AreAllowed settings → AllByRecursion ComesInOctets (all_steps (new_actors settings) done) → AllByRecursion ComesInOctets (step_at w event) → AllAgree settings owner w → ServesAt settings owner w event
+pub serves-event : (settings : Parameters) (owner : Tenure → ℕ) (done : List Event) (w : Actors) (event : Event) → w ≡ world settings done → AreAllowed settings → AllByRecursion ComesInOctets (all_steps (new_actors settings) done) → AllByRecursion ComesInOctets (step_at w event) → AllAgree settings owner w → ServesAt settings owner w event
 unfolding ServesAt
 serves-event settings owner done w Handle is allowed octets own agree = λ item items stands.
     let lives : w.controller ≡ (life settings (all_steps (new_actors settings) done)).next = ap (λ (x : Actors). x.controller) is ∙ LivesByTable-new settings done in
@@ -252,15 +215,15 @@ serves-event settings owner done w (events.Tick ms) is allowed octets own agree 
     serves-tick settings owner w agree (ap (λ (c : Controller). c.settings) lives ∙ life-settings settings (all_steps (new_actors settings) done)) laws.ready ms laws
 serves-event settings owner done w _ is allowed octets own agree = tt
 
-pub serves-through : (settings : Parameters) (owner : Tenure → ℕ) (done rest : List Event) (w : Actors) → w ≡ actors_after_all (new_actors settings) done → AreAllowed settings → AllByRecursion ComesInOctets (all_steps (new_actors settings) done) → AllByRecursion ComesInOctets (all_steps w rest) → ServesThrough settings owner w rest
+pub serves-through : (settings : Parameters) (owner : Tenure → ℕ) (done rest : List Event) (w : Actors) → w ≡ world settings done → AreAllowed settings → AllByRecursion ComesInOctets (all_steps (new_actors settings) done) → AllByRecursion ComesInOctets (all_steps w rest) → ServesThrough settings owner w rest
 unfolding ServesThrough
 serves-through settings owner done [] w is allowed octets later = tt
 serves-through settings owner done (event ∷ rest) w is allowed octets later =
-    let own = front-all ComesInOctets (step_at w event) (all_steps (actors_after w event) rest) later in (
+    let own = all-left ComesInOctets (step_at w event) (all_steps (actors_after w event) rest) later in (
       λ agree. serves-event settings owner done w event is allowed octets own agree,
       serves-through settings owner (done ++ event ∷ []) rest (actors_after w event) (ap (λ (x : Actors). actors_after x event) is ∙ sym (snoc-actors (new_actors settings) done event)) allowed
           (snoc-steps ComesInOctets (new_actors settings) done event octets (subst (λ (x : Actors). AllByRecursion ComesInOctets (step_at x event)) is own))
-          (behind-all ComesInOctets (step_at w event) (all_steps (actors_after w event) rest) later),
+          (all-right ComesInOctets (step_at w event) (all_steps (actors_after w event) rest) later),
     )
 
 pub TenuresAreOwned-new : (settings : Parameters) (events : List Event) → TenuresAreOwned settings events

@@ -1,24 +1,12 @@
 -- What is on its way up from a channel, as stations make messages and the inbox gets them.
-use Rattle.std.proofs.Common.{◌≡◌, ◌≢◌, ℕ, ◌==◌, nat_eq, Bool, true, false, cond, if◌then◌else◌, List, [], ◌∷◌, ◌++◌, unwrap_or, Option, Some, None, Result, Ok, refl, subst, sym, ap, ◌∙◌, append_assoc, inl, inr, ◌⊎◌}
-use Rattle.std.specs.List.{flat_map}
-use Rattle.std.specs.Result.{result_ok}
-use Rattle.std.proofs.lemmas.Bool.{cases_Bool, eqb-true, eqb-false}
-use Rattle.std.proofs.lemmas.Grind.{flat_map-append}
-use Rattle.std.proofs.lemmas.List.{append-nil}
-use Rattle.bssmap_codec.specs.declared.sccp.Sccp.{Sccp}
-use Rattle.conn_messages.specs.declared.channel.Place.{Place}
-use Rattle.conn_messages.specs.declared.parameters.TheConstants.{SWITCH_LINK}
-use Rattle.lineup.specs.LineUp.{Item as Brought}
-use Rattle.link_model.specs.BaseState.{BaseState}
-use Rattle.link_model.specs.Base.{is_active, after_next, first_message, first_of_messages, messages_behind_first}
-use Rattle.relay_items.specs.declared.Item.{Item}
-use Rattle.rsl_codec.specs.declared.fault.RslFault.{RslFault}
-use Rattle.rsl_codec.specs.declared.rsl.Rsl.{Rsl}
-use Rattle.rsl_codec.specs.RslReading.{rsl_reading}
-use Rattle.rsl_codec.specs.RslText.{rsl_text}
-use Rattle.world_table.specs.Relay.{station_item, switch_item, with_item}
-use Rattle.world_table.specs.World.{Actors, no_station, is_station_up, base_of, with_base, is_active_at}
-use Rattle.world_table.proofs.Honesty.{SameEnds, base-elsewhere, base-there, up-right}
+use Rattle.world_laws.proofs.Prelude.{◌≡◌, ◌≢◌, ℕ, ◌==◌, nat_eq, Bool, true, false, cond, if◌then◌else◌, List, [], ◌∷◌, ◌++◌, Some, Ok}
+use Rattle.world_laws.proofs.Prelude.{refl, subst, sym, ap, ◌∙◌, append_assoc, inl, inr, ◌⊎◌, flat_map, result_ok, cases_Bool, eqb-true}
+use Rattle.world_laws.proofs.Prelude.{eqb-false, flat_map-append, append-nil, Sccp, Place, SWITCH_LINK, BaseState, is_active, after_next}
+use Rattle.world_laws.proofs.Prelude.{first_message, first_of_messages, messages_behind_first, Item, RslFault, Rsl, rsl_reading, rsl_text}
+use Rattle.world_laws.proofs.Prelude.{station_item, switch_item, with_item, Actors, no_station, is_station_up, base_of, with_base}
+use Rattle.world_laws.proofs.Prelude.{is_active_at, SameEnds, base-elsewhere, base-there, up-right, false≢true, same_Some, none-some}
+use Rattle.std.proofs.Common.{Result}
+use Rattle.world_laws.specs.LineUp.Places.{Item as Brought}
 use Rattle.world_laws.specs.ComingUp.{brings, brings_if, brings_in, made_of, coming_up}
 
 pub made-append : (channel : ℕ) (xs ys : List Rsl) → made_of channel (xs ++ ys) ≡ made_of channel xs ++ made_of channel ys
@@ -35,9 +23,7 @@ abbrev pub IsMade : Actors → ℕ → Place → List Rsl → Type 0
 IsMade w station at messages = (base_of w station ≢ no_station.base) ⊎ (made_of at.number messages ≡ [])
 
 pub active-there : (w : Actors) (at : Place) → is_active_at w at ≡ true → base_of w at.station ≢ no_station.base
-active-there w at active nowhere = absurd (impossible (sym (ap (λ (b : BaseState). is_active b.active at.number) nowhere) ∙ active)) where
-  impossible : false ≡ true → ⊥
-  impossible h = absurd cc
+active-there w at active nowhere = absurd (false≢true (sym (ap (λ (b : BaseState). is_active b.active at.number) nowhere) ∙ active))
 
 pub coming-same : (w v : Actors) (at : Place) → v.inbox ≡ w.inbox → base_of v at.station ≡ base_of w at.station → coming_up v at ≡ coming_up w at
 coming-same w v at inbox base = ap (λ (items : List Item). flat_map (brings_in at) items ++ made_of at.number (base_of v at.station).messages) inbox ∙ ap (λ (b : BaseState). flat_map (brings_in at) w.inbox ++ made_of at.number b.messages) base
@@ -108,9 +94,14 @@ coming-quiet w u station at base messages at_is up same inbox told nothing = com
 
 first-made : (channel : ℕ) (messages : List Rsl) (message : Rsl) → first_of_messages messages ≡ Some message → made_of channel messages ≡ brings channel message ++ made_of channel (messages_behind_first messages)
 first-made channel [] message is = absurd cc
-first-made channel (first ∷ others) message is = ap (λ (m : Rsl). brings channel m ++ made_of channel others) (some-same is) where
-  some-same : {a b : Rsl} → Some a ≡ Some b → a ≡ b
-  some-same {a} is = ap (λ (o : Option Rsl). unwrap_or o a) is
+first-made channel (first ∷ others) message is = ap (λ (m : Rsl). brings channel m ++ made_of channel others) (same_Some _ _ is)
+
+-- the first message that a station made is there no more
+pub base-pushed : (w : Actors) (station : ℕ) (message : Rsl) → first_message (base_of w station) ≡ Some message → base_of (with_base station (after_next (base_of w station)) w) station ≡ after_next (base_of w station)
+base-pushed w station message first = elim (base-there w station (after_next (base_of w station))) [
+  | inl is ↦ is
+  | inr nowhere ↦ absurd (none-some message (sym (ap first_message nowhere.1) ∙ first))
+]
 
 pub coming-pushed : (w : Actors) (station : ℕ) (message : Rsl) (at : Place) → at.station ≢ 0 → station ≢ 0 → first_message (base_of w station) ≡ Some message → rsl_reading (rsl_text message) ≡ Ok message
     → coming_up (with_item (station_item station message) (with_base station (after_next (base_of w station)) w)) at ≡ coming_up w at
@@ -124,23 +115,12 @@ coming-pushed w station message at at_is station_is first read =
       item : flat_map (brings_in at) (station_item station message ∷ []) ≡ (if station == at.station then brings at.number message else [])
       item = append-nil (brings_in at (station_item station message)) ∙ ap (λ (r : Result Rsl RslFault). if station == at.station then brings_if at.number (result_ok r) else []) read
 
-      is_there : base_of w station ≢ no_station.base
-      is_there nowhere = none (ap first_message nowhere) where
-        none : first_message (base_of w station) ≡ None → ⊥
-        none is = let both : None ≡ Some message = sym is ∙ first in absurd cc
-
-      now : base_of v station ≡ after_next (base_of w station)
-      now = elim (base-there w station (after_next (base_of w station))) [
-        | inl is ↦ is
-        | inr nowhere ↦ absurd (is_there nowhere.1)
-      ]
-
       behind : flat_map (brings_in at) (station_item station message ∷ []) ++ made_of at.number (base_of v at.station).messages ≡ made_of at.number (base_of w at.station).messages
       behind = elim (cases_Bool (nat_eq station at.station)) [
         | inl here ↦
             ap (λ (xs : List Brought). xs ++ made_of at.number (base_of v at.station).messages) (item ∙ ap (λ (b : Bool). cond b (brings at.number message) []) here)
             ∙ ap (λ (n : ℕ). brings at.number message ++ made_of at.number (base_of v n).messages) (sym (eqb-true station at.station here))
-            ∙ ap (λ (b : BaseState). brings at.number message ++ made_of at.number b.messages) now
+            ∙ ap (λ (b : BaseState). brings at.number message ++ made_of at.number b.messages) (base-pushed w station message first)
             ∙ sym (first-made at.number (base_of w station).messages message first)
             ∙ ap (λ (n : ℕ). made_of at.number (base_of w n).messages) (eqb-true station at.station here)
         | inr other ↦

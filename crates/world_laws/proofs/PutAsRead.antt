@@ -1,73 +1,41 @@
 -- What a row by a frame puts is read as it was put, whatever happened.
-use Rattle.std.proofs.Common.{◌≡◌, ◌≢◌, ℕ, ◌≤◌, ◌<◌, ◌^◌, ◌==◌, ◌&&◌, Bool, true, false, if◌then◌else◌, List, [], ◌∷◌, ◌++◌, map, Option, Some, None, option_map, unwrap_or, refl, sym, ap, ◌∙◌, subst, arith}
-use Rattle.std.specs.List.{AllByRecursion, flat_map}
+use Rattle.world_laws.proofs.Prelude.{◌≡◌, ◌≢◌, ℕ, ◌≤◌, ◌<◌, ◌^◌, ◌==◌, ◌&&◌, Bool, true, false, if◌then◌else◌, List, [], ◌∷◌, ◌++◌, map}
+use Rattle.world_laws.proofs.Prelude.{Option, Some, None, option_map, unwrap_or, refl, sym, ap, ◌∙◌, subst, arith, AllByRecursion, flat_map}
+use Rattle.world_laws.proofs.Prelude.{IsLayer3, Channel, Place, Message, SWITCH_LINK, IsReadOf, outs_of, Input, Drain, Active, Preparing}
+use Rattle.world_laws.proofs.Prelude.{Changing, Draining, State, WaitActivation, WaitEstablish, WaitConfirm, Live, Closed, Removed}
+use Rattle.world_laws.proofs.Prelude.{Connection, roles_of, target_channels, target_role, IsCarried, Stands, Row, AreApart, Future, IsOpen}
+use Rattle.world_laws.proofs.Prelude.{KeepsUplink, OfRow, from_input, relayed, undone, used_channels, AllByRecursion-append, target_in-role}
+use Rattle.world_laws.proofs.Prelude.{kept_in, IsThere, connection_of, word_by, Owns, OwnsOpen, messages_on, passed_by, IsOfOctets, IsSent}
+use Rattle.world_laws.proofs.Prelude.{AreUsed, outs_own, forwarded_seen, IsSoundAll, life_sound, offer_list, request_sound, RefersBy}
+use Rattle.world_laws.proofs.Prelude.{life_after, run_step, IsHere, Ready, here_of, PutsUsual, usual_row, ChannelState, Free, InUse}
+use Rattle.world_laws.proofs.Prelude.{Releasing, Forwarded, Take, Word, request_offer, AreRising, Controller, Entry, Turn, channel_state}
+use Rattle.world_laws.proofs.Prelude.{entry_of, freed, ignoring, place_at, place_of, state_in, turn, by_fitting, concerning, entry_at}
+use Rattle.world_laws.proofs.Prelude.{frees, on_freed, on_what, on_word, row_in, step, keeps_number, Sapi, Zero, Three, Held, Frame}
+use Rattle.world_laws.proofs.Prelude.{AreOctets, RelayItem, What, Parameters, Event, all_steps, Actors, new_actors}
+use Rattle.world_laws.proofs.Prelude.{LivesByTable-new}
 use Rattle.std.specs.Option.{option_to_list}
-use Rattle.bssmap_codec.specs.Layer3.{IsLayer3}
-use Rattle.conn_messages.specs.declared.channel.Channel.{Channel}
-use Rattle.conn_messages.specs.declared.channel.Place.{Place}
-use Rattle.conn_messages.specs.declared.message.Message.{Message}
-use Rattle.conn_messages.specs.declared.parameters.TheConstants.{SWITCH_LINK}
-use Rattle.conn_messages.specs.Out.{IsReadOf, IsSound, out_of, outs_of}
+use Rattle.conn_messages.specs.Out.{IsSound, out_of}
 use Rattle.conn_messages.proofs.Readings.{message_again}
-use Rattle.conn_table.specs.declared.input.Input.{Input}
-use Rattle.conn_table.specs.declared.input.Input.TheVariants as inputs
-use Rattle.conn_table.specs.declared.state.Drain.{Drain}
-use Rattle.conn_table.specs.declared.state.Stage.TheVariants.{Active, Preparing, Changing, Draining}
-use Rattle.conn_table.specs.declared.state.State.{State}
-use Rattle.conn_table.specs.declared.state.State.TheVariants.{WaitActivation, WaitEstablish, WaitConfirm, Live, Closed, Removed}
-use Rattle.conn_table.specs.Connection.{Connection}
-use Rattle.conn_table.specs.Roles.{roles_of, target_channels, target_role}
-use Rattle.conn_table.specs.Standing.{IsCarried, IsHeldTenure, Stands}
-use Rattle.conn_table.specs.Steps.{Row}
-use Rattle.conn_table.specs.Streams.{AreApart, Ends, Future, IsOpen, KeepsUplink, OfRow, first_at, from_input, of_prepared, of_target, relayed, still_of, still_to_relay, undone, used_channels}
-use Rattle.conn_table.specs.Table.{row_of}
-use Rattle.conn_table.proofs.DownlinkMessages.{AllByRecursion-append}
-use Rattle.conn_table.proofs.RolesApart.{target_in-role}
-use Rattle.conn_table.proofs.UplinkTable.{row-keeps}
-use Rattle.controller_laws.specs.Acts.{kept_in}
-use Rattle.controller_laws.specs.End.{IsThere}
-use Rattle.controller_laws.specs.History.{connection_of, word_by}
-use Rattle.controller_laws.specs.Owning.{Owns, OwnsOpen}
-use Rattle.controller_laws.specs.Seen.{messages_on, passed_by}
-use Rattle.controller_laws.specs.Sending.{IsOfOctets, IsSent}
-use Rattle.controller_laws.specs.Using.{AreUsed}
-use Rattle.controller_laws.proofs.Acting.{outs_own, row_found}
-use Rattle.controller_laws.proofs.SeenFrames.{forwarded_seen}
-use Rattle.controller_laws.proofs.SoundLife.{IsSoundAll, IsSoundCell, RefersIn, SoundOf, SoundParts, life_sound, offer_list, request_sound, sent_message, word_refers}
-use Rattle.controller_laws.proofs.SoundMessages.{IsSoundChannel}
-use Rattle.controller_laws.proofs.SoundRows.{IsSoundRow, RefersBy, row_sound}
-use Rattle.controller_laws.proofs.UplinkLife.{used_apart}
-use Rattle.controller_laws.proofs.UsingLife.{IsAfter, life_after, ready_by, ready_uses, run_step}
-use Rattle.controller_laws.proofs.UsingWords.{IsHere, Ready, here_of}
-use Rattle.controller_laws.proofs.UsualRows.{AreUsual, PutsUsual, usual_row}
-use Rattle.controller_table.specs.declared.channel_state.ChannelState.{ChannelState}
-use Rattle.controller_table.specs.declared.channel_state.ChannelState.TheVariants.{Free, InUse, Releasing}
-use Rattle.controller_table.specs.declared.forwarded.Forwarded.{Forwarded}
-use Rattle.controller_table.specs.declared.step.Step.TheVariants.{Take}
-use Rattle.controller_table.specs.declared.word.Word.{Word}
-use Rattle.controller_table.specs.Channels.{request_offer}
-use Rattle.controller_laws.specs.Numbers.{AreRising}
-use Rattle.controller_table.specs.Controller.{Controller, Entry, Turn, channel_state, entry_of, freed, ignoring, is_up, place_at, place_of, state_in, turn}
-use Rattle.controller_table.specs.Life.{by_fitting, concerning, entry_at, frees, life, on_freed, on_what, on_word, row_in, step, take}
-use Rattle.controller_table.specs.Reading.{word_of}
-use Rattle.controller_table.specs.Views.{forwarded, held_up, held_up_for}
-use Rattle.controller_table.proofs.Numbers.{keeps_number}
-use Rattle.dtap_codec.specs.declared.sapi.Sapi.{Sapi}
-use Rattle.dtap_codec.specs.declared.sapi.Sapi.TheVariants.{Zero, Three}
-use Rattle.hold_queue.specs.ChainState.{Tenure as Held, tenure_messages}
-use Rattle.ipa_framing.specs.declared.frame.Frame.{Frame}
-use Rattle.lineup.specs.LineUp.{flow}
-use Rattle.lineup.proofs.Lines.{flow-apart, flow-cons}
-use Rattle.octets.specs.Element.{AreOctets}
-use Rattle.relay_items.specs.declared.Item.{Item as RelayItem}
-use Rattle.relay_items.specs.declared.What.{What}
-use Rattle.relay_items.specs.declared.What.TheVariants as whats
-use Rattle.settings.specs.Parameters.{Parameters}
-use Rattle.world_table.specs.declared.event.Event.{Event}
-use Rattle.world_table.specs.Life.{actors_after_all}
-use Rattle.world_table.specs.Steps.{all_steps}
-use Rattle.world_table.specs.World.{Actors, new_actors}
-use Rattle.world_table.proofs.Living.{LivesByTable-new}
+use Rattle.conn_rules.specs.declared.input.Input.TheVariants as inputs
+use Rattle.conn_rules.specs.Standing.{IsHeldTenure}
+use Rattle.conn_rules.specs.Streams.{Ends, first_at, of_prepared, of_target, still_of, still_to_relay}
+use Rattle.conn_rules.specs.Table.{row_of}
+use Rattle.conn_rules.proofs.UplinkTable.{row-keeps}
+use Rattle.controller_model.proofs.LifeLaws.Acting.{row_found}
+use Rattle.controller_model.proofs.LifeLaws.SoundLife.{IsSoundCell, RefersIn, SoundOf, SoundParts, sent_message, word_refers}
+use Rattle.controller_model.proofs.LifeLaws.SoundMessages.{IsSoundChannel}
+use Rattle.controller_model.proofs.LifeLaws.SoundRows.{IsSoundRow, row_sound}
+use Rattle.controller_model.proofs.LifeLaws.UplinkLife.{used_apart}
+use Rattle.controller_model.proofs.LifeLaws.UsingLife.{IsAfter, ready_by, ready_uses}
+use Rattle.controller_model.proofs.LifeLaws.UsualRows.{AreUsual}
+use Rattle.controller_model.specs.Controller.{is_up}
+use Rattle.controller_model.specs.Life.{life, take}
+use Rattle.controller_model.specs.Reading.{word_of}
+use Rattle.controller_model.specs.Views.{forwarded, held_up, held_up_for}
+use Rattle.hold_queue.specs.ChainState.{tenure_messages}
+use Rattle.world_laws.specs.LineUp.Places.{flow}
+use Rattle.world_laws.proofs.LineUp.Lines.{flow-apart, flow-cons}
+use Rattle.ruled_relay.specs.declared.item.What.TheVariants as whats
 use Rattle.world_laws.specs.OwnFrame.{IsRequested, IsSaidTo, freed_for}
 use Rattle.world_laws.specs.OwnFrame.IsSaidTo.{on_channel as is_on_channel, on_connection as is_on_connection}
 use Rattle.world_laws.specs.PutAsRead.{AllowedFramesKeepLineUps, FramesArePutAsRead}
@@ -76,6 +44,7 @@ use Rattle.world_laws.proofs.Handled.{FramesKeepLineUps-new}
 use Rattle.world_laws.proofs.Framing.{all-left, all-right}
 use Rattle.world_laws.proofs.SapiThree.{says-waits}
 use Rattle.world_laws.proofs.SapiThreeHeld.{FlowComesOnSapiZero-new}
+use Rattle.world_laws.proofs.Events.{world}
 
 -- ---- what may still come of a connection, where nothing is on its way
 
@@ -184,7 +153,7 @@ flow-of (f ∷ fs) beside = by f.sapi (flow-of fs) beside where
 
 -- ---- one that a word says something to
 
-number-at : (c : Controller) (state : ChannelState) (e : Entry) → entry_at c state ≡ Some e → (n : ℕ) × (entry_of c n ≡ Some e)
+pub number-at : (c : Controller) (state : ChannelState) (e : Entry) → entry_at c state ≡ Some e → (n : ℕ) × (entry_of c n ≡ Some e)
 number-at c Free e there = absurd cc
 number-at c (InUse n) e there = (n, there)
 number-at c (Releasing n) e there = (n, there)
@@ -201,7 +170,8 @@ found-of {c} {s = s} ready (is_on_connection number input e word_is there is) = 
 
 -- ---- the connection after it
 
-still-there : (state : State) (s : Connection) → IsOpen state → kept_in state s ≡ Some s
+-- a connection that is open stays there
+pub still-there : (state : State) (s : Connection) → IsOpen state → kept_in state s ≡ Some s
 still-there WaitActivation s is_open = refl
 still-there WaitEstablish s is_open = refl
 still-there WaitConfirm s is_open = refl
@@ -270,7 +240,7 @@ offered {c} {s = s} (is_on_channel at input e word_is there is) sound =
       by false = sound.cells
 offered {c} {s = s} (is_on_connection number input e word_is there is) sound = offer_list (request_offer c s input) (request_sound c s input sound.cells)
 
-all-read : (n : ℕ) (ms : List Message) → n < 2 ^ 24 → AllByRecursion IsSound ms → AllByRecursion (λ m. IsReadOf n m (out_of n m).frame.body) ms
+pub all-read : (n : ℕ) (ms : List Message) → n < 2 ^ 24 → AllByRecursion IsSound ms → AllByRecursion (λ m. IsReadOf n m (out_of n m).frame.body) ms
 all-read n [] few all = tt
 all-read n (m ∷ ms) few all = (message_again n m few all.0.0 all.0.1, all-read n ms few all.1)
 
@@ -292,7 +262,7 @@ record IsKnown (c : Controller) (s : Connection) : Type 0 where
   owns : Owns c.channels c.links s.number (roles_of s)
   parts : SoundParts s
 
-open-of : (state : State) → IsRequested state → IsOpen state
+pub open-of : (state : State) → IsRequested state → IsOpen state
 open-of WaitConfirm requested = tt
 open-of (Live reference stage) requested = tt
 open-of _ requested = absurd requested
@@ -316,7 +286,7 @@ sound-row : {c : Controller} {s : Connection} (input : Input) (offer : Option Ch
 sound-row {s = s} input offer r known fits offered carried refers =
     let sound : IsSoundRow r = subst (OfRow IsSoundRow) fits
     (row_sound s input offer (record { serving = known.parts.serving; zero = known.stands.down_zero; three = known.stands.down_three; up = known.stands.up_messages; refers = known.parts.refers }) known.parts.targets offered carried refers) in
-    sound.0
+    sound.1
 
 -- the flow that goes to the switch
 forwards-of : {c : Controller} {s : Connection} (input : Input) (offer : Option Channel) (r : Row) → IsKnown c s → row_of s input offer ≡ Some r → AllByRecursion IsSound r.outs → AllByRecursion IsBesideFlow (relayed Three r.outs) → flow (map (λ f. f.message) (forwarded (outs_of s.number r.outs) s.number)) ≡ flow (relayed Zero r.outs)
@@ -342,7 +312,7 @@ next-owns c r owns there is_open = subst (OwnsOpen c.channels c.links r.next.num
 
 pub FramesArePutAsRead-new : (settings : Parameters) (events : List Event) → FramesArePutAsRead settings events
 FramesArePutAsRead-new settings events s item items input offer r allowed octets own_octets stood comes =
-    let w : Actors = actors_after_all (new_actors settings) events in
+    let w : Actors = world settings events in
     let steps = all_steps (new_actors settings) events in
     let c : Controller = (life settings steps).next in
     let lives : w.controller ≡ c = LivesByTable-new settings events in

@@ -1,17 +1,9 @@
 -- Changes of a world that a connection doesn't see.
-use Rattle.std.proofs.Common.{◌≡◌, ◌≢◌, ℕ, true, false, List, [], ◌∷◌, ◌++◌, Some, refl, ap, ◌∙◌, subst}
-use Rattle.std.specs.List.{AllByRecursion, flat_map}
-use Rattle.conn_messages.specs.declared.channel.Channel.{Channel}
-use Rattle.conn_messages.specs.declared.channel.Place.{Place}
-use Rattle.conn_messages.specs.declared.parameters.TheConstants.{SWITCH_LINK}
-use Rattle.conn_table.specs.declared.state.Target.{Target}
-use Rattle.conn_table.specs.Connection.{Connection, is_at}
-use Rattle.conn_table.specs.Streams.{undone, target_in, used_channels}
-use Rattle.controller_table.specs.Controller.{place_of}
-use Rattle.link_model.specs.BaseState.{BaseState}
-use Rattle.rsl_codec.specs.declared.rsl.Rsl.{Rsl}
-use Rattle.world_table.specs.World.{Actors, Mobile, Spot, is_station_up, base_of, with_base, outbox_of, spot_at, with_spot}
-use Rattle.world_table.proofs.Honesty.{SameEnds, base-with_spot}
+use Rattle.world_laws.proofs.Prelude.{◌≡◌, ◌≢◌, ℕ, true, false, List, [], ◌∷◌, ◌++◌, Some, refl, ap, ◌∙◌, subst, AllByRecursion, flat_map}
+use Rattle.world_laws.proofs.Prelude.{Channel, Place, SWITCH_LINK, Target, Connection, is_at, undone, used_channels, place_of, BaseState}
+use Rattle.world_laws.proofs.Prelude.{Rsl, Actors, Mobile, Spot, is_station_up, base_of, with_base, outbox_of, spot_at, with_spot, SameEnds}
+use Rattle.world_laws.proofs.Prelude.{base-with_spot, spot-with_base}
+use Rattle.conn_rules.specs.Streams.{target_in}
 use Rattle.world_laws.specs.ComingUp.{made_of, coming_up}
 use Rattle.world_laws.specs.GoingDown.{leading_from_air, leading_from_outbox, going_down}
 use Rattle.world_laws.specs.LineUps.{commanded_target}
@@ -19,7 +11,7 @@ use Rattle.world_laws.specs.Seated.{IsElsewhere}
 use Rattle.world_laws.proofs.Apart.{all-both, target-in}
 use Rattle.world_laws.proofs.Framing.{AreSame, all-right}
 use Rattle.world_laws.proofs.Projecting.{coming-same, coming-quiet}
-use Rattle.world_laws.proofs.Spots.{spot-with_base, spot-same, spot-elsewhere, tenure-with_base, tenure-with_spot}
+use Rattle.world_laws.proofs.Spots.{spot-same, spot-elsewhere, tenure-with_base, tenure-with_spot}
 use Rattle.world_laws.proofs.Seeing.{SameTenures, SeesSame}
 
 -- ---- lists
@@ -52,7 +44,7 @@ sees-mobiles mobiles sees = record { coming = sees.coming; up = sees.up; serving
 -- ---- an end changes
 
 pub down-with_base : (w : Actors) (station : ℕ) (base : BaseState) (at : Place) → going_down (with_base station base w) at ≡ going_down w at
-down-with_base w station base at = ap (λ (spot : Spot). flat_map leading_from_air spot.air ++ flat_map (leading_from_outbox at.number) (outbox_of w at.station)) (spot-with_base w station base at)
+down-with_base w station base at = ap (λ (spot : Spot). flat_map leading_from_air spot.air ++ flat_map (leading_from_outbox at.number) (outbox_of w at.station)) (spot-with_base station base w at)
 
 -- it makes messages that bring nothing
 pub sees-told : {w u : Actors} {s : Connection} (station : ℕ) (base : BaseState) (messages : List Rsl) → ArePlaced (used_channels s) → is_station_up w station ≡ true → SameEnds w u → u.inbox ≡ w.inbox → base.messages ≡ (base_of w station).messages ++ messages → ((channel : ℕ) → made_of channel messages ≡ [])

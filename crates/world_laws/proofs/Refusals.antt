@@ -1,7 +1,5 @@
 -- Stations refuse no activation, whatever happened.
-use Rattle.std.proofs.Common.{List}
-use Rattle.settings.specs.Parameters.{Parameters}
-use Rattle.world_table.specs.declared.event.Event.{Event}
+use Rattle.world_laws.proofs.Prelude.{List, Parameters, Event}
 use Rattle.world_laws.specs.Refusals.{NoneRefuse}
 use Rattle.world_laws.proofs.SapiThree.{refuses-came, refuses-waits}
 

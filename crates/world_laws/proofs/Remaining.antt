@@ -1,19 +1,11 @@
 -- What is due of a channel follows the state in which the controller has it.
-use Rattle.std.proofs.Common.{◌≡◌, ℕ, ◌==◌, ◌&&◌, ◌||◌, not, Bool, true, false, if◌then◌else◌, List, [], ◌∷◌, ◌++◌, Option, Some, None, refl, sym, ap, ◌∙◌, subst, append_assoc}
-use Rattle.std.specs.List.{AllByRecursion}
-use Rattle.std.proofs.lemmas.List.{append-nil}
-use Rattle.conn_messages.specs.declared.channel.Place.{Place}
-use Rattle.conn_messages.specs.declared.out.Out.{Out}
-use Rattle.conn_table.proofs.DownlinkMessages.{AllByRecursion-append}
-use Rattle.controller_table.specs.declared.channel_state.ChannelState.{ChannelState}
-use Rattle.controller_table.specs.declared.channel_state.ChannelState.TheVariants.{Free, InUse, Releasing}
-use Rattle.link_model.specs.Message.{activation_ack}
-use Rattle.rsl_codec.specs.declared.rsl.Rsl.{Rsl}
+use Rattle.world_laws.proofs.Prelude.{◌≡◌, ℕ, ◌==◌, ◌&&◌, ◌||◌, not, Bool, true, false, if◌then◌else◌, List, [], ◌∷◌, ◌++◌, Option, Some}
+use Rattle.world_laws.proofs.Prelude.{None, refl, sym, ap, ◌∙◌, subst, append_assoc, append-nil, Place, Out}
+use Rattle.world_laws.proofs.Prelude.{AllByRecursion-append, ChannelState, Free, InUse, Releasing, activation_ack, Rsl, acknowledgement}
+use Rattle.world_laws.proofs.Prelude.{is_active_then, rsl_in, is_in_use, true≢false}
 use Rattle.rsl_codec.specs.declared.rsl.Rsl.TheVariants as rsl
-use Rattle.world_table.specs.Pipe.{acknowledgement, is_active_then}
-use Rattle.world_table.specs.Stations.{rsl_in}
 use Rattle.world_laws.specs.Acknowledged.{is_release_ack, NoneReleases, ReleasesLast}
-use Rattle.world_laws.specs.Remaining.{DueTells, EndsWithRelease, IsDueIn, KeepsDue, OrdersKeepDue, TakingKeepsDue, after_ack, due_for, is_used}
+use Rattle.world_laws.specs.Remaining.{EndsWithRelease, IsDueIn, KeepsDue, TakingKeepsDue, after_ack, due_for}
 use Rattle.world_laws.specs.TakingTurns.{Order, TakesTurns, Turns, order_by, order_in}
 use Rattle.world_laws.specs.TakingTurns.Order.{activates, releases}
 use Rattle.world_laws.proofs.Framing.{all-left}
@@ -28,9 +20,7 @@ none-then-release (x ∷ y ∷ ms) m none is = (none.0, none-then-release (y ∷
 ends-front : (up rest : List Rsl) → EndsWithRelease (up ++ rest) → ReleasesLast up
 ends-front [] rest ends = tt
 ends-front (x ∷ []) rest ends = ((λ is. refl), tt)
-ends-front (x ∷ y ∷ up) rest ends = ((λ is. absurd (never (sym is ∙ ends.0))), ends-front (y ∷ up) rest ends.1) where
-  never : true ≡ false → ⊥
-  never h = absurd cc
+ends-front (x ∷ y ∷ up) rest ends = ((λ is. absurd (true≢false (sym is ∙ ends.0))), ends-front (y ∷ up) rest ends.1)
 
 -- ---- one output
 
@@ -54,7 +44,7 @@ due-by k active (Some _) = ((λ is. (refl, refl)), (λ is off. absurd cc), (λ i
 
 record OneDue (at : Place) (before between : ChannelState) (out : Out) (outs : List Out) : Type 0 where
   first : List Rsl
-  is : due_for at (is_used before) (out ∷ outs) ≡ first ++ due_for at (is_used between) outs
+  is : due_for at (is_in_use before) (out ∷ outs) ≡ first ++ due_for at (is_in_use between) outs
   keeps : (messages : List Rsl) → IsDueIn before messages → IsDueIn between (messages ++ first)
 
 -- the acknowledgement and the activity that it leaves
@@ -64,42 +54,42 @@ with-first at outs first active ack now is same = ap (λ (ms : List Rsl). ms ++ 
 same-due : (state other : ChannelState) (messages : List Rsl) → other ≡ state → IsDueIn state messages → IsDueIn other (messages ++ [])
 same-due state other messages is due = subst (IsDueIn other) (sym (append-nil messages)) (subst (λ (s : ChannelState). IsDueIn s messages) (sym is) due)
 
-own-due : (at : Place) (out : Out) (outs : List Out) (o : Option Order) → order_by at.number (rsl_in out.frame) ≡ o → (before between : ChannelState) → Turns o before between → (first : List Rsl) × (acknowledgement at.number (is_used before) (rsl_in out.frame) ++ due_for at (is_active_then at.number (is_used before) (rsl_in out.frame)) outs ≡ first ++ due_for at (is_used between) outs)
+own-due : (at : Place) (out : Out) (outs : List Out) (o : Option Order) → order_by at.number (rsl_in out.frame) ≡ o → (before between : ChannelState) → Turns o before between → (first : List Rsl) × (acknowledgement at.number (is_in_use before) (rsl_in out.frame) ++ due_for at (is_active_then at.number (is_in_use before) (rsl_in out.frame)) outs ≡ first ++ due_for at (is_in_use between) outs)
     × ((messages : List Rsl) → IsDueIn before messages → IsDueIn between (messages ++ first))
 own-due at out outs None is before between turns =
-    let due = (due-by at.number (is_used before) (rsl_in out.frame)).0 is in
-    ([], with-first at outs [] (is_used between) (acknowledgement at.number (is_used before) (rsl_in out.frame)) (is_active_then at.number (is_used before) (rsl_in out.frame)) due.0 (due.1 ∙ ap is_used (sym turns)), λ messages. same-due before between messages turns)
+    let due = (due-by at.number (is_in_use before) (rsl_in out.frame)).0 is in
+    ([], with-first at outs [] (is_in_use between) (acknowledgement at.number (is_in_use before) (rsl_in out.frame)) (is_active_then at.number (is_in_use before) (rsl_in out.frame)) due.0 (due.1 ∙ ap is_in_use (sym turns)), λ messages. same-due before between messages turns)
 own-due at out outs (Some activates) is before between turns =
-    let due = (due-by at.number (is_used before) (rsl_in out.frame)).1 is (ap is_used turns.0) in
+    let due = (due-by at.number (is_in_use before) (rsl_in out.frame)).1 is (ap is_in_use turns.0) in
     let one : List Rsl = activation_ack at.number ∷ [] in (
       one,
-      with-first at outs one (is_used between) (acknowledgement at.number (is_used before) (rsl_in out.frame)) (is_active_then at.number (is_used before) (rsl_in out.frame)) due.0 (due.1 ∙ ap is_used (sym turns.2)),
+      with-first at outs one (is_in_use between) (acknowledgement at.number (is_in_use before) (rsl_in out.frame)) (is_active_then at.number (is_in_use before) (rsl_in out.frame)) due.0 (due.1 ∙ ap is_in_use (sym turns.2)),
       λ messages due_in. subst (λ (s : ChannelState). IsDueIn s (messages ++ one)) (sym turns.2) (AllByRecursion-append (λ m. is_release_ack m ≡ false) messages one (subst (λ (s : ChannelState). IsDueIn s messages) turns.0 due_in) (refl, tt)),
     )
 own-due at out outs (Some releases) is before between turns =
-    let due = (due-by at.number (is_used before) (rsl_in out.frame)).2 is in
+    let due = (due-by at.number (is_in_use before) (rsl_in out.frame)).2 is in
     let one : List Rsl = rsl.RfChannelReleaseAck at.number ∷ [] in (
       one,
-      with-first at outs one (is_used between) (acknowledgement at.number (is_used before) (rsl_in out.frame)) (is_active_then at.number (is_used before) (rsl_in out.frame)) due.0 (due.1 ∙ ap is_used (sym turns.2)),
+      with-first at outs one (is_in_use between) (acknowledgement at.number (is_in_use before) (rsl_in out.frame)) (is_active_then at.number (is_in_use before) (rsl_in out.frame)) due.0 (due.1 ∙ ap is_in_use (sym turns.2)),
       λ messages due_in. subst (λ (s : ChannelState). IsDueIn s (messages ++ one)) (sym turns.2) (none-then-release messages (rsl.RfChannelReleaseAck at.number) (subst (λ (s : ChannelState). IsDueIn s messages) turns.1 due_in) refl),
     )
 
 one-by : (at : Place) (before between : ChannelState) (out : Out) (outs : List Out) (b : Bool) → Turns (if b then order_by at.number (rsl_in out.frame) else None) before between → (first : List Rsl)
-    × ((if b then acknowledgement at.number (is_used before) (rsl_in out.frame) ++ due_for at (is_active_then at.number (is_used before) (rsl_in out.frame)) outs else due_for at (is_used before) outs) ≡ first ++ due_for at (is_used between) outs)
+    × ((if b then acknowledgement at.number (is_in_use before) (rsl_in out.frame) ++ due_for at (is_active_then at.number (is_in_use before) (rsl_in out.frame)) outs else due_for at (is_in_use before) outs) ≡ first ++ due_for at (is_in_use between) outs)
     × ((messages : List Rsl) → IsDueIn before messages → IsDueIn between (messages ++ first))
 one-by at before between out outs true turns = own-due at out outs (order_by at.number (rsl_in out.frame)) refl before between turns
-one-by at before between out outs false turns = ([], ap (λ (s : ChannelState). due_for at (is_used s) outs) (sym turns), λ messages. same-due before between messages turns)
+one-by at before between out outs false turns = ([], ap (λ (s : ChannelState). due_for at (is_in_use s) outs) (sym turns), λ messages. same-due before between messages turns)
 
 one-due : (at : Place) (before between : ChannelState) (out : Out) (outs : List Out) → Turns (order_in at out) before between → OneDue at before between out outs
 one-due at before between out outs turns = let one = one-by at before between out outs (out.to == at.station) turns in record { first = one.0; is = one.1; keeps = one.2 }
 
 -- ---- all
 
-orders-keep : (at : Place) (before after : ChannelState) (messages : List Rsl) (outs : List Out) → TakesTurns at before outs after → IsDueIn before messages → IsDueIn after (messages ++ due_for at (is_used before) outs)
+orders-keep : (at : Place) (before after : ChannelState) (messages : List Rsl) (outs : List Out) → TakesTurns at before outs after → IsDueIn before messages → IsDueIn after (messages ++ due_for at (is_in_use before) outs)
 orders-keep at before after messages [] turns due = same-due before after messages turns due
 orders-keep at before after messages (out ∷ outs) turns due =
     let one = one-due at before turns.0 out outs turns.1 in
-    subst (IsDueIn after) (append_assoc messages one.first (due_for at (is_used turns.0) outs) ∙ ap (λ (ms : List Rsl). messages ++ ms) (sym one.is))
+    subst (IsDueIn after) (append_assoc messages one.first (due_for at (is_in_use turns.0) outs) ∙ ap (λ (ms : List Rsl). messages ++ ms) (sym one.is))
     (orders-keep at turns.0 after (messages ++ one.first) outs turns.2 (one.keeps messages due))
 
 taking-keeps : TakingKeepsDue

@@ -1,10 +1,7 @@
 -- Rows: what is due of a channel.
-use Rattle.std.proofs.Common.{◌≡◌, ℕ, true, false, List, [], ◌∷◌, refl}
-use Rattle.controller_table.specs.declared.channel_state.ChannelState.TheVariants.{Free, InUse, Releasing}
-use Rattle.controller_table.specs.Controller.{place_at}
-use Rattle.link_model.specs.Message.{activation_ack}
-use Rattle.rsl_codec.specs.declared.rsl.Rsl.TheVariants.{RfChannelReleaseAck}
-use Rattle.world_laws.specs.Remaining.{EndsWithRelease, IsDueIn, after_ack, due_for, is_used}
+use Rattle.world_laws.proofs.Prelude.{◌≡◌, true, false, [], ◌∷◌, refl, Free, InUse, Releasing, place_at, activation_ack}
+use Rattle.world_laws.proofs.Prelude.{RfChannelReleaseAck, is_in_use}
+use Rattle.world_laws.specs.Remaining.{IsDueIn, after_ack, due_for}
 
 -- a channel that is releasing has an RF CHANNEL RELEASE ACK due at the end, and no other has one
 due : IsDueIn (Releasing 3) (activation_ack 0x41 ∷ RfChannelReleaseAck 0x41 ∷ []) × IsDueIn (Releasing 3) (RfChannelReleaseAck 0x41 ∷ []) × IsDueIn (InUse 3) (activation_ack 0x41 ∷ []) × IsDueIn Free []
@@ -17,5 +14,5 @@ not_due = (λ is. is, λ is. let first = is.0 in absurd cc, λ is. let first = i
 after : (after_ack true (Releasing 3) ≡ Free) × (after_ack false (Releasing 3) ≡ Releasing 3) × (after_ack true (InUse 3) ≡ InUse 3)
 after = (refl, refl, refl)
 
-nothing_put : (due_for (place_at 1 0x41) true [] ≡ []) × (is_used (InUse 3) ≡ true) × (is_used Free ≡ false) × (is_used (Releasing 3) ≡ false)
+nothing_put : (due_for (place_at 1 0x41) true [] ≡ []) × (is_in_use (InUse 3) ≡ true) × (is_in_use Free ≡ false) × (is_in_use (Releasing 3) ≡ false)
 nothing_put = (refl, refl, refl, refl)

@@ -1,21 +1,12 @@
 -- The channels of a connection after a row, by the step that the row does to their roles.
-use Rattle.std.proofs.Common.{◌≡◌, ℕ, suc, Bool, true, false, ◌&&◌, ◌||◌, not, if◌then◌else◌, cond, List, [], ◌∷◌, Option, Some, None, option_map, unwrap_or, refl, sym, ap, ◌∙◌, subst, inl, inr}
-use Rattle.std.specs.List.{AllByRecursion}
-use Rattle.std.proofs.lemmas.Bool.{cases_Bool}
-use Rattle.conn_messages.specs.declared.channel.Channel.{Channel}
-use Rattle.conn_messages.specs.declared.channel.Place.{Place}
-use Rattle.conn_table.specs.declared.input.Input.{Input}
-use Rattle.conn_table.specs.declared.state.Drain.{Drain}
-use Rattle.conn_table.specs.declared.state.Stage.TheVariants.{Preparing, Changing}
-use Rattle.conn_table.specs.declared.state.State.{State}
-use Rattle.conn_table.specs.declared.state.State.TheVariants.{Live}
-use Rattle.conn_table.specs.declared.state.Target.{Target}
-use Rattle.conn_table.specs.Connection.{Connection, is_at, drain_at}
-use Rattle.conn_table.specs.Roles.{TargetRole, Roles, RoleStep, target_role, after_step, still_draining, with_target, MayBegin, GoesOn}
-use Rattle.conn_table.specs.Steps.{Row, done_at}
-use Rattle.controller_table.specs.Controller.{place_of}
+use Rattle.world_laws.proofs.Prelude.{◌≡◌, ℕ, suc, Bool, true, false, ◌&&◌, ◌||◌, not, if◌then◌else◌, cond, List, [], ◌∷◌, Option, Some}
+use Rattle.world_laws.proofs.Prelude.{None, option_map, refl, sym, ap, ◌∙◌, subst, inl, inr, AllByRecursion, cases_Bool, Channel}
+use Rattle.world_laws.proofs.Prelude.{Place, Input, Drain, Preparing, Changing, State, Live, Target, Connection, is_at, drain_at}
+use Rattle.world_laws.proofs.Prelude.{TargetRole, Roles, RoleStep, target_role, after_step, with_target, MayBegin, GoesOn, Row, done_at}
+use Rattle.world_laws.proofs.Prelude.{place_of, same_Some, and-left}
+use Rattle.conn_rules.specs.Roles.{still_draining}
 use Rattle.hold_queue.specs.HoldState.{HoldState}
-use Rattle.lineup.specs.LineUp.{Item}
+use Rattle.world_laws.specs.LineUp.Places.{Item}
 use Rattle.world_laws.specs.LineUps.{is_ended, commanded_target}
 use Rattle.world_laws.specs.OwnStep.{lacks, some_lacks}
 
@@ -86,19 +77,12 @@ pub done-lacks : (before after : Place → List Item) (up : ℕ → Bool) (at : 
 done-lacks before after up at place [] found released none = absurd cc
 done-lacks before after up at place (d ∷ ds) found released none =
     elim (cases_Bool (is_at at d.channel && not d.is_done)) [
-      | inl here ↦ first here (some-same (sym (ap (λ (b : Bool). cond b (Some 0) (option_map (λ place. suc place) (drain_at at ds))) here) ∙ found)) none
+      | inl here ↦ first here (same_Some _ _ (sym (ap (λ (b : Bool). cond b (Some 0) (option_map (λ place. suc place) (drain_at at ds))) here) ∙ found)) none
       | inr other ↦ behind (drain_at at ds) refl (sym (ap (λ (b : Bool). cond b (Some 0) (option_map (λ place. suc place) (drain_at at ds))) other) ∙ found) (λ later is. done-lacks before after up at later ds is released.1)
     ] where
-      some-same : {a b : ℕ} → Some a ≡ Some b → a ≡ b
-      some-same {a} e = ap (λ (o : Option ℕ). unwrap_or o a) e
-
-      left : (a b : Bool) → a && b ≡ true → a ≡ true
-      left true b is = refl
-      left false b is = absurd cc
-
       first : is_at at d.channel && not d.is_done ≡ true → 0 ≡ place → some_lacks after up (done_at place (d ∷ ds)) ≡ false → some_lacks before up (d ∷ ds) ≡ false
       first here is none =
-          ap (λ (b : Bool). b || some_lacks before up ds) (released.0.0 (left (is_at at d.channel) (not d.is_done) here))
+          ap (λ (b : Bool). b || some_lacks before up ds) (released.0.0 (and-left (is_at at d.channel) (not d.is_done) here))
           ∙ same-lacks before after up at ds released.1 (subst (λ (n : ℕ). some_lacks after up (done_at n (d ∷ ds)) ≡ false) (sym is) none)
 
       one : lacks after up d ≡ false → lacks before up d ≡ false
@@ -110,7 +94,7 @@ done-lacks before after up at place (d ∷ ds) found released none =
       behind : (o : Option ℕ) → drain_at at ds ≡ o → option_map (λ place. suc place) o ≡ Some place → ((later : ℕ) → drain_at at ds ≡ Some later → some_lacks after up (done_at later ds) ≡ false → some_lacks before up ds ≡ false) → some_lacks before up (d ∷ ds) ≡ false
       behind None is place_is rest = absurd cc
       behind (Some later) is place_is rest =
-          let both = both-false (lacks after up d) (some_lacks after up (done_at later ds)) (subst (λ (n : ℕ). some_lacks after up (done_at n (d ∷ ds)) ≡ false) (sym (some-same place_is)) none) in
+          let both = both-false (lacks after up d) (some_lacks after up (done_at later ds)) (subst (λ (n : ℕ). some_lacks after up (done_at n (d ∷ ds)) ≡ false) (sym (same_Some _ _ place_is)) none) in
           ap (λ (b : Bool). b || some_lacks before up ds) (one both.0) ∙ rest later is both.1
 
 -- so a channel that leaves, leaves nothing missing behind

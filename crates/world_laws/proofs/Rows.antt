@@ -1,50 +1,34 @@
 -- The line-up of a connection in worlds of literal events: an assignment, with a message on its way on each channel.
-use Rattle.std.proofs.Common.{◌≡◌, ℕ, Bool, true, false, List, [], ◌∷◌, ◌++◌, map, replicate, Option, Some, None, option_map, refl, ap, arith}
-use Rattle.std.specs.Option.{option_and_then}
-use Rattle.controller_table.specs.Controller.{new_controller, place_at, entry_of}
-use Rattle.controller_table.proofs.Lives.{usual_settings}
-use Rattle.hold_queue.specs.ChainState.{empty_tenure}
-use Rattle.rsl_codec.specs.declared.rsl.Rsl.TheVariants.{RfChannelReleaseAck}
-use Rattle.world_table.specs.declared.seat.Seat.TheVariants.{On}
-use Rattle.world_table.specs.Relay.{station_item}
-use Rattle.link_model.specs.Message.{data_indication}
+use Rattle.world_laws.proofs.Prelude.{◌≡◌, ℕ, Bool, true, false, List, [], ◌∷◌, ◌++◌, map, replicate, Option, Some, None, option_map, refl}
+use Rattle.world_laws.proofs.Prelude.{ap, arith, option_and_then, new_controller, place_at, entry_of, usual_settings, empty_tenure}
+use Rattle.world_laws.proofs.Prelude.{RfChannelReleaseAck, On, station_item, data_indication, Connected, Zero, Three, Out, Active}
+use Rattle.world_laws.proofs.Prelude.{Draining, Live, Connection, new_connection, Carries, next, Open, ChannelTenure, Empty, Reached}
+use Rattle.world_laws.proofs.Prelude.{Connect, Upper, AirUp, AirAck, AirDown, Move, Arrive, BaseTakes, BasePush, Handle, SwitchTakes}
+use Rattle.world_laws.proofs.Prelude.{SwitchDoes, BaseDown, Assign, Clear, Actors, Mobile, World, mobile_of, new_link, new_spot, new_world}
+use Rattle.world_laws.proofs.Prelude.{outbox_of, opened, after_all}
 use Rattle.mobile_end.specs.declared.mobile_end.Place.TheVariants.{OnChannel}
-use Rattle.mobile_end.specs.declared.mobile_end.Stage.TheVariants.{Connected}
-use Rattle.dtap_codec.specs.declared.sapi.Sapi.TheVariants.{Zero, Three}
-use Rattle.conn_messages.specs.declared.channel.Channel.{Channel}
-use Rattle.conn_messages.specs.declared.out.Out.{Out}
-use Rattle.conn_table.specs.declared.state.Stage.TheVariants.{Active, Draining}
-use Rattle.conn_table.specs.declared.state.State.TheVariants.{Live}
-use Rattle.conn_table.specs.Connection.{Connection, new_connection}
-use Rattle.dtap_codec.specs.Places.{Carries}
-use Rattle.dtap_codec.specs.Places.Rise.{over as rise_over, next, again}
-use Rattle.lineup.specs.Alive.{Alive}
-use Rattle.lineup.specs.Alive.Follows.{goes_on}
-use Rattle.lineup.specs.Alive.Stays.{remains}
-use Rattle.lineup.specs.Alive.Stands.{rests}
-use Rattle.lineup.specs.Alive.Condition.{sound}
-use Rattle.lineup.proofs.Ordering.{IsInOrder-alive}
-use Rattle.msc_end.specs.declared.connection.Stage.TheVariants.{Open}
-use Rattle.world_table.specs.declared.seat.Tenure.{Tenure as ChannelTenure}
-use Rattle.link_model.specs.declared.air_link.Air.TheVariants.{Empty, Reached}
-use Rattle.lineup.specs.LineUp.{LineUp, Seat, controls_in, Tenure, fresh, line}
-use Rattle.lineup.specs.LineUp.Item.{brought, released}
-use Rattle.lineup.specs.LineUp.Seat.{on_serving, on_target, moving}
-use Rattle.world_table.specs.declared.event.Event.TheVariants.{Connect, Upper, AirUp, AirAck, AirDown, Move, Arrive, BaseTakes, BasePush, Handle, SwitchTakes, SwitchDoes, BaseDown}
-use Rattle.world_table.specs.declared.event.SwitchAction.TheVariants.{Assign, Clear}
-use Rattle.world_table.specs.World.{Actors, Mobile, World, mobile_of, new_link, new_spot, new_world, outbox_of}
-use Rattle.world_table.proofs.Rows.{opened}
-use Rattle.world_table.proofs.Worlds.{on_literals, after_all}
+use Rattle.dtap_codec.specs.Places.Rise.{over as rise_over, again}
+use Rattle.world_laws.specs.LineUp.Alive.{Alive}
+use Rattle.world_laws.specs.LineUp.Alive.Follows.{goes_on}
+use Rattle.world_laws.specs.LineUp.Alive.Stays.{remains}
+use Rattle.world_laws.specs.LineUp.Alive.Stands.{rests}
+use Rattle.world_laws.specs.LineUp.Alive.Condition.{sound}
+use Rattle.world_laws.proofs.LineUp.Ordering.{IsInOrder-alive}
+use Rattle.world_laws.specs.LineUp.Places.{LineUp, Seat, controls_in, Tenure, fresh, line}
+use Rattle.world_laws.specs.LineUp.Places.Item.{brought, released}
+use Rattle.world_laws.specs.LineUp.Places.Seat.{on_serving, on_target, moving}
+use Rattle.world_model.proofs.Worlds.{on_literals}
 use Rattle.world_laws.specs.ComingUp.{coming_up}
 use Rattle.world_laws.specs.Ended.{HasEnded}
 use Rattle.world_laws.specs.GoingDown.{going_down}
 use Rattle.world_laws.specs.LineUps.{taken_of, line_up}
-use Rattle.controller_table.specs.Views.{forwarded}
+use Rattle.controller_model.specs.Views.{forwarded}
 use Rattle.world_laws.specs.Seated.{LinedUp, Sits}
 use Rattle.world_laws.specs.Seated.Remembers.{nothing}
 use Rattle.world_laws.specs.Seated.Sits.{stays}
 use Rattle.world_laws.specs.Staying.{is_beside_relay, carried_for, IsForOthers}
 use Rattle.world_laws.proofs.Ending.{EndedAreInOrder-new}
+use Rattle.world_laws.proofs.Usual.{channel}
 
 -- of a mobile and a connection of these numbers
 abbrev line_up_of : World → ℕ → ℕ → Option LineUp
@@ -270,19 +254,10 @@ unfolding on_literals
 spread_is = refl
 
 -- the same as plain lists: connection 1, whose channel is 0A of station 1, and 41 before it
-abbrev channel : ℕ → Channel
-channel number = record {
-  station = 1;
-  number = number;
-  cell = 0x00 ∷ 0x00 ∷ 0xf1 ∷ 0x10 ∷ 0x00 ∷ 0x01 ∷ 0x00 ∷ 0x01 ∷ [];
-  description = record { arfcn = 20; ncc = 1; bcc = 1 };
-  reference = record { 0 = 0 };
-}
-
 abbrev connection : Connection
-connection = record (new_connection 1 (channel 0x0a) (record { access = 7; frame = 0 }) 0) {
+connection = record (new_connection 1 (channel 1 0x0a) (record { access = 7; frame = 0 }) 0) {
   state = Live 0x800001 Draining;
-  draining = record { channel = channel 0x41; is_done = false } ∷ [];
+  draining = record { channel = channel 1 0x41; is_done = false } ∷ [];
   up = record { limit = 32; tenures = empty_tenure ∷ record { zero = (0x03 ∷ 0x45 ∷ []) ∷ []; three = [] } ∷ [] };
 }
 
@@ -338,13 +313,13 @@ skipping_is_not_lined_up h = skipping_is_not_alive h.alive
 in_another_tenure : LinedUp 4 (actors ((0x05 ∷ 0x24 ∷ 0x71 ∷ []) ∷ (0x03 ∷ 0x45 ∷ []) ∷ [])) (mobile_in 4) connection → ⊥
 unfolding on_literals forwarded
 in_another_tenure h = no_seat h.sits where
-  no_seat : Sits (actors ((0x05 ∷ 0x24 ∷ 0x71 ∷ []) ∷ (0x03 ∷ 0x45 ∷ []) ∷ [])) (channel 0x0a) None (On (record { at = place_at 1 0x0a; number = 4 }) None) → ⊥
+  no_seat : Sits (actors ((0x05 ∷ 0x24 ∷ 0x71 ∷ []) ∷ (0x03 ∷ 0x45 ∷ []) ∷ [])) (channel 1 0x0a) None (On (record { at = place_at 1 0x0a; number = 4 }) None) → ⊥
   no_seat (stays is remembers) = let number = ap (λ (t : ChannelTenure). t.number) is in absurd cc
 
 -- ---- outputs that are another connection's: of connection 1, whose channel is 0A of station 1
 
 abbrev one : Connection
-one = record (new_connection 1 (channel 0x0a) (record { access = 7; frame = 0 }) 0) { state = Live 0x800001 Active }
+one = record (new_connection 1 (channel 1 0x0a) (record { access = 7; frame = 0 }) 0) { state = Live 0x800001 Active }
 
 -- DTAP of a connection, for the switch
 abbrev dtap_of : ℕ → Out

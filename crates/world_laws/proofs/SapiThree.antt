@@ -1,77 +1,45 @@
 -- Stations make no message of SAPI 3 that is of the flow, and so none comes to the controller.
-use Rattle.std.proofs.Common.{◌≡◌, ℕ, zero, suc, ◌-◌, ◌+◌, ◌==◌, ◌&&◌, not, nat_eq, Bool, true, false, if◌then◌else◌, List, [], ◌∷◌, ◌++◌, filter, map, get_or, set, unwrap_or, Option, Some, None, Result, Ok, Err, option_to_list, refl, sym, ap, ◌∙◌, subst, append_assoc, inl, inr}
-use Rattle.std.specs.List.{AllByRecursion}
-use Rattle.std.proofs.lemmas.Bool.{cases_Bool, eqb-true, eqb-false}
-use Rattle.std.proofs.lemmas.List.{append-nil}
-use Rattle.std.proofs.lemmas.List.Elements.{filter-append}
-use Rattle.bssmap_codec.specs.declared.bssap.Bssap.{Bssap}
-use Rattle.bssmap_codec.specs.declared.bssap.Bssap.TheVariants.{Management, Transfer}
-use Rattle.bssmap_codec.specs.declared.bssmap.Bssmap.{Bssmap}
+use Rattle.world_laws.proofs.Prelude.{◌≡◌, ℕ, zero, suc, ◌-◌, ◌+◌, ◌==◌, ◌&&◌, not, nat_eq, Bool, true, false, if◌then◌else◌, List, [], ◌∷◌}
+use Rattle.world_laws.proofs.Prelude.{◌++◌, filter, map, get_or, set, Option, Some, None, Ok, Err, option_to_list, refl, sym, ap, ◌∙◌}
+use Rattle.world_laws.proofs.Prelude.{subst, append_assoc, inl, inr, AllByRecursion, cases_Bool, eqb-true, eqb-false, append-nil}
+use Rattle.world_laws.proofs.Prelude.{filter-append, Bssap, Management, Transfer, Bssmap, InterfaceFault, Sccp, bssap_reading, sccp_text}
+use Rattle.world_laws.proofs.Prelude.{AllByRecursion-append, Place, SWITCH_LINK, word_by, word_in, is_dtap, Word, Nothing, OnChannel}
+use Rattle.world_laws.proofs.Prelude.{Reports, Input, body_word, bssap_word, change_word, data_word, management_word, of_sapi, report_word}
+use Rattle.world_laws.proofs.Prelude.{result_word, rr_word, rsl_word, sapi_of, station_word, switch_word, connection_control, other}
+use Rattle.world_laws.proofs.Prelude.{radio_signalling, report_reading, place_at, RrMessage, AssignmentComplete, HandoverComplete}
+use Rattle.world_laws.proofs.Prelude.{AssignmentFailure, HandoverFailure, MeasurementReport, RrFault, Sapi, Zero, Three, is_flow_message}
+use Rattle.world_laws.proofs.Prelude.{BaseState, after_activate, after_release, after_tell, first_message, first_of_messages}
+use Rattle.world_laws.proofs.Prelude.{messages_behind_first, frame_answer, new_mobile, MobileState, Item, RslFault, Rsl, rsl_reading}
+use Rattle.world_laws.proofs.Prelude.{rsl_text, CellParameters, Parameters, Event, BasePush, Handle, Tick, BaseDown, actors_after}
+use Rattle.world_laws.proofs.Prelude.{actors_after_all, frame_in, all_popped, all_pushed, first_of, pushed, station_item, switch_item}
+use Rattle.world_laws.proofs.Prelude.{all_steps, first_taken, step_at, Actors, Mobile, Spot, base_of, is_up, mobile_of, modulus_in}
+use Rattle.world_laws.proofs.Prelude.{new_actors, no_station, station_of, stations_from, with_base, with_spot, Good, end-of, good-new}
+use Rattle.world_laws.proofs.Prelude.{good-step, IsSound, sound-read, Tells, event-keeps, AllByRecursion-so, Both-empty}
+use Rattle.std.proofs.Common.{Result}
 use Rattle.bssmap_codec.specs.declared.bssmap.Bssmap.TheVariants as bssmap
-use Rattle.bssmap_codec.specs.declared.fault.InterfaceFault.{InterfaceFault}
-use Rattle.bssmap_codec.specs.declared.sccp.Sccp.{Sccp}
 use Rattle.bssmap_codec.specs.declared.sccp.Sccp.TheVariants as sccp
-use Rattle.bssmap_codec.specs.BssapReading.{bssap_reading}
 use Rattle.bssmap_codec.specs.SccpReading.{sccp_reading}
-use Rattle.bssmap_codec.specs.SccpText.{sccp_text}
-use Rattle.conn_table.proofs.DownlinkMessages.{AllByRecursion-append}
-use Rattle.conn_messages.specs.declared.channel.Place.{Place}
-use Rattle.conn_messages.specs.declared.parameters.TheConstants.{SWITCH_LINK}
-use Rattle.controller_laws.specs.History.{word_by, word_in}
-use Rattle.conn_table.specs.Streams.{is_dtap}
-use Rattle.controller_table.specs.declared.word.Word.{Word}
-use Rattle.controller_table.specs.declared.word.Word.TheVariants.{Nothing, OnChannel, Reports}
-use Rattle.conn_table.specs.declared.input.Input.{Input}
-use Rattle.controller_table.specs.Life.{take, tick}
-use Rattle.controller_table.specs.Reading.{body_word, bssap_word, change_word, data_word, management_word, of_sapi, report_word, result_word, rr_word, rsl_word, sapi_of, station_word, switch_word, valid_word, word_of}
-use Rattle.controller_table.specs.Reading.Carried.{connection_control, other, radio_signalling}
-use Rattle.controller_table.specs.Reports.{report_reading}
-use Rattle.controller_table.specs.Controller.{place_at}
+use Rattle.controller_model.specs.Reading.{valid_word, word_of}
 use Rattle.dtap_codec.specs.declared.report.Report.{Report as ReportValue}
-use Rattle.dtap_codec.specs.declared.rr.RrMessage.{RrMessage}
-use Rattle.dtap_codec.specs.declared.rr.RrMessage.TheVariants.{AssignmentComplete, HandoverComplete, AssignmentFailure, HandoverFailure, MeasurementReport}
-use Rattle.dtap_codec.specs.declared.rr_fault.RrFault.{RrFault}
 use Rattle.dtap_codec.specs.RrReading.{rr_reading}
-use Rattle.dtap_codec.specs.declared.sapi.Sapi.{Sapi}
-use Rattle.dtap_codec.specs.declared.sapi.Sapi.TheVariants.{Zero, Three}
-use Rattle.dtap_codec.specs.Message.{is_flow_message}
-use Rattle.link_model.specs.BaseState.{BaseState}
-use Rattle.link_model.specs.Base.{after_activate, after_next, after_release, after_tell, first_message, first_of_messages, messages_behind_first}
-use Rattle.link_model.specs.Message.{data_indication, establish_indication}
 use Rattle.mobile_end.specs.declared.fault.MobileFault.{MobileFault}
 use Rattle.mobile_end.specs.Calls.{Call, after_call, after_calls, frame_lent, taken_on_three_by_call, taken_on_three_by_calls}
 use Rattle.mobile_end.specs.Calls.Call.{frames}
-use Rattle.mobile_end.specs.Mobile.{frame_answer, new_mobile}
-use Rattle.mobile_end.specs.MobileState.{MobileState}
 use Rattle.mobile_end.proofs.OnSapiThree.{takes_no_flow}
-use Rattle.relay_items.specs.declared.Item.{Item}
-use Rattle.relay_items.specs.declared.What.TheVariants as whats
-use Rattle.rsl_codec.specs.declared.fault.RslFault.{RslFault}
-use Rattle.rsl_codec.specs.declared.rsl.Rsl.{Rsl}
+use Rattle.ruled_relay.specs.declared.item.What.TheVariants as whats
 use Rattle.rsl_codec.specs.declared.rsl.Rsl.TheVariants as rsl
-use Rattle.rsl_codec.specs.RslReading.{rsl_reading}
-use Rattle.rsl_codec.specs.RslText.{rsl_text}
-use Rattle.settings.specs.Parameters.{CellParameters, Parameters}
-use Rattle.world_table.specs.declared.event.Event.{Event}
-use Rattle.world_table.specs.declared.event.Event.TheVariants.{Upper, Connect, AirUp, AirAck, AirDown, AirDownLost, Move, Touch, Arrive, Return, BaseTakes, BasePush, Handle, SwitchTakes, SwitchDoes, Tick, BaseDown, Report}
-use Rattle.world_table.specs.Calls.{all_calls}
-use Rattle.world_table.specs.Life.{event_after, actors_after, actors_after_all}
-use Rattle.world_table.specs.Mobiles.{brought, connected, frame_in, short_message_brought, signalling_brought, told, after_upper, after_connecting, after_air_up, after_air_ack, after_air_down, after_air_down_lost, after_move, after_touch, after_arriving, after_return, after_report}
-use Rattle.world_table.specs.Queues.{all_popped, all_pushed, first_of, popped, pushed}
-use Rattle.world_table.specs.Relay.{station_item, switch_item, target_in, after_base_push, after_handle, after_tick, after_break}
-use Rattle.world_table.specs.Stations.{link_answer, rsl_in, took, after_base_takes}
-use Rattle.world_table.specs.Steps.{all_steps, first_taken, step_at}
-use Rattle.world_table.specs.SwitchSide.{sccp_in, after_switch_takes, after_switch_does}
-use Rattle.world_table.specs.World.{Actors, Mobile, Spot, Station, base_of, is_up, mobile_of, modulus_in, new_actors, no_station, spot_at, station_of, stations_from, with_base, with_outbox, with_spot}
-use Rattle.world_table.proofs.Heard.{Good, end-of, good-new, good-step}
-use Rattle.world_table.proofs.Honesty.{set-or-not, set-elsewhere}
-use Rattle.world_table.proofs.Inboxes.{inbox-all}
-use Rattle.world_table.proofs.Leads.{OfTaken, FromAir, upper-leads, connect-leads, air_up-leads, air_ack-leads, air_down-leads, air_down_lost-leads, move-leads, touch-leads, arrive-leads, return-leads, base_takes-leads, took-leads, handle-leads, turn-leads, switch_takes-leads, switch_took-leads, push-leads, does-leads, broken-leads, report-leads, after-taken}
-use Rattle.world_table.proofs.Mobility.{MobilesLive-new}
-use Rattle.world_table.proofs.Soundness.{IsSound, sound-read}
-use Rattle.world_laws.proofs.Framing.{all-left, all-map, all-right}
+use Rattle.world_model.specs.Calls.{all_calls}
+use Rattle.world_model.specs.Mobiles.{told}
+use Rattle.world_model.specs.Queues.{popped}
+use Rattle.world_model.specs.World.{Station}
+use Rattle.world_model.proofs.Honesty.{set-or-not, set-elsewhere}
+use Rattle.world_model.proofs.Inboxes.{inbox-all}
+use Rattle.world_model.proofs.Mobility.{MobilesLive-new}
+use Rattle.world_laws.proofs.Framing.{all-left, all-right}
 use Rattle.world_laws.specs.SapiThree.{IsBesideFlow, SaysBesideFlow}
 use Rattle.world_laws.specs.Refusals.{RefusesNone}
+use Rattle.world_model.proofs.Footprints.Tells.{answers, brings, detects, establishes, links, opens_with, reports, requires}
+use Rattle.world_laws.proofs.Events.{world}
 
 -- ---- what a mobile's link of SAPI 3 gives
 
@@ -80,10 +48,6 @@ one-more mobile [] = append-nil (frame_lent (frame_answer mobile Three))
 one-more mobile (call ∷ calls) =
     ap (λ (xs : List (List ℕ)). taken_on_three_by_call mobile call ++ xs) (one-more (after_call mobile call) calls)
     ∙ sym (append_assoc (taken_on_three_by_call mobile call) (taken_on_three_by_calls (after_call mobile call) calls) (frame_lent (frame_answer (after_calls (after_call mobile call) calls) Three)))
-
-none-behind : (xs ys : List (List ℕ)) → xs ++ ys ≡ [] → ys ≡ []
-none-behind [] ys is = is
-none-behind (x ∷ xs) ys is = absurd cc
 
 -- one that is filtered out
 beside : (frame : List ℕ) → filter is_flow_message (frame ∷ []) ≡ [] → IsBesideFlow frame
@@ -100,7 +64,7 @@ lent-in (Err fault) frame is = absurd cc
 NoneLent : Actors → Type 0
 NoneLent w = (number : ℕ) (p : Mobile) (frame : List ℕ) → mobile_of w number ≡ Some p → frame_in (frame_answer p.end Three) ≡ Some frame → IsBesideFlow frame
 
-none-lent : (settings : Parameters) (events : List Event) → NoneLent (actors_after_all (new_actors settings) events)
+none-lent : (settings : Parameters) (events : List Event) → NoneLent (world settings events)
 unfolding NoneLent
 none-lent settings events number p frame found is =
     let lives = MobilesLive-new settings events number p found in
@@ -108,11 +72,11 @@ none-lent settings events number p frame found is =
     let mobile : MobileState = new_mobile m in
     let calls : List Call = all_calls (new_actors settings) events number in
     let last : frame_lent (frame_answer (after_calls mobile calls) Three) ≡ frame ∷ [] = ap (λ (e : MobileState). frame_lent (frame_answer e Three)) (sym lives.is) ∙ lent-in (frame_answer p.end Three) frame is in
-    beside frame (none-behind (filter is_flow_message (taken_on_three_by_calls mobile calls)) (filter is_flow_message (frame ∷ []))
-    (sym (filter-append is_flow_message (taken_on_three_by_calls mobile calls) (frame ∷ []))
+    beside frame ((Both-empty (filter is_flow_message (taken_on_three_by_calls mobile calls)) (filter is_flow_message (frame ∷ []))
+    (sym (sym (filter-append is_flow_message (taken_on_three_by_calls mobile calls) (frame ∷ []))
     ∙ ap (λ (xs : List (List ℕ)). filter is_flow_message (taken_on_three_by_calls mobile calls ++ xs)) (sym last)
     ∙ ap (filter is_flow_message) (sym (one-more mobile calls))
-    ∙ takes_no_flow mobile (calls ++ frames Three ∷ []) tt))
+    ∙ takes_no_flow mobile (calls ++ frames Three ∷ []) tt))).1)
 
 -- ---- what stations make
 
@@ -152,35 +116,18 @@ short-spot at spot u all = set-short u.stations (at.station - 1) _ (short-of u a
 short-told : (station : ℕ) (message : Rsl) (u : Actors) → IsShort message → AreShort u → AreShort (told station message u)
 short-told station message u short all = short-base station (after_tell (base_of u station) message) u (AllByRecursion-append IsShort (base_of u station).messages (message ∷ []) (short-of u station all) (short, tt)) all
 
-brought-short : (w : Actors) (p : Mobile) (at : Place) (sapi : Sapi) (frame : List ℕ) → AreShort w → (sapi ≡ Three → IsBesideFlow frame) → AreShort (brought w p at sapi frame)
-unfolding AreShort IsShort
-brought-short w p at Zero frame all none = short-base at.station (signalling_brought (base_of w at.station) at.number p.opens frame) w (by p.opens) all where
-  by : (b : Bool) → AllByRecursion IsShort (signalling_brought (base_of w at.station) at.number b frame).messages
-  by true = AllByRecursion-append IsShort (base_of w at.station).messages (establish_indication at.number Zero (Some frame) ∷ []) (short-of w at.station all) (tt, tt)
-  by false = AllByRecursion-append IsShort (base_of w at.station).messages (data_indication at.number Zero frame ∷ []) (short-of w at.station all) ((λ is. absurd cc), tt)
-brought-short w p at Three frame all none =
-    short-spot at _ (with_base at.station (short_message_brought (base_of w at.station) at.number (spot_at w at).sapi_three_up frame) w)
-    (short-base at.station (short_message_brought (base_of w at.station) at.number (spot_at w at).sapi_three_up frame) w (by (spot_at w at).sapi_three_up) all) where
-      by : (b : Bool) → AllByRecursion IsShort (short_message_brought (base_of w at.station) at.number b frame).messages
-      by true = AllByRecursion-append IsShort (base_of w at.station).messages (data_indication at.number Three frame ∷ []) (short-of w at.station all) ((λ is. none refl), tt)
-      by false = AllByRecursion-append IsShort ((base_of w at.station).messages ++ establish_indication at.number Three None ∷ []) (data_indication at.number Three frame ∷ [])
-          (AllByRecursion-append IsShort (base_of w at.station).messages (establish_indication at.number Three None ∷ []) (short-of w at.station all) (tt, tt)) ((λ is. none refl), tt)
-
-took-short : (station : ℕ) (target : _) (o : Option Rsl) (u : Actors) → AreShort u → OfTaken AreShort (took station target o u)
-unfolding AreShort IsShort
-took-short station target o u all = took-leads AreShort station target o u (record {
-  nothing = all;
-  activates = λ channel _. short-spot (place_at station channel) _ (with_base station (after_activate (base_of u station) channel) u)
-      (short-base station (after_activate (base_of u station) channel) u (AllByRecursion-append IsShort (base_of u station).messages _ (short-of u station all) (tt, tt)) all);
-  seats = λ p number channel found asking. all;
-  airs = λ channel message _. short-spot (place_at station channel) _ u all;
-  answers = λ answer channel. short-told station (link_answer answer channel) (with_spot (place_at station channel) _ u) (short-answer answer channel) (short-spot (place_at station channel) _ u all);
-  releases = λ channel. short-spot (place_at station channel) _ (with_base station (after_release (base_of u station) channel) u)
-      (short-base station (after_release (base_of u station) channel) u (AllByRecursion-append IsShort (base_of u station).messages _ (short-of u station all) (tt, tt)) all);
-}) where
-  short-answer : (answer : Bool) (channel : ℕ) → IsShort (link_answer answer channel)
-  short-answer true channel = tt
-  short-answer false channel = tt
+short-tells : {w : Actors} {event : Event} {n : ℕ} {message : Rsl} → NoneLent w → Tells w event n message → IsShort message
+unfolding IsShort NoneLent
+short-tells none (requires number station initial accepts) = tt
+short-tells none (opens_with number p tenure frame lent) = tt
+short-tells none (brings number Zero p tenure frame lent) = λ is. absurd cc
+short-tells none (brings number Three p tenure frame lent) = λ is. none number p frame lent.found lent.lent
+short-tells none (links number p tenure frame lent) = tt
+short-tells none (detects number tenure reached) = tt
+short-tells none (establishes tenure reached) = tt
+short-tells none (answers station l true taken) = tt
+short-tells none (answers station l false taken) = tt
+short-tells none (reports number report tenure reached long) = tt
 
 short-behind : (messages : List Rsl) → AllByRecursion IsShort messages → AllByRecursion IsShort (messages_behind_first messages)
 short-behind [] all = tt
@@ -188,36 +135,25 @@ short-behind (first ∷ others) all = all.1
 
 -- ---- each event
 
-short-after : (w : Actors) (o : Option Actors) → AreShort w → OfTaken AreShort o → AreShort (unwrap_or o w)
-short-after w o all leads = after-taken AreShort o w leads all
-
 short-step : (w : Actors) (event : Event) → NoneLent w → AreShort w → AreShort (actors_after w event)
-unfolding event_after FromAir AreShort IsShort NoneLent OfTaken
-short-step w (Upper number sapi message) none all = short-after w (after_upper w number sapi message) all (upper-leads AreShort w number sapi message (λ p _. all))
-short-step w (Connect number station initial accepts) none all = short-after w (after_connecting w number station initial accepts) all (connect-leads AreShort w number station initial accepts (λ _. short-told station _ (record w { mobiles = w.mobiles ++ connected w.modulus number initial accepts ∷ [] }) tt all))
-short-step w (AirUp number sapi) none all =
-    short-after w (after_air_up w number sapi) all (air_up-leads AreShort w number sapi (λ p tenure command frame found _ lent _. brought-short w p tenure.at sapi frame all (λ is. none number p frame found (sym (ap (λ (x : Sapi). frame_in (frame_answer p.end x)) is) ∙ lent))))
-short-step w (AirAck number sapi) none all = short-after w (after_air_ack w number sapi) all (air_ack-leads AreShort w number sapi (λ p _. all))
-short-step w (AirDown number) none all = short-after w (after_air_down w number) all (air_down-leads AreShort w number (λ p tenure command _ _ _ first others _. short-spot tenure.at _ w all))
-short-step w (AirDownLost number) none all = short-after w (after_air_down_lost w number) all (air_down_lost-leads AreShort w number (λ p tenure command _ _ _ first others _. short-spot tenure.at _ w all))
-short-step w (Move number) none all = short-after w (after_move w number) all (move-leads AreShort w number (λ p tenure command _ _ _. short-spot tenure.at _ w all))
-short-step w (Touch number) none all = short-after w (after_touch w number) all (touch-leads AreShort w number (λ command _. short-told command.target.at.station _ w tt all))
-short-step w (Arrive number) none all = short-after w (after_arriving w number) all (arrive-leads AreShort w number (λ p from command _ _ _. short-told command.target.at.station (establish_indication command.target.at.number Zero None) w tt all))
-short-step w (Return number) none all = short-after w (after_return w number) all (return-leads AreShort w number (λ p from command _ _ _. short-told from.at.station (establish_indication from.at.number Zero None) w tt all))
-short-step w (BaseTakes station) none all =
-    short-after w (after_base_takes w station) all (base_takes-leads AreShort w station (λ first others _ _. took-short station first.target (rsl_in first.out.frame) (with_outbox station others w) all))
-short-step w (BasePush source) none all =
-    short-after w (after_base_push w source) all (push-leads AreShort w source (λ first others. all) (λ message _. short-base source (after_next (base_of w source)) w (short-behind (base_of w source).messages (short-of w source all)) all))
-short-step w Handle none all =
-    short-after w (after_handle w) all (handle-leads AreShort w (λ item items _. turn-leads AreShort (target_in w item.source item.what) (take item w.controller) (record w { inbox = items }) (λ links. all)))
-short-step w SwitchTakes none all =
-    short-after w (after_switch_takes w) all (switch_takes-leads AreShort w (λ first others _ _. switch_took-leads AreShort (with_outbox SWITCH_LINK others w) (sccp_in first.out.frame) all (λ next made. all)))
-short-step w (SwitchDoes action) none all = short-after w (after_switch_does w action) all (does-leads AreShort w action (λ next made. all))
-short-step w (Tick ms) none all = short-after w (after_tick w ms) all (turn-leads AreShort None (tick ms w.controller) w (λ links. all))
-short-step w (BaseDown source) none all =
-    short-after w (after_break w source) all (broken-leads AreShort w source (λ _ _. all) (λ _ _. set-short w.stations (source - 1) _ tt all))
-short-step w (Report number report) none all =
-    short-after w (after_report w number report) all (report-leads AreShort w number report (λ tenure _. short-told tenure.at.station _ (with_spot tenure.at _ w) tt (short-spot tenure.at _ w all)))
+unfolding AreShort IsShort
+short-step w event none = event-keeps AreShort w event (record {
+  puts = λ u number p q _ _ _ all. all;
+  joins = λ number initial accepts _ all. all;
+  tells = λ u n message _ how all. short-told n message u (short-tells none how) all;
+  spots = λ u at spot _ _ all. short-spot at spot u all;
+  pops = λ station others _ all. all;
+  activates = λ u s a _ _ all.
+      let base : BaseState = after_activate (base_of u s) a.channel in
+      short-spot (place_at s a.channel) _ (with_base s base u) (short-base s base u (AllByRecursion-append IsShort (base_of u s).messages _ (short-of u s all) (tt, tt)) all);
+  releases = λ u s channel _ all.
+      let base : BaseState = after_release (base_of u s) channel in
+      short-spot (place_at s channel) _ (with_base s base u) (short-base s base u (AllByRecursion-append IsShort (base_of u s).messages _ (short-of u s all) (tt, tt)) all);
+}) (record {
+  rest = λ u inbox controller switch made links all. all;
+  next = λ source message _ all. short-base source _ w (short-behind (base_of w source).messages (short-of w source all)) all;
+  down = λ source _ _ all. short-base source _ w tt all;
+})
 
 -- ---- what is given to the inbox
 
@@ -366,7 +302,7 @@ new-short from k [] = tt
 new-short from zero (cell ∷ cells) = tt
 new-short from (suc k) (cell ∷ cells) = new-short (from + 1) k cells
 
-says-new : (settings : Parameters) (events : List Event) → AllByRecursion SaysItem (all_popped (new_actors settings) events ++ (actors_after_all (new_actors settings) events).inbox)
+says-new : (settings : Parameters) (events : List Event) → AllByRecursion SaysItem (all_popped (new_actors settings) events ++ (world settings events).inbox)
 unfolding AreShort
 says-new settings events = subst (AllByRecursion SaysItem) (inbox-all (new_actors settings) events)
     (says-all (new_actors settings) events (none-lent settings) (record { good = good-new settings; short = λ k. new-short 1 k settings.cells }))
@@ -395,23 +331,23 @@ says-taken settings events =
     let w : Actors = new_actors settings in
     says-steps w events (all-left SaysItem (all_popped w events) (actors_after_all w events).inbox (says-new settings events))
 
-says-left : (settings : Parameters) (events : List Event) → AllByRecursion SaysItem (actors_after_all (new_actors settings) events).inbox
+says-left : (settings : Parameters) (events : List Event) → AllByRecursion SaysItem (world settings events).inbox
 says-left settings events =
     let w : Actors = new_actors settings in
     all-right SaysItem (all_popped w events) (actors_after_all w events).inbox (says-new settings events)
 
 pub says-came : (settings : Parameters) (events : List Event) → AllByRecursion (λ step. SaysBesideFlow (word_in step)) (all_steps (new_actors settings) events)
 unfolding Says
-says-came settings events = all-map (λ step. Says (word_in step)) (λ step. SaysBesideFlow (word_in step)) (all_steps (new_actors settings) events) (λ step says. says.0) (says-taken settings events)
+says-came settings events = AllByRecursion-so (λ step. Says (word_in step)) (λ step. SaysBesideFlow (word_in step)) (λ step says. says.0) (all_steps (new_actors settings) events) (says-taken settings events)
 
-pub says-waits : (settings : Parameters) (events : List Event) → AllByRecursion (λ item. SaysBesideFlow (word_by item.source item.what)) (actors_after_all (new_actors settings) events).inbox
+pub says-waits : (settings : Parameters) (events : List Event) → AllByRecursion (λ item. SaysBesideFlow (word_by item.source item.what)) (world settings events).inbox
 unfolding SaysItem Says
-says-waits settings events = all-map SaysItem (λ item. SaysBesideFlow (word_by item.source item.what)) (actors_after_all (new_actors settings) events).inbox (λ item says. says.0) (says-left settings events)
+says-waits settings events = AllByRecursion-so SaysItem (λ item. SaysBesideFlow (word_by item.source item.what)) (λ item says. says.0) (world settings events).inbox (says-left settings events)
 
 pub refuses-came : (settings : Parameters) (events : List Event) → AllByRecursion (λ step. RefusesNone (word_in step)) (all_steps (new_actors settings) events)
 unfolding Says
-refuses-came settings events = all-map (λ step. Says (word_in step)) (λ step. RefusesNone (word_in step)) (all_steps (new_actors settings) events) (λ step says. says.1) (says-taken settings events)
+refuses-came settings events = AllByRecursion-so (λ step. Says (word_in step)) (λ step. RefusesNone (word_in step)) (λ step says. says.1) (all_steps (new_actors settings) events) (says-taken settings events)
 
-pub refuses-waits : (settings : Parameters) (events : List Event) → AllByRecursion (λ item. RefusesNone (word_by item.source item.what)) (actors_after_all (new_actors settings) events).inbox
+pub refuses-waits : (settings : Parameters) (events : List Event) → AllByRecursion (λ item. RefusesNone (word_by item.source item.what)) (world settings events).inbox
 unfolding SaysItem Says
-refuses-waits settings events = all-map SaysItem (λ item. RefusesNone (word_by item.source item.what)) (actors_after_all (new_actors settings) events).inbox (λ item says. says.1) (says-left settings events)
+refuses-waits settings events = AllByRecursion-so SaysItem (λ item. RefusesNone (word_by item.source item.what)) (λ item says. says.1) (world settings events).inbox (says-left settings events)

@@ -1,34 +1,20 @@
 -- What is held on SAPI 3 is what came there, so none of it is of the flow.
-use Rattle.std.proofs.Common.{◌≡◌, ℕ, ◌≤◌, Bool, true, false, if◌then◌else◌, List, [], ◌∷◌, fold, map, Some, sym, subst}
-use Rattle.std.specs.List.{AllByRecursion}
-use Rattle.conn_messages.specs.declared.channel.Place.{Place}
-use Rattle.conn_messages.specs.declared.message.Message.{Message}
-use Rattle.conn_table.proofs.DownlinkMessages.{AllByRecursion-append}
-use Rattle.conn_table.specs.declared.input.Input.{Input}
-use Rattle.conn_table.specs.declared.input.Input.TheVariants as inputs
-use Rattle.conn_table.specs.Streams.{relayed}
-use Rattle.controller_laws.specs.Downlink.{requests}
-use Rattle.controller_laws.specs.End.{IsThere}
-use Rattle.controller_laws.specs.History.{IsHistory, Moment, all_messages, connection_of, word_in}
-use Rattle.controller_laws.specs.Uplink.{Tenure, after_input, after_moment, after_word, begin_first, begin_next, ended, heard, is_on, joined, performs, service, with_message}
-use Rattle.controller_laws.proofs.UplinkLife.{life_conserves_up}
-use Rattle.controller_table.specs.declared.step.Step.{Step}
-use Rattle.controller_table.specs.declared.word.Word.{Word}
-use Rattle.controller_table.specs.declared.word.Word.TheVariants.{OnChannel}
-use Rattle.controller_table.specs.Controller.{Controller, new_controller}
-use Rattle.controller_table.specs.Life.{life, step}
-use Rattle.controller_table.specs.Views.{held_up}
-use Rattle.dtap_codec.specs.declared.sapi.Sapi.{Sapi}
-use Rattle.dtap_codec.specs.declared.sapi.Sapi.TheVariants.{Zero, Three}
-use Rattle.settings.specs.Parameters.{AreAllowed, Parameters}
-use Rattle.world_table.specs.declared.event.Event.{Event}
-use Rattle.world_table.specs.Life.{actors_after_all}
-use Rattle.world_table.specs.Steps.{all_steps}
-use Rattle.world_table.specs.World.{new_actors}
-use Rattle.world_table.proofs.Living.{LivesByTable-new}
+use Rattle.world_laws.proofs.Prelude.{◌≡◌, ℕ, ◌≤◌, Bool, true, false, if◌then◌else◌, List, [], ◌∷◌, fold, map, Some, sym, subst}
+use Rattle.world_laws.proofs.Prelude.{AllByRecursion, Place, Message, AllByRecursion-append, Input, relayed, IsThere, connection_of}
+use Rattle.world_laws.proofs.Prelude.{word_in, Step, Word, OnChannel, Controller, new_controller, step, Sapi, Zero, Three, AreAllowed}
+use Rattle.world_laws.proofs.Prelude.{Parameters, Event, all_steps, new_actors, LivesByTable-new}
+use Rattle.conn_rules.specs.declared.input.Input.TheVariants as inputs
+use Rattle.controller_model.specs.LifeLaws.Downlink.{requests}
+use Rattle.controller_model.specs.LifeLaws.History.{IsHistory, Moment, all_messages}
+use Rattle.controller_model.specs.LifeLaws.Uplink.{Tenure, after_input, after_moment, after_word, begin_first, begin_next, ended, heard}
+use Rattle.controller_model.specs.LifeLaws.Uplink.{is_on, joined, performs, service, with_message}
+use Rattle.controller_model.proofs.LifeLaws.UplinkLife.{life_conserves_up}
+use Rattle.controller_model.specs.Life.{life}
+use Rattle.controller_model.specs.Views.{held_up}
 use Rattle.world_laws.specs.SapiThree.{BringsBesideFlow, FlowComesOnSapiZero, IsBesideFlow, SaysBesideFlow}
 use Rattle.world_laws.proofs.Framing.{all-right}
 use Rattle.world_laws.proofs.SapiThree.{says-came, says-waits}
+use Rattle.world_laws.proofs.Events.{world}
 
 -- ---- tenures
 
@@ -110,7 +96,7 @@ FlowComesOnSapiZero-new settings events = record {
   came = says-came settings events;
   waits = says-waits settings events;
   held = λ allowed number from_one there.
-      let lives : (actors_after_all (new_actors settings) events).controller ≡ (life settings (all_steps (new_actors settings) events)).next = LivesByTable-new settings events in
+      let lives : (world settings events).controller ≡ (life settings (all_steps (new_actors settings) events)).next = LivesByTable-new settings events in
       subst (λ (c : Controller). AllByRecursion IsBesideFlow (held_up c number Three)) (sym lives)
       (held-beside settings (all_steps (new_actors settings) events) number allowed from_one (says-came settings events) (subst (λ (c : Controller). IsThere (connection_of c number)) lives there));
 }

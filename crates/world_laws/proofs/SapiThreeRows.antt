@@ -1,9 +1,6 @@
 -- Rows: what comes on SAPI 3.
-use Rattle.std.proofs.Common.{[], ◌∷◌, Some, refl}
-use Rattle.conn_table.specs.declared.input.Input.TheVariants as inputs
-use Rattle.controller_table.specs.declared.word.Word.TheVariants.{Nothing, OnChannel, OnConnection}
-use Rattle.controller_table.specs.Controller.{place_at}
-use Rattle.dtap_codec.specs.declared.sapi.Sapi.TheVariants.{Zero, Three}
+use Rattle.world_laws.proofs.Prelude.{[], ◌∷◌, Some, refl, Nothing, OnChannel, OnConnection, place_at, Zero, Three}
+use Rattle.conn_rules.specs.declared.input.Input.TheVariants as inputs
 use Rattle.world_laws.specs.SapiThree.{BringsBesideFlow, IsBesideFlow, SaysBesideFlow}
 
 -- a short message is beside the flow, and so is one of radio resource management; call control, mobility management and

@@ -1,18 +1,8 @@
 -- A connection stays lined up where an event changes nothing that it is seen by.
-use Rattle.std.proofs.Common.{◌≡◌, ℕ, Option, Some, None, refl, sym, ap, ◌∙◌, subst}
-use Rattle.std.specs.List.{AllByRecursion}
-use Rattle.conn_messages.specs.declared.channel.Channel.{Channel}
-use Rattle.conn_messages.specs.declared.channel.Place.{Place}
-use Rattle.conn_table.specs.declared.state.Target.{Target}
-use Rattle.conn_table.specs.Connection.{Connection}
-use Rattle.conn_table.specs.Streams.{used_channels}
-use Rattle.controller_table.specs.Controller.{place_of}
-use Rattle.lineup.specs.Alive.{Alive}
-use Rattle.world_table.specs.declared.line.AirMessage.{AirMessage}
-use Rattle.world_table.specs.declared.seat.Command.{Command}
-use Rattle.world_table.specs.declared.seat.Seat.{Seat}
-use Rattle.world_table.specs.declared.seat.Tenure.{Tenure}
-use Rattle.world_table.specs.World.{Actors, Mobile, is_station_up, tenure_at}
+use Rattle.world_laws.proofs.Prelude.{◌≡◌, ℕ, Option, Some, None, refl, sym, ap, ◌∙◌, subst, AllByRecursion, Channel, Place, Target}
+use Rattle.world_laws.proofs.Prelude.{Connection, used_channels, place_of, AirMessage, Command, Seat, Tenure, Actors, Mobile, is_station_up}
+use Rattle.world_laws.proofs.Prelude.{tenure_at, AllByRecursion-so}
+use Rattle.world_laws.specs.LineUp.Alive.{Alive}
 use Rattle.world_laws.specs.ComingUp.{coming_up}
 use Rattle.world_laws.specs.GoingDown.{going_down}
 use Rattle.world_laws.specs.LineUps.{commanded_target, waiting_of, taken_of}
@@ -20,7 +10,7 @@ use Rattle.world_laws.specs.Seated.{Remembers, Sits, Leads, NoneOn, LinedUp}
 use Rattle.world_laws.specs.Seated.Remembers.{nothing, told}
 use Rattle.world_laws.specs.Seated.Sits.{stays, came, between, gone}
 use Rattle.world_laws.specs.Seated.Leads.{leads}
-use Rattle.world_laws.proofs.Framing.{AreSame, AreUp, all-map, lined-same}
+use Rattle.world_laws.proofs.Framing.{AreSame, AreUp, lined-same}
 
 -- ---- the present tenures are the same
 
@@ -66,7 +56,7 @@ LinedUp-same {m} {w} {v} {s} p q sees sent zero seat lined = record {
       sees.coming sees.up sees.serving sees.waiting sees.taken sent zero seat)) lined.alive;
   sits = subst (Sits v s.serving (commanded_target s.state)) (sym seat) (Sits-same sees.tenures lined.sits);
   led = subst (AllByRecursion (λ a. Leads v a (commanded_target s.state))) (sym sees.serving)
-      (all-map (λ a. Leads w a (commanded_target s.state)) (λ a. Leads v a (commanded_target s.state)) (going_down w (place_of s.serving)) (λ a. Leads-same sees.tenures) lined.led);
+      (AllByRecursion-so (λ a. Leads w a (commanded_target s.state)) (λ a. Leads v a (commanded_target s.state)) (λ a. Leads-same sees.tenures) (going_down w (place_of s.serving)) lined.led);
   none_on_target = none-same w v (commanded_target s.state) sees.target lined.none_on_target;
   apart = lined.apart;
   placed = lined.placed;

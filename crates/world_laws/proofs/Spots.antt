@@ -1,12 +1,9 @@
 -- The channels of stations, when one of them changes.
-use Rattle.std.proofs.Common.{◌≡◌, ◌≢◌, ℕ, suc, zero, ◌-◌, ◌&&◌, nat_eq, Bool, true, false, List, [], ◌∷◌, get_or, set, refl, sym, ap, ◌∙◌, inl, inr, arith}
-use Rattle.std.proofs.lemmas.Bool.{cases_Bool, eqb-false, eq-eqb}
-use Rattle.conn_messages.specs.declared.channel.Channel.{Channel}
-use Rattle.conn_messages.specs.declared.channel.Place.{Place}
-use Rattle.conn_table.specs.Connection.{is_at}
-use Rattle.controller_table.specs.Controller.{place_of}
-use Rattle.link_model.specs.BaseState.{BaseState}
-use Rattle.world_table.specs.World.{Actors, Station, Spot, new_spot, no_station, station_of, with_base, spot_at, with_spot, tenure_at}
+use Rattle.world_laws.proofs.Prelude.{◌≡◌, ◌≢◌, ℕ, suc, zero, ◌-◌, ◌&&◌, nat_eq, Bool, true, false, List, [], ◌∷◌, get_or, set, refl, sym}
+use Rattle.world_laws.proofs.Prelude.{ap, ◌∙◌, inl, inr, arith, cases_Bool, eqb-false, eq-eqb, Channel, Place, is_at, place_of, BaseState}
+use Rattle.world_laws.proofs.Prelude.{Actors, Spot, new_spot, no_station, station_of, with_base, spot_at, with_spot, tenure_at}
+use Rattle.world_laws.proofs.Prelude.{true≢false, spot-with_base}
+use Rattle.world_model.specs.World.{Station}
 
 -- ---- lists
 
@@ -33,9 +30,6 @@ set-there f (x ∷ xs) d (suc k) a differs = set-there f xs d k a differs
 
 -- ---- an end changes
 
-pub spot-with_base : (u : Actors) (station : ℕ) (base : BaseState) (at : Place) → spot_at (with_base station base u) at ≡ spot_at u at
-spot-with_base u station base at = set-same (λ (s : Station). get_or s.spots at.number new_spot) u.stations no_station (station - 1) (at.station - 1) (record (station_of u station) { base = base }) refl
-
 -- ---- a channel changes
 
 -- what doesn't change of it
@@ -48,7 +42,7 @@ pub tenure-with_spot : (u : Actors) (at : Place) (spot : Spot) (other : Place) �
 tenure-with_spot u at spot other same = ap (λ (n : ℕ). record { at = other; number = n }) (spot-same (λ (s : Spot). s.tenure) u at spot other same)
 
 pub tenure-with_base : (u : Actors) (station : ℕ) (base : BaseState) (at : Place) → tenure_at (with_base station base u) at ≡ tenure_at u at
-tenure-with_base u station base at = ap (λ (s : Spot). record { at = at; number = s.tenure }) (spot-with_base u station base at)
+tenure-with_base u station base at = ap (λ (s : Spot). record { at = at; number = s.tenure }) (spot-with_base station base u at)
 
 -- another channel
 pub spot-elsewhere : (u : Actors) (at : Place) (spot : Spot) (c : Channel) → at.station ≢ 0 → c.station ≢ 0 → is_at at c ≡ false → spot_at (with_spot at spot u) (place_of c) ≡ spot_at u (place_of c)
@@ -61,9 +55,7 @@ spot-elsewhere u at spot c at_is c_is differs =
           (λ is. less (eqb-false at.station c.station other) is))
     ] where
       number : nat_eq at.station c.station ≡ true → nat_eq at.number c.number ≡ true → ⊥
-      number one two = absurd (impossible (sym (ap (λ (b : Bool). b && nat_eq at.number c.number) one ∙ two) ∙ differs)) where
-        impossible : true ≡ false → ⊥
-        impossible h = absurd cc
+      number one two = absurd (true≢false (sym (ap (λ (b : Bool). b && nat_eq at.number c.number) one ∙ two) ∙ differs))
 
       less : at.station ≢ c.station → c.station - 1 ≡ at.station - 1 → ⊥
       less differs is = differs (omega arith)

@@ -1,19 +1,9 @@
 -- The connections of the controller stand, whatever happened.
-use Rattle.std.proofs.Common.{◌≡◌, ℕ, List, Option, Some, subst, arith}
-use Rattle.conn_table.specs.Connection.{Connection}
-use Rattle.conn_table.specs.Standing.{Stands}
-use Rattle.controller_laws.specs.History.{connection_of}
-use Rattle.controller_laws.proofs.Fitting.{IsFine}
-use Rattle.controller_laws.proofs.Lives.{life_fits}
-use Rattle.controller_laws.proofs.OwningLife.{fine_at}
-use Rattle.controller_table.specs.declared.step.Step.{Step}
-use Rattle.controller_table.specs.Controller.{Controller}
-use Rattle.controller_table.specs.Life.{life}
-use Rattle.settings.specs.Parameters.{Parameters}
-use Rattle.world_table.specs.declared.event.Event.{Event}
-use Rattle.world_table.specs.Steps.{all_steps}
-use Rattle.world_table.specs.World.{new_actors}
-use Rattle.world_table.proofs.Living.{LivesByTable-new}
+use Rattle.world_laws.proofs.Prelude.{◌≡◌, List, Option, Some, subst, arith, Connection, Stands, connection_of, life_fits, Step}
+use Rattle.world_laws.proofs.Prelude.{Controller, Parameters, Event, all_steps, new_actors, LivesByTable-new}
+use Rattle.controller_model.proofs.LifeLaws.Fitting.{IsFine}
+use Rattle.controller_model.proofs.LifeLaws.OwningLife.{fine_at}
+use Rattle.controller_model.specs.Life.{life}
 use Rattle.world_laws.specs.FromTheBeginning.{ConnectionsStand}
 
 stands_of : (o : Option Connection) (s : Connection) → o ≡ Some s → IsFine o → Stands s

@@ -1,41 +1,26 @@
 -- What a station takes of its outbox keeps connections lined up.
-use Rattle.std.proofs.Common.{◌≡◌, ◌≢◌, ℕ, ◌-◌, ◌==◌, ◌&&◌, not, nat_eq, Bool, true, false, if◌then◌else◌, cond, List, [], ◌∷◌, ◌++◌, map, find, get_or, set, unwrap_or, Option, Some, None, refl, sym, ap, ◌∙◌, subst, append_assoc, inl, inr}
-use Rattle.std.specs.List.{AllByRecursion, flat_map}
-use Rattle.std.proofs.lemmas.Bool.{eqb-true, eqb-false}
-use Rattle.std.proofs.lemmas.Grind.{flat_map-append}
-use Rattle.std.proofs.lemmas.List.{append-nil}
-use Rattle.conn_messages.specs.declared.channel.Channel.{Channel}
-use Rattle.conn_messages.specs.declared.channel.Place.{Place}
-use Rattle.conn_messages.specs.declared.parameters.TheConstants.{SWITCH_LINK}
-use Rattle.conn_table.specs.declared.state.Target.{Target}
-use Rattle.conn_table.specs.Connection.{Connection, is_at}
-use Rattle.conn_table.specs.Streams.{undone, target_in, used_channels}
-use Rattle.controller_table.specs.Controller.{place_at, place_of}
-use Rattle.controller_table.specs.Views.{forwarded}
+use Rattle.world_laws.proofs.Prelude.{◌≡◌, ◌≢◌, ℕ, ◌-◌, ◌==◌, ◌&&◌, not, nat_eq, Bool, true, false, if◌then◌else◌, cond, List, [], ◌∷◌}
+use Rattle.world_laws.proofs.Prelude.{◌++◌, map, find, get_or, set, Option, Some, None, refl, sym, ap, ◌∙◌, subst, append_assoc}
+use Rattle.world_laws.proofs.Prelude.{inl, inr, AllByRecursion, flat_map, eqb-true, eqb-false, flat_map-append, append-nil, Channel, Place}
+use Rattle.world_laws.proofs.Prelude.{SWITCH_LINK, Target, Connection, is_at, undone, used_channels, place_at, place_of, LinkFault, Busy}
+use Rattle.world_laws.proofs.Prelude.{BaseState, is_active, after_tell, after_activate, refusal_of_activate, after_release, activation_ack}
+use Rattle.world_laws.proofs.Prelude.{Rsl, DataRequest, EstablishRequest, ImmediateAssignCommand, ChannelActivation, RfChannelRelease}
+use Rattle.world_laws.proofs.Prelude.{RfChannelReleaseAck, Parameters, Event, MAX_TENURE, AirMessage, OutboxEntry, Asking, On, Tenure}
+use Rattle.world_laws.proofs.Prelude.{rsl_in, new_tenure, activated_unless, activated, link_answer, answered, accepts}
+use Rattle.world_laws.proofs.Prelude.{mobile_on, took, after_base_takes, Actors, Mobile, Spot, Link, new_spot, no_station, station_of}
+use Rattle.world_laws.proofs.Prelude.{has_number, mobile_of, with_mobile, broken_link, link_of, is_station_up, outbox_of}
+use Rattle.world_laws.proofs.Prelude.{with_outbox, base_of, with_base, spot_at, with_spot, is_active_at, tenure_at, back-other}
+use Rattle.world_laws.proofs.Prelude.{found-number, SameEnds, base-with_spot, up-right, base_takes-leads, assigned-leads, unless_last-leads}
+use Rattle.world_laws.proofs.Prelude.{after-taken, changed_link, same_Some, spot-with_base}
+use Rattle.conn_rules.specs.Streams.{target_in}
+use Rattle.controller_model.specs.Views.{forwarded}
 use Rattle.dtap_codec.specs.RrReading.{rr_reading}
-use Rattle.lineup.specs.LineUp.{Item}
-use Rattle.lineup.specs.LineUp.Item.{released as release_ack}
-use Rattle.link_model.specs.declared.fault.LinkFault.{LinkFault}
-use Rattle.link_model.specs.declared.fault.LinkFault.TheVariants.{Busy}
-use Rattle.link_model.specs.BaseState.{BaseState}
-use Rattle.link_model.specs.Base.{is_active, after_tell, after_activate, refusal_of_activate, after_release}
-use Rattle.link_model.specs.Message.{activation_ack}
-use Rattle.rsl_codec.specs.declared.rsl.Rsl.{Rsl}
-use Rattle.rsl_codec.specs.declared.rsl.Rsl.TheVariants.{DataRequest, EstablishRequest, ImmediateAssignCommand, ChannelActivation, RfChannelRelease, RfChannelReleaseAck}
-use Rattle.settings.specs.Parameters.{Parameters}
-use Rattle.world_table.specs.declared.event.Event.{Event}
-use Rattle.world_table.specs.declared.limits.TheConstants.{MAX_TENURE}
-use Rattle.world_table.specs.declared.line.AirMessage.{AirMessage}
-use Rattle.world_table.specs.declared.line.OutboxEntry.{OutboxEntry}
-use Rattle.world_table.specs.declared.seat.Seat.TheVariants.{Asking, On}
-use Rattle.world_table.specs.declared.seat.Tenure.{Tenure}
-use Rattle.world_table.specs.Life.{event_after, actors_after_all}
-use Rattle.world_table.specs.Stations.{rsl_in, new_tenure, activated_unless, activated, link_answer, answered, accepts, mobile_on, released, took, after_base_takes}
-use Rattle.world_table.specs.World.{Actors, Mobile, Spot, Station, Link, new_spot, no_station, station_of, new_actors, has_number, mobile_of, with_mobile, broken_link, link_of, is_station_up, outbox_of, with_outbox, base_of, with_base, spot_at, with_spot, is_active_at, tenure_at}
-use Rattle.world_table.proofs.Found.{back-other, found-number}
-use Rattle.world_table.proofs.Honesty.{SameEnds, base-with_spot, up-right}
-use Rattle.world_table.proofs.Leads.{OfTaken, Seats, base_takes-leads, assigned-leads, unless_last-leads, after-taken}
-use Rattle.world_table.proofs.Outboxes.{changed_link}
+use Rattle.world_laws.specs.LineUp.Places.{Item}
+use Rattle.world_laws.specs.LineUp.Places.Item.{released as release_ack}
+use Rattle.world_model.specs.Life.{event_after}
+use Rattle.world_model.specs.Stations.{released}
+use Rattle.world_model.specs.World.{Station}
+use Rattle.world_model.proofs.Leads.{OfTaken, Seats}
 use Rattle.world_laws.specs.ComingUp.{made_of, coming_up}
 use Rattle.world_laws.specs.GoingDown.{leading, leading_from_air, leading_by, leading_from_outbox, going_down}
 use Rattle.world_laws.specs.LineUps.{commanded_target, waiting_of}
@@ -48,9 +33,10 @@ use Rattle.world_laws.proofs.Framing.{AreUp, all-right}
 use Rattle.world_laws.proofs.Projecting.{coming-quiet, coming-told-or}
 use Rattle.world_laws.proofs.Quiet.{all-of, ArePlaced, down-with_base, coming-with_spot, sees-itself, sees-mobiles}
 use Rattle.world_laws.proofs.Seeing.{LinedUp-same}
-use Rattle.world_laws.proofs.Spots.{set-same, set-apart, spot-elsewhere, spot-with_base, tenure-with_base, tenure-with_spot}
+use Rattle.world_laws.proofs.Spots.{set-same, set-apart, spot-elsewhere, tenure-with_base, tenure-with_spot}
 use Rattle.world_laws.proofs.Sublists.{Sub, sub-itself, sub-none, sub-front, sub-append, sub-flat_map, sub-trans, set-related}
 use Rattle.world_laws.proofs.Sublists.Sub.{drops}
+use Rattle.world_laws.proofs.Events.{world}
 
 -- ---- the entry is taken from the outbox
 
@@ -61,7 +47,7 @@ outbox-sub w station first others n stood =
 up-taken : (w : Actors) (station : ℕ) (others : List OutboxEntry) → AreUp (is_station_up (with_outbox station others w)) (is_station_up w)
 up-taken w station others n = ap (λ (b : Bool). not (n == SWITCH_LINK) && b) (set-same (λ (link : Link). link.up) w.links broken_link station n (record (link_of w station) { outbox = others }) refl)
 
-waiting-taken : (w : Actors) (station : ℕ) (others : List OutboxEntry) (number : ℕ) → station ≢ SWITCH_LINK → waiting_of (with_outbox station others w) number ≡ waiting_of w number
+pub waiting-taken : (w : Actors) (station : ℕ) (others : List OutboxEntry) (number : ℕ) → station ≢ SWITCH_LINK → waiting_of (with_outbox station others w) number ≡ waiting_of w number
 waiting-taken w station others number differs =
     ap (λ (link : Link). map (λ f. f.message) (forwarded (map (λ entry. entry.out) link.outbox) number)) (set-apart w.links broken_link station SWITCH_LINK (record (link_of w station) { outbox = others }) (λ is. differs (sym is)))
 
@@ -98,12 +84,12 @@ less-told {w} {u} {s} station base messages placed up same inbox told nothing se
 
 -- ---- a channel changes, where no more leads anywhere
 
-spot-related : (R : Spot → Spot → Type 0) → ((x : Spot) → R x x) → (u : Actors) (at : Place) (spot : Spot) (other : Place) → R spot (spot_at u at) → R (spot_at (with_spot at spot u) other) (spot_at u other)
+pub spot-related : (R : Spot → Spot → Type 0) → ((x : Spot) → R x x) → (u : Actors) (at : Place) (spot : Spot) (other : Place) → R spot (spot_at u at) → R (spot_at (with_spot at spot u) other) (spot_at u other)
 spot-related R same u at spot other is =
     set-related (λ (a b : Station). R (get_or a.spots other.number new_spot) (get_or b.spots other.number new_spot)) (λ x. same (get_or x.spots other.number new_spot)) u.stations no_station (at.station - 1) (other.station - 1) (record (station_of u at.station) { spots = set (station_of u at.station).spots at.number spot })
     (set-related R same (station_of u at.station).spots new_spot at.number other.number spot is)
 
-abbrev LeadsLess : Spot → Spot → Type 0
+abbrev pub LeadsLess : Spot → Spot → Type 0
 LeadsLess a b = Sub (flat_map leading_from_air a.air) (flat_map leading_from_air b.air)
 
 down-less : (u : Actors) (at : Place) (spot : Spot) (other : Place) → LeadsLess spot (spot_at u at) → Sub (going_down (with_spot at spot u) other) (going_down u other)
@@ -163,13 +149,58 @@ less-activated {w} {u} {s} station channel placed up same inbox free active sees
 
 -- ---- a message goes into the air of an active channel
 
-less-aired : {w : Actors} {s : Connection} (station channel : ℕ) (message : List ℕ) (first : OutboxEntry) (others : List OutboxEntry) → ArePlaced (used_channels s) → is_station_up w station ≡ true → outbox_of w station ≡ first ∷ others → ((n : ℕ) → (channel == n) ≡ true → leading_from_outbox n first ≡ leading message first.target)
-    → SeesLess w (with_spot (place_at station channel) (record (spot_at w (place_at station channel)) { air = (spot_at w (place_at station channel)).air ++ record { message = message; target = first.target } ∷ [] }) (with_outbox station others w)) s
+abbrev pub aired : Actors → ℕ → ℕ → List ℕ → OutboxEntry → List OutboxEntry → Actors
+aired w station channel message first others =
+    let at : Place = place_at station channel in
+    with_spot at (record (spot_at w at) { air = (spot_at w at).air ++ record { message = message; target = first.target } ∷ [] }) (with_outbox station others w)
+
+-- and no more leads down to any channel
+pub down-aired : (w : Actors) (station channel : ℕ) (message : List ℕ) (first : OutboxEntry) (others : List OutboxEntry) (c : Channel) → c.station ≢ SWITCH_LINK → is_station_up w station ≡ true → outbox_of w station ≡ first ∷ others
+    → ((n : ℕ) → (channel == n) ≡ true → leading_from_outbox n first ≡ leading message first.target)
+    → Sub (going_down (aired w station channel message first others) (place_of c)) (going_down w (place_of c))
+down-aired w station channel message first others c c_is up stood leads = by_both (nat_eq station c.station) (nat_eq channel c.number) refl refl where
+  at : Place
+  at = place_at station channel
+
+  u : Actors
+  u = with_outbox station others w
+
+  spot : Spot
+  spot = record (spot_at w at) { air = (spot_at w at).air ++ record { message = message; target = first.target } ∷ [] }
+
+  in_air : (other : Place) → Sub (flat_map leading_from_air (spot_at (with_spot at spot u) other).air) (flat_map leading_from_air (spot_at w other).air ++ leading message first.target)
+  in_air other = spot-related (λ (a b : Spot). Sub (flat_map leading_from_air a.air) (flat_map leading_from_air b.air ++ leading message first.target)) (λ x. sub-front (flat_map leading_from_air x.air) (leading message first.target)) u at spot other
+      (subst (λ (entries : List AirMessage). Sub entries (flat_map leading_from_air (spot_at w at).air ++ leading message first.target))
+      (sym (flat_map-append leading_from_air (spot_at w at).air (record { message = message; target = first.target } ∷ []) ∙ ap (λ (entries : List AirMessage). flat_map leading_from_air (spot_at w at).air ++ entries) (append-nil (leading message first.target))))
+      (sub-itself (flat_map leading_from_air (spot_at w at).air ++ leading message first.target)))
+
+  now_there : outbox_of u station ≡ others
+  now_there = ap (λ (link : Link). link.outbox) (changed_link w.links station (record (link_of w station) { outbox = others }) (up-right station w up).1)
+
+  here : station ≡ c.station → (channel == c.number) ≡ true → Sub (going_down (with_spot at spot u) (place_of c)) (going_down w (place_of c))
+  here same number =
+      subst (λ (entries : List AirMessage). Sub (going_down (with_spot at spot u) (place_of c)) entries)
+      (append_assoc (flat_map leading_from_air (spot_at w (place_of c)).air) (leading message first.target) (flat_map (leading_from_outbox c.number) others)
+      ∙ ap (λ (entries : List AirMessage). flat_map leading_from_air (spot_at w (place_of c)).air ++ (entries ++ flat_map (leading_from_outbox c.number) others)) (sym (leads c.number number))
+      ∙ ap (λ (entries : List OutboxEntry). flat_map leading_from_air (spot_at w (place_of c)).air ++ flat_map (leading_from_outbox c.number) entries) (sym stood ∙ ap (outbox_of w) same))
+      (sub-append (in_air (place_of c)) (subst (λ (entries : List OutboxEntry). Sub (flat_map (leading_from_outbox c.number) entries) (flat_map (leading_from_outbox c.number) others)) (sym now_there ∙ ap (outbox_of u) same) (sub-itself (flat_map (leading_from_outbox c.number) others))))
+
+  elsewhere : is_at at c ≡ false → Sub (going_down (with_spot at spot u) (place_of c)) (going_down w (place_of c))
+  elsewhere other = subst (λ (x : Spot). Sub (flat_map leading_from_air x.air ++ flat_map (leading_from_outbox c.number) (outbox_of u c.station)) (going_down w (place_of c))) (sym (spot-elsewhere u at spot c (up-right station w up).0 c_is other)) (down-taken w station first others (place_of c) stood)
+
+  by_both : (a b : Bool) → nat_eq station c.station ≡ a → nat_eq channel c.number ≡ b → Sub (going_down (with_spot at spot u) (place_of c)) (going_down w (place_of c))
+  by_both true true one two = here (eqb-true station c.station one) two
+  by_both false b one two = elsewhere (ap (λ (x : Bool). x && nat_eq channel c.number) one)
+  by_both true false one two = elsewhere (ap (λ (x : Bool). x && nat_eq channel c.number) one ∙ two)
+
+less-aired : {w : Actors} {s : Connection} (station channel : ℕ) (message : List ℕ) (first : OutboxEntry) (others : List OutboxEntry) → ArePlaced (used_channels s) → is_station_up w station ≡ true → outbox_of w station ≡ first ∷ others
+    → ((n : ℕ) → (channel == n) ≡ true → leading_from_outbox n first ≡ leading message first.target)
+    → SeesLess w (aired w station channel message first others) s
 less-aired {w} {s} station channel message first others placed up stood leads = record {
   coming = grown-spot w u at spot (used_channels s) taken_first.coming;
   up = taken_first.up;
-  serving = down s.serving placed_rest.0;
-  target = λ t is. down t.channel (subst ArePlaced (target-in s.state t is) placed_rest.1).0;
+  serving = down-aired w station channel message first others s.serving placed_rest.0 up stood leads;
+  target = λ t is. down-aired w station channel message first others t.channel (subst ArePlaced (target-in s.state t is) placed_rest.1).0 up stood leads;
   on_serving = tenure-with_spot u at spot (place_of s.serving) refl;
   on_target = λ t is. tenure-with_spot u at spot (place_of t.channel) refl;
   waiting = taken_first.waiting;
@@ -190,33 +221,6 @@ less-aired {w} {s} station channel message first others placed up stood leads = 
   placed_rest : ArePlaced (s.serving ∷ target_in s.state)
   placed_rest = all-right (λ c. c.station ≢ SWITCH_LINK) (undone s.draining) (s.serving ∷ target_in s.state) placed
 
-  in_air : (other : Place) → Sub (flat_map leading_from_air (spot_at (with_spot at spot u) other).air) (flat_map leading_from_air (spot_at w other).air ++ leading message first.target)
-  in_air other = spot-related (λ (a b : Spot). Sub (flat_map leading_from_air a.air) (flat_map leading_from_air b.air ++ leading message first.target)) (λ x. sub-front (flat_map leading_from_air x.air) (leading message first.target)) u at spot other
-      (subst (λ (entries : List AirMessage). Sub entries (flat_map leading_from_air (spot_at w at).air ++ leading message first.target))
-      (sym (flat_map-append leading_from_air (spot_at w at).air (record { message = message; target = first.target } ∷ []) ∙ ap (λ (entries : List AirMessage). flat_map leading_from_air (spot_at w at).air ++ entries) (append-nil (leading message first.target))))
-      (sub-itself (flat_map leading_from_air (spot_at w at).air ++ leading message first.target)))
-
-  now_there : outbox_of u station ≡ others
-  now_there = ap (λ (link : Link). link.outbox) (changed_link w.links station (record (link_of w station) { outbox = others }) (up-right station w up).1)
-
-  here : (c : Channel) → station ≡ c.station → (channel == c.number) ≡ true → Sub (going_down (with_spot at spot u) (place_of c)) (going_down w (place_of c))
-  here c same number =
-      subst (λ (entries : List AirMessage). Sub (going_down (with_spot at spot u) (place_of c)) entries)
-      (append_assoc (flat_map leading_from_air (spot_at w (place_of c)).air) (leading message first.target) (flat_map (leading_from_outbox c.number) others)
-      ∙ ap (λ (entries : List AirMessage). flat_map leading_from_air (spot_at w (place_of c)).air ++ (entries ++ flat_map (leading_from_outbox c.number) others)) (sym (leads c.number number))
-      ∙ ap (λ (entries : List OutboxEntry). flat_map leading_from_air (spot_at w (place_of c)).air ++ flat_map (leading_from_outbox c.number) entries) (sym stood ∙ ap (outbox_of w) same))
-      (sub-append (in_air (place_of c)) (subst (λ (entries : List OutboxEntry). Sub (flat_map (leading_from_outbox c.number) entries) (flat_map (leading_from_outbox c.number) others)) (sym now_there ∙ ap (outbox_of u) same) (sub-itself (flat_map (leading_from_outbox c.number) others))))
-
-  down : (c : Channel) → c.station ≢ SWITCH_LINK → Sub (going_down (with_spot at spot u) (place_of c)) (going_down w (place_of c))
-  down c c_is = by_both (nat_eq station c.station) (nat_eq channel c.number) refl refl where
-    elsewhere : is_at at c ≡ false → Sub (going_down (with_spot at spot u) (place_of c)) (going_down w (place_of c))
-    elsewhere other = subst (λ (x : Spot). Sub (flat_map leading_from_air x.air ++ flat_map (leading_from_outbox c.number) (outbox_of u c.station)) (going_down w (place_of c))) (sym (spot-elsewhere u at spot c (up-right station w up).0 c_is other)) (down-taken w station first others (place_of c) stood)
-
-    by_both : (a b : Bool) → nat_eq station c.station ≡ a → nat_eq channel c.number ≡ b → Sub (going_down (with_spot at spot u) (place_of c)) (going_down w (place_of c))
-    by_both true true one two = here c (eqb-true station c.station one) two
-    by_both false b one two = elsewhere (ap (λ (x : Bool). x && nat_eq channel c.number) one)
-    by_both true false one two = elsewhere (ap (λ (x : Bool). x && nat_eq channel c.number) one ∙ two)
-
 -- ---- a channel is released: its RF CHANNEL RELEASE ACK is the last of it
 
 grown-released : (w u : Actors) (station channel : ℕ) (c : Channel) → c.station ≢ SWITCH_LINK → is_station_up w station ≡ true → SameEnds w u → u.inbox ≡ w.inbox → Grown (is_station_up w c.station) (coming_up (with_base station (after_release (base_of u station) channel) u) (place_of c)) (coming_up w (place_of c))
@@ -235,7 +239,7 @@ grown-released w u station channel c c_is up same inbox =
 
 less-released : {w u : Actors} {s : Connection} (station channel : ℕ) → ArePlaced (used_channels s) → is_station_up w station ≡ true → SameEnds w u → u.inbox ≡ w.inbox → SeesLess w u s → SeesLess w (released (place_at station channel) u) s
 less-released {w} {u} {s} station channel placed up same inbox sees =
-    less-same_tenure (place_at station channel) (record (spot_at u (place_at station channel)) { sapi_three_up = false; air = [] }) (sub-none _) (sym (ap (λ (x : Spot). x.tenure) (spot-with_base u station (after_release (base_of u station) channel) (place_at station channel)))) (record {
+    less-same_tenure (place_at station channel) (record (spot_at u (place_at station channel)) { sapi_three_up = false; air = [] }) (sub-none _) (sym (ap (λ (x : Spot). x.tenure) (spot-with_base station (after_release (base_of u station) channel) u (place_at station channel)))) (record {
       coming = all-both (λ c. c.station ≢ SWITCH_LINK) (λ c. c.station ≢ SWITCH_LINK) (λ c. Grown (is_station_up w c.station) (coming_up (with_base station (after_release (base_of u station) channel) u) (place_of c)) (coming_up w (place_of c))) (used_channels s)
           (λ c c_is _. grown-released w u station channel c c_is up same inbox) placed placed;
       up = sees.up;
@@ -270,12 +274,9 @@ none-asking sits = elim sits [ ]
 -- a mobile that asks is none that is lined up
 seats-other : {m : ℕ} {u : Actors} {mobile : ℕ} {s : Connection} (q : Mobile) (number : ℕ) (tenure : Tenure) → AreLinedUp m u mobile s → mobile_of u number ≡ Some q → q.seat ≡ Asking → AreLinedUp m (with_mobile (record q { seat = On tenure None }) u) mobile s
 seats-other {m} {u} {mobile} {s} q number tenure lined acts asking = by_number (nat_eq number mobile) refl where
-  some_same : {x y : Mobile} → Some x ≡ Some y → x ≡ y
-  some_same {x} e = ap (λ (o : Option Mobile). unwrap_or o x) e
-
   by_number : (b : Bool) → nat_eq number mobile ≡ b → AreLinedUp m (with_mobile (record q { seat = On tenure None }) u) mobile s
   by_number true is =
-      let one : q ≡ lined.one = some_same (sym acts ∙ ap (mobile_of u) (eqb-true number mobile is) ∙ lined.found) in
+      let one : q ≡ lined.one = same_Some _ _ (sym acts ∙ ap (mobile_of u) (eqb-true number mobile is) ∙ lined.found) in
       absurd (none-asking (subst (Sits u s.serving (commanded_target s.state)) (ap (λ (p : Mobile). p.seat) (sym one) ∙ asking) lined.lined.sits))
   by_number false is = record {
     one = lined.one;
@@ -324,5 +325,5 @@ took-keeps {m} {w} {mobile} {s} station first others active lined up stood = by_
 pub StationsKeepLineUps-new : (settings : Parameters) (events : List Event) (station : ℕ) → StationsKeepLineUps settings events station
 unfolding event_after
 StationsKeepLineUps-new settings events station mobile s active lined =
-    let w : Actors = actors_after_all (new_actors settings) events in
+    let w : Actors = world settings events in
     after-taken (λ v. AreLinedUp _ v mobile s) (after_base_takes w station) w (base_takes-leads (λ v. AreLinedUp _ v mobile s) w station (λ first others up stood. took-keeps station first others active lined up stood)) lined

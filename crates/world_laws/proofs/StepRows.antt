@@ -1,29 +1,15 @@
 -- Definitions of steps, at literal values.
-use Rattle.std.proofs.Common.{◌≡◌, ℕ, ◌==◌, Bool, true, false, if◌then◌else◌, List, [], ◌∷◌, map, Some, None, refl, arith}
-use Rattle.conn_messages.specs.declared.channel.Change.TheVariants.{Assignment}
-use Rattle.conn_messages.specs.declared.channel.Channel.{Channel}
-use Rattle.conn_messages.specs.declared.channel.Place.{Place}
-use Rattle.conn_table.specs.declared.state.Drain.{Drain}
-use Rattle.conn_table.specs.declared.state.Stage.TheVariants.{Active, Changing, Draining}
-use Rattle.conn_table.specs.declared.state.State.{State}
-use Rattle.conn_table.specs.declared.state.State.TheVariants.{Live, WaitActivation, WaitConfirm, WaitEstablish}
-use Rattle.conn_table.specs.declared.state.Target.{Target}
-use Rattle.conn_table.specs.Connection.{Connection, new_connection}
-use Rattle.controller_table.specs.Controller.{place_at}
+use Rattle.world_laws.proofs.Prelude.{◌≡◌, ℕ, ◌==◌, Bool, true, false, if◌then◌else◌, List, [], ◌∷◌, map, Some, None, refl, arith}
+use Rattle.world_laws.proofs.Prelude.{Assignment, Channel, Place, Drain, Active, Changing, Draining, State, Live, WaitActivation}
+use Rattle.world_laws.proofs.Prelude.{WaitConfirm, WaitEstablish, Connection, new_connection, place_at, Zero, Three, Carries, next}
+use Rattle.world_laws.proofs.Prelude.{Held, empty_tenure, establish_indication, data_indication, activation_ack, Empty, Given}
+use Rattle.world_laws.proofs.Prelude.{DataLinkState, RfChannelReleaseAck, station_item}
 use Rattle.dtap_codec.specs.RrReading.{rr_reading}
-use Rattle.dtap_codec.specs.declared.sapi.Sapi.TheVariants.{Zero, Three}
-use Rattle.dtap_codec.specs.Places.{Carries}
-use Rattle.dtap_codec.specs.Places.Rise.{over as rise_over, next}
-use Rattle.hold_queue.specs.ChainState.{Tenure as Held, empty_tenure}
-use Rattle.lineup.specs.LineUp.{Item, Seat, fresh}
-use Rattle.lineup.specs.LineUp.Item.{brought, released}
-use Rattle.lineup.specs.LineUp.Seat.{on_serving, on_target, moving, gone}
-use Rattle.link_model.specs.Message.{establish_indication, data_indication, activation_ack}
-use Rattle.link_model.specs.declared.air_link.Air.TheVariants.{Empty, Given}
-use Rattle.mobile_end.specs.DataLinkState.{DataLinkState}
-use Rattle.rsl_codec.specs.declared.rsl.Rsl.TheVariants.{RfChannelReleaseAck}
-use Rattle.world_table.proofs.Worlds.{on_literals}
-use Rattle.world_table.specs.Relay.{station_item}
+use Rattle.dtap_codec.specs.Places.Rise.{over as rise_over}
+use Rattle.world_laws.specs.LineUp.Places.{Item, fresh}
+use Rattle.world_laws.specs.LineUp.Places.Item.{brought, released}
+use Rattle.world_laws.specs.LineUp.Places.Seat.{on_serving, on_target, moving, gone}
+use Rattle.world_model.proofs.Worlds.{on_literals}
 use Rattle.world_laws.specs.ComingUp.{brings, brings_in, made_of}
 use Rattle.world_laws.specs.LineUps.{is_ended, is_opening, came}
 use Rattle.world_laws.specs.OwnRow.{Opens, over}
@@ -32,6 +18,7 @@ use Rattle.world_laws.specs.OwnStep.OwnStep.{completes, tells}
 use Rattle.world_laws.specs.Seated.{change_in}
 use Rattle.world_laws.specs.Staying.{EndsLast}
 use Rattle.world_laws.specs.ToCome.{mark, texts_of}
+use Rattle.world_laws.proofs.Usual.{channel, to_0a, opening_sent}
 
 -- ---- what a message brings of a channel
 
@@ -87,15 +74,6 @@ release_leads_nowhere = refl
 
 -- ---- a connection with channels of station 1, and an old one of station 2
 
-abbrev channel : ℕ → ℕ → Channel
-channel station number = record {
-  station = station;
-  number = number;
-  cell = 0x00 ∷ 0x00 ∷ 0xf1 ∷ 0x10 ∷ 0x00 ∷ 0x01 ∷ 0x00 ∷ 0x01 ∷ [];
-  description = record { arfcn = 20; ncc = 1; bcc = 1 };
-  reference = record { 0 = 0 };
-}
-
 abbrev connection_with : State → Channel → List Drain → List Held → Connection
 connection_with state serving draining held =
     record (new_connection 1 serving (record { access = 7; frame = 0 }) 0) { state = state; draining = draining; up = record { limit = 32; tenures = held } }
@@ -146,12 +124,9 @@ is_over_old_and_serving : over (coming (brought (0x0a ∷ []) ∷ []) (brought (
     }
 is_over_old_and_serving = refl
 
-abbrev target : Target
-target = record { change = Assignment; channel = channel 1 0x0a }
-
 -- before COMPLETE, and behind it
 abbrev changing : Connection
-changing = connection_with (Live 0x800001 (Changing target)) (channel 1 0x41) [] (empty_tenure ∷ [])
+changing = connection_with (Live 0x800001 (Changing to_0a)) (channel 1 0x41) [] (empty_tenure ∷ [])
 
 abbrev changed : Connection
 changed = connection_with (Live 0x800001 Draining) (channel 1 0x0a) (drains 1 false ∷ []) (empty_tenure ∷ empty_tenure ∷ [])
@@ -166,13 +141,13 @@ abbrev complete : List Item
 complete = brought (0x06 ∷ 0x29 ∷ 0x00 ∷ []) ∷ []
 
 completes_the_change : OwnStep (coming [] complete) (coming [] []) (up true true) changing changed 0 0 on_target on_serving
-completes_the_change = completes target refl refl refl (omega arith) (omega arith) (λ h. (refl, refl))
+completes_the_change = completes to_0a refl refl refl (omega arith) (omega arith) (λ h. (refl, refl))
 
 completes_once : OwnStep (coming [] complete) (coming [] complete) (up true true) changing changed 0 0 on_target on_serving → ⊥
 completes_once (completes t is none serves fewer less none_lost) = absurd (omega (arith, fewer))
 
 tells_the_command : OwnStep (coming [] []) (coming [] []) (up true true) (connection_with (Live 0x800001 Active) (channel 1 0x41) [] (empty_tenure ∷ [])) changing 0 1 on_serving on_serving
-tells_the_command = tells refl refl target refl (omega arith) refl (omega arith) (λ h. refl)
+tells_the_command = tells refl refl to_0a refl (omega arith) refl (omega arith) (λ h. refl)
 
 -- ---- the initial message is still to come
 
@@ -184,9 +159,6 @@ still_awaits : StillAwaits WaitActivation WaitEstablish × StillAwaits WaitEstab
 still_awaits = (λ is. absurd cc, λ is. is, λ is. absurd cc, λ awaits. absurd (let is = awaits refl in cc))
 
 -- ---- the row that opens a connection
-
-abbrev opening_sent : List (List ℕ)
-opening_sent = (0x05 ∷ 0x24 ∷ []) ∷ (0x03 ∷ 0x05 ∷ []) ∷ []
 
 at_0 : Carries 4 opening_sent 0 (0x05 ∷ 0x24 ∷ [])
 at_0 = record { message = 0x05 ∷ 0x24 ∷ []; is_sent = refl; is_clear = record { is_flow = refl; cleared = refl }; carries = refl }

@@ -1,25 +1,15 @@
 -- What is on the line is what the connection has still to relay: what it holds, and what is on its way up from each channel.
-use Rattle.std.proofs.Common.{◌≡◌, ℕ, ◌≤◌, ◌&&◌, not, Bool, true, false, if◌then◌else◌, List, [], ◌∷◌, ◌++◌, refl, sym, ap, ◌∙◌, append_assoc, arith}
-use Rattle.std.specs.List.{AllByRecursion}
-use Rattle.std.proofs.lemmas.List.{append-nil}
-use Rattle.conn_messages.specs.declared.channel.Channel.{Channel}
-use Rattle.conn_messages.specs.declared.channel.Place.{Place}
-use Rattle.conn_table.specs.declared.input.Input.{Input}
-use Rattle.conn_table.specs.declared.state.Drain.{Drain}
-use Rattle.conn_table.specs.declared.state.Stage.TheVariants.{Preparing, Changing}
-use Rattle.conn_table.specs.declared.state.State.{State}
-use Rattle.conn_table.specs.declared.state.State.TheVariants.{Live}
-use Rattle.conn_table.specs.Connection.{Connection}
-use Rattle.conn_table.specs.Steps.{Row}
-use Rattle.conn_table.specs.Streams.{Future, IsOpen, KeepsUplink, from_input, of_target, relayed, still_of, still_to_relay, undone}
-use Rattle.controller_table.specs.Controller.{place_of}
-use Rattle.dtap_codec.specs.declared.sapi.Sapi.TheVariants.{Zero}
-use Rattle.hold_queue.specs.ChainState.{Tenure as Held}
-use Rattle.lineup.specs.ChangeStep.{ended}
-use Rattle.lineup.specs.LineUp.{Item, Tenure, Seat, flow, messages_in, part_of, parts_of}
-use Rattle.lineup.proofs.Lines.{flow-append}
+use Rattle.world_laws.proofs.Prelude.{◌≡◌, ℕ, ◌≤◌, ◌&&◌, not, Bool, true, false, if◌then◌else◌, List, [], ◌∷◌, ◌++◌, refl, sym, ap, ◌∙◌}
+use Rattle.world_laws.proofs.Prelude.{append_assoc, arith, AllByRecursion, append-nil, Channel, Place, Input, Drain, Preparing, Changing}
+use Rattle.world_laws.proofs.Prelude.{State, Live, Connection, Row, Future, IsOpen, KeepsUplink, from_input, relayed, undone, place_of}
+use Rattle.world_laws.proofs.Prelude.{Zero, Held}
+use Rattle.conn_rules.specs.Streams.{of_target, still_of, still_to_relay}
+use Rattle.world_laws.specs.LineUp.ChangeStep.{ended}
+use Rattle.world_laws.specs.LineUp.Places.{Item, Tenure, Seat, flow, messages_in, part_of, parts_of}
+use Rattle.world_laws.proofs.LineUp.Lines.{flow-append}
 use Rattle.mobile_end.proofs.Resuming.{without_control-flow}
-use Rattle.world_laws.specs.LineUps.{is_ended, draining_tenure, old_tenure, old_tenures, serving_hold, serving_tenure, commanded_target, target_tenure}
+use Rattle.world_laws.specs.LineUps.{is_ended, draining_tenure, old_tenure, old_tenures, serving_hold, serving_tenure, commanded_target}
+use Rattle.world_laws.specs.LineUps.{target_tenure}
 use Rattle.world_laws.specs.ToCome.{AreLayer3, mark, texts_of, AsOld, AsServing, AsTarget, AreHeld, StandsFor}
 
 -- ---- a list, up to where something is missing

@@ -1,6 +1,6 @@
 -- Lists of which some members went.
-use Rattle.std.proofs.Common.{◌≡◌, ℕ, ◌≤◌, zero, suc, List, [], ◌∷◌, ◌++◌, length, get_or, set, refl, arith}
-use Rattle.std.specs.List.{AllByRecursion, flat_map}
+use Rattle.world_laws.proofs.Prelude.{◌≡◌, ℕ, ◌≤◌, zero, suc, List, [], ◌∷◌, ◌++◌, length, get_or, set, refl, arith, AllByRecursion}
+use Rattle.world_laws.proofs.Prelude.{flat_map}
 
 pub data Sub {X : Type 0} : List X → List X → Type 0 where
   ends : Sub [] []

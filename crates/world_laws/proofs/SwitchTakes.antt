@@ -1,42 +1,31 @@
 -- The switch takes the first entry of its outbox: the connections stay lined up.
-use Rattle.std.proofs.Common.{◌≡◌, ◌≢◌, ℕ, ◌==◌, ◌&&◌, not, Bool, true, false, cond, List, [], ◌∷◌, ◌++◌, filter, map, find, Option, Some, None, refl, sym, ap, ◌∙◌, subst, append_assoc}
-use Rattle.std.specs.List.{AllByRecursion, flat_map}
-use Rattle.std.proofs.lemmas.List.{append-nil, map-append}
-use Rattle.bssmap_codec.specs.declared.sccp.Sccp.{Sccp}
+use Rattle.world_laws.proofs.Prelude.{◌≡◌, ◌≢◌, ℕ, ◌==◌, ◌&&◌, not, Bool, true, false, cond, List, [], ◌∷◌, ◌++◌, filter, map, find}
+use Rattle.world_laws.proofs.Prelude.{Option, Some, None, refl, sym, ap, ◌∙◌, subst, append_assoc, AllByRecursion, flat_map, append-nil}
+use Rattle.world_laws.proofs.Prelude.{map-append, Sccp, Channel, Out, SWITCH_LINK, Connection, undone, used_channels, Forwarded, place_of}
+use Rattle.world_laws.proofs.Prelude.{forwarded_by, replies, SwitchState, Parameters, Event, OutboxEntry, sccp_in, switch_took}
+use Rattle.world_laws.proofs.Prelude.{after_switch_takes, Actors, Mobile, Link, broken_link, link_of, modulus_in, is_up, is_station_up}
+use Rattle.world_laws.proofs.Prelude.{outbox_of, with_outbox, spot_at, switch_takes-leads, after-taken, changed_link, AllByRecursion-so}
 use Rattle.bssmap_codec.specs.SccpReading.{sccp_reading}
-use Rattle.conn_messages.specs.declared.channel.Channel.{Channel}
-use Rattle.conn_messages.specs.declared.out.Out.{Out}
-use Rattle.conn_messages.specs.declared.parameters.TheConstants.{SWITCH_LINK}
-use Rattle.conn_table.specs.Connection.{Connection}
-use Rattle.conn_table.specs.Streams.{undone, target_in, used_channels}
-use Rattle.controller_table.specs.declared.forwarded.Forwarded.{Forwarded}
-use Rattle.controller_table.specs.Controller.{place_of}
-use Rattle.controller_table.specs.Views.{to_switch, forwarded_by, forwarded}
-use Rattle.lineup.specs.Alive.{Alive}
-use Rattle.lineup.specs.LineUp.{LineUp, flow}
-use Rattle.lineup.specs.RelayStep.RelayStep.{switch_takes}
-use Rattle.lineup.proofs.Lines.{flow-append}
-use Rattle.lineup.proofs.Relaying.{Alive-relay}
-use Rattle.msc_end.specs.Switch.{after, replies}
-use Rattle.msc_end.specs.SwitchState.{SwitchState}
-use Rattle.settings.specs.Parameters.{Parameters}
-use Rattle.world_table.specs.declared.event.Event.{Event}
-use Rattle.world_table.specs.declared.line.OutboxEntry.{OutboxEntry}
-use Rattle.world_table.specs.Life.{event_after, actors_after_all}
-use Rattle.world_table.specs.SwitchSide.{sccp_in, switch_took, after_switch_takes}
-use Rattle.world_table.specs.World.{Actors, Mobile, Link, broken_link, link_of, new_actors, modulus_in, is_up, is_station_up, outbox_of, with_outbox, spot_at}
-use Rattle.world_table.proofs.Leads.{switch_takes-leads, after-taken}
-use Rattle.world_table.proofs.Outboxes.{changed_link}
+use Rattle.conn_rules.specs.Streams.{target_in}
+use Rattle.controller_model.specs.Views.{to_switch, forwarded}
+use Rattle.world_laws.specs.LineUp.Alive.{Alive}
+use Rattle.world_laws.specs.LineUp.Places.{LineUp, flow}
+use Rattle.world_laws.specs.LineUp.RelayStep.RelayStep.{switch_takes}
+use Rattle.world_laws.proofs.LineUp.Lines.{flow-append}
+use Rattle.world_laws.proofs.LineUp.Relaying.{Alive-relay}
+use Rattle.msc_end.specs.Switch.{after}
+use Rattle.world_model.specs.Life.{event_after}
 use Rattle.world_laws.specs.ComingUp.{coming_up}
 use Rattle.world_laws.specs.GoingDown.{leading_from_air, leading_from_outbox, going_down}
 use Rattle.world_laws.specs.LineUps.{commanded_target, waiting_of, is_of_peer, taken_in, taken_of, line_up}
 use Rattle.world_laws.specs.Seated.{Leads, LinedUp}
 use Rattle.world_laws.specs.Staying.{AreLinedUp, carried_for, DeliversFirst, SwitchKeepsLineUps}
 use Rattle.world_laws.proofs.Apart.{target-in}
-use Rattle.world_laws.proofs.Framing.{AreUp, all-right, all-map, lined-same}
+use Rattle.world_laws.proofs.Framing.{AreUp, all-right, lined-same}
 use Rattle.world_laws.proofs.Quiet.{all-of, ArePlaced}
 use Rattle.world_laws.proofs.Seeing.{SameTenures, Sits-same, Leads-same, none-same}
 use Rattle.world_laws.proofs.Spots.{set-same, set-apart}
+use Rattle.world_laws.proofs.Events.{world}
 
 -- ---- the line moves
 
@@ -75,7 +64,7 @@ keeps-taking {m} {w} {s} p next made first others up stood takes kept = record {
   alive = subst (Alive m) (sym (lined-same (coming_up v) (coming_up w) (is_station_up v) (is_station_up w) (going_down v (place_of s.serving)) (going_down w (place_of s.serving)) (waiting_of v s.number) (waiting_of v s.number) (taken_of v s.number) (taken_of v s.number) p p s
       (all-of (λ c. coming_up w (place_of c) ≡ coming_up w (place_of c)) (used_channels s) (λ c. refl)) up_same (down_same s.serving placed_rest.0) refl refl refl refl refl)) alive_now;
   sits = Sits-same same_tenures kept.sits;
-  led = subst (AllByRecursion (λ a. Leads v a (commanded_target s.state))) (sym (down_same s.serving placed_rest.0)) (all-map (λ a. Leads w a (commanded_target s.state)) (λ a. Leads v a (commanded_target s.state)) (going_down w (place_of s.serving)) (λ a. Leads-same same_tenures) kept.led);
+  led = subst (AllByRecursion (λ a. Leads v a (commanded_target s.state))) (sym (down_same s.serving placed_rest.0)) (AllByRecursion-so (λ a. Leads w a (commanded_target s.state)) (λ a. Leads v a (commanded_target s.state)) (λ a. Leads-same same_tenures) (going_down w (place_of s.serving)) kept.led);
   none_on_target = none-same w v (commanded_target s.state) (λ t is. down_same t.channel (subst ArePlaced (target-in s.state t is) placed_rest.1).0) kept.none_on_target;
   apart = kept.apart;
   placed = kept.placed;
@@ -118,6 +107,6 @@ taking-keeps {w} first others (Some message) up stood takes lined = record { one
 pub SwitchKeepsLineUps-new : (settings : Parameters) (events : List Event) → SwitchKeepsLineUps settings events
 unfolding event_after
 SwitchKeepsLineUps-new settings events mobile s delivers lined =
-    let w : Actors = actors_after_all (new_actors settings) events in
+    let w : Actors = world settings events in
     after-taken (λ v. AreLinedUp (modulus_in settings) v mobile s) (after_switch_takes w) w
     (switch_takes-leads (λ v. AreLinedUp (modulus_in settings) v mobile s) w (λ first others up stood. taking-keeps first others (sccp_in first.out.frame) up stood (subst (DeliversFirst w s.number) stood delivers) lined)) lined

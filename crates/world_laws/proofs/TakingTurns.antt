@@ -1,38 +1,24 @@
 -- The orders of a row take turns.
-use Rattle.std.proofs.Common.{◌≡◌, ◌≢◌, ℕ, ◌==◌, ◌&&◌, not, Bool, true, false, if◌then◌else◌, List, [], ◌∷◌, ◌++◌, filter, fold, unwrap_or, Option, Some, None, refl, sym, ap, ◌∙◌, subst, inl, inr}
-use Rattle.std.specs.List.{AllByRecursion}
-use Rattle.std.specs.Result.{result_ok}
-use Rattle.std.proofs.lemmas.Bool.{cases_Bool, cond-true, cond-false, eq-eqb, eqb-true}
-use Rattle.conn_messages.specs.declared.channel.Change.{Change}
-use Rattle.conn_messages.specs.declared.channel.Change.TheVariants.{Assignment, Handover}
-use Rattle.conn_messages.specs.declared.channel.Channel.{Channel}
-use Rattle.conn_messages.specs.declared.channel.Place.{Place}
-use Rattle.conn_messages.specs.declared.message.Message.{Message}
-use Rattle.conn_messages.specs.declared.message.Message.TheVariants.{Station, Request, Data, ReleaseComplete}
-use Rattle.conn_messages.specs.Out.{IsReadOf, out_of, outs_of}
-use Rattle.conn_messages.specs.StationMessage.{change_activation, channel_release, rf_channel_release}
-use Rattle.conn_table.specs.declared.input.Input.{Input}
-use Rattle.conn_table.specs.declared.input.Input.TheVariants as inputs
-use Rattle.conn_table.specs.declared.state.Target.{Target}
-use Rattle.conn_table.specs.Connection.{Connection}
-use Rattle.conn_table.specs.Roles.{ChangesRoles, MayBegin, RoleEnd, Roles, RoleStep, TargetRole, after_step, begin_orders, end_messages, is_order, is_to_station, roles_of, step_by, step_orders, target_channels, target_orders, target_releases, those_that_go}
-use Rattle.conn_table.specs.Roles.ChangesRoles.{goes_on, ends, had_ended}
-use Rattle.conn_table.specs.Roles.RoleEnd.{refused, drops, dismisses}
-use Rattle.conn_table.specs.Roles.RoleStep.{stays, commands, completes, goes_back, leaves}
-use Rattle.conn_table.specs.Steps.{Row, goes_to}
-use Rattle.conn_table.specs.Streams.{IsOpen}
-use Rattle.controller_laws.specs.Owning.{AreIn}
-use Rattle.controller_laws.proofs.Places.{IsIn, free≢use, is_there, state_else, state_here, still_there}
-use Rattle.controller_table.specs.declared.channel_state.ChannelState.{ChannelState}
-use Rattle.controller_table.specs.declared.channel_state.ChannelState.TheVariants.{Free, InUse, Releasing}
-use Rattle.controller_table.specs.Controller.{channels_after, place_at, place_of, state_in, with_state}
-use Rattle.rsl_codec.specs.declared.rsl.Rsl.{Rsl}
+use Rattle.world_laws.proofs.Prelude.{◌≡◌, ◌≢◌, ℕ, ◌==◌, ◌&&◌, not, Bool, true, false, if◌then◌else◌, List, [], ◌∷◌, ◌++◌, filter, fold}
+use Rattle.world_laws.proofs.Prelude.{unwrap_or, Option, Some, None, refl, sym, ap, ◌∙◌, subst, inl, inr, AllByRecursion, result_ok}
+use Rattle.world_laws.proofs.Prelude.{cases_Bool, cond-true, cond-false, eq-eqb, eqb-true, Change, Assignment, Handover, Channel, Place}
+use Rattle.world_laws.proofs.Prelude.{Message, Station, Request, Data, ReleaseComplete, IsReadOf, outs_of, change_activation}
+use Rattle.world_laws.proofs.Prelude.{rf_channel_release, Input, Target, Connection, ChangesRoles, MayBegin, RoleEnd, Roles, RoleStep}
+use Rattle.world_laws.proofs.Prelude.{TargetRole, after_step, begin_orders, end_messages, is_order, roles_of, step_by, step_orders}
+use Rattle.world_laws.proofs.Prelude.{target_channels, those_that_go, goes_on, ends, had_ended, refused, drops, dismisses, stays, commands}
+use Rattle.world_laws.proofs.Prelude.{completes, goes_back, leaves, Row, IsOpen, AreIn, IsIn, free≢use, is_there, state_else, state_here}
+use Rattle.world_laws.proofs.Prelude.{ChannelState, Free, InUse, Releasing, place_at, place_of, state_in, with_state, Rsl, false≢true}
+use Rattle.conn_messages.specs.Out.{out_of}
+use Rattle.conn_messages.specs.StationMessage.{channel_release}
+use Rattle.conn_rules.specs.declared.input.Input.TheVariants as inputs
+use Rattle.conn_rules.specs.Roles.{is_to_station, target_orders, target_releases}
+use Rattle.conn_rules.specs.Steps.{goes_to}
+use Rattle.controller_model.proofs.LifeLaws.Places.{still_there}
+use Rattle.controller_model.specs.Controller.{channels_after}
 use Rattle.rsl_codec.specs.declared.rsl.Rsl.TheVariants as rsl
 use Rattle.world_laws.specs.TakingTurns.{Order, Turns, TakesTurns, order_by, order_in}
 use Rattle.world_laws.specs.TakingTurns.Order.{activates, releases}
-
-abbrev States : Type 0
-States = List (List ChannelState)
+use Rattle.world_laws.proofs.OrderRows.{States}
 
 -- ---- messages in turn
 
@@ -58,12 +44,9 @@ places-same station channel at is = by (station == at.station) refl is where
   by false here also = absurd cc
 
 pub places-differ : (station channel : ℕ) (at : Place) → ((station == at.station) && (channel == at.number)) ≡ false → at ≢ place_at station channel
-places-differ station channel at is same = absurd (impossible (sym is ∙ subst (λ (p : Place). ((station == p.station) && (channel == p.number)) ≡ true) (sym same) both)) where
+places-differ station channel at is same = absurd (false≢true (sym is ∙ subst (λ (p : Place). ((station == p.station) && (channel == p.number)) ≡ true) (sym same) both)) where
   both : ((station == station) && (channel == channel)) ≡ true
   both = ap (λ (b : Bool). b && (channel == channel)) (eq-eqb station station refl) ∙ eq-eqb channel channel refl
-
-  impossible : false ≡ true → ⊥
-  impossible h = absurd cc
 
 -- the state of a place after an order on another or on it
 turned : (o : Order) (at other : Place) (channels : States) (state : ChannelState) (b : Bool) → (b ≡ true → other ≡ at) → (b ≡ false → at ≢ other) → (Turns (Some o) (state_in channels other) (state_in (with_state other state channels) other)) → Turns (if b then Some o else None) (state_in channels at) (state_in (with_state other state channels) at)

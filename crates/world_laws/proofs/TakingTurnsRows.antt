@@ -1,12 +1,9 @@
 -- Rows: what is ordered of a channel, and in which turn.
-use Rattle.std.proofs.Common.{◌≡◌, [], Some, None, refl}
-use Rattle.conn_table.specs.declared.input.Input.TheVariants as inputs
-use Rattle.controller_table.specs.declared.channel_state.ChannelState.TheVariants.{Free, InUse, Releasing}
-use Rattle.controller_table.specs.declared.step.Step.TheVariants.{Take, Tick}
-use Rattle.controller_table.specs.declared.word.Word.TheVariants.{Nothing, OnChannel}
-use Rattle.controller_table.specs.Controller.{place_at}
-use Rattle.relay_items.specs.declared.What.TheVariants as whats
-use Rattle.rsl_codec.specs.declared.rsl.Rsl.TheVariants.{RfChannelRelease, RfChannelReleaseAck}
+use Rattle.world_laws.proofs.Prelude.{◌≡◌, [], Some, None, refl, Free, InUse, Releasing, Take, Nothing, OnChannel, place_at}
+use Rattle.world_laws.proofs.Prelude.{RfChannelRelease, RfChannelReleaseAck}
+use Rattle.conn_rules.specs.declared.input.Input.TheVariants as inputs
+use Rattle.controller_model.specs.declared.step.Step.TheVariants.{Tick}
+use Rattle.ruled_relay.specs.declared.item.What.TheVariants as whats
 use Rattle.world_laws.specs.TakingTurns.{Spares, TakesTurns, Turns, freed_by, order_by}
 use Rattle.world_laws.specs.TakingTurns.Order.{activates, releases}
 

@@ -1,54 +1,38 @@
 -- The orders of a step take turns.
-use Rattle.std.proofs.Common.{◌≡◌, ◌≢◌, ℕ, ◌≤◌, ◌<◌, ◌^◌, ◌==◌, ◌&&◌, nat_le, Bool, true, false, if◌then◌else◌, List, [], ◌∷◌, Option, Some, None, option_map, refl, sym, ap, ◌∙◌, subst, inl, inr, arith}
-use Rattle.std.specs.List.{AllByRecursion}
+use Rattle.world_laws.proofs.Prelude.{◌≡◌, ◌≢◌, ℕ, ◌≤◌, ◌<◌, ◌^◌, ◌==◌, ◌&&◌, nat_le, Bool, true, false, if◌then◌else◌, List, [], ◌∷◌}
+use Rattle.world_laws.proofs.Prelude.{Option, Some, None, option_map, refl, sym, ap, ◌∙◌, subst, inl, inr, arith, AllByRecursion}
+use Rattle.world_laws.proofs.Prelude.{cases_Bool, leb-true, Channel, Place, access_activation, Input, Connection, Roles, roles_of}
+use Rattle.world_laws.proofs.Prelude.{target_channels, IsCarried, Stands, Row, IsApart, IsOpen, OfRow, undone, connection_of, Owns}
+use Rattle.world_laws.proofs.Prelude.{IsOffered, offered_free, changes_of, owns_entry, free≢release, is_there, state_else, state_here}
+use Rattle.world_laws.proofs.Prelude.{IsSoundAll, offer_list, request_sound, RefersBy, IsHere, Ready, here_of, ChannelState, Free, InUse}
+use Rattle.world_laws.proofs.Prelude.{Releasing, Word, Nothing, Ping, Asks, OnChannel, OnConnection, Reports, Sdcch, access_channel}
+use Rattle.world_laws.proofs.Prelude.{handover_offer, request_offer, Controller, Entry, Turn, channel_state, entry_of, freed, ignoring}
+use Rattle.world_laws.proofs.Prelude.{place_of, state_in, turn, with_entry, with_state, by_fitting, concerning, concerning_too, entry_at}
+use Rattle.world_laws.proofs.Prelude.{frees, given, measured, measures, on_decision, on_freed, on_report, on_state, on_word, row_in}
+use Rattle.world_laws.proofs.Prelude.{with_report, decision_over, SWITCH_LINK, Decision, Stay, RequestReference, same_place, apart_behind}
 use Rattle.std.specs.Option.{option_to_list}
-use Rattle.std.proofs.lemmas.Bool.{cases_Bool, leb-true}
-use Rattle.conn_messages.specs.declared.channel.Channel.{Channel}
-use Rattle.conn_messages.specs.declared.channel.Place.{Place}
-use Rattle.conn_messages.specs.declared.message.Message.{Message}
-use Rattle.conn_messages.specs.Out.{IsReadOf, IsSound, out_of}
-use Rattle.conn_messages.specs.StationMessage.{access_activation}
 use Rattle.conn_messages.proofs.Readings.{message_again}
-use Rattle.conn_table.specs.declared.input.Input.{Input}
-use Rattle.conn_table.specs.declared.input.Input.TheVariants as inputs
-use Rattle.conn_table.specs.Connection.{Connection}
-use Rattle.conn_table.specs.Roles.{Roles, roles_of, target_channels}
-use Rattle.conn_table.specs.Standing.{IsCarried, Stands}
-use Rattle.conn_table.specs.Steps.{Row}
-use Rattle.conn_table.specs.Streams.{IsApart, IsOpen, OfRow, undone}
-use Rattle.conn_table.specs.Table.{row_of, serving_after}
-use Rattle.controller_laws.specs.History.{connection_of}
-use Rattle.controller_laws.specs.Owning.{Owns}
-use Rattle.controller_laws.proofs.Owning.{IsOffered}
-use Rattle.controller_laws.proofs.OwningSteps.{offered_free}
-use Rattle.controller_laws.proofs.OwningWords.{changes_of, freed_shaped, owns_entry}
-use Rattle.controller_laws.proofs.Places.{free≢release, use≢release, is_there, state_else, state_here, still_in}
-use Rattle.controller_laws.proofs.SoundLife.{IsSoundAll, RefersIn, offered_sound, SoundOf, SoundParts, offer_list, request_sound}
-use Rattle.controller_laws.proofs.SoundMessages.{IsSoundChannel, sound_access}
-use Rattle.controller_laws.proofs.SoundRows.{IsSoundRow, RefersBy, row_sound}
-use Rattle.controller_laws.proofs.UsingWords.{IsHere, Ready, here_of}
-use Rattle.controller_table.specs.declared.channel_state.ChannelState.{ChannelState}
-use Rattle.controller_table.specs.declared.channel_state.ChannelState.TheVariants.{Free, InUse, Releasing}
-use Rattle.controller_table.specs.declared.word.Word.{Word}
-use Rattle.controller_table.specs.declared.word.Word.TheVariants.{Nothing, Ping, Asks, OnChannel, OnConnection, Reports}
-use Rattle.controller_table.specs.declared.channel_kind.ChannelKind.{ChannelKind}
-use Rattle.controller_table.specs.declared.channel_kind.ChannelKind.TheVariants.{Sdcch, Tch}
-use Rattle.controller_table.specs.Channels.{access_channel, first_free, handover_offer, kind_of, request_offer}
-use Rattle.controller_table.specs.Controller.{Controller, Entry, Turn, channel_state, entry_of, freed, ignoring, is_up, place_of, state_in, turn, with_entry, with_state}
-use Rattle.controller_table.specs.declared.limits.TheConstants.{MAX_CONNECTION_NUMBER}
-use Rattle.controller_table.specs.Life.{by_fitting, by_row, concerning, concerning_too, entry_at, frees, given, measured, measures, on_decision, on_freed, on_report, on_state, on_word, row_in, with_report}
-use Rattle.controller_table.specs.Reports.{decision_over}
-use Rattle.conn_messages.specs.declared.parameters.TheConstants.{SWITCH_LINK}
-use Rattle.controller_laws.proofs.Readings.{IsCarriedBy}
+use Rattle.conn_rules.specs.declared.input.Input.TheVariants as inputs
+use Rattle.conn_rules.specs.Table.{row_of, serving_after}
+use Rattle.controller_model.proofs.LifeLaws.OwningWords.{freed_shaped}
+use Rattle.controller_model.proofs.LifeLaws.Places.{use≢release, still_in}
+use Rattle.controller_model.proofs.LifeLaws.SoundLife.{RefersIn, offered_sound, SoundOf, SoundParts}
+use Rattle.controller_model.proofs.LifeLaws.SoundMessages.{IsSoundChannel, sound_access}
+use Rattle.controller_model.proofs.LifeLaws.SoundRows.{IsSoundRow, row_sound}
+use Rattle.controller_model.specs.declared.channel_kind.ChannelKind.{ChannelKind}
+use Rattle.controller_model.specs.declared.channel_kind.ChannelKind.TheVariants.{Tch}
+use Rattle.controller_model.specs.Channels.{first_free, kind_of}
+use Rattle.controller_model.specs.Controller.{is_up}
+use Rattle.controller_model.specs.declared.limits.TheConstants.{MAX_CONNECTION_NUMBER}
+use Rattle.controller_model.specs.Life.{by_row}
+use Rattle.controller_model.proofs.LifeLaws.Readings.{IsCarriedBy}
 use Rattle.dtap_codec.specs.declared.report.Report.{Report}
-use Rattle.ho_decision.specs.declared.decision.Decision.{Decision}
-use Rattle.ho_decision.specs.declared.decision.Decision.TheVariants.{Stay, Move}
-use Rattle.rsl_codec.specs.declared.values.RequestReference.{RequestReference}
-use Rattle.world_laws.specs.OwnItem.{is_same}
+use Rattle.controller_model.specs.Decision.TheVariants.{Move}
 use Rattle.world_laws.specs.Refusals.{RefusesNone}
 use Rattle.world_laws.specs.TakingTurns.{Order, TakesTurns, Turns, freed_by}
-use Rattle.world_laws.proofs.OwnDoes.{apart-right}
-use Rattle.world_laws.proofs.TakingTurns.{AreInTurn, IsInTurn, IsOpenFor, IsUsing, all-turns, quiet-order, places-differ, places-same, row-turns}
+use Rattle.world_laws.proofs.TakingTurns.{AreInTurn, IsInTurn, IsOpenFor, IsUsing, all-turns, quiet-order, places-differ, places-same}
+use Rattle.world_laws.proofs.TakingTurns.{row-turns}
+use Rattle.world_laws.proofs.PutAsRead.{all-read}
 
 -- a turn's orders on a channel, from this state on
 unfoldable pub TurnsFrom : Place → ChannelState → Turn → Type 0
@@ -66,7 +50,7 @@ all-differ c (d ∷ ds) all = (differ-of c d all.0, all-differ c ds all.1)
 pub using-of : (channels : List (List ChannelState)) (links : List Bool) (m : ℕ) (roles : Roles) → Owns channels links m roles → IsUsing m channels roles
 using-of channels links m roles owns = record {
   using = owns.using;
-  apart = all-differ roles.serving (target_channels roles.target) (apart-right (undone roles.draining) (roles.serving ∷ target_channels roles.target) owns.apart).0;
+  apart = all-differ roles.serving (target_channels roles.target) (apart_behind (undone roles.draining) (roles.serving ∷ target_channels roles.target) owns.apart).0;
 }
 
 open-for : (channels : List (List ChannelState)) (links : List Bool) (c : Channel) → IsOffered channels links c → IsOpenFor channels c
@@ -79,10 +63,6 @@ pub record IsTold (e : Entry) : Type 0 where
   pub parts : SoundParts e.connection
   pub few : e.connection.number < 2 ^ 24
 
-all-read : (n : ℕ) (ms : List Message) → n < 2 ^ 24 → AllByRecursion IsSound ms → AllByRecursion (λ m. IsReadOf n m (out_of n m).frame.body) ms
-all-read n [] few all = tt
-all-read n (m ∷ ms) few all = (message_again n m few all.0.0 all.0.1, all-read n ms few all.1)
-
 pub row-turn : (at : Place) (c : Controller) (e : Entry) (input : Input) (offer : Option Channel) (r : Row) → IsTold e → row_of e.connection input offer ≡ Some r → AllByRecursion IsSoundChannel (option_to_list offer) → IsCarried input → RefersBy input
     → (IsOpen e.connection.state → IsUsing e.connection.number c.channels (roles_of e.connection)) → (IsOpen r.next.state → (d : Channel) → offer ≡ Some d → IsOpenFor c.channels d) → TurnsFrom at (channel_state c at) (by_row e r c)
 unfolding TurnsFrom
@@ -90,7 +70,7 @@ row-turn at c e input offer r told fits sounds carried refers using offers =
     let s : Connection = e.connection in
     let sound : IsSoundRow r = subst (OfRow IsSoundRow) fits
     (row_sound s input offer (record { serving = told.parts.serving; zero = told.stands.down_zero; three = told.stands.down_three; up = told.stands.up_messages; refers = told.parts.refers }) told.parts.targets sounds carried refers) in
-    all-turns s.number at c.channels r.outs (all-read s.number r.outs told.few sound.0)
+    all-turns s.number at c.channels r.outs (all-read s.number r.outs told.few sound.1)
     (row-turns s.number c.channels s input offer r (changes_of s input offer r told.stands fits) using offers)
 
 pub fitting-turn : (at : Place) (c : Controller) (otherwise : Turn) (e : Entry) (input : Input) (offer : Option Channel) (o : Option Row) → row_of e.connection input offer ≡ o → IsTold e → AllByRecursion IsSoundChannel (option_to_list offer) → IsCarried input → RefersBy input
@@ -146,17 +126,17 @@ module _ (c : Controller) (ready : Ready c) (sound : IsSoundAll c) where
 
 -- ---- the state from that a word begins
 
-pub same-places : (place at : Place) → is_same place at ≡ true → place ≡ at
+pub same-places : (place at : Place) → same_place place at ≡ true → place ≡ at
 same-places place at is = places-same place.station place.number at is
 
-pub freed-none : (at place : Place) (input : Input) (state : ChannelState) → ((n : ℕ) → state ≡ Releasing n → is_same place at ≡ false) → freed_by at (OnChannel place input) state ≡ state
+pub freed-none : (at place : Place) (input : Input) (state : ChannelState) → ((n : ℕ) → state ≡ Releasing n → same_place place at ≡ false) → freed_by at (OnChannel place input) state ≡ state
 freed-none at place (inputs.ReleaseAck acknowledged) (Releasing n) other = ap (λ (b : Bool). if b then Free else Releasing n) (other n refl)
 freed-none at place (inputs.ReleaseAck acknowledged) Free other = refl
 freed-none at place (inputs.ReleaseAck acknowledged) (InUse n) other = refl
 freed-none at place _ state other = refl
 
 freed-one : (c : Controller) (at place acknowledged : Place) (k : ℕ) → channel_state c place ≡ Releasing k → freed_by at (OnChannel place (inputs.ReleaseAck acknowledged)) (channel_state c at) ≡ channel_state (freed place c) at
-freed-one c at place acknowledged k is = elim (cases_Bool (is_same place at)) [
+freed-one c at place acknowledged k is = elim (cases_Bool (same_place place at)) [
   | inl hit ↦
       let same : place ≡ at = same-places place at hit in
       ap (freed_by at (OnChannel place (inputs.ReleaseAck acknowledged))) (ap (channel_state c) (sym same) ∙ is) ∙ ap (λ (b : Bool). if b then Free else Releasing k) hit
@@ -184,7 +164,7 @@ data IsFreeing (c : Controller) (place : Place) (input : Input) : Type 0 where
 none-freed : (c : Controller) (place : Place) (input : Input) (state : ChannelState) → channel_state c place ≡ state → ((n : ℕ) → state ≢ Releasing n) → RefusesNone (OnChannel place input) → IsFreeing c place input
 none-freed c place input state is free none =
     frees_none (frees-not (channel_state c place) (entry_at c (channel_state c place)) place input none (λ n releasing. free n (sym is ∙ releasing)))
-    (λ at. freed-none at place input (channel_state c at) (λ n releasing. elim (cases_Bool (is_same place at)) [
+    (λ at. freed-none at place input (channel_state c at) (λ n releasing. elim (cases_Bool (same_place place at)) [
       | inl hit ↦ absurd (free n (sym is ∙ ap (channel_state c) (same-places place at hit) ∙ releasing))
       | inr miss ↦ miss
     ]))

@@ -1,52 +1,32 @@
 -- The orders of a step take turns: of a frame, of a link that breaks, of time.
-use Rattle.std.proofs.Common.{◌≡◌, ◌≢◌, ℕ, ◌==◌, Bool, true, false, if◌then◌else◌, List, [], ◌∷◌, map, slice_index_or, Option, Some, None, refl, sym, ap, ◌∙◌, subst, inl, inr}
-use Rattle.std.specs.List.{AllByRecursion}
-use Rattle.std.proofs.lemmas.Bool.{cases_Bool}
-use Rattle.std.proofs.lemmas.List.{get_or-set_other}
-use Rattle.conn_messages.specs.declared.channel.Channel.{Channel}
-use Rattle.conn_messages.specs.declared.channel.Place.{Place}
-use Rattle.conn_messages.specs.declared.parameters.TheConstants.{SWITCH_LINK}
-use Rattle.conn_table.specs.declared.input.Input.{Input}
-use Rattle.conn_table.specs.declared.input.Input.TheVariants as inputs
-use Rattle.conn_table.specs.Connection.{Connection}
-use Rattle.conn_table.specs.Roles.{roles_of}
-use Rattle.conn_table.specs.Standing.{IsCarried}
-use Rattle.conn_table.specs.Steps.{Row}
-use Rattle.conn_table.specs.Streams.{IsOpen}
-use Rattle.conn_table.specs.Table.{row_of}
-use Rattle.controller_laws.specs.Acts.{IsTimer}
-use Rattle.controller_laws.specs.History.{word_by, word_in}
-use Rattle.controller_laws.specs.Numbers.{AreRising}
-use Rattle.controller_laws.specs.Sending.{ComesInOctets}
-use Rattle.controller_laws.proofs.Fitting.{IsLinkBreak, break_carried, own_carried, pass_stands, timer_carried}
-use Rattle.controller_laws.proofs.OwningLife.{break_shut, timer_shut, told_holds}
-use Rattle.controller_laws.proofs.OwningWords.{Holds, owns_entry}
-use Rattle.controller_laws.proofs.Readings.{word_carried}
-use Rattle.controller_laws.proofs.SoundLife.{IsSoundAll, IsSoundCell, life_sound, offer_list, request_sound, word_refers}
-use Rattle.controller_laws.proofs.SoundRows.{RefersBy}
-use Rattle.controller_laws.proofs.Sources.{IsFrom, word_from}
-use Rattle.controller_laws.proofs.Turns.{IsDue, all_found, expiry_own, told_tame, timed_tame}
-use Rattle.controller_laws.proofs.UsingLife.{life_ready, aged_ready, all_here, expiry_numbers, still_here, told_numbers}
-use Rattle.controller_laws.proofs.UsingWords.{IsHere, Ready}
-use Rattle.controller_table.specs.declared.channel_state.ChannelState.{ChannelState}
-use Rattle.controller_table.specs.declared.channel_state.ChannelState.TheVariants.{Free}
-use Rattle.controller_table.specs.declared.step.Step.{Step}
-use Rattle.controller_table.specs.declared.step.Step.TheVariants.{Take, Tick}
-use Rattle.controller_table.specs.declared.word.Word.{Word}
-use Rattle.controller_table.specs.declared.word.Word.TheVariants.{OnChannel}
-use Rattle.controller_table.specs.Channels.{request_offer}
-use Rattle.controller_table.specs.Controller.{Controller, Entry, Turn, channel_state, each, entry_of, freed_station, free_channels, is_up, turn, with_down}
-use Rattle.controller_table.specs.Life.{aged, all_aged, break_of, by_fitting, expiry, life, on_break, on_expiry, on_what, row_in, step, take, tick, timed, told}
-use Rattle.controller_table.specs.Reading.{word_of}
-use Rattle.relay_items.specs.declared.Item.{Item}
-use Rattle.relay_items.specs.declared.What.{What}
-use Rattle.relay_items.specs.declared.What.TheVariants as whats
-use Rattle.settings.specs.Parameters.{Parameters}
-use Rattle.world_laws.specs.OwnItem.{is_same}
+use Rattle.world_laws.proofs.Prelude.{◌≡◌, ◌≢◌, ℕ, ◌==◌, Bool, true, false, List, [], ◌∷◌, map, Option, Some}
+use Rattle.world_laws.proofs.Prelude.{None, refl, sym, ap, ◌∙◌, subst, inl, inr, AllByRecursion, cases_Bool, Channel, Place, SWITCH_LINK}
+use Rattle.world_laws.proofs.Prelude.{Input, Connection, roles_of, IsCarried, Row, IsOpen, word_by, word_in, AreRising, ComesInOctets}
+use Rattle.world_laws.proofs.Prelude.{own_carried, pass_stands, break_shut, timer_shut, Holds, owns_entry, IsSoundAll, life_sound}
+use Rattle.world_laws.proofs.Prelude.{offer_list, request_sound, RefersBy, word_from, life_ready, IsHere, Ready, ChannelState, Step}
+use Rattle.world_laws.proofs.Prelude.{Take, Word, OnChannel, request_offer, Controller, Entry, Turn, channel_state, each, entry_of}
+use Rattle.world_laws.proofs.Prelude.{turn, with_down, aged, all_aged, break_of, by_fitting, expiry, on_break, on_expiry}
+use Rattle.world_laws.proofs.Prelude.{on_what, row_in, step, timed, Item, What, Parameters, same_place, false≢true}
+use Rattle.conn_rules.specs.declared.input.Input.TheVariants as inputs
+use Rattle.conn_rules.specs.Table.{row_of}
+use Rattle.controller_model.specs.LifeLaws.Acts.{IsTimer}
+use Rattle.controller_model.proofs.LifeLaws.Fitting.{IsLinkBreak, break_carried, timer_carried}
+use Rattle.controller_model.proofs.LifeLaws.OwningLife.{told_holds}
+use Rattle.controller_model.proofs.LifeLaws.Readings.{word_carried}
+use Rattle.controller_model.proofs.LifeLaws.SoundLife.{IsSoundCell, word_refers}
+use Rattle.controller_model.proofs.LifeLaws.Sources.{IsFrom}
+use Rattle.controller_model.proofs.LifeLaws.Turns.{IsDue, all_found, expiry_own, told_tame, timed_tame}
+use Rattle.controller_model.proofs.LifeLaws.UsingLife.{aged_ready, all_here, expiry_numbers, still_here, told_numbers}
+use Rattle.controller_model.specs.declared.step.Step.TheVariants.{Tick}
+use Rattle.controller_model.specs.Controller.{is_up}
+use Rattle.controller_model.specs.Life.{life, take, tick, told}
+use Rattle.controller_model.specs.Reading.{word_of}
+use Rattle.ruled_relay.specs.declared.item.What.TheVariants as whats
 use Rattle.world_laws.specs.Refusals.{RefusesNone}
 use Rattle.world_laws.specs.TakingTurns.{OrdersTakeTurns, Spares, TakesTurns, freed_by}
 use Rattle.world_laws.proofs.TakingTurns.{turns-append}
 use Rattle.world_laws.proofs.TurnsLife.{IsTold, TurnsFrom, WordTurns, freed-none, row-turn, same-places, told-of, using-of, word-turns}
+use Rattle.world_laws.proofs.OrderSteps.{without-same}
 
 AreCells : Controller → Type 0
 AreCells c = AllByRecursion IsSoundCell c.settings.cells
@@ -109,10 +89,6 @@ down-here links c source (x ∷ xs) here = (
   down-here links c source xs here.1,
 )
 
-elsewhere : (b : Bool) (source : ℕ) (at : Place) (c : Controller) → at.station ≢ source → channel_state (if b then c else freed_station source c) at ≡ channel_state c at
-elsewhere true source at c other = refl
-elsewhere false source at c other = ap (λ (these : List ChannelState). slice_index_or these at.number Free) (get_or-set_other c.channels source at.station free_channels [] other)
-
 break-turns : (source : ℕ) (at : Place) (c : Controller) → Ready c → IsSoundAll c → at.station ≢ source → TurnsFrom at (channel_state c at) (on_break source c)
 unfolding TurnsFrom Shuts AreCells
 break-turns source at c ready sound other =
@@ -121,7 +97,7 @@ break-turns source at c ready sound other =
     let tame = told_tame 1 1 true (break_of source) in
     let there = all_found c.entries ready.numbered.rising in
     let last : Turn = each f down c.entries in
-    subst (λ (after : ChannelState). TakesTurns at (channel_state c at) last.outs after) (sym (elsewhere (source == SWITCH_LINK) source at last.next other))
+    subst (λ (after : ChannelState). TakesTurns at (channel_state c at) last.outs after) (sym (without-same (source == SWITCH_LINK) source last.next at other))
     (each-turns c.links at f tame.rising tame.leaves (told_numbers (break_of source))
     (told-keeps c.links at (break_of source) (break_carried (break_of source) (own_carried source)) (break-refers (break_of source) (own_carried source)) (break_shut (break_of source) (own_carried source)))
     down c.entries ready.numbered.rising (down-here c.links c source c.entries (all_here c c.entries ready there)) (all-told c ready sound c.entries there) (record { shaped = ready.holds.shaped; each = ready.holds.each }) sound.cells)
@@ -160,7 +136,7 @@ tick-turns ms at c ready sound =
 -- what comes of another station frees nothing here
 other-frees : (at : Place) (source : ℕ) (word : Word) (state : ChannelState) → IsFrom source word → (at.station ≡ source → ⊥) → freed_by at word state ≡ state
 other-frees at source (OnChannel place input) state from other =
-    freed-none at place input state (λ n releasing. elim (cases_Bool (is_same place at)) [
+    freed-none at place input state (λ n releasing. elim (cases_Bool (same_place place at)) [
       | inl hit ↦ absurd (other (sym (ap (λ (p : Place). p.station) (same-places place at hit)) ∙ from.0))
       | inr miss ↦ miss
     ])
@@ -173,9 +149,7 @@ take-turns true item (whats.Frame frame) at c link up ready sound octets none sp
     word-turns c ready sound at item.source (word_of item.source frame) (word_carried item.source frame) (word_refers item.source frame octets) none
 take-turns true item whats.Down at c link up ready sound octets none spares = break-turns item.source at c ready sound (spares refl)
 take-turns false item (whats.Frame frame) at c link up ready sound octets none spares =
-    sym (other-frees at item.source (word_of item.source frame) (channel_state c at) (word_from item.source frame) (λ same. impossible (sym link ∙ ap (is_up c) (sym same) ∙ up))) where
-      impossible : false ≡ true → ⊥
-      impossible h = absurd cc
+    sym (other-frees at item.source (word_of item.source frame) (channel_state c at) (word_from item.source frame) (λ same. false≢true (sym link ∙ ap (is_up c) (sym same) ∙ up)))
 take-turns false item whats.Down at c link up ready sound octets none spares = refl
 
 pub step-turns : (s : Step) (at : Place) (c : Controller) → is_up c at.station ≡ true → Ready c → IsSoundAll c → ComesInOctets s → RefusesNone (word_in s) → Spares at s → TurnsFrom at (freed_by at (word_in s) (channel_state c at)) (step c s)

@@ -1,36 +1,18 @@
 -- What is on its way up is whole messages, whatever happened.
-use Rattle.std.proofs.Common.{◌≡◌, ℕ, ◌==◌, ◌<◌, Bool, true, false, if◌then◌else◌, List, [], ◌∷◌, ◌++◌, Option, Some, None, Result, Ok, Err, refl}
-use Rattle.std.specs.List.{AllByRecursion, flat_map}
-use Rattle.std.specs.Result.{result_ok}
-use Rattle.bssmap_codec.specs.Layer3.{IsLayer3}
-use Rattle.conn_messages.specs.declared.channel.Place.{Place}
-use Rattle.conn_table.proofs.DownlinkMessages.{AllByRecursion-append}
-use Rattle.controller_laws.proofs.Readings.{IsFull, rsl_full}
-use Rattle.controller_table.specs.Reading.{sapi_of}
-use Rattle.dtap_codec.specs.declared.sapi.Sapi.{Sapi}
-use Rattle.dtap_codec.specs.declared.sapi.Sapi.TheVariants.{Zero, Three}
-use Rattle.ipa_framing.specs.declared.frame.Frame.{Frame}
-use Rattle.ipa_framing.specs.declared.streams.TheConstants.{RSL_STREAM}
-use Rattle.lineup.specs.LineUp.{Item, messages_in}
-use Rattle.lineup.specs.LineUp.Item.{brought, released}
-use Rattle.relay_items.specs.declared.Item.{Item as RelayItem}
-use Rattle.relay_items.specs.declared.What.{What}
-use Rattle.relay_items.specs.declared.What.TheVariants as whats
-use Rattle.rsl_codec.specs.declared.fault.RslFault.{RslFault}
-use Rattle.rsl_codec.specs.declared.rsl.Rsl.{Rsl}
+use Rattle.world_laws.proofs.Prelude.{◌≡◌, ℕ, ◌==◌, Bool, true, false, if◌then◌else◌, List, [], ◌∷◌, ◌++◌, Option, Some, None, Ok, Err}
+use Rattle.world_laws.proofs.Prelude.{refl, AllByRecursion, flat_map, result_ok, Place, sapi_of, Sapi}
+use Rattle.world_laws.proofs.Prelude.{Zero, Three, RSL_STREAM, RelayItem, What, RslFault, Rsl, IsL3, rsl_reading, Parameters, Event}
+use Rattle.world_laws.proofs.Prelude.{rsl_in, Actors, base_of, new_actors, end-of, good-all, good-new, IsSound}
+use Rattle.std.proofs.Common.{Result}
+use Rattle.controller_model.proofs.LifeLaws.Readings.{IsFull, rsl_full}
+use Rattle.world_laws.specs.LineUp.Places.{Item, messages_in}
+use Rattle.world_laws.specs.LineUp.Places.Item.{brought, released}
+use Rattle.ruled_relay.specs.declared.item.What.TheVariants as whats
 use Rattle.rsl_codec.specs.declared.rsl.Rsl.TheVariants as rsl
-use Rattle.rsl_codec.specs.Rsl.{IsL3}
-use Rattle.rsl_codec.specs.RslReading.{rsl_reading}
-use Rattle.settings.specs.Parameters.{Parameters}
-use Rattle.world_table.specs.declared.event.Event.{Event}
-use Rattle.world_table.specs.Life.{actors_after_all}
-use Rattle.world_table.specs.Stations.{rsl_in}
-use Rattle.world_table.specs.World.{Actors, base_of, new_actors}
-use Rattle.world_table.proofs.Heard.{end-of, good-all, good-new}
-use Rattle.world_table.proofs.Soundness.{IsSound}
 use Rattle.world_laws.specs.ComingUp.{of_main, of_establishment, brings, brings_if, brings_by, brings_in, made_of}
 use Rattle.world_laws.specs.FromTheBeginning.{MessagesAreWhole}
 use Rattle.world_laws.specs.ToCome.{AreLayer3}
+use Rattle.world_laws.proofs.Events.{world}
 
 -- ---- of a station's message
 
@@ -105,7 +87,7 @@ sound-full _ sound = tt
 pub MessagesAreWhole-new : (settings : Parameters) (events : List Event) → MessagesAreWhole settings events
 unfolding AreWhole
 MessagesAreWhole-new settings events at =
-    let w : Actors = actors_after_all (new_actors settings) events in
+    let w : Actors = world settings events in
     let made : List Rsl = (base_of w at.station).messages in
     append-whole (flat_map (brings_in at) w.inbox) (made_of at.number made) (inbox-whole at w.inbox)
     (all-whole (brings at.number) IsSound (λ v sound. brings-whole at.number v (sound-full v sound)) made (end-of w at.station (good-all (new_actors settings) events (good-new settings))).made)

@@ -1,22 +1,14 @@
 -- The acknowledgements of a channel that are on their way up.
-use Rattle.std.specs.Prelude.{◌≡◌, ◌≢◌, ℕ, ◌+◌, ◌≤◌, ◌==◌, Bool, true, false, if◌then◌else◌, List, [], ◌∷◌, ◌++◌, length, option_to_list}
+use Rattle.std.specs.Prelude.{◌≡◌, ◌≢◌, ℕ, ◌≤◌, ◌==◌, Bool, true, false, if◌then◌else◌, List, [], ◌∷◌, ◌++◌, length, option_to_list}
 use Rattle.std.specs.List.{flat_map, AllByRecursion}
-use Rattle.conn_messages.specs.declared.channel.Place.{Place}
-use Rattle.conn_messages.specs.declared.parameters.TheConstants.{SWITCH_LINK}
-use Rattle.controller_table.specs.Controller.{place_at}
+use Rattle.world_laws.specs.Prelude.{Place, SWITCH_LINK, Item, Rsl, Parameters, Event, actors_after_all, rsl_in, Actors, base_of, is_up}
+use Rattle.world_laws.specs.Prelude.{new_actors, outbox_of}
 use Rattle.link_model.specs.Base.{is_active}
-use Rattle.relay_items.specs.declared.Item.{Item}
-use Rattle.relay_items.specs.declared.What.{What}
-use Rattle.relay_items.specs.declared.What.TheVariants as whats
-use Rattle.rsl_codec.specs.declared.rsl.Rsl.{Rsl}
+use Rattle.ruled_relay.specs.declared.item.What.{What}
+use Rattle.ruled_relay.specs.declared.item.What.TheVariants as whats
 use Rattle.rsl_codec.specs.declared.rsl.Rsl.TheVariants.{RfChannelReleaseAck}
-use Rattle.settings.specs.Parameters.{Parameters}
-use Rattle.world_table.specs.declared.event.Event.{Event}
-use Rattle.world_table.specs.Life.{actors_after_all}
-use Rattle.world_table.specs.Pipe.{acknowledgements, due}
-use Rattle.world_table.specs.Queues.{all_popped, all_put}
-use Rattle.world_table.specs.Stations.{rsl_in}
-use Rattle.world_table.specs.World.{Actors, base_of, is_up, new_actors, outbox_of}
+use Rattle.world_model.specs.Pipe.{acknowledgements, due}
+use Rattle.world_model.specs.Queues.{all_popped, all_put}
 use Rattle.world_laws.specs.ComingUp.{coming_up}
 use Rattle.world_laws.specs.LineUps.{is_ended}
 use Rattle.world_laws.specs.Staying.{EndsLast}

@@ -1,13 +1,9 @@
 -- The acknowledgements of a channel that came and are on their way, whether the link of its station is up or not.
 use Rattle.std.specs.Prelude.{◌≤◌, false, List, ◌++◌, length}
-use Rattle.conn_messages.specs.declared.channel.Place.{Place}
+use Rattle.world_laws.specs.Prelude.{Place, Parameters, Event, actors_after_all, new_actors}
 use Rattle.octets.specs.Lists.{IsPrefix}
-use Rattle.settings.specs.Parameters.{Parameters}
-use Rattle.world_table.specs.declared.event.Event.{Event}
-use Rattle.world_table.specs.Life.{actors_after_all}
-use Rattle.world_table.specs.Pipe.{due}
-use Rattle.world_table.specs.Queues.{all_popped, all_put}
-use Rattle.world_table.specs.World.{new_actors}
+use Rattle.world_model.specs.Pipe.{due}
+use Rattle.world_model.specs.Queues.{all_popped, all_put}
 use Rattle.world_laws.specs.Acknowledged.{acknowledgements_taken, acknowledgements_up}
 
 -- those that the controller took, and then those on their way up, are the first of those due for all that it put

@@ -1,19 +1,13 @@
 -- What is on its way up from a channel: what its station made and what stands in the inbox.
 use Rattle.std.specs.Prelude.{ℕ, ◌==◌, if◌then◌else◌, List, [], ◌∷◌, ◌++◌, Option, Some, None}
 use Rattle.std.specs.List.{flat_map}
-use Rattle.conn_messages.specs.declared.channel.Place.{Place}
-use Rattle.controller_table.specs.Reading.{sapi_of}
+use Rattle.world_laws.specs.Prelude.{Place, sapi_of, Zero, Item, Rsl, rsl_in, Actors, base_of}
 use Rattle.dtap_codec.specs.declared.sapi.Sapi.{Sapi}
-use Rattle.dtap_codec.specs.declared.sapi.Sapi.TheVariants.{Zero}
-use Rattle.lineup.specs.LineUp.{Item as Brought}
-use Rattle.lineup.specs.LineUp.Item.{brought, released}
-use Rattle.relay_items.specs.declared.Item.{Item}
-use Rattle.relay_items.specs.declared.What.{What}
-use Rattle.relay_items.specs.declared.What.TheVariants as whats
-use Rattle.rsl_codec.specs.declared.rsl.Rsl.{Rsl}
+use Rattle.world_laws.specs.LineUp.Places.{Item as Brought}
+use Rattle.world_laws.specs.LineUp.Places.Item.{brought, released}
+use Rattle.ruled_relay.specs.declared.item.What.{What}
+use Rattle.ruled_relay.specs.declared.item.What.TheVariants as whats
 use Rattle.rsl_codec.specs.declared.rsl.Rsl.TheVariants.{EstablishIndication, DataIndication, RfChannelReleaseAck}
-use Rattle.world_table.specs.Stations.{rsl_in}
-use Rattle.world_table.specs.World.{Actors, base_of}
 
 -- a layer 3 message of SAPI 0
 abbrev pub of_main : Option Sapi → List ℕ → List Brought

@@ -1,16 +1,11 @@
 -- A connection that closed or went: what of it can still come to the switch stands in the outbox there.
-use Rattle.std.specs.Prelude.{◌≡◌, ℕ, ◌≤◌, List, [], ◌∷◌, map, Some}
+use Rattle.std.specs.Prelude.{◌≡◌, ℕ, ◌≤◌, List, [], Some}
 use Rattle.std.specs.List.{AllByRecursion}
-use Rattle.conn_messages.specs.declared.parameters.TheConstants.{SWITCH_LINK}
-use Rattle.conn_table.specs.Connection.{Connection}
-use Rattle.lineup.specs.LineUp.{flow}
-use Rattle.lineup.specs.Order.{Ended, IsInOrder}
-use Rattle.settings.specs.Parameters.{Parameters}
-use Rattle.world_table.specs.declared.event.Event.{Event}
-use Rattle.world_table.specs.declared.event.Event.TheVariants.{SwitchTakes}
-use Rattle.world_table.specs.Life.{actors_after, actors_after_all}
-use Rattle.world_table.specs.Queues.{put}
-use Rattle.world_table.specs.World.{Actors, Mobile, mobile_of, modulus_in, new_actors, outbox_of}
+use Rattle.world_laws.specs.Prelude.{SWITCH_LINK, Connection, Parameters, Event, SwitchTakes, actors_after, actors_after_all, Actors}
+use Rattle.world_laws.specs.Prelude.{Mobile, mobile_of, modulus_in, new_actors, outbox_of}
+use Rattle.world_laws.specs.LineUp.Places.{flow}
+use Rattle.world_laws.specs.LineUp.Order.{Ended, IsInOrder}
+use Rattle.world_model.specs.Queues.{put}
 use Rattle.world_laws.specs.LineUps.{taken_of, waiting_of}
 use Rattle.world_laws.specs.Staying.{AreLinedUp, DeliversFirst, carried_for}
 

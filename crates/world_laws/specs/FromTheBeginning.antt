@@ -1,14 +1,7 @@
 -- What holds of a world whatever happened, from its beginning on.
-use Rattle.std.specs.Prelude.{◌≡◌, ℕ, List, Option, Some}
-use Rattle.conn_messages.specs.declared.channel.Place.{Place}
-use Rattle.conn_table.specs.Connection.{Connection}
-use Rattle.conn_table.specs.Standing.{Stands}
-use Rattle.controller_laws.specs.History.{connection_of}
-use Rattle.lineup.specs.LineUp.{messages_in}
-use Rattle.settings.specs.Parameters.{Parameters}
-use Rattle.world_table.specs.declared.event.Event.{Event}
-use Rattle.world_table.specs.Life.{actors_after_all}
-use Rattle.world_table.specs.World.{new_actors}
+use Rattle.std.specs.Prelude.{◌≡◌, ℕ, List, Some}
+use Rattle.world_laws.specs.Prelude.{Place, Connection, Stands, connection_of, Parameters, Event, actors_after_all, new_actors}
+use Rattle.world_laws.specs.LineUp.Places.{messages_in}
 use Rattle.world_laws.specs.ComingUp.{coming_up}
 use Rattle.world_laws.specs.ToCome.{AreLayer3}
 

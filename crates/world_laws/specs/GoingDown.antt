@@ -1,14 +1,8 @@
 -- Which commands are on their way down on a channel: in its station's outbox, and among the messages for the air.
 use Rattle.std.specs.Prelude.{ℕ, ◌==◌, if◌then◌else◌, List, [], ◌∷◌, ◌++◌, Option, Some, None}
 use Rattle.std.specs.List.{flat_map}
-use Rattle.conn_messages.specs.declared.channel.Place.{Place}
-use Rattle.rsl_codec.specs.declared.rsl.Rsl.{Rsl}
+use Rattle.world_laws.specs.Prelude.{Place, Rsl, AirMessage, OutboxEntry, Tenure, rsl_in, Actors, spot_at, outbox_of}
 use Rattle.rsl_codec.specs.declared.rsl.Rsl.TheVariants.{DataRequest}
-use Rattle.world_table.specs.declared.line.AirMessage.{AirMessage}
-use Rattle.world_table.specs.declared.line.OutboxEntry.{OutboxEntry}
-use Rattle.world_table.specs.declared.seat.Tenure.{Tenure}
-use Rattle.world_table.specs.Stations.{rsl_in}
-use Rattle.world_table.specs.World.{Actors, spot_at, outbox_of}
 
 -- a message that leads to a tenure
 abbrev pub leading : List ℕ → Option Tenure → List AirMessage

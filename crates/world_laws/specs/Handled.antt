@@ -1,23 +1,10 @@
 -- The controller handles a frame for the connection that it says an input to, whatever happened before.
 use Rattle.std.specs.Prelude.{◌≡◌, ℕ, true, List, [], ◌∷◌, Option}
 use Rattle.std.specs.List.{AllByRecursion}
-use Rattle.conn_messages.specs.declared.channel.Channel.{Channel}
-use Rattle.conn_messages.specs.declared.parameters.TheConstants.{SWITCH_LINK}
-use Rattle.conn_table.specs.declared.input.Input.{Input}
-use Rattle.conn_table.specs.declared.state.Stage.TheVariants.{Preparing}
-use Rattle.conn_table.specs.declared.state.State.{State}
-use Rattle.conn_table.specs.declared.state.State.TheVariants.{Live}
-use Rattle.conn_table.specs.Connection.{Connection}
-use Rattle.conn_table.specs.Steps.{Row}
-use Rattle.conn_table.specs.Streams.{target_in, undone}
-use Rattle.controller_table.specs.Controller.{place_of}
-use Rattle.lineup.specs.LineUp.{messages_in}
-use Rattle.relay_items.specs.declared.Item.{Item as RelayItem}
-use Rattle.settings.specs.Parameters.{Parameters}
-use Rattle.world_table.specs.declared.event.Event.{Event}
-use Rattle.world_table.specs.declared.event.Event.TheVariants.{Handle}
-use Rattle.world_table.specs.Life.{actors_after, actors_after_all}
-use Rattle.world_table.specs.World.{Actors, is_up, modulus_in, new_actors}
+use Rattle.world_laws.specs.Prelude.{Channel, SWITCH_LINK, Input, State, Live, Connection, Row, target_in, undone, place_of, RelayItem}
+use Rattle.world_laws.specs.Prelude.{Parameters, Event, Handle, actors_after, actors_after_all, Actors, is_up, modulus_in, new_actors}
+use Rattle.conn_rules.specs.declared.state.Stage.TheVariants.{Preparing}
+use Rattle.world_laws.specs.LineUp.Places.{messages_in}
 use Rattle.world_laws.specs.Acknowledged.{acknowledgements_up, NoneReleases, ReleasesLast}
 use Rattle.world_laws.specs.ComingUp.{coming_up}
 use Rattle.world_laws.specs.GoingDown.{going_down}

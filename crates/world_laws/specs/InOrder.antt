@@ -1,8 +1,7 @@
 -- What the switch accepts of a connection that is lined up.
 use Rattle.std.specs.Prelude.{ℕ, ◌≤◌}
-use Rattle.conn_table.specs.Connection.{Connection}
-use Rattle.lineup.specs.Order.{IsInOrder, coming}
-use Rattle.world_table.specs.World.{Actors}
+use Rattle.world_laws.specs.Prelude.{Connection, Actors}
+use Rattle.world_laws.specs.LineUp.Order.{IsInOrder, coming}
 use Rattle.world_laws.specs.LineUps.{taken_of, line_up}
 use Rattle.world_laws.specs.Staying.{AreLinedUp}
 

@@ -1,3 +1,4 @@
+mod Prelude
 pub mod ComingUp
 pub mod GoingDown
 pub mod LineUps
@@ -23,3 +24,11 @@ pub mod TakingTurns
 pub mod Owned
 pub mod Remaining
 pub mod Lives
+pub mod Channels
+pub mod Owners
+pub mod Targets
+pub mod References
+pub mod Access
+pub mod Handling
+pub mod Order
+pub mod LineUp

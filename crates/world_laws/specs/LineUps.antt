@@ -1,28 +1,18 @@
 -- The line-up of a connection in the world: what its mobile sent, where it stands on its way to the switch.
 use Rattle.std.specs.Prelude.{ℕ, ◌+◌, ◌==◌, ◌&&◌, not, Bool, true, false, if◌then◌else◌, List, [], ◌∷◌, length, map, find, Option, Some, None}
-use Rattle.conn_messages.specs.declared.channel.Channel.{Channel}
-use Rattle.conn_messages.specs.declared.channel.Place.{Place}
-use Rattle.conn_messages.specs.declared.parameters.TheConstants.{SWITCH_LINK}
-use Rattle.conn_table.specs.declared.state.Drain.{Drain}
-use Rattle.conn_table.specs.declared.state.Stage.TheVariants.{Changing}
-use Rattle.conn_table.specs.declared.state.State.{State}
-use Rattle.conn_table.specs.declared.state.State.TheVariants.{Live, WaitEstablish}
-use Rattle.conn_table.specs.declared.state.Target.{Target}
-use Rattle.conn_table.specs.Connection.{Connection, is_at}
-use Rattle.controller_table.specs.Controller.{place_of}
-use Rattle.controller_table.specs.Views.{forwarded}
+use Rattle.world_laws.specs.Prelude.{Channel, Place, SWITCH_LINK, Drain, State, Live, WaitEstablish, Target, Connection, place_of}
+use Rattle.world_laws.specs.Prelude.{forwarded, DataLinkState, SwitchConnection, AirMessage, Asking, On, Actors, Mobile, is_station_up}
+use Rattle.world_laws.specs.Prelude.{outbox_of}
+use Rattle.conn_rules.specs.declared.state.Stage.TheVariants.{Changing}
+use Rattle.conn_rules.specs.Connection.{is_at}
 use Rattle.hold_queue.specs.ChainState.{Tenure as Held}
-use Rattle.lineup.specs.Alive.{some_lost}
-use Rattle.lineup.specs.ChangeStep.{ended}
-use Rattle.lineup.specs.LineUp.{Item, Tenure, Seat, LineUp, fresh, flow}
-use Rattle.lineup.specs.LineUp.Item.{brought, released}
-use Rattle.lineup.specs.LineUp.Seat.{on_serving, on_target, moving, gone}
-use Rattle.mobile_end.specs.DataLinkState.{DataLinkState}
-use Rattle.msc_end.specs.declared.connection.Connection.{Connection as SwitchConnection}
-use Rattle.world_table.specs.declared.line.AirMessage.{AirMessage}
-use Rattle.world_table.specs.declared.seat.Seat.{Seat as MobileSeat}
-use Rattle.world_table.specs.declared.seat.Seat.TheVariants.{Asking, On, Moving, Gone}
-use Rattle.world_table.specs.World.{Actors, Mobile, is_station_up, outbox_of}
+use Rattle.world_laws.specs.LineUp.Alive.{some_lost}
+use Rattle.world_laws.specs.LineUp.ChangeStep.{ended}
+use Rattle.world_laws.specs.LineUp.Places.{Item, Tenure, Seat, LineUp, fresh, flow}
+use Rattle.world_laws.specs.LineUp.Places.Item.{brought, released}
+use Rattle.world_laws.specs.LineUp.Places.Seat.{on_serving, on_target, moving, gone}
+use Rattle.world_model.specs.declared.seat.Seat.{Seat as MobileSeat}
+use Rattle.world_model.specs.declared.seat.Seat.TheVariants.{Moving, Gone}
 use Rattle.world_laws.specs.ComingUp.{coming_up}
 use Rattle.world_laws.specs.GoingDown.{going_down}
 

@@ -1,19 +1,10 @@
 -- How a connection of a run fares: it lives, lined up with its mobile, or it ended, or the switch never heard of it.
-use Rattle.std.specs.Prelude.{◌≡◌, ◌⊎◌, ℕ, ◌≤◌, ◌<◌, ◌==◌, true, false, if◌then◌else◌, List, [], ◌∷◌, find, Option, Some, None}
+use Rattle.std.specs.Prelude.{◌≡◌, ◌⊎◌, ℕ, ◌≤◌, ◌<◌, ◌==◌, false, if◌then◌else◌, List, [], ◌∷◌, find, Option, Some, None}
 use Rattle.std.specs.List.{flat_map, AllByRecursion}
-use Rattle.conn_messages.specs.declared.channel.Place.{Place}
-use Rattle.conn_table.specs.declared.state.State.{State}
-use Rattle.conn_table.specs.declared.state.State.TheVariants.{WaitConfirm, Closed, Removed}
-use Rattle.conn_table.specs.Connection.{Connection}
-use Rattle.conn_table.specs.Streams.{target_in, undone, used_channels}
-use Rattle.controller_laws.specs.End.{IsThere}
-use Rattle.controller_laws.specs.History.{connection_of}
-use Rattle.controller_table.specs.Controller.{place_of}
-use Rattle.controller_table.specs.Reading.{sapi_of}
-use Rattle.lineup.specs.LineUp.{Item, messages_in, controls_in}
-use Rattle.rsl_codec.specs.declared.rsl.Rsl.{Rsl}
+use Rattle.world_laws.specs.Prelude.{Place, State, WaitConfirm, Closed, Removed, Connection, target_in, undone, used_channels, IsThere}
+use Rattle.world_laws.specs.Prelude.{connection_of, place_of, sapi_of, Rsl, Actors, Mobile}
+use Rattle.world_laws.specs.LineUp.Places.{Item, messages_in, controls_in}
 use Rattle.rsl_codec.specs.declared.rsl.Rsl.TheVariants.{EstablishIndication}
-use Rattle.world_table.specs.World.{Actors, Mobile}
 use Rattle.world_laws.specs.Acknowledged.{acknowledgements_up, messages_up, NoneReleases, ReleasesLast}
 use Rattle.world_laws.specs.ComingUp.{coming_up, of_establishment}
 use Rattle.world_laws.specs.Ended.{HasEnded}

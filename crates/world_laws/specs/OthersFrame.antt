@@ -1,23 +1,14 @@
 -- A frame that concerns another connection.
 use Rattle.std.specs.Prelude.{◌≡◌, ◌≢◌, ℕ, ◌≤◌, List, Some}
 use Rattle.std.specs.List.{AllByRecursion}
-use Rattle.conn_table.specs.Connection.{Connection}
-use Rattle.conn_table.specs.Streams.{IsOpen}
-use Rattle.controller_laws.specs.History.{connection_of}
-use Rattle.controller_laws.specs.Sending.{ComesInOctets}
-use Rattle.controller_table.specs.Life.{take}
-use Rattle.controller_table.specs.Ownership.{concerned}
-use Rattle.controller_table.specs.Reading.{word_of}
-use Rattle.ipa_framing.specs.declared.frame.Frame.{Frame}
+use Rattle.world_laws.specs.Prelude.{Connection, IsOpen, connection_of, ComesInOctets, take, RelayItem, AreAllowed, Parameters, Event}
+use Rattle.world_laws.specs.Prelude.{actors_after_all, all_steps, Actors, new_actors}
+use Rattle.controller_model.specs.Ownership.{concerned}
+use Rattle.controller_model.specs.Reading.{word_of}
+use Rattle.world_model.specs.Frame.{Frame}
 use Rattle.octets.specs.Element.{AreOctets}
-use Rattle.relay_items.specs.declared.Item.{Item as RelayItem}
-use Rattle.relay_items.specs.declared.What.TheVariants as whats
-use Rattle.settings.specs.Parameters.{AreAllowed, Parameters}
-use Rattle.world_table.specs.declared.event.Event.{Event}
-use Rattle.world_table.specs.Life.{actors_after_all}
-use Rattle.world_table.specs.Relay.{target_in}
-use Rattle.world_table.specs.Steps.{all_steps}
-use Rattle.world_table.specs.World.{Actors, new_actors}
+use Rattle.ruled_relay.specs.declared.item.What.TheVariants as whats
+use Rattle.world_model.specs.Relay.{target_in}
 use Rattle.world_laws.specs.Staying.{IsForOthers}
 
 -- all that the controller took was octets

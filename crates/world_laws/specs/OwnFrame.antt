@@ -1,25 +1,13 @@
 -- A frame that says an input to a connection.
 use Rattle.std.specs.Prelude.{◌≡◌, ℕ, true, if◌then◌else◌, List, Option, Some}
-use Rattle.conn_messages.specs.declared.channel.Channel.{Channel}
-use Rattle.conn_messages.specs.declared.channel.Place.{Place}
-use Rattle.conn_table.specs.declared.input.Input.{Input}
-use Rattle.conn_table.specs.declared.state.State.{State}
-use Rattle.conn_table.specs.declared.state.State.TheVariants.{WaitConfirm, Live}
-use Rattle.conn_table.specs.Connection.{Connection}
-use Rattle.conn_table.specs.Standing.{IsCarried}
-use Rattle.conn_table.specs.Steps.{Row}
-use Rattle.conn_table.specs.Streams.{IsOpen}
-use Rattle.conn_table.specs.Table.{row_of}
-use Rattle.controller_table.specs.declared.word.Word.{Word}
-use Rattle.controller_table.specs.declared.word.Word.TheVariants.{OnChannel, OnConnection}
-use Rattle.controller_table.specs.Channels.{request_offer}
-use Rattle.controller_table.specs.Controller.{Controller, Entry, channel_state, entry_of, freed, is_up}
-use Rattle.controller_table.specs.Life.{entry_at, frees}
-use Rattle.controller_table.specs.Reading.{word_of}
-use Rattle.ipa_framing.specs.declared.frame.Frame.{Frame}
-use Rattle.relay_items.specs.declared.Item.{Item as RelayItem}
-use Rattle.relay_items.specs.declared.What.TheVariants as whats
-use Rattle.world_table.specs.World.{Actors}
+use Rattle.world_laws.specs.Prelude.{Channel, Place, Input, State, WaitConfirm, Live, Connection, IsCarried, Row, IsOpen, row_of, Word}
+use Rattle.world_laws.specs.Prelude.{OnChannel, OnConnection, channel_state, RelayItem, Actors}
+use Rattle.controller_model.specs.Channels.{request_offer}
+use Rattle.controller_model.specs.Controller.{Controller, Entry, entry_of, freed, is_up}
+use Rattle.controller_model.specs.Life.{entry_at, frees}
+use Rattle.controller_model.specs.Reading.{word_of}
+use Rattle.world_model.specs.Frame.{Frame}
+use Rattle.ruled_relay.specs.declared.item.What.TheVariants as whats
 use Rattle.world_laws.specs.OwnHandle.{HandlesFor}
 
 -- from its connection request to the switch on, while it is open

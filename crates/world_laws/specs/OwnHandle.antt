@@ -1,32 +1,16 @@
 -- The controller handles an item for the connection itself.
 use Rattle.std.specs.Prelude.{◌≡◌, ◌≢◌, ℕ, true, false, List, [], ◌∷◌, map, Option, Some, None}
 use Rattle.std.specs.List.{AllByRecursion}
-use Rattle.conn_messages.specs.declared.channel.Channel.{Channel}
-use Rattle.conn_messages.specs.declared.channel.Place.{Place}
-use Rattle.conn_messages.specs.declared.parameters.TheConstants.{SWITCH_LINK}
+use Rattle.world_laws.specs.Prelude.{Channel, Place, SWITCH_LINK, Input, Connection, IsCarried, Stands, Row, AreApart, IsOpen, relayed}
+use Rattle.world_laws.specs.Prelude.{target_in, used_channels, row_of, place_of, take, forwarded, Zero, RelayItem, Parameters, Event}
+use Rattle.world_laws.specs.Prelude.{Handle, Tick, Tenure, actors_after, actors_after_all, Actors, is_up, modulus_in, new_actors, tenure_at}
 use Rattle.conn_messages.specs.Out.{IsReadOf, out_of, outs_of}
-use Rattle.conn_table.specs.declared.input.Input.{Input}
-use Rattle.conn_table.specs.Connection.{Connection}
-use Rattle.conn_table.specs.Roles.{RoleStep, TargetRole, roles_of, step_by, target_role}
-use Rattle.conn_table.specs.Roles.RoleStep.{commands as role_commands}
-use Rattle.conn_table.specs.Standing.{IsCarried, Stands}
-use Rattle.conn_table.specs.Steps.{Row}
-use Rattle.conn_table.specs.Streams.{AreApart, IsOpen, relayed, target_in, used_channels}
-use Rattle.conn_table.specs.Table.{row_of}
-use Rattle.conn_table.specs.Timers.{after_pass}
-use Rattle.controller_table.specs.Controller.{place_of}
-use Rattle.controller_table.specs.Life.{take, tick}
-use Rattle.controller_table.specs.Views.{forwarded}
-use Rattle.dtap_codec.specs.declared.sapi.Sapi.TheVariants.{Zero}
-use Rattle.lineup.specs.LineUp.{flow, messages_in}
-use Rattle.relay_items.specs.declared.Item.{Item as RelayItem}
-use Rattle.settings.specs.Parameters.{Parameters}
-use Rattle.world_table.specs.declared.event.Event.{Event}
-use Rattle.world_table.specs.declared.event.Event.TheVariants.{Handle, Tick}
-use Rattle.world_table.specs.declared.seat.Tenure.{Tenure}
-use Rattle.world_table.specs.Life.{actors_after, actors_after_all}
-use Rattle.world_table.specs.Relay.{target_in as tenure_in}
-use Rattle.world_table.specs.World.{Actors, is_up, modulus_in, new_actors, tenure_at}
+use Rattle.conn_rules.specs.Roles.{RoleStep, TargetRole, roles_of, step_by, target_role}
+use Rattle.conn_rules.specs.Roles.RoleStep.{commands as role_commands}
+use Rattle.conn_rules.specs.Timers.{after_pass}
+use Rattle.controller_model.specs.Life.{tick}
+use Rattle.world_laws.specs.LineUp.Places.{flow, messages_in}
+use Rattle.world_model.specs.Relay.{target_in as tenure_in}
 use Rattle.world_laws.specs.ComingUp.{brings_in, coming_up}
 use Rattle.world_laws.specs.GoingDown.{going_down}
 use Rattle.world_laws.specs.LineUps.{is_ended}

@@ -1,41 +1,28 @@
 -- What the first item of the inbox says to a connection: an input, and what it brings of its channel.
-use Rattle.std.specs.Prelude.{◌≡◌, ℕ, ◌≤◌, ◌==◌, ◌&&◌, Bool, true, false, if◌then◌else◌, List, [], ◌∷◌, ◌++◌, Option, Some}
+use Rattle.std.specs.Prelude.{◌≡◌, ℕ, ◌≤◌, Bool, true, false, if◌then◌else◌, List, [], ◌∷◌, ◌++◌, Option, Some}
 use Rattle.std.specs.List.{AllByRecursion}
-use Rattle.conn_messages.specs.declared.channel.Channel.{Channel}
-use Rattle.conn_messages.specs.declared.channel.Place.{Place}
-use Rattle.conn_table.specs.declared.input.Input.{Input}
-use Rattle.conn_table.specs.declared.input.Input.TheVariants as inputs
-use Rattle.conn_table.specs.Connection.{Connection}
-use Rattle.conn_table.specs.Roles.{RoleStep, roles_of, step_by}
-use Rattle.conn_table.specs.Roles.RoleStep.{commands as role_commands, completes as role_completes}
-use Rattle.conn_table.specs.Standing.{IsCarried, Stands}
-use Rattle.conn_table.specs.Steps.{Row}
-use Rattle.conn_table.specs.Streams.{AreApart, IsOpen, relayed, target_in, undone, used_channels}
-use Rattle.conn_table.specs.Table.{row_of}
-use Rattle.controller_table.specs.Controller.{place_of}
-use Rattle.dtap_codec.specs.declared.sapi.Sapi.TheVariants.{Zero}
-use Rattle.lineup.specs.Alive.{Alive}
-use Rattle.lineup.specs.ChangeStep.{after_complete}
-use Rattle.lineup.specs.LineUp.{Item, Seat, flow, messages_in}
-use Rattle.lineup.specs.LineUp.Item.{brought, released}
-use Rattle.mobile_end.specs.Control.{is_control}
-use Rattle.mobile_end.specs.DataLinkState.{DataLinkState}
+use Rattle.world_laws.specs.Prelude.{Channel, Place, Input, Connection, IsCarried, Stands, Row, AreApart, IsOpen, relayed, target_in}
+use Rattle.world_laws.specs.Prelude.{undone, used_channels, row_of, place_of, Zero, is_control, DataLinkState, same_place}
+use Rattle.conn_rules.specs.declared.input.Input.TheVariants as inputs
+use Rattle.conn_rules.specs.Roles.{RoleStep, roles_of, step_by}
+use Rattle.conn_rules.specs.Roles.RoleStep.{commands as role_commands, completes as role_completes}
+use Rattle.world_laws.specs.LineUp.Alive.{Alive}
+use Rattle.world_laws.specs.LineUp.ChangeStep.{after_complete}
+use Rattle.world_laws.specs.LineUp.Places.{Item, Seat, flow, messages_in}
+use Rattle.world_laws.specs.LineUp.Places.Item.{brought, released}
 use Rattle.world_laws.specs.LineUps.{is_ended}
 use Rattle.world_laws.specs.OwnRow.{over}
 use Rattle.world_laws.specs.OwnStep.{StillAwaits}
 use Rattle.world_laws.specs.Staying.{EndsLast}
 use Rattle.world_laws.specs.ToCome.{AreLayer3, texts_of}
 
-abbrev pub is_same : Place → Place → Bool
-is_same place at = (place.station == at.station) && (place.number == at.number)
-
 -- what an input brings of a channel; COMPLETE and FAILURE are this text
 abbrev pub said_by : Input → List ℕ → Place → List Item
-said_by (inputs.Dtap at Zero message) text place = if is_same place at then brought message ∷ [] else []
-said_by (inputs.EstablishIndication at Zero (Some initial)) text place = if is_same place at then brought initial ∷ [] else []
-said_by (inputs.Complete at change cause) text place = if is_same place at then brought text ∷ [] else []
-said_by (inputs.Failure at change cause) text place = if is_same place at then brought text ∷ [] else []
-said_by (inputs.ReleaseAck at) text place = if is_same place at then released ∷ [] else []
+said_by (inputs.Dtap at Zero message) text place = if same_place place at then brought message ∷ [] else []
+said_by (inputs.EstablishIndication at Zero (Some initial)) text place = if same_place place at then brought initial ∷ [] else []
+said_by (inputs.Complete at change cause) text place = if same_place place at then brought text ∷ [] else []
+said_by (inputs.Failure at change cause) text place = if same_place place at then brought text ∷ [] else []
+said_by (inputs.ReleaseAck at) text place = if same_place place at then released ∷ [] else []
 said_by _ text place = []
 
 -- COMPLETE and FAILURE are of radio resource management, and the messages that are relayed aren't

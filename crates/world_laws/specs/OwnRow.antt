@@ -1,23 +1,12 @@
 -- A row of the table keeps its connection's line-up.
 use Rattle.std.specs.Prelude.{◌≡◌, ℕ, ◌+◌, Bool, List, [], ◌∷◌, ◌++◌, Option, Some}
-use Rattle.conn_messages.specs.declared.channel.Channel.{Channel}
-use Rattle.conn_messages.specs.declared.channel.Place.{Place}
-use Rattle.conn_table.specs.declared.input.Input.{Input}
-use Rattle.conn_table.specs.declared.state.State.TheVariants.{WaitConfirm}
-use Rattle.conn_table.specs.Connection.{Connection}
-use Rattle.conn_table.specs.Standing.{IsCarried, Stands}
-use Rattle.conn_table.specs.Steps.{Row}
-use Rattle.conn_table.specs.Streams.{AreApart, Ends, Future, IsOpen, from_input, relayed, used_channels}
-use Rattle.conn_table.specs.Table.{row_of}
-use Rattle.dtap_codec.specs.declared.sapi.Sapi.TheVariants.{Zero}
-use Rattle.controller_table.specs.Controller.{place_of}
+use Rattle.world_laws.specs.Prelude.{Channel, Place, Input, WaitConfirm, Connection, IsCarried, Stands, Row, AreApart, IsOpen, relayed}
+use Rattle.world_laws.specs.Prelude.{used_channels, row_of, Zero, place_of, to_be_taken, GoesOn, DataLinkState}
+use Rattle.conn_rules.specs.Streams.{Ends, Future, from_input}
 use Rattle.hold_queue.specs.ChainState.{empty_tenure}
-use Rattle.lineup.specs.Alive.{Alive}
-use Rattle.lineup.specs.LineUp.{Item, Seat, LineUp, flow, messages_in, controls_of, controls_in}
-use Rattle.lineup.specs.LineUp.Seat.{on_serving}
-use Rattle.mobile_end.specs.DataLink.{to_be_taken}
-use Rattle.mobile_end.specs.GoesOn.{GoesOn}
-use Rattle.mobile_end.specs.DataLinkState.{DataLinkState}
+use Rattle.world_laws.specs.LineUp.Alive.{Alive}
+use Rattle.world_laws.specs.LineUp.Places.{Item, Seat, LineUp, flow, messages_in, controls_of, controls_in}
+use Rattle.world_laws.specs.LineUp.Places.Seat.{on_serving}
 use Rattle.world_laws.specs.LineUps.{old_tenures, serving_hold, serving_tenure, commanded_target, target_tenure, assembled}
 use Rattle.world_laws.specs.OwnStep.{OwnStep, StillAwaits}
 use Rattle.world_laws.specs.ToCome.{AreLayer3, StandsFor}

@@ -1,13 +1,8 @@
 -- What a row does to the line-up of its connection, by the roles of its channels.
 use Rattle.std.specs.Prelude.{◌≡◌, ℕ, ◌+◌, ◌≤◌, ◌&&◌, ◌||◌, not, Bool, true, false, if◌then◌else◌, List, [], ◌∷◌, Option, Some, None}
-use Rattle.conn_messages.specs.declared.channel.Place.{Place}
-use Rattle.conn_table.specs.declared.state.Drain.{Drain}
-use Rattle.conn_table.specs.declared.state.State.{State}
-use Rattle.conn_table.specs.declared.state.Target.{Target}
-use Rattle.conn_table.specs.Connection.{Connection}
-use Rattle.controller_table.specs.Controller.{place_of}
-use Rattle.lineup.specs.ChangeStep.{after_complete}
-use Rattle.lineup.specs.LineUp.{Item, Seat, messages_in, controls_in, texts_in}
+use Rattle.world_laws.specs.Prelude.{Place, Drain, State, Target, Connection, place_of}
+use Rattle.world_laws.specs.LineUp.ChangeStep.{after_complete}
+use Rattle.world_laws.specs.LineUp.Places.{Item, Seat, messages_in, controls_in, texts_in}
 use Rattle.world_laws.specs.LineUps.{is_ended, is_opening, commanded_target}
 
 -- The row doesn't put the connection request: a connection that waits for its initial message still does.

@@ -1,11 +1,8 @@
 -- Each tenure is one mobile's: that for which its channel was activated.
 use Rattle.std.specs.Prelude.{List}
-use Rattle.settings.specs.Parameters.{AreAllowed, Parameters}
-use Rattle.world_table.specs.declared.event.Event.{Event}
-use Rattle.world_table.specs.Life.{actors_after_all}
-use Rattle.world_table.specs.Owners.{owner_in}
-use Rattle.world_table.specs.Tickets.{AllAreBy, AllSitBy, OneMobileEach, senders}
-use Rattle.world_table.specs.World.{new_actors}
+use Rattle.world_laws.specs.Prelude.{AreAllowed, Parameters, Event, actors_after_all, new_actors}
+use Rattle.world_model.specs.Owners.{owner_in}
+use Rattle.world_model.specs.Tickets.{AllAreBy, AllSitBy, OneMobileEach, senders}
 use Rattle.world_laws.specs.OthersFrame.{CameInOctets}
 
 -- what stations take agrees with it, whatever happens

@@ -1,16 +1,8 @@
 -- What a row by a frame puts is read as it was put.
 use Rattle.std.specs.Prelude.{◌≡◌, ℕ, List, ◌∷◌, Option}
-use Rattle.conn_messages.specs.declared.channel.Channel.{Channel}
-use Rattle.conn_table.specs.declared.input.Input.{Input}
-use Rattle.conn_table.specs.Connection.{Connection}
-use Rattle.conn_table.specs.Steps.{Row}
-use Rattle.controller_laws.specs.Sending.{IsOfOctets}
-use Rattle.relay_items.specs.declared.Item.{Item as RelayItem}
-use Rattle.settings.specs.Parameters.{AreAllowed, Parameters}
-use Rattle.world_table.specs.declared.event.Event.{Event}
-use Rattle.world_table.specs.declared.event.Event.TheVariants.{Handle}
-use Rattle.world_table.specs.Life.{actors_after, actors_after_all}
-use Rattle.world_table.specs.World.{modulus_in, new_actors}
+use Rattle.world_laws.specs.Prelude.{Channel, Input, Connection, Row, RelayItem, AreAllowed, Parameters, Event, Handle, actors_after}
+use Rattle.world_laws.specs.Prelude.{actors_after_all, modulus_in, new_actors}
+use Rattle.controller_model.specs.LifeLaws.Sending.{IsOfOctets}
 use Rattle.world_laws.specs.Handled.{IsReadyFor}
 use Rattle.world_laws.specs.OthersFrame.{CameInOctets}
 use Rattle.world_laws.specs.OwnFrame.{IsFrameFor}

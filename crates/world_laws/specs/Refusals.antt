@@ -1,15 +1,8 @@
 -- Stations refuse no activation.
 use Rattle.std.specs.Prelude.{List}
 use Rattle.std.specs.List.{AllByRecursion}
-use Rattle.conn_table.specs.declared.input.Input.TheVariants as inputs
-use Rattle.controller_laws.specs.History.{word_by, word_in}
-use Rattle.controller_table.specs.declared.word.Word.{Word}
-use Rattle.controller_table.specs.declared.word.Word.TheVariants.{OnChannel}
-use Rattle.settings.specs.Parameters.{Parameters}
-use Rattle.world_table.specs.declared.event.Event.{Event}
-use Rattle.world_table.specs.Life.{actors_after_all}
-use Rattle.world_table.specs.Steps.{all_steps}
-use Rattle.world_table.specs.World.{new_actors}
+use Rattle.conn_rules.specs.declared.input.Input.TheVariants as inputs
+use Rattle.world_laws.specs.Prelude.{word_by, word_in, Word, OnChannel, Parameters, Event, actors_after_all, all_steps, new_actors}
 
 abbrev pub RefusesNone : Word → Type 0
 RefusesNone (OnChannel at (inputs.ActivationNack place)) = ⊥

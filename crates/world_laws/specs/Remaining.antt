@@ -1,14 +1,12 @@
 -- What is still due of a channel's acknowledgements, by the state in which the controller has the channel.
-use Rattle.std.specs.Prelude.{◌≡◌, ℕ, ◌==◌, Bool, true, false, if◌then◌else◌, List, [], ◌∷◌, ◌++◌, not}
-use Rattle.conn_messages.specs.declared.channel.Place.{Place}
-use Rattle.conn_messages.specs.declared.out.Out.{Out}
-use Rattle.controller_table.specs.declared.channel_state.ChannelState.{ChannelState}
-use Rattle.controller_table.specs.declared.channel_state.ChannelState.TheVariants.{Free, InUse, Releasing}
-use Rattle.rsl_codec.specs.declared.rsl.Rsl.{Rsl}
-use Rattle.world_table.specs.Pipe.{acknowledgement, is_active_then}
-use Rattle.world_table.specs.Stations.{rsl_in}
+use Rattle.std.specs.Prelude.{◌≡◌, ℕ, ◌==◌, Bool, true, false, if◌then◌else◌, List, [], ◌∷◌, ◌++◌}
+use Rattle.world_laws.specs.Prelude.{Place, Out, Free, Rsl, rsl_in}
+use Rattle.controller_model.specs.declared.channel_state.ChannelState.{ChannelState}
+use Rattle.controller_model.specs.declared.channel_state.ChannelState.TheVariants.{InUse, Releasing}
+use Rattle.world_model.specs.Pipe.{acknowledgement, is_active_then}
 use Rattle.world_laws.specs.Acknowledged.{is_release_ack, NoneReleases, ReleasesLast}
 use Rattle.world_laws.specs.TakingTurns.{TakesTurns}
+use Rattle.world_model.specs.OwnerLines.{is_in_use}
 
 -- the acknowledgements due for outputs to the station, where the channel is active or not
 abbrev pub due_for : Place → Bool → List Out → List Rsl
@@ -16,11 +14,6 @@ due_for at active [] = []
 due_for at active (out ∷ outs) =
     if out.to == at.station then acknowledgement at.number active (rsl_in out.frame) ++ due_for at (is_active_then at.number active (rsl_in out.frame)) outs
     else due_for at active outs
-
--- once it has taken all its orders, a channel in use is active
-abbrev pub is_used : ChannelState → Bool
-is_used (InUse n) = true
-is_used _ = false
 
 -- an RF CHANNEL RELEASE ACK is due at the end of a channel that is releasing, and of no other
 abbrev pub EndsWithRelease : List Rsl → Type 0
@@ -32,9 +25,9 @@ abbrev pub IsDueIn : ChannelState → List Rsl → Type 0
 IsDueIn (Releasing n) messages = EndsWithRelease messages
 IsDueIn _ messages = NoneReleases messages
 
--- it stays so when orders take turns
+-- It stays so when orders take turns. Once it has taken all its orders, a channel in use is active.
 abbrev pub OrdersKeepDue : Place → Type 0
-OrdersKeepDue at = (before after : ChannelState) (messages : List Rsl) (outs : List Out) → TakesTurns at before outs after → IsDueIn before messages → IsDueIn after (messages ++ due_for at (is_used before) outs)
+OrdersKeepDue at = (before after : ChannelState) (messages : List Rsl) (outs : List Out) → TakesTurns at before outs after → IsDueIn before messages → IsDueIn after (messages ++ due_for at (is_in_use before) outs)
 
 -- and when the controller takes the first: an RF CHANNEL RELEASE ACK comes of a channel that is releasing alone, and frees it
 abbrev pub after_ack : Bool → ChannelState → ChannelState

@@ -1,20 +1,11 @@
 -- What comes on SAPI 3 is never of the flow.
 use Rattle.std.specs.Prelude.{◌≡◌, ℕ, ◌≤◌, false, List}
 use Rattle.std.specs.List.{AllByRecursion}
-use Rattle.conn_table.specs.declared.input.Input.{Input}
-use Rattle.conn_table.specs.declared.input.Input.TheVariants as inputs
-use Rattle.controller_laws.specs.End.{IsThere}
-use Rattle.controller_laws.specs.History.{connection_of, word_by, word_in}
-use Rattle.controller_table.specs.declared.word.Word.{Word}
-use Rattle.controller_table.specs.declared.word.Word.TheVariants.{OnChannel, OnConnection}
-use Rattle.controller_table.specs.Views.{held_up}
+use Rattle.world_laws.specs.Prelude.{Input, IsThere, connection_of, word_by, word_in, Word, OnChannel, OnConnection, is_flow_message}
+use Rattle.world_laws.specs.Prelude.{AreAllowed, Parameters, Event, actors_after_all, all_steps, new_actors}
+use Rattle.conn_rules.specs.declared.input.Input.TheVariants as inputs
+use Rattle.controller_model.specs.Views.{held_up}
 use Rattle.dtap_codec.specs.declared.sapi.Sapi.TheVariants.{Three}
-use Rattle.dtap_codec.specs.Message.{is_flow_message}
-use Rattle.settings.specs.Parameters.{AreAllowed, Parameters}
-use Rattle.world_table.specs.declared.event.Event.{Event}
-use Rattle.world_table.specs.Life.{actors_after_all}
-use Rattle.world_table.specs.Steps.{all_steps}
-use Rattle.world_table.specs.World.{new_actors}
 
 abbrev pub IsBesideFlow : List ℕ → Type 0
 IsBesideFlow message = is_flow_message message ≡ false

@@ -3,24 +3,15 @@ use Rattle.std.specs.Prelude.{◌≡◌, ◌≢◌, ℕ, true, false, List, [], 
 use Rattle.std.specs.List.{AllByRecursion}
 use Rattle.conn_messages.specs.declared.channel.Change.{Change}
 use Rattle.conn_messages.specs.declared.channel.Change.TheVariants.{Assignment, Handover}
-use Rattle.conn_messages.specs.declared.channel.Channel.{Channel}
-use Rattle.conn_messages.specs.declared.channel.Place.{Place}
-use Rattle.conn_messages.specs.declared.parameters.TheConstants.{SWITCH_LINK}
-use Rattle.conn_table.specs.declared.state.Target.{Target}
-use Rattle.conn_table.specs.Connection.{Connection, is_at}
-use Rattle.conn_table.specs.Streams.{AreApart, used_channels}
-use Rattle.controller_table.specs.Controller.{place_of}
-use Rattle.dtap_codec.specs.declared.rr.RrMessage.{RrMessage}
+use Rattle.world_laws.specs.Prelude.{Channel, Place, SWITCH_LINK, Target, Connection, AreApart, used_channels, place_of, RrMessage, RrFault}
+use Rattle.world_laws.specs.Prelude.{rr_reading, AirMessage, On, Tenure, Actors, Mobile, mobile_of, tenure_at, is_active_at}
+use Rattle.conn_rules.specs.Connection.{is_at}
 use Rattle.dtap_codec.specs.declared.rr.RrMessage.TheVariants.{AssignmentCommand, HandoverCommand}
-use Rattle.dtap_codec.specs.declared.rr_fault.RrFault.{RrFault}
-use Rattle.dtap_codec.specs.RrReading.{rr_reading}
-use Rattle.lineup.specs.Alive.{Alive}
-use Rattle.world_table.specs.declared.line.AirMessage.{AirMessage}
-use Rattle.world_table.specs.declared.seat.Command.{Command}
-use Rattle.world_table.specs.declared.seat.Seat.{Seat}
-use Rattle.world_table.specs.declared.seat.Seat.TheVariants.{On, Moving, Gone}
-use Rattle.world_table.specs.declared.seat.Tenure.{Tenure}
-use Rattle.world_table.specs.World.{Actors, Mobile, mobile_of, tenure_at, is_active_at, is_reached}
+use Rattle.world_laws.specs.LineUp.Alive.{Alive}
+use Rattle.world_model.specs.declared.seat.Command.{Command}
+use Rattle.world_model.specs.declared.seat.Seat.{Seat}
+use Rattle.world_model.specs.declared.seat.Seat.TheVariants.{Moving, Gone}
+use Rattle.world_model.specs.World.{is_reached}
 use Rattle.world_laws.specs.GoingDown.{going_down}
 use Rattle.world_laws.specs.LineUps.{commanded_target, line_up}
 

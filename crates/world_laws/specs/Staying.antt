@@ -1,25 +1,15 @@
 -- A connection stays lined up at an event.
 use Rattle.std.specs.Prelude.{◌≡◌, ◌≢◌, ℕ, Bool, true, false, List, [], ◌∷◌, ◌++◌, map, Option, Some, None}
 use Rattle.std.specs.List.{AllByRecursion}
-use Rattle.conn_messages.specs.declared.out.Out.{Out}
-use Rattle.conn_messages.specs.declared.parameters.TheConstants.{SWITCH_LINK}
-use Rattle.conn_table.specs.Connection.{Connection}
-use Rattle.conn_table.specs.Streams.{undone, used_channels}
-use Rattle.controller_table.specs.Life.{take, tick}
-use Rattle.controller_table.specs.Controller.{place_of}
-use Rattle.controller_table.specs.Views.{forwarded}
-use Rattle.lineup.specs.LineUp.{Item}
-use Rattle.lineup.specs.LineUp.Item.{brought, released}
-use Rattle.relay_items.specs.declared.Item.{Item as RelayItem}
-use Rattle.settings.specs.Parameters.{Parameters}
-use Rattle.world_table.specs.declared.event.Event.{Event}
-use Rattle.world_table.specs.declared.event.Event.TheVariants.{BaseTakes, Handle, SwitchTakes, Tick, BaseDown}
-use Rattle.world_table.specs.declared.line.OutboxEntry.{OutboxEntry}
-use Rattle.world_table.specs.SwitchSide.{sccp_in, switch_took}
-use Rattle.world_table.specs.Life.{actors_after, actors_after_all}
-use Rattle.world_table.specs.World.{Actors, Mobile, mobile_of, modulus_in, new_actors, outbox_of}
-use Rattle.world_table.specs.declared.seat.Tenure.{Tenure}
-use Rattle.world_table.specs.Relay.{entry_of, target_in}
+use Rattle.world_laws.specs.Prelude.{Out, SWITCH_LINK, Connection, undone, used_channels, take, place_of, forwarded, RelayItem, Parameters}
+use Rattle.world_laws.specs.Prelude.{Event, BaseTakes, Handle, SwitchTakes, Tick, OutboxEntry, sccp_in, actors_after, actors_after_all}
+use Rattle.world_laws.specs.Prelude.{Actors, Mobile, mobile_of, modulus_in, new_actors, outbox_of, Tenure}
+use Rattle.controller_model.specs.Life.{tick}
+use Rattle.world_laws.specs.LineUp.Places.{Item}
+use Rattle.world_laws.specs.LineUp.Places.Item.{brought, released}
+use Rattle.world_model.specs.declared.event.Event.TheVariants.{BaseDown}
+use Rattle.world_model.specs.SwitchSide.{switch_took}
+use Rattle.world_model.specs.Relay.{entry_of, target_in}
 use Rattle.world_laws.specs.ComingUp.{brings_in, coming_up}
 use Rattle.world_laws.specs.GoingDown.{leading_from_outbox}
 use Rattle.world_laws.specs.LineUps.{commanded_target, taken_of}

@@ -1,25 +1,17 @@
 -- What the controller orders of a channel, activations and releases, takes turns.
 use Rattle.std.specs.Prelude.{◌≡◌, ◌≢◌, ℕ, ◌==◌, true, if◌then◌else◌, List, [], ◌∷◌, Option, Some, None}
 use Rattle.std.specs.List.{AllByRecursion}
-use Rattle.conn_messages.specs.declared.channel.Place.{Place}
-use Rattle.conn_messages.specs.declared.out.Out.{Out}
-use Rattle.conn_table.specs.declared.input.Input.TheVariants as inputs
-use Rattle.controller_laws.specs.History.{word_in}
-use Rattle.controller_laws.specs.Sending.{ComesInOctets}
-use Rattle.controller_table.specs.declared.channel_state.ChannelState.{ChannelState}
-use Rattle.controller_table.specs.declared.channel_state.ChannelState.TheVariants.{Free, InUse, Releasing}
-use Rattle.controller_table.specs.declared.step.Step.{Step}
-use Rattle.controller_table.specs.declared.step.Step.TheVariants.{Take, Tick}
-use Rattle.controller_table.specs.declared.word.Word.{Word}
-use Rattle.controller_table.specs.declared.word.Word.TheVariants.{OnChannel}
-use Rattle.controller_table.specs.Controller.{channel_state, is_up}
-use Rattle.controller_table.specs.Life.{life, step}
-use Rattle.relay_items.specs.declared.What.TheVariants as whats
-use Rattle.rsl_codec.specs.declared.rsl.Rsl.{Rsl}
+use Rattle.world_laws.specs.Prelude.{Place, Out, word_in, ComesInOctets, Free, Word, OnChannel, channel_state, Rsl, AreAllowed, Parameters}
+use Rattle.world_laws.specs.Prelude.{rsl_in, same_place}
+use Rattle.conn_rules.specs.declared.input.Input.TheVariants as inputs
+use Rattle.controller_model.specs.declared.channel_state.ChannelState.{ChannelState}
+use Rattle.controller_model.specs.declared.channel_state.ChannelState.TheVariants.{InUse, Releasing}
+use Rattle.controller_model.specs.declared.step.Step.{Step}
+use Rattle.controller_model.specs.declared.step.Step.TheVariants.{Take, Tick}
+use Rattle.controller_model.specs.Controller.{is_up}
+use Rattle.controller_model.specs.Life.{life, step}
+use Rattle.ruled_relay.specs.declared.item.What.TheVariants as whats
 use Rattle.rsl_codec.specs.declared.rsl.Rsl.TheVariants.{ChannelActivation, RfChannelRelease}
-use Rattle.settings.specs.Parameters.{AreAllowed, Parameters}
-use Rattle.world_table.specs.Stations.{rsl_in}
-use Rattle.world_laws.specs.OwnItem.{is_same}
 use Rattle.world_laws.specs.Refusals.{RefusesNone}
 
 pub data Order : Type 0 where
@@ -48,7 +40,7 @@ TakesTurns at before (out ∷ outs) after = (between : ChannelState) × Turns (o
 
 -- an RF CHANNEL RELEASE ACK frees its channel first, where it is releasing
 abbrev pub freed_by : Place → Word → ChannelState → ChannelState
-freed_by at (OnChannel place (inputs.ReleaseAck acknowledged)) (Releasing n) = if is_same place at then Free else Releasing n
+freed_by at (OnChannel place (inputs.ReleaseAck acknowledged)) (Releasing n) = if same_place place at then Free else Releasing n
 freed_by at word state = state
 
 -- it isn't that the link of the station breaks

@@ -2,15 +2,10 @@
 use Rattle.std.specs.Prelude.{◌≡◌, ℕ, ◌&&◌, not, Bool, true, false, List, [], ◌∷◌, ◌++◌, Option, Some, None}
 use Rattle.std.specs.List.{AllByRecursion}
 use Rattle.bssmap_codec.specs.Layer3.{IsLayer3}
-use Rattle.conn_messages.specs.declared.channel.Channel.{Channel}
-use Rattle.conn_messages.specs.declared.channel.Place.{Place}
-use Rattle.conn_table.specs.declared.state.Drain.{Drain}
-use Rattle.conn_table.specs.declared.state.Target.{Target}
-use Rattle.conn_table.specs.Connection.{Connection}
-use Rattle.conn_table.specs.Streams.{Future, undone}
-use Rattle.controller_table.specs.Controller.{place_of}
+use Rattle.world_laws.specs.Prelude.{Channel, Place, Drain, Target, Connection, undone, place_of}
+use Rattle.conn_rules.specs.Streams.{Future}
 use Rattle.hold_queue.specs.ChainState.{Tenure as Held}
-use Rattle.lineup.specs.LineUp.{Item, messages_in}
+use Rattle.world_laws.specs.LineUp.Places.{Item, messages_in}
 use Rattle.mobile_end.specs.Control.{without_control}
 use Rattle.world_laws.specs.LineUps.{is_ended, commanded_target}
 

@@ -1,17 +1,19 @@
+//! Laws: each contract states what holds of the definitions that it names. Their bodies are empty.
+
 ghost use Rattle.std.specs.Prelude.{ℕ, List, Option};
 ghost use Rattle.conn_messages.specs.declared.channel.Channel.{Channel};
-ghost use Rattle.conn_table.specs.declared.input.Input.{Input};
-ghost use Rattle.conn_table.specs.Connection.{Connection};
-ghost use Rattle.conn_table.specs.Steps.{Row};
+ghost use Rattle.conn_rules.specs.declared.input.Input.{Input};
+ghost use Rattle.conn_rules.specs.Connection.{Connection};
+ghost use Rattle.conn_rules.specs.Steps.{Row};
 ghost use Rattle.settings.specs.Parameters.{Parameters};
-ghost use Rattle.world_table.specs.declared.event.Event.{Event as WorldEvent};
-ghost use Rattle.world_table.specs.World.{Actors};
+ghost use Rattle.world_model.specs.declared.event.Event.{Event as WorldEvent};
+ghost use Rattle.world_model.specs.World.{Actors};
 ghost use Rattle.world_laws.specs.Acknowledged.{AcksFlow, AllAcksTell};
 ghost use Rattle.world_laws.specs.Ended.{EndedAreInOrder, EndedStayInOrder, LineUpsMayEnd};
 ghost use Rattle.world_laws.specs.FromTheBeginning.{ConnectionsStand, MessagesAreWhole};
 ghost use Rattle.world_laws.specs.Handled.{FramesKeepLineUps};
 ghost use Rattle.world_laws.specs.InOrder.{LineUpsAreInOrder};
-ghost use Rattle.relay_items.specs.declared.Item.{Item as ItemValue};
+ghost use Rattle.ruled_relay.specs.declared.item.Item.{Item as ItemValue};
 ghost use Rattle.world_laws.specs.OwnFrame.{FrameIsHandled};
 ghost use Rattle.world_laws.specs.OwnHandle.{HandleKeepsLineUps, TimeAgesLineUps};
 ghost use Rattle.world_laws.specs.OwnItem.{InputKeepsLineUp};
@@ -25,13 +27,13 @@ ghost use Rattle.world_laws.specs.PutAsRead.{AllowedFramesKeepLineUps};
 ghost use Rattle.world_laws.specs.AcksBegin.{AcksBegin};
 ghost use Rattle.world_laws.specs.Refusals.{NoneRefuse};
 ghost use Rattle.world_laws.specs.TakingTurns.{OrdersTakeTurns};
-ghost use Rattle.controller_table.specs.declared.step.Step.{Step as ControllerStep};
+ghost use Rattle.controller_model.specs.declared.step.Step.{Step as ControllerStep};
 ghost use Rattle.world_laws.specs.Remaining.{KeepsDue};
 ghost use Rattle.conn_messages.specs.declared.channel.Place.{Place as ChannelPlace};
 
-/// Law: whatever events happened, a connection that is lined up with its mobile, and whose channels no other mobile is on, stays
-/// lined up at what mobiles do, at what stations take from them and give to the inbox, and at what the switch does of its own.
-/// It does nothing, as all here.
+/// Law: whatever events happened, a connection that is lined up with its mobile, and whose channels no other mobile is
+/// on, stays lined up at what mobiles do, at what stations take from them and give to the inbox, and at what the switch
+/// does of its own.
 pub fn mobiles_keep_line_ups()
     ensures { (settings : Parameters) (events : List WorldEvent) (event : WorldEvent) → MobilesKeepLineUps settings events event }
 {}

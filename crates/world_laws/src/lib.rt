@@ -1,7 +1,20 @@
-//! Laws of the world with a controller: how the messages of each mobile are lined up on their way to the switch. It holds
-//! definitions and laws alone.
+//! Laws of the world with a controller, and of the line-up of one connection in it: where the messages stand that a mobile
+//! sent, from the radio link over its channels and the controller to the switch, in the order of their places. Whatever
+//! happens, the switch accepts them once and in order. It holds definitions and laws alone, by subject:
+//! `LineUp` (one connection, and neither a controller nor a world), `Channels` (what is on its way on channels), `Owners` (whose
+//! they are), `Targets` (of changes of channel), `References` (at the switch), `Access` (how a connection begins), `Handling`
+//! (how it fares when the controller works) and `Order` (these joined, over whole runs).
 #![tactic(auto)]
 
+pub use access_laws::{
+    coming_connections_come, connections_begin_for_their_mobile, opened_connections_stay_opened,
+    others_keep_coming,
+};
+pub use channel_laws::{
+    acknowledgements_agree, begun_channels_are_taken, established_channels_are_active,
+    free_channels_are_silent, old_channels_end, served_channels_are_active,
+};
+pub use handling_laws::live_connections_fare_on;
 pub use laws::{
     acknowledgements_begin, acknowledgements_tell, allowed_frames_keep_line_ups, connections_stand,
     due_follows_orders, ended_connections_stay_in_order, flow_comes_on_sapi_zero,
@@ -11,5 +24,31 @@ pub use laws::{
     rows_keep_line_ups, station_breaks_keep_line_ups, stations_keep_line_ups,
     stations_refuse_nothing, switch_keeps_line_ups, tenures_are_mobiles,
 };
+pub use line_up_laws::{
+    breaks_keep_line_up, changes_keep_line_up, ended_line_up_stays_in_order, line_up_begins,
+    line_up_is_accepted_in_order, mobile_keeps_line_up, relaying_keeps_line_up,
+};
+pub use order_laws::{
+    channel_of_a_coming_one_is_quiet_down, connections_begin, connections_begin_coming,
+    cut_numbers_stay, fair_frames_are_put, line_ups_stand, octets_come, runs_are_in_order,
+    stations_give_octets, switch_is_of_modulus, targets_are_fresh, unanswered_mobiles_ask,
+};
+pub use owner_laws::{
+    connections_are_alone, connections_are_one_each, frames_come_before_their_down,
+    links_of_channels_are_up,
+};
+pub use reference_laws::{
+    dropped_are_unheard, names_agree, over_puts_no_more, peers_differ, switch_delivers_or_refuses,
+    unasked_are_unheard_of, unheard_stay_unheard,
+};
+pub use target_laws::{free_channels_are_quiet, targets_stay_fresh};
 
+mod access_laws;
+mod channel_laws;
+mod handling_laws;
 mod laws;
+mod line_up_laws;
+mod order_laws;
+mod owner_laws;
+mod reference_laws;
+mod target_laws;

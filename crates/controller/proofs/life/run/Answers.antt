@@ -1,26 +1,25 @@
-use Rattle.std.proofs.Common.{ℕ, ◌≤◌, ◌<◌, List, arith}
+use Rattle.controller.proofs.Prelude.{ℕ, ◌≤◌, ◌<◌, List, arith, Step, Controller}
 use Rattle.conn_messages.specs.declared.parameters.TheConstants.{SWITCH_LINK}
 use Rattle.controller.proofs.LifeLaws.{channels_of, downlink_of, handing_of, if_so, next_of, sent_of, silence_of, uplink_of, used_of}
 use Rattle.controller.proofs.life.run.Goals as goal
-use Rattle.controller_laws.proofs.Concerning.{frame_leaves}
-use Rattle.controller_laws.proofs.Lives.{life_acts, life_fits}
-use Rattle.controller_laws.proofs.NamingLife.{life_names}
-use Rattle.controller_laws.proofs.OwningLife.{life_linked}
-use Rattle.controller_laws.proofs.Placed.{life_placed}
-use Rattle.controller_laws.proofs.Silence.{stays_silent}
-use Rattle.controller_laws.proofs.UsingLife.{life_reaches}
-use Rattle.controller_laws.specs.Acts.{ActsOn}
-use Rattle.controller_laws.specs.Concern.{FrameLeaves}
-use Rattle.controller_laws.specs.End.{IsThere, StaysSilent}
-use Rattle.controller_laws.specs.History.{connection_of}
-use Rattle.controller_laws.specs.Naming.{NamesItsMobile}
-use Rattle.controller_laws.specs.Numbers.{IsNumbered}
-use Rattle.controller_laws.specs.Owning.{LinkedOf}
-use Rattle.controller_laws.specs.Placing.{KeepsToChannels}
-use Rattle.controller_laws.specs.Reach.{GoesToUp}
-use Rattle.controller_table.specs.declared.step.Step.{Step}
-use Rattle.controller_table.specs.Controller.{Controller, is_up}
-use Rattle.controller_table.specs.Life.{life}
+use Rattle.controller_model.proofs.LifeLaws.Concerning.{frame_leaves}
+use Rattle.controller_model.proofs.LifeLaws.Lives.{life_acts, life_fits}
+use Rattle.controller_model.proofs.LifeLaws.NamingLife.{life_names}
+use Rattle.controller_model.proofs.LifeLaws.OwningLife.{life_linked}
+use Rattle.controller_model.proofs.LifeLaws.Placed.{life_placed}
+use Rattle.controller_model.proofs.LifeLaws.Silence.{stays_silent}
+use Rattle.controller_model.proofs.LifeLaws.UsingLife.{life_reaches}
+use Rattle.controller_model.specs.LifeLaws.Acts.{ActsOn}
+use Rattle.controller_model.specs.LifeLaws.Concern.{FrameLeaves}
+use Rattle.controller_model.specs.LifeLaws.End.{IsThere, StaysSilent}
+use Rattle.controller_model.specs.LifeLaws.History.{connection_of}
+use Rattle.controller_model.specs.LifeLaws.Naming.{NamesItsMobile}
+use Rattle.controller_model.specs.LifeLaws.Numbers.{IsNumbered}
+use Rattle.controller_model.specs.LifeLaws.Owning.{LinkedOf}
+use Rattle.controller_model.specs.LifeLaws.Placing.{KeepsToChannels}
+use Rattle.controller_model.specs.LifeLaws.Reach.{GoesToUp}
+use Rattle.controller_model.specs.Controller.{is_up}
+use Rattle.controller_model.specs.Life.{life}
 use Rattle.ipa_framing.specs.declared.frame.Frame.{Frame}
 
 pub returns-clause-uplink : goal.returns-clause-uplink

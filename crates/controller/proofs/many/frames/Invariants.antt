@@ -1,4 +1,5 @@
-use Rattle.std.proofs.Common.{◌≡◌, ◌+◌, drop, sum_by}
+use Rattle.controller.proofs.Prelude.{◌≡◌, ◌+◌, drop}
+use Rattle.std.proofs.Common.{sum_by}
 use Rattle.controller.specs.Many.{frames_of}
 use Rattle.controller.proofs.many.frames.Given as goal
 

@@ -1,4 +1,4 @@
-use Rattle.std.proofs.Common.{◌≡◌, drop}
+use Rattle.controller.proofs.Prelude.{◌≡◌, drop}
 use Rattle.controller.specs.Rest.{all_down}
 use Rattle.controller.proofs.rest.all_down.Given as goal
 

@@ -1,4 +1,4 @@
-use Rattle.std.proofs.Common.{rules}
+use Rattle.controller.proofs.Prelude.{rules}
 use Rattle.std.proofs.lemmas.Fn.{filter_same}
 use Rattle.controller.proofs.views.dtap_of.Goals as goal
 

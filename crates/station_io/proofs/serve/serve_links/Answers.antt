@@ -1,5 +1,5 @@
 use Rattle.std.proofs.Common.{◌≡◌, List, Option, ◌∙◌, map, arith, sym, subst}
-use Rattle.link_io.specs.declared.fault.IoFault.{IoFault}
+use Rattle.link_workers.specs.declared.fault.IoFault.{IoFault}
 use Rattle.station_io.specs.declared.link.Link.{Link}
 use Rattle.station_io.specs.Links.{Relays, ended_view, link_view}
 use Rattle.station_io.proofs.Relaying.{relays, same_outboxes, same_queues, size_putters, size_read, size_written}

@@ -1,7 +1,7 @@
 use Rattle.std.proofs.Common.{rules, tests, ◌==◌, ◌&&◌, not, ◌∙◌}
 use Rattle.std.proofs.lemmas.Iterator.Consumers.{YieldsList-from_deque}
 use Rattle.std.proofs.lemmas.Iterator.Search.{any_from_yields_List}
-use Rattle.conn_table.specs.declared.state.Drain.{Drain}
+use Rattle.conn_rules.specs.declared.state.Drain.{Drain}
 use Rattle.conn_fsm.proofs.OldChannels.{some_drains}
 use Rattle.conn_fsm.proofs.drains.Drains.drains_at.Goals as goal
 

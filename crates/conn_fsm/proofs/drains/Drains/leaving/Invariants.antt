@@ -1,5 +1,5 @@
 use Rattle.std.proofs.Common.{◌≡◌, ◌+◌, drop}
-use Rattle.conn_table.specs.Steps.{done_at}
+use Rattle.conn_rules.specs.Steps.{done_at}
 use Rattle.conn_fsm.specs.Leaving.{leaving}
 use Rattle.conn_fsm.proofs.drains.Drains.leaving.Given as goal
 

@@ -1,8 +1,8 @@
 use Rattle.std.proofs.Common.{rules, tests, ◌&&◌, not, ◌∙◌}
 use Rattle.std.proofs.lemmas.Iterator.Consumers.{YieldsList-from_deque}
 use Rattle.std.proofs.lemmas.Iterator.Search.{position_from_yields_List}
-use Rattle.conn_table.specs.declared.state.Drain.{Drain}
-use Rattle.conn_table.specs.Connection.{is_at}
+use Rattle.conn_rules.specs.declared.state.Drain.{Drain}
+use Rattle.conn_rules.specs.Connection.{is_at}
 use Rattle.conn_fsm.proofs.OldChannels.{place_is}
 use Rattle.conn_fsm.proofs.drains.Drains.place_of.Goals as goal
 

@@ -1,6 +1,6 @@
 use Rattle.std.proofs.Common.{rules}
-use Rattle.conn_table.specs.Connection.{is_at}
-use Rattle.conn_table.specs.Table.{assign_immediately}
+use Rattle.conn_rules.specs.Connection.{is_at}
+use Rattle.conn_rules.specs.Table.{assign_immediately}
 use Rattle.conn_fsm.proofs.Keeping.{fitting}
 use Rattle.conn_fsm.proofs.machine.Machine.access_activated.Goals as goal
 

@@ -1,5 +1,5 @@
 use Rattle.std.proofs.Common.{drop}
-use Rattle.conn_table.specs.Connection.{first_channel}
+use Rattle.conn_rules.specs.Connection.{first_channel}
 use Rattle.conn_fsm.proofs.Pushing.{tenure_put}
 use Rattle.conn_fsm.proofs.machine.Machine.put_tenure.Goals as goal
 

@@ -2,8 +2,8 @@ use Rattle.std.proofs.Common.{◌≡◌, ◌∙◌, ◌++◌, List, ap, subst}
 use Rattle.conn_messages.specs.declared.message.Message.{Message}
 use Rattle.conn_messages.specs.Out.{IsSound, outs_of}
 use Rattle.std.specs.List.{AllByRecursion}
-use Rattle.conn_table.specs.Connection.{Connection}
-use Rattle.conn_table.specs.Steps.{done_at}
+use Rattle.conn_rules.specs.Connection.{Connection}
+use Rattle.conn_rules.specs.Steps.{done_at}
 use Rattle.conn_fsm.specs.Leaving.{leaving}
 use Rattle.conn_fsm.proofs.Leaving.{does_next, does_outs}
 use Rattle.conn_fsm.proofs.machine.Machine.release.Goals as goal

@@ -1,6 +1,6 @@
 use Rattle.std.proofs.Common.{◌≡◌, None, find, sym, subst}
 use Rattle.std.specs.List.{AllByRecursion}
-use Rattle.controller_table.specs.Controller.{Entry, has_number}
+use Rattle.controller_model.specs.Controller.{Entry, has_number}
 use Rattle.connections.specs.Entries.{ConnectionsState, IsBelow, IsOfCell}
 use Rattle.connections.proofs.Rising.{fresh, push_kept}
 use Rattle.connections.proofs.connections.Connections.open.Goals as goal

@@ -1,5 +1,5 @@
 use Rattle.std.proofs.Common.{sym, subst}
-use Rattle.controller_table.specs.Controller.{Entry}
+use Rattle.controller_model.specs.Controller.{Entry}
 use Rattle.connections.specs.Entries.{IsKept}
 use Rattle.connections.proofs.Kept.{commit_serves}
 use Rattle.connections.proofs.entry.Entry.commit.Goals as goal

@@ -1,5 +1,5 @@
 use Rattle.std.proofs.Common.{◌≡◌, List, None, find, sym, subst, ◌∙◌}
-use Rattle.controller_table.specs.Controller.{Entry, has_number}
+use Rattle.controller_model.specs.Controller.{Entry, has_number}
 use Rattle.connections.specs.Index.{listed}
 use Rattle.connections.specs.Steps.{all_with_report}
 use Rattle.connections.proofs.Indexed.{find_none}

@@ -1,6 +1,6 @@
 use Rattle.std.proofs.Common.{◌≤◌, ℕ, List, length, map, sym, subst, ap, ◌∙◌, refl, arith}
-use Rattle.controller_table.specs.Controller.{Entry}
-use Rattle.controller_table.specs.Life.{aged}
+use Rattle.controller_model.specs.Controller.{Entry}
+use Rattle.controller_model.specs.Life.{aged}
 use Rattle.connections.specs.Index.{IsIndex, listed}
 use Rattle.connections.proofs.Indexed.{index_mapped, listed_mapped}
 use Rattle.connections.proofs.Settled.{aged_has, all_aged_slots, none_aged, one_more_aged}

@@ -1,6 +1,6 @@
 use Rattle.std.proofs.Common.{ℕ, List, slice_get, sym, ap, ◌∙◌}
 use Rattle.std.specs.Option.{option_and_then}
-use Rattle.controller_table.specs.Controller.{Entry}
+use Rattle.controller_model.specs.Controller.{Entry}
 use Rattle.connections.specs.Index.{at}
 use Rattle.connections.proofs.Indexed.{get_listed}
 use Rattle.connections.proofs.table.Table.at.Goals as goal

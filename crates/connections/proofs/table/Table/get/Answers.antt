@@ -1,5 +1,5 @@
 use Rattle.std.proofs.Common.{List, find, sym, ap, ◌∙◌}
-use Rattle.controller_table.specs.Controller.{Entry, has_number}
+use Rattle.controller_model.specs.Controller.{Entry, has_number}
 use Rattle.connections.proofs.Indexed.{find_found, find_none}
 use Rattle.connections.proofs.table.Table.get.Goals as goal
 

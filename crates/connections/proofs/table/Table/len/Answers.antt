@@ -1,5 +1,5 @@
 use Rattle.std.proofs.Common.{List, length, sym, ap, ◌∙◌}
-use Rattle.controller_table.specs.Controller.{Entry}
+use Rattle.controller_model.specs.Controller.{Entry}
 use Rattle.connections.proofs.Indexed.{length-listed}
 use Rattle.connections.proofs.table.Table.len.Goals as goal
 

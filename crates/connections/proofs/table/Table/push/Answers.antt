@@ -1,6 +1,6 @@
 use Rattle.std.proofs.Common.{◌≡◌, ◌++◌, [], ◌∷◌, List, None, find, sym, subst, ap, ◌∙◌}
-use Rattle.conn_table.specs.Connection.{Connection}
-use Rattle.controller_table.specs.Controller.{Entry, has_number}
+use Rattle.conn_rules.specs.Connection.{Connection}
+use Rattle.controller_model.specs.Controller.{Entry, has_number}
 use Rattle.slab.specs.Slab.{Slab}
 use Rattle.connections.proofs.Settled.{pushed}
 use Rattle.connections.proofs.table.Table.push.Goals as goal

@@ -1,8 +1,6 @@
-use Rattle.std.proofs.Common.{◌++◌, map}
-use Rattle.std.specs.Vec.Iter.{into_iter_items}
+use Rattle.controller.proofs.Prelude.{◌++◌, map, into_iter_items, each}
 use Rattle.controller.specs.Many.{carried_out, planned_for}
 use Rattle.controller.proofs.Carrying.{IsLeft}
-use Rattle.controller_table.specs.Controller.{each}
 use Rattle.controller.proofs.controller.Controller.carry_out.Given as goal
 
 -- what is left makes the same as all do

@@ -1,12 +1,11 @@
-use Rattle.std.proofs.Common.{◌≡◌, ◌+◌, ◌<◌, ◌≤◌, length, arith, find, subst, sym, ◌∙◌}
+use Rattle.controller.proofs.Prelude.{◌≡◌, ◌+◌, ◌<◌, ◌≤◌, length, arith, find, subst, sym, ◌∙◌, Controller, entry_of, has_number}
+use Rattle.controller.proofs.Prelude.{Parameters}
 use Rattle.connections.specs.Steps.{CommitsFor}
 use Rattle.controller.specs.contracts.controller.Controller.{the_view}
 use Rattle.controller.specs.Doing.{Turns}
 use Rattle.controller.specs.Many.{IsReadyFor, PlannedState, carried_out, frames_of, planned_for}
 use Rattle.controller.proofs.One.{below_commits, room_for, step_done}
 use Rattle.controller.proofs.controller.Controller.carry_out_one.Goals as goal
-use Rattle.controller_table.specs.Controller.{Controller, entry_of, has_number}
-use Rattle.settings.specs.Parameters.{Parameters}
 
 pub invariant_of-self : goal.invariant_of-self
 invariant_of-self c = record {

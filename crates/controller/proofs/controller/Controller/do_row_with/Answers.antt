@@ -1,7 +1,6 @@
-use Rattle.std.proofs.Common.{drop, length, subst, ap, ◌∙◌}
+use Rattle.controller.proofs.Prelude.{drop, length, subst, ap, ◌∙◌, entry_of}
 use Rattle.controller.specs.contracts.controller.Controller.{the_view}
 use Rattle.controller.specs.Doing.{Turns, by_offer}
-use Rattle.controller_table.specs.Controller.{entry_of}
 use Rattle.controller.proofs.Stepping.{step_stays_below, step_turns, to_the_end}
 use Rattle.controller.proofs.controller.Controller.do_row_with.Goals as goal
 

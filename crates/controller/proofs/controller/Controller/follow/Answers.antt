@@ -1,6 +1,6 @@
-use Rattle.std.proofs.Common.{ap, ◌∙◌}
-use Rattle.conn_table.proofs.DownlinkMessages.{AllByRecursion-so}
-use Rattle.conn_messages.specs.Out.{IsLawfulMessage, IsSound}
+use Rattle.controller.proofs.Prelude.{ap, ◌∙◌, IsSound}
+use Rattle.conn_rules.proofs.DownlinkMessages.{AllByRecursion-so}
+use Rattle.conn_messages.specs.Out.{IsLawfulMessage}
 use Rattle.controller.specs.contracts.controller.Controller.{the_view}
 use Rattle.controller.specs.Doing.{following}
 use Rattle.controller.proofs.Stepping.{followed}

@@ -1,12 +1,11 @@
-use Rattle.std.proofs.Common.{◌≡◌, ◌++◌, find, refl, sym, subst, ap, ◌∙◌}
-use Rattle.std.specs.List.{AllByRecursion}
-use Rattle.connections.specs.Entries.{ConnectionsState, IsBelow, decision_with}
+use Rattle.controller.proofs.Prelude.{◌≡◌, ◌++◌, find, refl, sym, subst, ap, ◌∙◌, AllByRecursion, ConnectionsState, IsBelow, Controller}
+use Rattle.controller.proofs.Prelude.{Turn, entry_of, has_number}
+use Rattle.connections.specs.Entries.{decision_with}
 use Rattle.connections.specs.Steps.{all_with_report}
-use Rattle.controller_table.specs.Controller.{Controller, Turn, entry_of, has_number}
 use Rattle.controller.specs.contracts.controller.Controller.{the_view}
 use Rattle.controller.specs.Reporting.{decided_in}
 use Rattle.controller.proofs.Measuring.{added, measured_there, report_stays_below}
-use Rattle.controller_table.proofs.Entries.{number_of_found}
+use Rattle.controller_model.proofs.Entries.{number_of_found}
 use Rattle.controller.proofs.controller.Controller.measure.Goals as goal
 
 pub invariant_of-self : goal.invariant_of-self

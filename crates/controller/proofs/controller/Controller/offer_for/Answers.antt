@@ -1,6 +1,6 @@
-use Rattle.std.proofs.Common.{◌≤◌, None, sym, subst, ap, ◌∙◌}
+use Rattle.controller.proofs.Prelude.{◌≤◌, None, sym, subst, ap, ◌∙◌}
 use Rattle.std.specs.Option.{option_copied}
-use Rattle.conn_table.specs.Table.{row_of, serving_after}
+use Rattle.conn_rules.specs.Table.{row_of, serving_after}
 use Rattle.controller.proofs.Cells.{serves_a_cell}
 use Rattle.controller.proofs.Inputs.{needs_no_offer}
 use Rattle.controller.proofs.controller.Controller.offer_for.Goals as goal

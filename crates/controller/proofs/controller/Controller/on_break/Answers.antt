@@ -1,10 +1,9 @@
-use Rattle.std.proofs.Common.{map, ap, ◌∙◌}
+use Rattle.controller.proofs.Prelude.{map, ap, ◌∙◌, ChannelState}
 use Rattle.controller.proofs.Carrying.{break_done, down_ready, on_station, on_switch}
 use Rattle.controller.proofs.controller.Controller.on_break.Goals as goal
 use Rattle.controller.specs.contracts.controller.Controller.{the_view}
 use Rattle.controller.specs.Many.{planned_for}
-use Rattle.controller_table.specs.declared.channel_state.ChannelState.{ChannelState}
-use Rattle.controller_table.specs.Controller.{freed_station}
+use Rattle.controller_model.specs.Controller.{freed_station}
 use Rattle.std.specs.Prelude.{List}
 
 pub carry_out-requires-clause-ready : goal.carry_out-requires-clause-ready

@@ -1,7 +1,6 @@
-use Rattle.std.proofs.Common.{◌≡◌, List, ap, ◌∙◌}
-use Rattle.controller_table.specs.declared.channel_state.ChannelState.{ChannelState}
-use Rattle.controller_table.specs.declared.channel_state.ChannelState.TheVariants.{Free}
-use Rattle.controller_table.specs.Controller.{Controller, with_state}
+use Rattle.controller.proofs.Prelude.{◌≡◌, List, ap, ◌∙◌, ChannelState, Controller}
+use Rattle.controller_model.specs.declared.channel_state.ChannelState.TheVariants.{Free}
+use Rattle.controller_model.specs.Controller.{with_state}
 use Rattle.controller.specs.contracts.controller.Controller.{the_view}
 use Rattle.controller.proofs.Freeing.{state_is_back}
 use Rattle.controller.proofs.controller.Controller.on_freed.Goals as goal

@@ -1,17 +1,12 @@
-use Rattle.std.proofs.Common.{◌≡◌, ℕ, ◌+◌, List, [], ◌∷◌, ◌++◌, subst, ap, ◌∙◌}
-use Rattle.conn_messages.specs.declared.channel.Channel.{Channel}
-use Rattle.conn_messages.specs.declared.out.Out.{Out}
-use Rattle.conn_messages.specs.Out.{outs_of}
+use Rattle.controller.proofs.Prelude.{◌≡◌, ℕ, ◌+◌, List, [], ◌∷◌, ◌++◌, subst, ap, ◌∙◌, Channel, Out, outs_of, ConnectionsState}
+use Rattle.controller.proofs.Prelude.{ChannelState, Controller, Parameters}
 use Rattle.conn_messages.specs.StationMessage.{access_activation}
-use Rattle.connections.specs.Entries.{ConnectionsState}
 use Rattle.controller.specs.contracts.controller.Controller.{the_view}
 use Rattle.controller.specs.Doing.{Turns}
 use Rattle.controller.proofs.controller.Controller.open.Goals as goal
-use Rattle.controller_table.specs.declared.channel_state.ChannelState.{ChannelState}
-use Rattle.controller_table.specs.Controller.{Controller, channels_after}
-use Rattle.controller_table.specs.Life.{new_entry, with_connection}
+use Rattle.controller_model.specs.Controller.{channels_after}
+use Rattle.controller_model.specs.Life.{new_entry, with_connection}
 use Rattle.rsl_codec.specs.declared.values.RequestReference.{RequestReference}
-use Rattle.settings.specs.Parameters.{Parameters}
 
 -- one connection more, whose channel is activated
 opened : (c : Controller) (p : Parameters) (made : ConnectionsState) (channels : List (List ChannelState)) (channel : Channel) (request : RequestReference) (delay : ℕ) → p ≡ c.settings

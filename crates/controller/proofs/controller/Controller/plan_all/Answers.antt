@@ -1,9 +1,7 @@
-use Rattle.std.proofs.Common.{◌≡◌, ◌≤◌, ◌++◌, Some, None, length, slice_get, subst, arith, map, sym, ap, ◌∙◌}
-use Rattle.connections.specs.Entries.{AreRising}
+use Rattle.controller.proofs.Prelude.{◌≡◌, ◌≤◌, ◌++◌, Some, None, length, slice_get, subst, arith, map, sym, ap, ◌∙◌, AreRising, Controller}
+use Rattle.controller.proofs.Prelude.{Connection}
 use Rattle.controller.specs.Many.{all_due, due_of, planned_for}
 use Rattle.controller.proofs.Planning.{one_planned, all_planned, none_planned}
-use Rattle.controller_table.specs.Controller.{Controller}
-use Rattle.conn_table.specs.Connection.{Connection}
 use Rattle.controller.proofs.controller.Controller.plan_all.Goals as goal
 use Rattle.controller.proofs.controller.Controller.plan_all.Goals.{else-loop-place-test, then-loop-place-test+in_default}
 

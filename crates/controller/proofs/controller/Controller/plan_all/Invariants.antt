@@ -1,4 +1,4 @@
-use Rattle.std.proofs.Common.{◌≡◌, ◌++◌, map, drop}
+use Rattle.controller.proofs.Prelude.{◌≡◌, ◌++◌, map, drop}
 use Rattle.controller.specs.Many.{all_due, planned_for}
 use Rattle.controller.proofs.controller.Controller.plan_all.Given as goal
 

@@ -1,7 +1,5 @@
-use Rattle.std.proofs.Common.{◌++◌}
-use Rattle.std.specs.Vec.Iter.{into_iter_items}
-use Rattle.controller_table.specs.Controller.{each, turn}
-use Rattle.controller_table.specs.Life as words
+use Rattle.controller.proofs.Prelude.{◌++◌, into_iter_items, each, turn}
+use Rattle.controller_model.specs.Life as words
 use Rattle.controller.proofs.Lives.{Ends}
 use Rattle.controller.proofs.controller.Controller.run_all.Given as goal
 

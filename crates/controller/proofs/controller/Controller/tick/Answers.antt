@@ -1,12 +1,9 @@
-use Rattle.std.proofs.Common.{◌≡◌, map, ap, subst, sym, ◌∙◌}
-use Rattle.std.specs.List.{AllByRecursion}
-use Rattle.connections.specs.Entries.{ConnectionsState, IsBelow}
+use Rattle.controller.proofs.Prelude.{◌≡◌, map, ap, subst, sym, ◌∙◌, AllByRecursion, ConnectionsState, IsBelow, all_aged}
 use Rattle.controller.proofs.Carrying.{tick_done, tick_ready}
 use Rattle.controller.proofs.One.{below_aged}
 use Rattle.controller.proofs.controller.Controller.tick.Goals as goal
 use Rattle.controller.specs.contracts.controller.Controller.{the_view}
 use Rattle.controller.specs.Many.{planned_for}
-use Rattle.controller_table.specs.Life.{all_aged}
 
 pub invariant_of-self : goal.invariant_of-self
 invariant_of-self c = record {

@@ -1,7 +1,7 @@
 use Rattle.std.proofs.Common.{◌≡◌, min, List, length, take, drop, ap, ◌∙◌, arith}
 use Rattle.std.proofs.lemmas.Grind.{common_steps}
-use Rattle.world_table.specs.declared.event.Event.{Event}
-use Rattle.world_table.specs.declared.event.Event.TheVariants.{BaseDown}
+use Rattle.world_model.specs.declared.event.Event.{Event}
+use Rattle.world_model.specs.declared.event.Event.TheVariants.{BaseDown}
 use Rattle.world.specs.World.{after, after_all}
 use Rattle.world.specs.WorldState.{WorldState}
 use Rattle.world.proofs.Breaking.{after_all-broken, run_last}

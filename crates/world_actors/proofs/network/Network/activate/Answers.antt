@@ -1,6 +1,5 @@
-use Rattle.std.proofs.Common.{◌≡◌, OnOk, subst}
-use Rattle.world_table.specs.Stations.{activated}
-use Rattle.world_table.specs.World.{Actors}
+use Rattle.world_actors.proofs.Prelude.{◌≡◌, OnOk, subst, Actors}
+use Rattle.world_model.specs.Stations.{activated}
 use Rattle.world_actors.specs.contracts.network.Network.{the_view}
 use Rattle.world_actors.proofs.Lines.{activated_is, puts}
 use Rattle.world_actors.proofs.network.Network.activate.Goals as goal

@@ -1,7 +1,5 @@
-use Rattle.std.proofs.Common.{◌≡◌, sym, ◌∙◌, subst}
-use Rattle.world_table.specs.Mobiles.{after_air_ack}
-use Rattle.world_table.specs.Takes.{Takes}
-use Rattle.world_table.specs.World.{Actors}
+use Rattle.world_actors.proofs.Prelude.{◌≡◌, sym, ◌∙◌, subst, Takes, Actors}
+use Rattle.world_model.specs.Mobiles.{after_air_ack}
 use Rattle.world_actors.specs.contracts.network.Network.{the_view}
 use Rattle.world_actors.specs.Seats.{reached_by}
 use Rattle.world_actors.proofs.Airing.{ack_idle, ack_takes}

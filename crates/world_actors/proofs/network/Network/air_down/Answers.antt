@@ -1,7 +1,5 @@
-use Rattle.std.proofs.Common.{◌≡◌, sym, ◌∙◌, true, false, IsSome, OnErr, Some, subst}
-use Rattle.world_table.specs.Mobiles.{after_air_down, hearing}
-use Rattle.world_table.specs.Takes.{Takes}
-use Rattle.world_table.specs.World.{Actors}
+use Rattle.world_actors.proofs.Prelude.{◌≡◌, sym, ◌∙◌, true, false, IsSome, OnErr, Some, subst, Takes, Actors}
+use Rattle.world_model.specs.Mobiles.{after_air_down, hearing}
 use Rattle.world_actors.specs.contracts.network.Network.{the_view}
 use Rattle.world_actors.specs.Seats.{reached_by}
 use Rattle.world_actors.proofs.Airing.{down_done, down_idle, down_unreached, down_wants}

@@ -1,7 +1,5 @@
-use Rattle.std.proofs.Common.{◌≡◌, sym, ◌∙◌, Some, subst}
-use Rattle.world_table.specs.Mobiles.{after_air_down_lost, unheard}
-use Rattle.world_table.specs.Takes.{Takes}
-use Rattle.world_table.specs.World.{Actors}
+use Rattle.world_actors.proofs.Prelude.{◌≡◌, sym, ◌∙◌, Some, subst, Takes, Actors}
+use Rattle.world_model.specs.Mobiles.{after_air_down_lost, unheard}
 use Rattle.world_actors.specs.contracts.network.Network.{the_view}
 use Rattle.world_actors.specs.Seats.{reached_by}
 use Rattle.world_actors.proofs.Airing.{down_unreached, lost_takes}

@@ -1,8 +1,7 @@
-use Rattle.std.proofs.Common.{◌≡◌, ℕ, List, ap, sym, ◌∙◌, true, false, IsSome, OnErr, Some, refl, subst}
-use Rattle.world_table.specs.Mobiles.{after_air_up}
-use Rattle.world_table.specs.Takes.{Takes}
-use Rattle.world_table.specs.World.{Actors}
-use Rattle.world_stations.specs.Stations.{at_station, brought_on}
+use Rattle.world_actors.proofs.Prelude.{◌≡◌, ℕ, List, ap, sym, ◌∙◌, true, false, IsSome, OnErr, Some, refl, subst, Takes, Actors}
+use Rattle.world_actors.proofs.Prelude.{at_station}
+use Rattle.world_model.specs.Mobiles.{after_air_up}
+use Rattle.world_ends.specs.Stations.{brought_on}
 use Rattle.world_actors.specs.contracts.network.Network.{the_view}
 use Rattle.world_actors.specs.Seats.{opens_by, reached_by}
 use Rattle.world_actors.proofs.Bringing.{up_done, up_idle, up_unreached, up_wants, up_wants_frame}

@@ -1,6 +1,6 @@
-use Rattle.std.proofs.Common.{◌≡◌, ◌&&◌, Bool, OnOk, subst}
-use Rattle.world_table.specs.Stations.{accepts, answered, asked_for_link, mobile_on}
-use Rattle.world_table.specs.World.{Actors, is_active_at, tenure_at}
+use Rattle.world_actors.proofs.Prelude.{◌≡◌, ◌&&◌, Bool, OnOk, subst, Actors, tenure_at}
+use Rattle.world_model.specs.Stations.{accepts, answered, asked_for_link, mobile_on}
+use Rattle.world_model.specs.World.{is_active_at}
 use Rattle.world_actors.specs.contracts.network.Network.{the_view}
 use Rattle.world_actors.proofs.Lines.{answered_is, puts}
 use Rattle.world_actors.proofs.network.Network.answer.Goals as goal

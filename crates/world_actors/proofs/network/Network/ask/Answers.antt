@@ -1,6 +1,4 @@
-use Rattle.std.proofs.Common.{◌≡◌, OnOk, subst}
-use Rattle.world_table.specs.Mobiles.{channel_required, told}
-use Rattle.world_table.specs.World.{Actors}
+use Rattle.world_actors.proofs.Prelude.{◌≡◌, OnOk, subst, channel_required, told, Actors}
 use Rattle.world_actors.specs.contracts.network.Network.{the_view}
 use Rattle.world_actors.proofs.Coming.{ask_puts, required_written}
 use Rattle.world_actors.proofs.network.Network.ask.Goals as goal

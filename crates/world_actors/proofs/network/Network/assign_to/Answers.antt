@@ -1,6 +1,5 @@
-use Rattle.std.proofs.Common.{◌≡◌, sym, ◌∙◌, true, subst}
-use Rattle.world_table.specs.Stations.{assigned_to}
-use Rattle.world_table.specs.World.{Actors, mobile_of, tenure_at}
+use Rattle.world_actors.proofs.Prelude.{◌≡◌, sym, ◌∙◌, true, subst, Actors, mobile_of, tenure_at}
+use Rattle.world_model.specs.Stations.{assigned_to}
 use Rattle.world_actors.specs.contracts.network.Network.{the_view}
 use Rattle.world_actors.specs.Seats.{is_asking_by}
 use Rattle.world_actors.proofs.Lines.{assigned_done, unassigned_is}

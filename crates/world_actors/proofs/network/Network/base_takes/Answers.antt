@@ -1,8 +1,5 @@
-use Rattle.std.proofs.Common.{◌≡◌, sym, ◌∙◌, true, IsSome, OnErr, subst}
-use Rattle.world_table.specs.Lists.{first_in}
-use Rattle.world_table.specs.Stations.{after_base_takes}
-use Rattle.world_table.specs.Takes.{Takes}
-use Rattle.world_table.specs.World.{Actors, is_station_up, outbox_of}
+use Rattle.world_actors.proofs.Prelude.{◌≡◌, sym, ◌∙◌, true, IsSome, OnErr, subst, first_in, Takes, Actors, is_station_up, outbox_of}
+use Rattle.world_model.specs.Stations.{after_base_takes}
 use Rattle.world_actors.specs.contracts.network.Network.{the_view}
 use Rattle.world_actors.specs.Taking.{can_take}
 use Rattle.world_actors.proofs.Lines.{line_done, line_down, line_refused, line_there, line_wants, not_spent}

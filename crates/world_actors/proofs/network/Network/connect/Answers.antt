@@ -1,7 +1,5 @@
-use Rattle.std.proofs.Common.{◌≡◌, sym, ◌∙◌, true, subst}
-use Rattle.world_table.specs.Mobiles.{after_connecting}
-use Rattle.world_table.specs.Takes.{Takes}
-use Rattle.world_table.specs.World.{Actors, is_station_up}
+use Rattle.world_actors.proofs.Prelude.{◌≡◌, sym, ◌∙◌, true, subst, Takes, Actors, is_station_up}
+use Rattle.world_model.specs.Mobiles.{after_connecting}
 use Rattle.world_actors.specs.contracts.network.Network.{the_view}
 use Rattle.world_actors.specs.Seats.{is_new_by}
 use Rattle.world_actors.proofs.Coming.{connect_done, connect_down, connect_known, connect_unlawful, connect_wants}

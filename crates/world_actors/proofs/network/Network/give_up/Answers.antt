@@ -1,7 +1,5 @@
-use Rattle.std.proofs.Common.{◌≡◌, sym, ◌∙◌, true, Some, subst}
-use Rattle.world_table.specs.Mobiles.{after_return}
-use Rattle.world_table.specs.Takes.{Takes}
-use Rattle.world_table.specs.World.{Actors, is_reached}
+use Rattle.world_actors.proofs.Prelude.{◌≡◌, sym, ◌∙◌, true, Some, subst, Takes, Actors, is_reached}
+use Rattle.world_model.specs.Mobiles.{after_return}
 use Rattle.world_actors.specs.contracts.network.Network.{the_view}
 use Rattle.world_actors.specs.Seats.{moving_from, of_seat}
 use Rattle.world_actors.proofs.Departing.{is_between, return_done, return_unmoved, return_unreached, return_wants}

@@ -1,7 +1,5 @@
-use Rattle.std.proofs.Common.{sym, ◌∙◌, subst, true, false}
-use Rattle.world_table.specs.Relay.{after_handle}
-use Rattle.world_table.specs.Takes.{Takes}
-use Rattle.world_table.specs.World.{Actors}
+use Rattle.world_actors.proofs.Prelude.{sym, ◌∙◌, subst, true, false, Takes, Actors}
+use Rattle.world_model.specs.Relay.{after_handle}
 use Rattle.world_actors.specs.contracts.network.Network.{the_view}
 use Rattle.world_actors.proofs.Turning.{handle_done, handle_idle, handle_wants, with_relay}
 use Rattle.world_actors.proofs.network.Network.handle.Goals as goal

@@ -1,6 +1,5 @@
-use Rattle.std.proofs.Common.{◌≡◌, OnOk, subst}
-use Rattle.world_table.specs.Relay.{target_in}
-use Rattle.world_table.specs.World.{Actors}
+use Rattle.world_actors.proofs.Prelude.{◌≡◌, OnOk, subst, Actors}
+use Rattle.world_model.specs.Relay.{target_in}
 use Rattle.world_actors.specs.Handling.{after_item}
 use Rattle.world_actors.specs.contracts.network.Network.{the_view}
 use Rattle.world_actors.proofs.Turning.{item_puts, with_relay}

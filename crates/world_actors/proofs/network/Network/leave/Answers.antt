@@ -1,7 +1,5 @@
-use Rattle.std.proofs.Common.{◌≡◌, sym, ◌∙◌, true, Some, subst}
-use Rattle.world_table.specs.Mobiles.{after_move}
-use Rattle.world_table.specs.Takes.{Takes}
-use Rattle.world_table.specs.World.{Actors}
+use Rattle.world_actors.proofs.Prelude.{◌≡◌, sym, ◌∙◌, true, Some, subst, Takes, Actors}
+use Rattle.world_model.specs.Mobiles.{after_move}
 use Rattle.world_actors.specs.contracts.network.Network.{the_view}
 use Rattle.world_actors.specs.Seats.{told_from, of_seat}
 use Rattle.world_actors.proofs.Departing.{leave_done, leave_idle}

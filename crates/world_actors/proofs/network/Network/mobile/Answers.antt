@@ -1,6 +1,4 @@
-use Rattle.std.proofs.Common.{ap, sym, ◌∙◌}
-use Rattle.std.proofs.lemmas.List.Folds.{find_at}
-use Rattle.world_table.specs.World.{Actors, has_number, mobile_of}
+use Rattle.world_actors.proofs.Prelude.{ap, sym, ◌∙◌, find_at, Actors, has_number, mobile_of}
 use Rattle.world_actors.proofs.network.Network.mobile.Goals as goal
 
 pub returns : goal.returns

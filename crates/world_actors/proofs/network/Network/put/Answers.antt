@@ -1,6 +1,5 @@
-use Rattle.std.proofs.Common.{◌≡◌, OnOk, subst}
-use Rattle.world_table.specs.Stations.{aired}
-use Rattle.world_table.specs.World.{Actors}
+use Rattle.world_actors.proofs.Prelude.{◌≡◌, OnOk, subst, Actors}
+use Rattle.world_model.specs.Stations.{aired}
 use Rattle.world_actors.specs.contracts.network.Network.{the_view}
 use Rattle.world_actors.proofs.Lines.{aired_is, puts}
 use Rattle.world_actors.proofs.network.Network.put.Goals as goal

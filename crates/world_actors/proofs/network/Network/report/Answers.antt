@@ -1,7 +1,5 @@
-use Rattle.std.proofs.Common.{◌≡◌, sym, ◌∙◌, true, Some, subst}
-use Rattle.world_table.specs.Mobiles.{after_report}
-use Rattle.world_table.specs.Takes.{Takes}
-use Rattle.world_table.specs.World.{Actors}
+use Rattle.world_actors.proofs.Prelude.{◌≡◌, sym, ◌∙◌, true, Some, subst, Takes, Actors}
+use Rattle.world_model.specs.Mobiles.{after_report}
 use Rattle.world_actors.specs.contracts.network.Network.{the_view}
 use Rattle.world_actors.specs.Seats.{reached_by}
 use Rattle.world_actors.proofs.Airing.{report_done, report_unreached, report_wants}

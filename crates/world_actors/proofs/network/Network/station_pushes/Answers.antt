@@ -1,8 +1,6 @@
-use Rattle.std.proofs.Common.{sym, ◌∙◌, subst, false}
+use Rattle.world_actors.proofs.Prelude.{sym, ◌∙◌, subst, false, Takes, Actors, base_of}
 use Rattle.link_model.specs.Base.{first_message}
-use Rattle.world_table.specs.Relay.{pushed_by_station}
-use Rattle.world_table.specs.Takes.{Takes}
-use Rattle.world_table.specs.World.{Actors, base_of}
+use Rattle.world_model.specs.Relay.{pushed_by_station}
 use Rattle.world_actors.specs.contracts.network.Network.{the_view}
 use Rattle.world_actors.proofs.Pushing.{push_idle}
 use Rattle.world_actors.proofs.network.Network.station_pushes.Goals as goal

@@ -1,6 +1,5 @@
-use Rattle.std.proofs.Common.{◌≡◌, OnOk, Some, subst}
-use Rattle.world_table.specs.Relay.{after_tick}
-use Rattle.world_table.specs.World.{Actors}
+use Rattle.world_actors.proofs.Prelude.{◌≡◌, OnOk, Some, subst, Actors}
+use Rattle.world_model.specs.Relay.{after_tick}
 use Rattle.world_actors.specs.contracts.network.Network.{the_view}
 use Rattle.world_actors.proofs.Turning.{tick_puts, with_relay}
 use Rattle.world_actors.proofs.network.Network.tick.Goals as goal

@@ -1,11 +1,9 @@
-use Rattle.std.proofs.Common.{◌≡◌, sym, ◌∙◌, true, Some, subst}
-use Rattle.world_table.specs.Mobiles.{after_touch}
-use Rattle.world_table.specs.Takes.{Takes}
-use Rattle.world_table.specs.World.{Actors, is_reached}
+use Rattle.world_actors.proofs.Prelude.{◌≡◌, sym, ◌∙◌, true, Some, subst, Takes, Actors, is_reached}
+use Rattle.world_model.specs.Mobiles.{after_touch}
 use Rattle.world_actors.specs.contracts.network.Network.{the_view}
 use Rattle.world_actors.specs.Seats.{moving_from, of_seat}
 use Rattle.world_actors.proofs.Departing.{touch_done, touch_other, touch_unmoved, touch_unreached, touch_wants}
-use Rattle.world_stations.proofs.Written.{detection_written}
+use Rattle.world_ends.proofs.Written.{detection_written}
 use Rattle.world_actors.proofs.network.Network.touch.Goals as goal
 
 pub returns-in_default-clause-ok : goal.returns-in_default-clause-ok

@@ -1,7 +1,6 @@
-use Rattle.std.proofs.Common.{IfOk, IsSome, OnErr, subst}
-use Rattle.world_table.specs.Mobiles.{after_upper}
-use Rattle.world_table.specs.Takes.{Takes}
-use Rattle.world_table.specs.World.{Actors}
+use Rattle.world_actors.proofs.Prelude.{IsSome, OnErr, subst, Takes, Actors}
+use Rattle.std.proofs.Common.{IfOk}
+use Rattle.world_model.specs.Mobiles.{after_upper}
 use Rattle.world_actors.specs.contracts.network.Network.{the_view}
 use Rattle.world_actors.proofs.Upper.{upper_takes, upper_wants, with_mobiles}
 use Rattle.world_actors.proofs.network.Network.upper.Goals as goal

@@ -1,6 +1,0 @@
-use Rattle.std.proofs.Common.{◌≡◌, replicate}
-use Rattle.call_worker.specs.Going.{unmarked}
-use Rattle.call_worker.proofs.mark.Marks.new.Given as goal
-
-abbrev pub invariant-loop : goal.invariant-loop
-invariant-loop l = l.of_links.items ≡ replicate l.counter unmarked

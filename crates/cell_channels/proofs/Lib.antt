@@ -1,2 +1,0 @@
-mod Follows
-mod Rows

@@ -1,6 +1,0 @@
-use Rattle.std.proofs.Common.{◌≡◌, replicate}
-use Rattle.controller_table.specs.Controller.{free_channels}
-use Rattle.cell_channels.proofs.channels.Channels.new.Given as goal
-
-abbrev pub invariant-loop : goal.invariant-loop
-invariant-loop l = l.made.items ≡ replicate l.counter free_channels

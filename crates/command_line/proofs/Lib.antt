@@ -1,3 +1,0 @@
-mod Rows
-pub mod Taking
-pub mod Commanding

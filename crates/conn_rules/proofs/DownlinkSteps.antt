@@ -1,0 +1,305 @@
+-- What the steps do to the messages of the switch.
+use Rattle.conn_rules.proofs.Prelude.{◌≡◌, ℕ, Bool, true, false, not, ◌&&◌, List, [], ◌∷◌, ◌++◌, map, filter, refl, sym, ◌∙◌, ap, subst}
+use Rattle.conn_rules.proofs.Prelude.{Option, Some, None, append-nil, eqb, AllByRecursion, ABNORMAL_RELEASE, EQUIPMENT_FAILURE, Change}
+use Rattle.conn_rules.proofs.Prelude.{Assignment, Handover, Channel, Message, handing, cond_both, Sapi, Zero, Three, chain_count, HoldState}
+use Rattle.conn_rules.proofs.Prelude.{count, messages, with_messages}
+use Rattle.conn_rules.specs.declared.input.Input.{Input}
+use Rattle.conn_rules.specs.declared.input.Input.TheVariants as inputs
+use Rattle.conn_rules.specs.declared.state.ShortMessageLink.{ShortMessageLink}
+use Rattle.conn_rules.specs.declared.state.ShortMessageLink.TheVariants.{Down, Asked, Up}
+use Rattle.conn_rules.specs.declared.state.Stage.{Stage}
+use Rattle.conn_rules.specs.declared.state.Stage.TheVariants.{Active, Preparing, Changing, Draining}
+use Rattle.conn_rules.specs.declared.state.State.{State}
+use Rattle.conn_rules.specs.declared.state.State.TheVariants.{Live, Closed}
+use Rattle.conn_rules.specs.declared.state.Target.{Target}
+use Rattle.conn_rules.specs.Connection.{Connection}
+use Rattle.conn_rules.specs.Standing.{IsAskedFor, Stands}
+use Rattle.conn_rules.specs.Steps.{Row, row, ◌then◌, end_outs, failing, dropping, without_station, goes_to, may_begin, begin_outs, after_begin, begin, waiting_outs, after_waiting, begin_waiting, hold_down, hand_held, request_where, hold_short_message, short_message, request_for, ask_for_held, link_up, link_down, hold_up}
+use Rattle.conn_rules.specs.Streams.{IsOpen, is_dtap, handed, GoesTo, received_by, rejects, KeepsDownlink, IsChanging, IsSilent, OnlyReleases}
+use Rattle.conn_rules.proofs.StandingSteps.{IsStill}
+use Rattle.conn_rules.proofs.DownlinkMessages.{AllByRecursion-append, AllByRecursion-filter, AllByRecursion-so, IsQuiet, AreQuiet, IsParting, AreParting, handed-quiet, GoesTo-quiet, rejects-quiet, rejects-append, without_rejected-none, of_sapi, handed-handing, handed-append, GoesTo-handing, rejects-handing}
+
+-- an input without a message of the switch
+abbrev pub BringsNothing : Input → Type 0
+BringsNothing (inputs.Downlink sapi message) = ⊥
+BringsNothing _ = Unit {0}
+
+received_by-nothing : (sapi : Sapi) (input : Input) → BringsNothing input → received_by sapi input ≡ []
+received_by-nothing Zero (inputs.Downlink sapi message) nothing = absurd nothing
+received_by-nothing Three (inputs.Downlink sapi message) nothing = absurd nothing
+received_by-nothing Zero _ nothing = refl
+received_by-nothing Three _ nothing = refl
+
+-- What a row does to the messages of the switch: it ends the connection, lets them be, or moves them.
+pub data Does (state : State) (s : Connection) (input : Input) (r : Row) : Type 0 where
+  ends : (IsOpen r.next.state → ⊥) → AreParting r.outs → OnlyReleases state r.outs → Does state s input r
+  passes : IsOpen state → IsOpen r.next.state → AreQuiet r.outs → r.next.down ≡ s.down → BringsNothing input → Does state s input r
+  moves : IsOpen state → IsOpen r.next.state → (Stands s → (sapi : Sapi) → KeepsDownlink sapi s input r) → IsSilent r → Does state s input r
+
+-- ---- ends
+
+pub OnlyReleases-open : (state : State) (outs : List Message) → IsOpen state → OnlyReleases state outs
+OnlyReleases-open (Closed clearing) outs is_open = absurd is_open
+OnlyReleases-open _ outs is_open = tt
+
+pub AreParting-end : (state : State) (serving : Channel) (cause : ℕ) → AreParting (end_outs state serving cause)
+AreParting-end (Live reference (Preparing target)) serving cause = (refl, (tt, (tt, tt)))
+AreParting-end (Live reference (Changing target)) serving cause = (refl, (tt, (tt, tt)))
+AreParting-end _ serving cause = (refl, (tt, tt))
+
+pub Does-ending : (state : State) (s : Connection) (input : Input) (cause : ℕ) (more : List Message) (next : Connection) → IsOpen state → (IsOpen next.state → ⊥) → AreParting more → Does state s input (row (end_outs state s.serving cause ++ more) next)
+Does-ending state s input cause more next is_open shut parting =
+    ends shut (AllByRecursion-append IsParting (end_outs state s.serving cause) more (AreParting-end state s.serving cause) parting) (OnlyReleases-open state _ is_open)
+
+AreParting-failing : (state : State) (s : Connection) (cause : ℕ) → AreParting (failing state s cause).outs
+AreParting-failing (Live reference stage) s cause = (tt, AreParting-end (Live reference stage) s.serving ABNORMAL_RELEASE)
+AreParting-failing state s cause = AreParting-end state s.serving ABNORMAL_RELEASE
+
+pub failing-shut : (state : State) (s : Connection) (cause : ℕ) → IsOpen (failing state s cause).next.state → ⊥
+failing-shut (Live reference stage) s cause = absurd
+failing-shut _ s cause = absurd
+
+pub Does-failing : (state : State) (s : Connection) (input : Input) (cause : ℕ) → IsOpen state → Does state s input (failing state s cause)
+Does-failing state s input cause is_open = ends (failing-shut state s cause) (AreParting-failing state s cause) (OnlyReleases-open state _ is_open)
+
+pub Does-dropping : (state : State) (s : Connection) (input : Input) → IsOpen state → Does state s input (dropping s)
+Does-dropping state s input is_open = ends absurd (tt, tt) (OnlyReleases-open state _ is_open)
+
+-- a station that is down gets less
+pub Does-without : (state : State) (s : Connection) (input : Input) (station : ℕ) (r : Row) → IsOpen state → (IsOpen r.next.state → ⊥) → AreParting r.outs → Does state s input (without_station station r)
+Does-without state s input station r is_open shut parting =
+    ends shut (AllByRecursion-filter IsParting (λ message. not (goes_to station message)) r.outs parting) (OnlyReleases-open state _ is_open)
+
+pub Does-broken : (state : State) (s : Connection) (input : Input) (station cause : ℕ) → IsOpen state → Does state s input (without_station station (failing state s cause))
+Does-broken state s input station cause is_open =
+    Does-without state s input station (failing state s cause) is_open (failing-shut state s cause) (AreParting-failing state s cause)
+
+-- ---- changes begin
+
+AreQuiet-begin : (reference : ℕ) (change : Change) (offer : Option Channel) → AreQuiet (begin_outs reference change offer)
+AreQuiet-begin reference Assignment (Some channel) = (tt, tt)
+AreQuiet-begin reference Handover (Some channel) = (tt, tt)
+AreQuiet-begin reference Assignment None = (tt, tt)
+AreQuiet-begin reference Handover None = tt
+
+AreQuiet-waiting : (waits : Bool) (reference : ℕ) (offer : Option Channel) → AreQuiet (waiting_outs waits reference offer)
+AreQuiet-waiting true reference offer = AreQuiet-begin reference Assignment offer
+AreQuiet-waiting false reference offer = tt
+
+-- what a change that begins leaves
+record Begins (s next : Connection) : Type 0 where
+  pub down : next.down ≡ s.down
+  pub serving : next.serving ≡ s.serving
+  pub stays_open : IsOpen s.state → IsOpen next.state
+  pub prepares : IsChanging next.state → IsChanging s.state
+
+Begins-begin : (reference : ℕ) (change : Change) (offer : Option Channel) (s : Connection) → Begins s (after_begin reference change offer s)
+Begins-begin reference change (Some channel) s = record { down = refl; serving = refl; stays_open = λ _. tt; prepares = absurd }
+Begins-begin reference change None s = record { down = refl; serving = refl; stays_open = λ stays. stays; prepares = λ changes. changes }
+
+Begins-waiting : (waits : Bool) (reference : ℕ) (offer : Option Channel) (s : Connection) → Begins s (after_waiting waits reference offer s)
+Begins-waiting true reference offer s =
+    let begins = Begins-begin reference Assignment offer (record s { waits = false }) in
+    record { down = begins.down; serving = begins.serving; stays_open = begins.stays_open; prepares = begins.prepares }
+Begins-waiting false reference offer s = record { down = refl; serving = refl; stays_open = λ stays. stays; prepares = λ changes. changes }
+
+pub Does-begin : (state : State) (s : Connection) (input : Input) (reference : ℕ) (change : Change) (offer : Option Channel) → IsOpen state → IsOpen s.state → BringsNothing input → Does state s input (begin reference change offer s)
+Does-begin state s input reference change offer is_open opened nothing =
+    let begins = Begins-begin reference change offer s in
+    passes is_open (begins.stays_open opened) (AreQuiet-begin reference change offer) begins.down nothing
+
+-- a request that waits begins behind quiet messages
+pub Does-waiting : (state : State) (s : Connection) (input : Input) (stage : Stage) (reference : ℕ) (offer : Option Channel) (outs : List Message) (t : Connection) → IsOpen state → IsOpen t.state → AreQuiet outs → t.down ≡ s.down → BringsNothing input → Does state s input (row outs t then begin_waiting stage reference offer)
+Does-waiting state s input stage reference offer outs t is_open opened quiet same nothing =
+    let begins = Begins-waiting (t.waits && may_begin stage t.draining) reference offer t in
+    passes is_open (begins.stays_open opened)
+    (AllByRecursion-append IsQuiet outs _ quiet (AreQuiet-waiting (t.waits && may_begin stage t.draining) reference offer)) (begins.down ∙ same) nothing
+
+-- ---- what rows keep of the downlink
+
+-- where nothing came and nothing is rejected
+KeepsDownlink-still : (sapi : Sapi) (s : Connection) (input : Input) (r : Row) → rejects r.outs ≡ false → BringsNothing input → AllByRecursion (GoesTo r.next.serving) r.outs → handed sapi r.outs ++ filter is_dtap (messages r.next.down sapi) ≡ filter is_dtap (messages s.down sapi) → KeepsDownlink sapi s input r
+KeepsDownlink-still sapi s input r none nothing goes same = record {
+  serving = goes;
+  stream = λ _. same ∙ sym (
+      without_rejected-none sapi r.outs (filter is_dtap (messages s.down sapi ++ received_by sapi input)) none
+      ∙ ap (λ (xs : List (List ℕ)). filter is_dtap (messages s.down sapi ++ xs)) (received_by-nothing sapi input nothing)
+      ∙ ap (filter is_dtap) (append-nil (messages s.down sapi)));
+}
+
+pub KeepsDownlink-quiet : (sapi : Sapi) (s : Connection) (input : Input) (r : Row) → AreQuiet r.outs → r.next.down ≡ s.down → BringsNothing input → KeepsDownlink sapi s input r
+KeepsDownlink-quiet sapi s input r quiet same nothing =
+    KeepsDownlink-still sapi s input r (rejects-quiet r.outs quiet) nothing
+    (AllByRecursion-so IsQuiet (GoesTo r.next.serving) (GoesTo-quiet r.next.serving) r.outs quiet)
+    (rw (handed-quiet sapi r.outs quiet, same) refl)
+
+-- a message is held
+messages-held : (of sapi : Sapi) (message : List ℕ) (down : HoldState) → filter is_dtap (messages (with_messages down sapi (messages down sapi ++ message ∷ [])) of) ≡ filter is_dtap (messages down of ++ received_by of (inputs.Downlink sapi message))
+messages-held Zero Zero message down = refl
+messages-held Three Three message down = refl
+messages-held Zero Three message down = sym (ap (filter is_dtap) (append-nil down.zero))
+messages-held Three Zero message down = sym (ap (filter is_dtap) (append-nil down.three))
+
+pub KeepsDownlink-held : (of sapi : Sapi) (message : List ℕ) (s : Connection) (r : Row) → AreQuiet r.outs → r.next.down ≡ with_messages s.down sapi (messages s.down sapi ++ message ∷ []) → KeepsDownlink of s (inputs.Downlink sapi message) r
+KeepsDownlink-held of sapi message s r quiet held = record {
+  serving = AllByRecursion-so IsQuiet (GoesTo r.next.serving) (GoesTo-quiet r.next.serving) r.outs quiet;
+  stream = λ _. rw (handed-quiet of r.outs quiet, held)
+      (messages-held of sapi message s.down
+      ∙ sym (without_rejected-none of r.outs (filter is_dtap (messages s.down of ++ received_by of (inputs.Downlink sapi message))) (rejects-quiet r.outs quiet)));
+}
+
+-- a message is handed, where none is held
+handed-at_once : (of sapi : Sapi) (message : List ℕ) (down : HoldState) → messages down sapi ≡ [] → filter is_dtap (of_sapi of sapi (message ∷ [])) ++ filter is_dtap (messages down of) ≡ filter is_dtap (messages down of ++ received_by of (inputs.Downlink sapi message))
+handed-at_once Zero Zero message down none = rw none (append-nil (filter is_dtap (message ∷ [])))
+handed-at_once Three Three message down none = rw none (append-nil (filter is_dtap (message ∷ [])))
+handed-at_once Zero Three message down none = sym (ap (filter is_dtap) (append-nil down.zero))
+handed-at_once Three Zero message down none = sym (ap (filter is_dtap) (append-nil down.three))
+
+pub KeepsDownlink-handed : (of sapi : Sapi) (message : List ℕ) (s : Connection) → messages s.down sapi ≡ [] → KeepsDownlink of s (inputs.Downlink sapi message) (row (handing s.serving sapi message ∷ []) s)
+KeepsDownlink-handed of sapi message s none = record {
+  serving = (λ dtap. (refl, refl), tt);
+  stream = λ _. ap (λ (xs : List (List ℕ)). xs ++ filter is_dtap (messages s.down of)) (handed-handing s.serving of sapi (message ∷ []))
+      ∙ handed-at_once of sapi message s.down none
+      ∙ sym (without_rejected-none of (handing s.serving sapi message ∷ []) (filter is_dtap (messages s.down of ++ received_by of (inputs.Downlink sapi message))) refl);
+}
+
+-- what is held of a SAPI is handed
+handed-held : (of sapi : Sapi) (serving : Channel) (down : HoldState) → handed of (map (handing serving sapi) (messages down sapi)) ++ filter is_dtap (messages (with_messages down sapi []) of) ≡ filter is_dtap (messages down of)
+handed-held Zero Zero serving down = rw (handed-handing serving Zero Zero down.zero) (append-nil (filter is_dtap down.zero))
+handed-held Three Three serving down = rw (handed-handing serving Three Three down.three) (append-nil (filter is_dtap down.three))
+handed-held Zero Three serving down = rw (handed-handing serving Zero Three down.three) refl
+handed-held Three Zero serving down = rw (handed-handing serving Three Zero down.zero) refl
+
+-- ---- holds and links
+
+-- a stage in which no channel changes
+not_changing : (stage : Stage) (reference : ℕ) (s : Connection) → IsStill stage → s.state ≡ Live reference stage → IsChanging s.state → ⊥
+not_changing (Changing target) reference s still is changes = still
+not_changing Active reference s still is changes = subst IsChanging is changes
+not_changing (Preparing target) reference s still is changes = subst IsChanging is changes
+not_changing Draining reference s still is changes = subst IsChanging is changes
+
+handed_none : (outs : List Message) → AreQuiet outs → (handed Zero outs ≡ []) × (handed Three outs ≡ [])
+handed_none outs quiet = (handed-quiet Zero outs quiet, handed-quiet Three outs quiet)
+
+opened : (reference : ℕ) (stage : Stage) (s : Connection) → s.state ≡ Live reference stage → IsOpen s.state
+opened reference stage s is = subst IsOpen (sym is) tt
+
+-- a message is handed
+pub Does-handing : (reference : ℕ) (stage : Stage) (s : Connection) (sapi : Sapi) (message : List ℕ) → IsStill stage → s.state ≡ Live reference stage → (Stands s → messages s.down sapi ≡ []) → Does (Live reference stage) s (inputs.Downlink sapi message) (row (handing s.serving sapi message ∷ []) s)
+Does-handing reference stage s sapi message still is none =
+    moves tt (opened reference stage s is) (λ stands of. KeepsDownlink-handed of sapi message s (none stands)) (λ changes. absurd (not_changing stage reference s still is changes))
+
+-- a message is held while a channel changes
+pub Does-hold_down : (reference : ℕ) (target : Target) (s : Connection) (sapi : Sapi) (message : List ℕ) → s.state ≡ Live reference (Changing target) → Does (Live reference (Changing target)) s (inputs.Downlink sapi message) (hold_down (Live reference (Changing target)) sapi message s)
+Does-hold_down reference target s sapi message is =
+    cond_both (eqb (count s.down) s.down.limit) _ _ (Does (Live reference (Changing target)) s (inputs.Downlink sapi message))
+    (λ full. Does-failing (Live reference (Changing target)) s (inputs.Downlink sapi message) EQUIPMENT_FAILURE tt)
+    (λ room. moves tt (opened reference (Changing target) s is) (λ stands of. KeepsDownlink-held of sapi message s _ tt refl) (λ _. (refl, refl)))
+
+-- a message of SAPI 3 is held for its link
+AreQuiet-request : (link : ShortMessageLink) (serving : Channel) → AreQuiet (request_where link serving)
+AreQuiet-request Down serving = (tt, tt)
+AreQuiet-request Asked serving = tt
+AreQuiet-request Up serving = tt
+
+Does-hold_short : (reference : ℕ) (stage : Stage) (s : Connection) (message : List ℕ) → s.state ≡ Live reference stage → Does (Live reference stage) s (inputs.Downlink Three message) (hold_short_message (Live reference stage) message s)
+Does-hold_short reference stage s message is =
+    cond_both (eqb (count s.down) s.down.limit) _ _ (Does (Live reference stage) s (inputs.Downlink Three message))
+    (λ full. Does-failing (Live reference stage) s (inputs.Downlink Three message) EQUIPMENT_FAILURE tt)
+    (λ room. moves tt (opened reference stage s is) (λ stands of. KeepsDownlink-held of Three message s _ (AreQuiet-request s.link s.serving) refl)
+    (λ _. handed_none (request_where s.link s.serving) (AreQuiet-request s.link s.serving)))
+
+pub Does-short_message : (reference : ℕ) (stage : Stage) (link : ShortMessageLink) (s : Connection) (message : List ℕ) → IsStill stage → s.state ≡ Live reference stage → (Stands s → IsAskedFor link s.down.three) → Does (Live reference stage) s (inputs.Downlink Three message) (short_message (Live reference stage) link message s)
+Does-short_message reference stage Up s message still is none = Does-handing reference stage s Three message still is none
+Does-short_message reference stage _ s message still is none = Does-hold_short reference stage s message is
+
+-- SAPI 3 comes up
+pub Does-link_up : (reference : ℕ) (stage : Stage) (s : Connection) (input : Input) → IsStill stage → s.state ≡ Live reference stage → BringsNothing input → Does (Live reference stage) s input (link_up s)
+Does-link_up reference stage s input still is nothing =
+    moves tt (opened reference stage s is)
+    (λ stands of. KeepsDownlink-still of s input (link_up s) (rejects-handing s.serving Three s.down.three) nothing (GoesTo-handing s.serving Three s.down.three) (handed-held of Three s.serving s.down))
+    (λ changes. absurd (not_changing stage reference s still is changes))
+
+-- SAPI 3 goes down: what is held for it is rejected
+KeepsDownlink-rejected : (of : Sapi) (reference : ℕ) (s : Connection) (input : Input) → BringsNothing input → KeepsDownlink of s input (link_down Asked reference s)
+KeepsDownlink-rejected Zero reference s input nothing = record {
+  serving = (tt, tt);
+  stream = λ _. rw (received_by-nothing Zero input nothing) (sym (ap (filter is_dtap) (append-nil s.down.zero)));
+}
+KeepsDownlink-rejected Three reference s input nothing = record { serving = (tt, tt); stream = λ _. refl }
+
+pub Does-link_down : (reference : ℕ) (stage : Stage) (link : ShortMessageLink) (s : Connection) (input : Input) → IsStill stage → s.state ≡ Live reference stage → BringsNothing input → Does (Live reference stage) s input (link_down link reference s)
+Does-link_down reference stage Asked s input still is nothing =
+    moves tt (opened reference stage s is) (λ stands of. KeepsDownlink-rejected of reference s input nothing) (λ changes. absurd (not_changing stage reference s still is changes))
+Does-link_down reference stage _ s input still is nothing = passes tt (opened reference stage s is) tt refl nothing
+
+-- a message of the mobile is held
+pub Does-hold_up : (state : State) (s : Connection) (input : Input) (tenure : ℕ) (sapi : Sapi) (message : List ℕ) → IsOpen state → s.state ≡ state → BringsNothing input → Does state s input (hold_up state tenure sapi message s)
+Does-hold_up state s input tenure sapi message is_open is nothing =
+    cond_both (eqb (chain_count s.up) s.up.limit) _ _ (Does state s input)
+    (λ full. Does-failing state s input EQUIPMENT_FAILURE is_open)
+    (λ room. passes is_open (subst IsOpen (sym is) is_open) tt refl nothing)
+
+-- ---- the end of a change: what is held of SAPI 0 is handed, that of SAPI 3 waits for its link
+
+AreQuiet-request_for : (three : List (List ℕ)) (serving : Channel) → AreQuiet (request_for three serving)
+AreQuiet-request_for [] serving = tt
+AreQuiet-request_for (first ∷ rest) serving = (tt, tt)
+
+pub Does-changed : (state : State) (s : Connection) (input : Input) (outs : List Message) (t : Connection) (stage : Stage) (reference : ℕ) (offer : Option Channel) → IsOpen state → AreQuiet outs → t.down ≡ s.down → BringsNothing input → IsOpen t.state → (IsChanging t.state → ⊥) →
+    Does state s input (row outs t then hand_held Zero then ask_for_held then begin_waiting stage reference offer)
+Does-changed state s input outs t stage reference offer is_open quiet same nothing opened still =
+    moves is_open (begins.stays_open opened) (λ stands. keeps) (λ changes. absurd (still (begins.prepares changes)))
+  where
+    handing_outs : List Message
+    handing_outs = map (handing t.serving Zero) t.down.zero
+
+    after : Connection
+    after = (ask_for_held (hand_held Zero t).next).next
+
+    waits : Bool
+    waits = after.waits && may_begin stage after.draining
+
+    behind : List Message
+    behind = waiting_outs waits reference offer
+
+    asking : List Message
+    asking = request_for t.down.three t.serving
+
+    begins : Begins after (after_waiting waits reference offer after)
+    begins = Begins-waiting waits reference offer after
+
+    all : List Message
+    all = outs ++ handing_outs ++ asking ++ behind
+
+    handed_all : (of : Sapi) → handed of all ≡ handed of handing_outs
+    handed_all of =
+        handed-append of (outs ++ handing_outs ++ asking) behind
+        ∙ rw (handed-quiet of behind (AreQuiet-waiting waits reference offer)) (append-nil (handed of (outs ++ handing_outs ++ asking)))
+        ∙ handed-append of (outs ++ handing_outs) asking
+        ∙ rw (handed-quiet of asking (AreQuiet-request_for t.down.three t.serving)) (append-nil (handed of (outs ++ handing_outs)))
+        ∙ handed-append of outs handing_outs
+        ∙ rw (handed-quiet of outs quiet) refl
+
+    none : rejects all ≡ false
+    none = rejects-append (outs ++ handing_outs ++ asking) behind
+        (rejects-append (outs ++ handing_outs) asking
+        (rejects-append outs handing_outs (rejects-quiet outs quiet) (rejects-handing t.serving Zero t.down.zero))
+        (rejects-quiet asking (AreQuiet-request_for t.down.three t.serving)))
+        (rejects-quiet behind (AreQuiet-waiting waits reference offer))
+
+    goes_quiet : (outs : List Message) → AreQuiet outs → AllByRecursion (GoesTo t.serving) outs
+    goes_quiet outs quiet = AllByRecursion-so IsQuiet (GoesTo t.serving) (GoesTo-quiet t.serving) outs quiet
+
+    goes : AllByRecursion (GoesTo t.serving) all
+    goes = AllByRecursion-append (GoesTo t.serving) (outs ++ handing_outs ++ asking) behind
+        (AllByRecursion-append (GoesTo t.serving) (outs ++ handing_outs) asking
+        (AllByRecursion-append (GoesTo t.serving) outs handing_outs (goes_quiet outs quiet) (GoesTo-handing t.serving Zero t.down.zero))
+        (goes_quiet asking (AreQuiet-request_for t.down.three t.serving)))
+        (goes_quiet behind (AreQuiet-waiting waits reference offer))
+
+    keeps : (of : Sapi) → KeepsDownlink of s input (row all (after_waiting waits reference offer after))
+    keeps of = KeepsDownlink-still of s input (row all (after_waiting waits reference offer after)) none nothing
+        (subst (λ (serving : Channel). AllByRecursion (GoesTo serving) all) (sym begins.serving) goes)
+        (rw (handed_all of, begins.down) (handed-held of Zero t.serving t.down ∙ ap (λ (down : HoldState). filter is_dtap (messages down of)) same))

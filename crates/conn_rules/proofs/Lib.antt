@@ -1,0 +1,30 @@
+mod Prelude
+mod ChannelRows
+pub mod Channels
+pub mod Closing
+pub mod Downlink
+pub mod DownlinkMessages
+pub mod DownlinkSteps
+pub mod DownlinkTable
+mod Lives
+pub mod Roles
+pub mod RolesAccount
+pub mod RolesApart
+mod RolesRows
+pub mod RolesSteps
+pub mod RolesTable
+mod Rows
+pub mod Standing
+pub mod StandingChanges
+pub mod StandingSteps
+pub mod StandingTable
+mod TimerRows
+pub mod UplinkMessages
+pub mod UplinkPlaces
+pub mod UplinkRows
+pub mod UplinkSteps
+pub mod UplinkTable
+pub mod UplinkTenures
+pub mod PutRows
+mod PutOnRows
+pub mod RowPuts

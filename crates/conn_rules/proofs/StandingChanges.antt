@@ -1,0 +1,124 @@
+-- Where a change ends, and where old channels leave: what holds of every connection is kept.
+use Rattle.conn_rules.proofs.Prelude.{cond_both, ◌≡◌, ℕ, ◌+◌, ◌≤◌, false, List, [], ◌∷◌, ◌++◌, length, refl, ◌∙◌, arith, Option, Change}
+use Rattle.conn_rules.proofs.Prelude.{Channel, Zero, empty_tenure, HoldState, with_messages}
+use Rattle.std.proofs.Common.{◌<◌, le_trans, length-append}
+use Rattle.conn_rules.specs.declared.limits.TheConstants.{DRAIN_LIMIT}
+use Rattle.conn_rules.specs.declared.state.Drain.{Drain}
+use Rattle.conn_rules.specs.declared.state.ShortMessageLink.{ShortMessageLink}
+use Rattle.conn_rules.specs.declared.state.Stage.{Stage}
+use Rattle.conn_rules.specs.declared.state.Stage.TheVariants.{Active, Preparing, Changing, Draining}
+use Rattle.conn_rules.specs.declared.state.State.TheVariants.{Live}
+use Rattle.conn_rules.specs.declared.state.Target.{Target}
+use Rattle.conn_rules.specs.Connection.{Connection, enter}
+use Rattle.conn_rules.specs.Standing.{FirstIsEmpty, DrainTime, IsAskedFor, Stands}
+use Rattle.conn_rules.specs.Steps.{Row, begin_waiting, resting_stage, resting, moved, hand_held, ask_for_held, link_for, relay_held, done_at, leave, settled, settled_stage, shifted}
+use Rattle.conn_rules.specs.Table.{complete, failure, release}
+use Rattle.conn_rules.proofs.Standing.{StandsDown, StandsDown-without, StandsUp, StandsUp-ended, StandsUp-begun, FirstIsEmpty-begun, OldestDrains-more, DrainTime-more, FirstIsEmpty-ended, DrainTime-anew, DrainTime-done_at, length-ended, length-done_at, nothing}
+use Rattle.conn_rules.proofs.StandingSteps.{AliveIn, alive, in_stage, StandsBut, StandsBut-of, Stands-begin_waiting, IsAskedFor-for, with_hold}
+
+-- ---- the change ends
+
+StandsBut-resting : (draining : List Drain) (down : HoldState) (link : ShortMessageLink) → length draining < DRAIN_LIMIT → down.zero ≡ [] → IsAskedFor link down.three → StandsBut (resting_stage draining) draining down link
+StandsBut-resting [] down link few none asked = (refl, none, asked)
+StandsBut-resting (d ∷ ds) down link few none asked = (omega arith, omega arith, none, asked)
+
+-- the target can't be had
+pub Stands-nack : (reference : ℕ) (target : Target) (offer : Option Channel) (s : Connection) → s.state ≡ Live reference (Preparing target) → Stands s → Stands (begin_waiting (resting_stage s.draining) reference offer (resting reference s)).next
+Stands-nack reference target offer s is stands =
+    let stood = in_stage reference (Preparing target) s is stands in
+    Stands-begin_waiting reference (resting_stage s.draining) offer (resting reference s) refl (alive reference (Preparing target) s is stands)
+    (StandsBut-resting s.draining s.down s.link stood.0 stood.1 stood.2)
+
+-- the mobile is back
+pub Stands-failure : (reference : ℕ) (target : Target) (change : Change) (channel : Channel) (cause : ℕ) (offer : Option Channel) (s : Connection) → s.state ≡ Live reference (Changing target) → Stands s → Stands (failure reference change channel cause offer s).next
+Stands-failure reference target change channel cause offer s is stands =
+    let lives = alive reference (Changing target) s is stands in
+    let stood = in_stage reference (Changing target) s is stands in
+    Stands-begin_waiting reference (resting_stage s.draining) offer (ask_for_held (hand_held Zero (resting reference s)).next).next refl
+    (with_hold lives (StandsDown-without Zero s.down lives.down))
+    (StandsBut-resting s.draining (with_messages s.down Zero []) (link_for s.down.three s.link) stood.0 refl (IsAskedFor-for s.link s.down.three))
+
+-- the target serves, and the channel that served drains
+pub Stands-complete : (reference : ℕ) (target : Target) (change : Change) (channel : Channel) (cause : ℕ) (offer : Option Channel) (s : Connection) → s.state ≡ Live reference (Changing target) → Stands s → Stands (complete reference change channel cause offer s).next
+Stands-complete reference target change channel cause offer s is stands =
+    let lives = alive reference (Changing target) s is stands in
+    let stood = in_stage reference (Changing target) s is stands in
+    let each = lives.each in
+    let few = stood.0 in
+    let old : Drain = record { channel = s.serving; is_done = false } in
+    let more : length (s.draining ++ old ∷ []) ≡ length s.draining + 1 = length-append s.draining (old ∷ []) in
+    let tenures : length (s.up.tenures ++ empty_tenure ∷ []) ≡ length s.up.tenures + 1 = length-append s.up.tenures (empty_tenure ∷ []) in
+    Stands-begin_waiting reference Draining offer (ask_for_held (hand_held Zero (moved reference channel s)).next).next refl
+    (record {
+      each = omega arith;
+      first = FirstIsEmpty-begun s.up.tenures lives.first;
+      oldest = OldestDrains-more s.draining old lives.oldest refl;
+      time = DrainTime-more s.draining old s.drained;
+      down = StandsDown-without Zero s.down lives.down;
+      up = StandsUp-begun s.up lives.up;
+    })
+    (omega arith, omega arith, refl, IsAskedFor-for s.link s.down.three)
+
+-- ---- old channels leave
+
+-- what is left when the oldest ones that are done left
+record IsLeft (channels : ℕ) (s left : Connection) : Type 0 where
+  pub state : left.state ≡ s.state
+  pub link : left.link ≡ s.link
+  pub hold : left.down ≡ s.down
+  pub fewer : length left.draining ≤ channels
+  pub lives : AliveIn left
+
+IsLeft-more : {s t left : Connection} {channels more : ℕ} → t.state ≡ s.state → t.link ≡ s.link → t.down ≡ s.down → channels ≤ more → IsLeft channels t left → IsLeft more s left
+IsLeft-more state link hold few left = record {
+  state = left.state ∙ state;
+  link = left.link ∙ link;
+  hold = left.hold ∙ hold;
+  fewer = le_trans left.fewer few;
+  lives = left.lives;
+}
+
+IsLeft-leave : (reference : ℕ) (ds : List Drain) (s : Connection) → length s.up.tenures ≡ length ds + 1 → FirstIsEmpty s.up.tenures → DrainTime ds s.drained → StandsDown s.down → StandsUp s.up → IsLeft (length ds) s (leave reference ds s).next
+IsLeft-leave reference [] s each first time down up =
+    record { state = refl; link = refl; hold = refl; fewer = omega arith; lives = record { each = each; first = first; oldest = tt; time = time; down = down; up = up } }
+IsLeft-leave reference (d ∷ ds) s each first time down up =
+    cond_both d.is_done _ _ (λ (r : Row). IsLeft (length (d ∷ ds)) s r.next)
+    (λ done. IsLeft-more {t = next} refl refl refl (omega arith)
+    (IsLeft-leave reference ds next (length-ended s.up.tenures (length ds) (each ∙ omega arith)) (FirstIsEmpty-ended s.up.tenures (length ds) (each ∙ omega arith)) (DrainTime-anew ds) down (StandsUp-ended s.up up)))
+    (λ drains. record { state = refl; link = refl; hold = refl; fewer = omega arith; lives = record { each = each; first = first; oldest = drains; time = tt; down = down; up = up } })
+  where
+    next : Connection
+    next = (relay_held reference (shifted ds s)).next
+
+-- Draining without an old channel is Active
+StandsBut-settled : (stage : Stage) (before after : List Drain) (down : HoldState) (link : ShortMessageLink) → length after ≤ length before → StandsBut stage before down link → StandsBut (settled_stage stage after) after down link
+StandsBut-settled Active before after down link few stands = (nothing after (let none : length before ≡ 0 = rw stands.0 refl in omega arith), stands.1, stands.2)
+StandsBut-settled (Preparing target) before after down link few stands = (let fewer = stands.0 in omega arith, stands.1, stands.2)
+StandsBut-settled (Changing target) before after down link few stands = (let fewer = stands.0 in omega arith, stands.1)
+StandsBut-settled Draining before [] down link few stands = (refl, stands.2, stands.3)
+StandsBut-settled Draining before (d ∷ ds) down link few stands = (omega arith, le_trans few stands.1, stands.2, stands.3)
+
+-- the waiting request begins behind what settled
+abbrev rests_then_begins : ℕ → Stage → Option Channel → List Drain → Connection → Connection
+rests_then_begins reference stage offer ds left =
+    (begin_waiting (settled_stage stage (settled reference stage ds left).draining) reference offer (settled reference stage ds left)).next
+
+Stands-settled : (reference : ℕ) (stage : Stage) (offer : Option Channel) (ds : List Drain) (left : Connection) → left.draining ≡ ds → left.state ≡ Live reference stage → AliveIn left → StandsBut (settled_stage stage left.draining) left.draining left.down left.link → Stands (rests_then_begins reference stage offer ds left)
+Stands-settled reference Active offer ds left are is lives but = Stands-begin_waiting reference Active offer left is lives but
+Stands-settled reference (Preparing target) offer ds left are is lives but = Stands-begin_waiting reference (Preparing target) offer left is lives but
+Stands-settled reference (Changing target) offer ds left are is lives but = Stands-begin_waiting reference (Changing target) offer left is lives but
+Stands-settled reference Draining offer [] left are is lives but =
+    Stands-begin_waiting reference (settled_stage Draining left.draining) offer (enter (Live reference Active) left) (rw are refl) lives but
+Stands-settled reference Draining offer (d ∷ ds) left are is lives but =
+    Stands-begin_waiting reference (settled_stage Draining left.draining) offer left (rw are is) lives but
+
+pub Stands-release : (reference : ℕ) (stage : Stage) (place : ℕ) (offer : Option Channel) (s : Connection) → s.state ≡ Live reference stage → Stands s → Stands (release reference stage place offer s).next
+Stands-release reference stage place offer s is stands =
+    let lives = alive reference stage s is stands in
+    let same : length (done_at place s.draining) ≡ length s.draining = length-done_at place s.draining in
+    let left : IsLeft (length (done_at place s.draining)) s (leave reference (done_at place s.draining) s).next =
+    IsLeft-leave reference (done_at place s.draining) s (rw same lives.each) lives.first (DrainTime-done_at place s.draining s.drained lives.time) lives.down lives.up in
+    let fewer = left.fewer in
+    let but : StandsBut stage s.draining s.down s.link = StandsBut-of stage s.draining s.down s.link s.waits (in_stage reference stage s is stands) in
+    Stands-settled reference stage offer (leave reference (done_at place s.draining) s).next.draining (leave reference (done_at place s.draining) s).next refl (left.state ∙ is) left.lives
+    (StandsBut-settled stage s.draining _ _ _ (omega arith) (rw (left.hold, left.link) but))

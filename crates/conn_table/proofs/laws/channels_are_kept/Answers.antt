@@ -1,5 +1,0 @@
-use Rattle.conn_table.proofs.Channels.{keeps_channels}
-use Rattle.conn_table.proofs.laws.channels_are_kept.Goals as goal
-
-pub returns : goal.returns
-returns c = keeps_channels

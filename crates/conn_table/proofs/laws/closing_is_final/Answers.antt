@@ -1,5 +1,0 @@
-use Rattle.conn_table.proofs.Closing.{IsFinal-row}
-use Rattle.conn_table.proofs.laws.closing_is_final.Goals as goal
-
-pub returns : goal.returns
-returns c s input offer = IsFinal-row s input offer

@@ -1,5 +1,0 @@
-use Rattle.conn_table.proofs.Downlink.{KeepsDownlink-row}
-use Rattle.conn_table.proofs.laws.downlink_is_kept.Goals as goal
-
-pub returns : goal.returns
-returns c sapi s input offer stands = KeepsDownlink-row sapi s input offer stands

@@ -1,5 +1,0 @@
-use Rattle.conn_table.proofs.PutRows.{puts_on_own}
-use Rattle.conn_table.proofs.laws.messages_go_to_own_channels.Goals as goal
-
-pub returns : goal.returns
-returns c s input offer stands all = puts_on_own s input offer stands all

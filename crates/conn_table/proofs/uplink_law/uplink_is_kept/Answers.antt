@@ -1,5 +1,0 @@
-use Rattle.conn_table.proofs.UplinkTable.{row-keeps}
-use Rattle.conn_table.proofs.uplink_law.uplink_is_kept.Goals as goal
-
-pub returns : goal.returns
-returns c s input offer sapi future stands apart ends = row-keeps s input offer sapi future stands apart ends

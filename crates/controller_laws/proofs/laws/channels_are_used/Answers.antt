@@ -1,5 +1,0 @@
-use Rattle.controller_laws.proofs.UsingLife.{life_uses}
-use Rattle.controller_laws.proofs.laws.channels_are_used.Goals as goal
-
-pub returns : goal.returns
-returns c p steps allowed = life_uses p steps allowed

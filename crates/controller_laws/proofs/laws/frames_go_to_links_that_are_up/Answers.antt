@@ -1,5 +1,0 @@
-use Rattle.controller_laws.proofs.UsingLife.{life_reaches}
-use Rattle.controller_laws.proofs.laws.frames_go_to_links_that_are_up.Goals as goal
-
-pub returns : goal.returns
-returns c p steps s allowed = life_reaches p steps s allowed

@@ -1,5 +1,0 @@
-use Rattle.controller_laws.proofs.HandingLife.{life_hands}
-use Rattle.controller_laws.proofs.laws.messages_are_handed_in_place.Goals as goal
-
-pub returns : goal.returns
-returns c p steps number from_one = life_hands p steps number from_one

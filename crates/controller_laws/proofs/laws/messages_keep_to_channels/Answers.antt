@@ -1,5 +1,0 @@
-use Rattle.controller_laws.proofs.Placed.{life_placed}
-use Rattle.controller_laws.proofs.laws.messages_keep_to_channels.Goals as goal
-
-pub returns : goal.returns
-returns c p steps s number allowed from_one = life_placed p steps s number allowed from_one

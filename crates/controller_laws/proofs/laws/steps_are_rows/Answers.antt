@@ -1,5 +1,0 @@
-use Rattle.controller_laws.proofs.Lives.{life_acts}
-use Rattle.controller_laws.proofs.laws.steps_are_rows.Goals as goal
-
-pub returns : goal.returns
-returns c p steps s number from_one = life_acts p steps s number from_one

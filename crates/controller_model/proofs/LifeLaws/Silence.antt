@@ -1,0 +1,164 @@
+-- Nothing is handed while a channel changes, and nothing after the end.
+use Rattle.controller_model.proofs.Prelude.{◌≡◌, Bool, ℕ, ◌≤◌, ◌<◌, List, [], ◌∷◌, Option, Some, None, refl, sym, subst, ap, ◌∙◌, arith}
+use Rattle.controller_model.proofs.Prelude.{AllByRecursion, Message, SWITCH_LINK, Input, State, WaitActivation, WaitEstablish, WaitConfirm}
+use Rattle.controller_model.proofs.Prelude.{Live, Closed, Removed, Due, WasAsked, Complete, Connection, Row, OfRow, IsOpen, IsChanging}
+use Rattle.controller_model.proofs.Prelude.{GoesTo, Sapi, Zero, Three}
+use Rattle.conn_rules.proofs.Closing.{IsFinal-row}
+use Rattle.conn_rules.proofs.Downlink.{IsSilent-row, KeepsDownlink-row}
+use Rattle.conn_rules.specs.Streams.{IsSilent, IsFinal, OnlyReleases, KeepsDownlink, handed}
+use Rattle.conn_rules.specs.Table.{row_of}
+use Rattle.controller_model.specs.LifeLaws.Acts.{Acts, Brought, IsAged, kept, kept_in}
+use Rattle.controller_model.specs.LifeLaws.Acts.Acts.{ages, rests, opens, goes}
+use Rattle.controller_model.specs.LifeLaws.Acts.{brought_in}
+use Rattle.controller_model.specs.LifeLaws.End.{IsThere, HasNoStream, IsAway, GoToServing, OnlyReleasesAfter, KeepsSilence, StaysSilent}
+use Rattle.controller_model.specs.LifeLaws.History.{connection_of}
+use Rattle.controller_model.proofs.LifeLaws.Beside.{step_goes}
+use Rattle.controller_model.proofs.LifeLaws.Fitting.{IsFine, Fits, aged_holds, fine_old, step_fits}
+use Rattle.controller_model.proofs.LifeLaws.Turns.{step_does}
+use Rattle.controller_model.specs.declared.step.Step.{Step}
+use Rattle.controller_model.specs.Controller.{Controller, is_up}
+use Rattle.controller_model.specs.Life.{step}
+
+-- ---- a connection after a row
+
+-- what holds of it, and where it is removed of none
+pub kept_holds : (P : Option Connection → Type 0) (state : State) (s : Connection) → P None → P (Some s) → P (kept_in state s)
+kept_holds P Removed s none some = none
+kept_holds P WaitActivation s none some = some
+kept_holds P WaitEstablish s none some = some
+kept_holds P WaitConfirm s none some = some
+kept_holds P (Live reference stage) s none some = some
+kept_holds P (Closed clearing) s none some = some
+
+pub kept_there : (state : State) (s : Connection) → IsThere (kept_in state s) → IsOpen s.state
+kept_there state s = kept_holds (λ (o : Option Connection). IsThere o → IsOpen s.state) state s (λ there. absurd there) (λ there. there)
+
+pub there_kept : (state : State) (s : Connection) → s.state ≡ state → IsOpen s.state → IsThere (kept_in state s)
+there_kept Removed s is there = absurd (subst IsOpen is there)
+there_kept WaitActivation s is there = there
+there_kept WaitEstablish s is there = there
+there_kept WaitConfirm s is there = there
+there_kept (Live reference stage) s is there = there
+there_kept (Closed clearing) s is there = there
+
+kept_away : (state : State) (s : Connection) → IsAway (kept_in state s) → IsChanging s.state
+kept_away state s = kept_holds (λ (o : Option Connection). IsAway o → IsChanging s.state) state s (λ away. absurd away) (λ away. away)
+
+pub same_state : (old s : Connection) → IsAged old s → s.state ≡ old.state
+same_state old s aged = aged_holds (λ (c : Connection). c.state ≡ old.state) (λ ms c is. is) old s aged refl
+
+-- ---- nothing that is put
+
+pub silent_nothing : HasNoStream []
+silent_nothing = record { relays = λ sapi. refl; hands = λ sapi. refl }
+
+silent_put : (put : List Message) → put ≡ [] → HasNoStream put
+silent_put put is = subst HasNoStream (sym is) silent_nothing
+
+goes_nowhere : (after : Option Connection) → GoToServing after []
+goes_nowhere None = λ sapi. refl
+goes_nowhere (Some s) = tt
+
+-- ---- a row
+
+final_row : (s : Connection) (input : Input) (offer : _) (r : Row) → row_of s input offer ≡ Some r → IsFinal s r
+final_row s input offer r fits = subst (OfRow (IsFinal s)) fits (IsFinal-row s input offer)
+
+serving_kept : (state : State) (s : Connection) (put : List Message) → s.state ≡ state → ((IsOpen s.state → ⊥) → (sapi : Sapi) → handed sapi put ≡ []) → AllByRecursion (GoesTo s.serving) put → GoToServing (kept_in state s) put
+serving_kept Removed s put is none all = none (λ there. subst IsOpen is there)
+serving_kept WaitActivation s put is none all = all
+serving_kept WaitEstablish s put is none all = all
+serving_kept WaitConfirm s put is none all = all
+serving_kept (Live reference stage) s put is none all = all
+serving_kept (Closed clearing) s put is none all = all
+
+-- ---- what a step does
+
+acts_away : (number next : ℕ) (up : Bool) (brought : Brought) (before after : Option Connection) (put : List Message) → Acts number next up brought before put after → IsAway after → (sapi : Sapi) → handed sapi put ≡ []
+acts_away number next up brought before after put (rests silent same none) away sapi = (silent_put put silent).hands sapi
+acts_away number next up brought before after put (ages old s is_time is aged silent same) away sapi = (silent_put put silent).hands sapi
+acts_away number next up brought before after put (opens begins linked channel request delay is_nothing none put_is same) away sapi = absurd (subst IsAway same away)
+acts_away number next up brought before after put (goes old s input offer r is aged by fits put_is same) away sapi =
+    ap (handed sapi) put_is ∙ of sapi (subst (OfRow IsSilent) fits (IsSilent-row s input offer) (kept_away r.next.state r.next (subst IsAway same away)))
+  where
+    of : (sapi : Sapi) → (handed Zero r.outs ≡ []) × (handed Three r.outs ≡ []) → handed sapi r.outs ≡ []
+    of Zero both = both.0
+    of Three both = both.1
+
+acts_serving : (number next : ℕ) (up : Bool) (brought : Brought) (before after : Option Connection) (put : List Message) → Acts number next up brought before put after → IsFine before → GoToServing after put
+acts_serving number next up brought before after put (rests silent same none) fine = subst (GoToServing after) (sym silent) (goes_nowhere after)
+acts_serving number next up brought before after put (ages old s is_time is aged silent same) fine = subst (GoToServing after) (sym silent) (goes_nowhere after)
+acts_serving number next up brought before after put (opens begins linked channel request delay is_nothing none put_is same) fine =
+    subst (λ (o : Option Connection). GoToServing o put) (sym same) (subst (λ (ms : List Message). AllByRecursion (GoesTo channel) ms) (sym put_is) (tt, tt))
+acts_serving number next up brought before after put (goes old s input offer r is aged by fits put_is same) fine =
+    let keeps = subst (OfRow (KeepsDownlink Zero s input)) fits (KeepsDownlink-row Zero s input offer (fine_old before old s is aged fine).1) in
+    subst (λ (o : Option Connection). GoToServing o put) (sym same) (subst (GoToServing (kept r.next)) (sym put_is)
+    (serving_kept r.next.state r.next r.outs refl (final_row s input offer r fits).hands keeps.serving))
+
+acts_over : (number next : ℕ) (up : Bool) (brought : Brought) (before after : Option Connection) (put : List Message) → Acts number next up brought before put after → (IsThere after → ⊥) → HasNoStream put
+acts_over number next up brought before after put (rests silent same none) over = silent_put put silent
+acts_over number next up brought before after put (ages old s is_time is aged silent same) over = silent_put put silent
+acts_over number next up brought before after put (opens begins linked channel request delay is_nothing none put_is same) over = absurd (over (subst IsThere (sym same) tt))
+acts_over number next up brought before after put (goes old s input offer r is aged by fits put_is same) over =
+    let final = final_row s input offer r fits in
+    let shut : IsOpen r.next.state → ⊥ = λ is_open. over (subst IsThere (sym same) (there_kept r.next.state r.next refl is_open)) in
+    subst HasNoStream (sym put_is) (record { relays = final.relays shut; hands = final.hands shut })
+
+acts_stays : (number next : ℕ) (up : Bool) (brought : Brought) (before after : Option Connection) (put : List Message) → Acts number next up brought before put after → number < next → (IsThere before → ⊥) → IsThere after → ⊥
+acts_stays number next up brought before after put (rests silent same none) less over there = over (subst IsThere same there)
+acts_stays number next up brought before after put (ages old s is_time is aged silent same) less over there =
+    over (subst IsThere (sym is) (subst IsOpen (same_state old s aged) (subst IsThere same there)))
+acts_stays number next up brought before after put (opens begins linked channel request delay is_nothing none put_is same) less over there = absurd (omega arith)
+acts_stays number next up brought before after put (goes old s input offer r is aged by fits put_is same) less over there =
+    (final_row s input offer r fits).stays (λ is_open. over (subst IsThere (sym is) (subst IsOpen (same_state old s aged) is_open))) (kept_there r.next.state r.next (subst IsThere same there))
+
+releases_nothing : (state : State) → OnlyReleases state []
+releases_nothing (Closed Complete) = tt
+releases_nothing (Closed (Due cause)) = tt
+releases_nothing (Closed (WasAsked reference)) = tt
+releases_nothing WaitActivation = tt
+releases_nothing WaitEstablish = tt
+releases_nothing WaitConfirm = tt
+releases_nothing (Live reference stage) = tt
+releases_nothing Removed = tt
+
+none_releases : (o : Option Connection) → OnlyReleasesAfter o []
+none_releases None = refl
+none_releases (Some s) = releases_nothing s.state
+
+acts_cleared : (number next : ℕ) (up : Bool) (brought : Brought) (before after : Option Connection) (put : List Message) → Acts number next up brought before put after → number < next → OnlyReleasesAfter before put
+acts_cleared number next up brought before after put (rests silent same none) less = subst (OnlyReleasesAfter before) (sym silent) (none_releases before)
+acts_cleared number next up brought before after put (ages old s is_time is aged silent same) less = subst (OnlyReleasesAfter before) (sym silent) (none_releases before)
+acts_cleared number next up brought before after put (opens begins linked channel request delay is_nothing none put_is same) less = absurd (omega arith)
+acts_cleared number next up brought before after put (goes old s input offer r is aged by fits put_is same) less =
+    subst (λ (o : Option Connection). OnlyReleasesAfter o put) (sym is) (subst (OnlyReleases old.state) (sym put_is)
+    (subst (λ (state : State). OnlyReleases state r.outs) (same_state old s aged) (final_row s input offer r fits).cleared))
+
+pub step_silence : (number : ℕ) (c : Controller) (s : Step) (from_one : 1 ≤ number) (fits : Fits number c) → KeepsSilence number c s (step_does number c s from_one fits.numbered).put
+step_silence number c s from_one fits =
+    let does = step_does number c s from_one fits.numbered in
+    let before : Option Connection = connection_of c number in
+    let after : Option Connection = connection_of (step c s).next number in
+    let brought : Brought = brought_in c number s in
+    record {
+      away = acts_away number c.next_number (is_up c SWITCH_LINK) brought before after does.put does.acts;
+      serving = acts_serving number c.next_number (is_up c SWITCH_LINK) brought before after does.put does.acts fits.fine;
+      over = acts_over number c.next_number (is_up c SWITCH_LINK) brought before after does.put does.acts;
+      stays = acts_stays number c.next_number (is_up c SWITCH_LINK) brought before after does.put does.acts;
+      cleared = acts_cleared number c.next_number (is_up c SWITCH_LINK) brought before after does.put does.acts;
+    }
+
+-- ---- the rest of a life
+
+pub stays_silent : (number : ℕ) (c : Controller) (steps : List Step) → 1 ≤ number → Fits number c → number < c.next_number → (IsThere (connection_of c number) → ⊥) → StaysSilent number c steps
+stays_silent number c [] from_one fits less over = record { moments = []; history = tt; silent = tt }
+stays_silent number c (s ∷ ss) from_one fits less over =
+    let does = step_does number c s from_one fits.numbered in
+    let now = step_silence number c s from_one fits in
+    let numbers = (step_goes c s).numbers in
+    let rest = stays_silent number (step c s).next ss from_one (step_fits number c s from_one fits) (omega arith) (now.stays less over) in
+    record {
+      moments = record { taken = s; messages = does.put } ∷ rest.moments;
+      history = (refl, does.outs, rest.history);
+      silent = (now.over (now.stays less over), rest.silent);
+    }

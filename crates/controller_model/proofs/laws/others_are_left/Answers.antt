@@ -1,0 +1,5 @@
+use Rattle.controller_model.proofs.Others.{word_leaves, told_leaves, all_age, timed_leaves}
+use Rattle.controller_model.proofs.laws.others_are_left.Goals as goal
+
+pub returns : goal.returns
+returns c = record { frames = word_leaves; breaks = told_leaves; ages = all_age; time = timed_leaves }

@@ -1,0 +1,135 @@
+-- The controller, as a record of plain lists.
+use Rattle.std.specs.Prelude.{ℕ, ◌+◌, ◌==◌, min, Bool, true, false, if◌then◌else◌, List, [], ◌∷◌, ◌++◌, length, replicate, unwrap_or, find, slice_get, slice_index_or, set, Option, Some, None}
+use Rattle.controller_model.specs.Prelude.{Channel, Place, Message, Out, State, Connection, Parameters}
+use Rattle.conn_messages.specs.declared.uses.ChannelUse.{ChannelUse}
+use Rattle.conn_messages.specs.declared.uses.ChannelUse.TheVariants.{Activated, Released, Unchanged}
+use Rattle.conn_messages.specs.ChannelUse.{use_by}
+use Rattle.conn_rules.specs.declared.state.State.TheVariants.{Removed}
+use Rattle.controller_model.specs.declared.channel_state.ChannelState.{ChannelState}
+use Rattle.controller_model.specs.declared.channel_state.ChannelState.TheVariants.{Free, InUse, Releasing}
+use Rattle.controller_model.specs.declared.limits.TheConstants.{CHANNEL_NUMBERS, MAX_IGNORED}
+use Rattle.ho_decision.specs.State.{State as Averages}
+
+-- a connection, and the averages of its serving channel
+pub record Entry : Type 0 where
+  pub connection : Connection
+  pub averages : Averages
+
+pub record Controller : Type 0 where
+  pub settings : Parameters
+  -- whether each link is up, the switch's first
+  pub links : List Bool
+  -- the channels: by link, the switch's first, which has none, and then by channel number
+  pub channels : List (List ChannelState)
+  -- by rising number
+  pub entries : List Entry
+  -- the number of the next connection
+  pub next_number : ℕ
+  -- how many handovers were begun, modulo 256
+  pub handovers : ℕ
+  -- how much was ignored
+  pub ignored : ℕ
+
+-- of a link nothing is in use
+abbrev pub free_channels : List ChannelState
+free_channels = replicate CHANNEL_NUMBERS Free
+
+-- every link is up
+abbrev pub new_controller : Parameters → Controller
+new_controller settings = record {
+  settings = settings;
+  links = replicate (length settings.cells + 1) true;
+  channels = replicate (length settings.cells + 1) free_channels;
+  entries = [];
+  next_number = 1;
+  handovers = 0;
+  ignored = 0;
+}
+
+-- ---- a step: what is put, in order, and the controller after it
+
+pub record Turn : Type 0 where
+  pub outs : List Out
+  pub next : Controller
+
+abbrev pub turn : List Out → Controller → Turn
+turn outs next = record { outs = outs; next = next }
+
+-- something changes nothing, and is counted
+abbrev pub ignoring : Controller → Turn
+ignoring c = turn [] (record c { ignored = min (c.ignored + 1) MAX_IGNORED })
+
+-- the same step of each of a list, one after the other
+abbrev pub each : {X : Type 0} → (Controller → X → Turn) → Controller → List X → Turn
+each step c [] = turn [] c
+each step c (x ∷ xs) = turn ((step c x).outs ++ (each step (step c x).next xs).outs) (each step (step c x).next xs).next
+
+-- ---- links
+
+-- no link of another number is there
+abbrev pub is_up : Controller → ℕ → Bool
+is_up c source = unwrap_or (slice_get c.links source) false
+
+abbrev pub with_down : ℕ → Controller → Controller
+with_down source c = record c { links = set c.links source false }
+
+-- ---- connections
+
+abbrev pub has_number : ℕ → Entry → Bool
+has_number number e = e.connection.number == number
+
+abbrev pub entry_of : Controller → ℕ → Option Entry
+entry_of c number = find (has_number number) c.entries
+
+-- a connection that is removed goes
+abbrev pub remaining : State → Entry → List Entry
+remaining Removed e = []
+remaining state e = e ∷ []
+
+-- in the place of the entry of its number
+abbrev pub put_back : Entry → List Entry → List Entry
+put_back e [] = []
+put_back e (x ∷ xs) = if has_number e.connection.number x then remaining e.connection.state e ++ xs else x ∷ put_back e xs
+
+abbrev pub with_entry : Entry → Controller → Controller
+with_entry e c = record c { entries = put_back e c.entries }
+
+-- ---- channels
+
+abbrev pub place_at : ℕ → ℕ → Place
+place_at station number = record { station = station; number = number }
+
+abbrev pub place_of : Channel → Place
+place_of channel = place_at channel.station channel.number
+
+-- a channel that no cell has is free
+abbrev pub state_in : List (List ChannelState) → Place → ChannelState
+state_in channels at = slice_index_or (slice_index_or channels at.station []) at.number Free
+
+abbrev pub channel_state : Controller → Place → ChannelState
+channel_state c at = state_in c.channels at
+
+-- the connection that has a channel, or had it until RF CHANNEL RELEASE was put
+abbrev pub holder : ChannelState → Option ℕ
+holder Free = None
+holder (InUse number) = Some number
+holder (Releasing number) = Some number
+
+abbrev pub with_state : Place → ChannelState → List (List ChannelState) → List (List ChannelState)
+with_state at state channels = set channels at.station (set (slice_index_or channels at.station []) at.number state)
+
+abbrev pub freed : Place → Controller → Controller
+freed at c = record c { channels = with_state at Free c.channels }
+
+-- those of a station whose link broke go
+abbrev pub freed_station : ℕ → Controller → Controller
+freed_station station c = record c { channels = set c.channels station free_channels }
+
+-- what was activated is in use; what RF CHANNEL RELEASE was put for is releasing
+abbrev pub after_use : ℕ → List (List ChannelState) → ChannelUse → List (List ChannelState)
+after_use number channels (Activated at why) = with_state at (InUse number) channels
+after_use number channels (Released at) = with_state at (Releasing number) channels
+after_use number channels Unchanged = channels
+
+abbrev pub channels_after : ℕ → List (List ChannelState) → Message → List (List ChannelState)
+channels_after number channels message = after_use number channels (use_by message)

@@ -1,0 +1,112 @@
+-- The mobile's messages of a connection: those of its tenures.
+use Rattle.std.specs.Prelude.{◌≡◌, ℕ, ◌==◌, ◌&&◌, ◌||◌, not, Bool, true, false, if◌then◌else◌, List, [], ◌∷◌, ◌++◌, fold, map, Some}
+use Rattle.std.specs.List.{AllByRecursion}
+use Rattle.controller_model.specs.Prelude.{Place, Message, outs_of, Management, Input, Sapi, Zero, Three, Parameters}
+use Rattle.conn_messages.specs.declared.message.Message.TheVariants.{Data}
+use Rattle.bssmap_codec.specs.declared.bssmap.Bssmap.TheVariants.{AssignmentComplete, HandoverPerformed}
+use Rattle.conn_rules.specs.declared.input.Input.TheVariants as inputs
+use Rattle.conn_rules.specs.Streams.{relayed}
+use Rattle.controller_model.specs.declared.step.Step.{Step}
+use Rattle.controller_model.specs.declared.word.Word.{Word}
+use Rattle.controller_model.specs.declared.word.Word.TheVariants.{OnChannel}
+use Rattle.controller_model.specs.Controller.{Turn, new_controller}
+use Rattle.controller_model.specs.Views.{forwarded, held_up}
+use Rattle.controller_model.specs.LifeLaws.Downlink.{requests}
+use Rattle.controller_model.specs.LifeLaws.End.{IsThere}
+use Rattle.controller_model.specs.LifeLaws.History.{IsHistory, Moment, all_messages, connection_of, outs_for, word_in}
+use Rattle.controller_model.specs.LifeLaws.Seen.{messages_on}
+use Rattle.controller_model.specs.LifeLaws.Sending.{ComesInOctets}
+
+-- A tenure: what came on a channel from the moment that it served, until its release is acknowledged.
+pub record Tenure : Type 0 where
+  pub place : Place
+  pub is_over : Bool
+  pub zero : List (List ℕ)
+  pub three : List (List ℕ)
+
+abbrev pub of_sapi : Sapi → Tenure → List (List ℕ)
+of_sapi Zero t = t.zero
+of_sapi Three t = t.three
+
+abbrev pub is_same : Place → Place → Bool
+is_same at other = (at.station == other.station) && (at.number == other.number)
+
+-- on its channel, while it isn't over
+abbrev pub is_on : Place → Tenure → Bool
+is_on at t = not t.is_over && is_same t.place at
+
+-- a channel begins to serve
+abbrev pub beginning : Place → List (List ℕ) → Tenure
+beginning at zero = record { place = at; is_over = false; zero = zero; three = [] }
+
+abbrev pub with_message : Sapi → List ℕ → Tenure → Tenure
+with_message Zero message t = record t { zero = t.zero ++ message ∷ [] }
+with_message Three message t = record t { three = t.three ++ message ∷ [] }
+
+abbrev pub heard : Place → Sapi → List ℕ → Tenure → Tenure
+heard at sapi message t = if is_on at t then with_message sapi message t else t
+
+abbrev pub ended : Place → Tenure → Tenure
+ended at t = if is_on at t then record t { is_over = true } else t
+
+-- all but the one that serves were released
+abbrev pub acknowledged : Place → List Tenure → List Tenure
+acknowledged at [] = []
+acknowledged at (serving ∷ old) = serving ∷ map (ended at) old
+
+-- the switch learns that a change is complete
+abbrev pub is_performed : Message → Bool
+is_performed (Data reference (Management (AssignmentComplete cause))) = true
+is_performed (Data reference (Management (HandoverPerformed cause cell))) = true
+is_performed _ = false
+
+abbrev pub performs : List Message → Bool
+performs [] = false
+performs (m ∷ ms) = is_performed m || performs ms
+
+-- the first channel serves from the initial message on, with which CR is put; another one from its COMPLETE on, of which the
+-- switch learns
+abbrev pub begin_first : Bool → Place → List ℕ → List Tenure → List Tenure
+begin_first true at initial [] = beginning at (initial ∷ []) ∷ []
+begin_first requested at initial tenures = tenures
+
+abbrev pub begin_next : List Tenure → Bool → Place → List Tenure
+begin_next [] performed at = []
+begin_next (t ∷ ts) performed at = if performed then beginning at [] ∷ t ∷ ts else t ∷ ts
+
+abbrev pub after_input : Input → List Message → List Tenure → List Tenure
+after_input (inputs.EstablishIndication at Zero (Some initial)) put tenures = begin_first (requests put) at initial tenures
+after_input (inputs.Complete at change cause) put tenures = begin_next tenures (performs put) at
+after_input (inputs.Dtap at sapi message) put tenures = map (heard at sapi message) tenures
+after_input (inputs.ReleaseAck at) put tenures = acknowledged at tenures
+after_input _ put tenures = tenures
+
+abbrev pub after_word : Word → List Message → List Tenure → List Tenure
+after_word (OnChannel at input) put tenures = after_input input put tenures
+after_word _ put tenures = tenures
+
+abbrev pub after_moment : List Tenure → Moment → List Tenure
+after_moment tenures m = after_word (word_in m.taken) m.messages tenures
+
+-- the service list: the tenures, the one that serves first
+abbrev pub service : List Moment → List Tenure
+service moments = fold after_moment [] moments
+
+-- their messages in the order in which they came to serve
+abbrev pub joined : Sapi → List Tenure → List (List ℕ)
+joined sapi [] = []
+joined sapi (serving ∷ old) = joined sapi old ++ of_sapi sapi serving
+
+-- ---- the law
+
+-- There are messages, step by step, of which the connection's frames are, and while it is open, per SAPI, what was relayed, then
+-- what is held, is what came on its tenures, in the order in which they came to serve. What was relayed is what is read from the
+-- frames to the switch, where what came was octets.
+pub record UplinkIsConserved (number : ℕ) (p : Parameters) (steps : List Step) (life : Turn) : Type 0 where
+  pub moments : List Moment
+  pub history : IsHistory number (new_controller p) steps moments
+  pub frames : outs_for number life.outs ≡ outs_of number (all_messages moments)
+  pub uplink : IsThere (connection_of life.next number) → (sapi : Sapi) →
+      relayed sapi (all_messages moments) ++ held_up life.next number sapi ≡ joined sapi (service moments)
+  pub read : AllByRecursion ComesInOctets steps → IsThere (connection_of life.next number) → (sapi : Sapi) →
+      messages_on sapi (forwarded life.outs number) ++ held_up life.next number sapi ≡ joined sapi (service moments)

@@ -1,0 +1,18 @@
+-- Which connection a frame concerns.
+use Rattle.std.specs.Prelude.{◌≡◌, ℕ, Option, Some, None}
+use Rattle.controller_model.specs.declared.word.Word.{Word}
+use Rattle.controller_model.specs.declared.word.Word.TheVariants.{Nothing, Ping, Asks, OnChannel, Reports, OnConnection}
+use Rattle.controller_model.specs.Controller.{Controller, entry_of, channel_state, holder}
+
+-- a channel's messages concern the connection that has it; CHANNEL REQUIRED makes the next one
+abbrev pub concerned : Controller → Word → Option ℕ
+concerned c Nothing = None
+concerned c Ping = None
+concerned c (Asks request delay) = Some c.next_number
+concerned c (OnChannel at input) = holder (channel_state c at)
+concerned c (Reports at number report) = holder (channel_state c at)
+concerned c (OnConnection number input) = Some number
+
+-- the connection of this number is as it was
+abbrev pub Leaves : ℕ → Controller → Controller → Type 0
+Leaves number before after = entry_of after number ≡ entry_of before number

@@ -1,0 +1,10 @@
+use ruled_relay::Item;
+
+/// What the controller takes.
+#[derive(Drop)]
+pub enum Step {
+    /// Something that came on a link.
+    Take(Item),
+    /// So many milliseconds went by.
+    Tick(u32),
+}

@@ -1,0 +1,13 @@
+use Rattle.std.proofs.Common.{ap, ◌∙◌}
+use Rattle.controller_model.specs.Views as views
+use Rattle.controller_parts.specs.Views.{forwarded_of}
+use Rattle.controller_parts.proofs.Passed.{forwarded_cons, forwarded_nil, pushed, finished}
+use Rattle.controller_parts.proofs.views.forwarded.Goals as goal
+
+pub loop-out-preserved : goal.loop-out-preserved
+loop-out-preserved c = pushed (λ outs. views.forwarded outs c.args.conn) (forwarded_of c.args.conn) (forwarded_cons c.args.conn) c.as_slice-out-items.result.now c.loop-out.out-index c.out-item.result _ _ c.loop-out-test.true c.out-item.is c.loop-out.invariant c.in_ok-put_forwarded.ensures
+
+pub returns : goal.returns
+returns c =
+    finished (λ outs. views.forwarded outs c.args.conn) (forwarded_nil c.args.conn) c.as_slice-out-items.result.now c.loop-out.out-index _ c.loop-out-test.false c.loop-out.invariant
+    ∙ ap (λ outs. views.forwarded outs c.args.conn) c.as_slice-out-items.ensures.outs

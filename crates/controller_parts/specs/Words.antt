@@ -1,0 +1,29 @@
+-- What holds of each word that a frame is read as.
+use Rattle.std.specs.Prelude.{◌≡◌, ◌≢◌, ℕ, true}
+use Rattle.conn_messages.specs.declared.parameters.TheConstants.{SWITCH_LINK}
+use Rattle.conn_rules.specs.Standing.{IsCarried}
+use Rattle.controller_model.specs.declared.word.Word.{Word}
+use Rattle.controller_model.specs.declared.word.Word.TheVariants.{Asks, OnChannel, Reports, OnConnection}
+use Rattle.rsl_codec.specs.declared.rsl.Rsl.{Rsl}
+use Rattle.rsl_codec.specs.declared.rsl.Rsl.TheVariants.{EstablishIndication, DataIndication}
+
+-- a message in it has 1 to 251 octets, and a report is valid
+abbrev pub IsCarriedWord : Word → Type 0
+IsCarriedWord (Reports at number report) = report.valid ≡ true
+IsCarriedWord (OnChannel at input) = IsCarried input
+IsCarriedWord (OnConnection number input) = IsCarried input
+IsCarriedWord _ = Unit {0}
+
+-- a channel is of the station that spoke; stations speak of channels, and the switch of connections
+abbrev pub ComesFrom : ℕ → Word → Type 0
+ComesFrom source (Asks request delay) = source ≢ SWITCH_LINK
+ComesFrom source (OnChannel at input) = (at.station ≡ source) × (source ≢ SWITCH_LINK)
+ComesFrom source (Reports at number report) = (at.station ≡ source) × (source ≢ SWITCH_LINK)
+ComesFrom source (OnConnection number input) = source ≡ SWITCH_LINK
+ComesFrom source _ = Unit {0}
+
+-- no layer 3 message of it goes on
+abbrev pub IsTold : Rsl → Type 0
+IsTold (EstablishIndication e) = ⊥
+IsTold (DataIndication d) = ⊥
+IsTold _ = Unit {0}

@@ -1,0 +1,86 @@
+ghost use Rattle.std.specs.Prelude.{◌≡◌, length, IfOk, Ok};
+ghost use Rattle.conn_rules.specs.declared.input.Input.TheVariants as inputs;
+ghost use Rattle.controller_model.specs.declared.word.Word.TheVariants.{OnChannel};
+ghost use Rattle.controller_model.specs.Reading as reading;
+ghost use Rattle.controller_model.specs.Reports.{report_reading};
+ghost use Rattle.dtap_codec.specs.declared.report.TheConstants.{REPORT_LENGTH};
+ghost use Rattle.dtap_codec.specs.RrReading.{rr_reading};
+
+use conn_messages::{Change, Place};
+use conn_rules::Input;
+use controller_model::Word;
+use dtap_codec::{Report, RrCause, RrFault, RrMessage};
+use octets::Memory;
+use std::alloc::Global;
+
+/// How a change of channel went.
+pub(crate) fn change_word(alloc: Global, at: &Place, l3: &[u8]) -> Result<Word, Memory>
+    ensures { IfOk result (λ word. word ≡ reading.change_word at.now (rr_reading l3.now)) }
+{
+    match RrMessage::read(alloc, l3) {
+        Ok(message) => Ok(change_in(at, &message)),
+        Err(RrFault::Memory) => Err(Memory),
+        Err(_) => Ok(Word::Nothing),
+    }
+}
+
+fn change_in(at: &Place, message: &RrMessage) -> Word
+    ensures { result ≡ reading.change_word at.now (Ok message.now) }
+{
+    match message {
+        RrMessage::AssignmentComplete { cause } => completed(at, Change::Assignment, *cause),
+        RrMessage::HandoverComplete { cause } => completed(at, Change::Handover, *cause),
+        RrMessage::AssignmentFailure { cause } => failed(at, Change::Assignment, *cause),
+        RrMessage::HandoverFailure { cause } => failed(at, Change::Handover, *cause),
+        _ => Word::Nothing,
+    }
+}
+
+fn completed(at: &Place, change: Change, cause: RrCause) -> Word
+    ensures { result ≡ OnChannel at.now (inputs.Complete at.now change cause) }
+{
+    Word::OnChannel(
+        *at,
+        Input::Complete {
+            at: *at,
+            change,
+            cause,
+        },
+    )
+}
+
+fn failed(at: &Place, change: Change, cause: RrCause) -> Word
+    ensures { result ≡ OnChannel at.now (inputs.Failure at.now change cause) }
+{
+    Word::OnChannel(
+        *at,
+        Input::Failure {
+            at: *at,
+            change,
+            cause,
+        },
+    )
+}
+
+/// The report in a message, where it has a valid one, which came with this number.
+pub(crate) fn report_word(alloc: Global, at: &Place, number: u8, l3: &[u8]) -> Result<Word, Memory>
+    ensures { IfOk result (λ word. word ≡ reading.report_word at.now number (rr_reading l3.now)) }
+{
+    match RrMessage::read(alloc, l3) {
+        Ok(RrMessage::MeasurementReport { value }) => Ok(valid_word(at, number, &value)),
+        Ok(_) => Ok(Word::Nothing),
+        Err(RrFault::Memory) => Err(Memory),
+        Err(_) => Ok(Word::Nothing),
+    }
+}
+
+// The report of 16 octets, where it is valid.
+fn valid_word(at: &Place, number: u8, value: &[u8]) -> Word
+    requires { length value.now ≡ REPORT_LENGTH }
+    ensures { result ≡ reading.valid_word at.now number (report_reading value.now) }
+{
+    match Report::read(value) {
+        Ok(report) if report.valid => Word::Reports(*at, number, report),
+        _ => Word::Nothing,
+    }
+}

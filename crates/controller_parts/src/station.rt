@@ -1,0 +1,194 @@
+ghost use Rattle.std.specs.Prelude.{◌≡◌, ◌≢◌, IfOk};
+ghost use Rattle.conn_messages.specs.declared.parameters.TheConstants.{SWITCH_LINK};
+ghost use Rattle.controller_model.specs.Controller.{place_at as channel_at};
+ghost use Rattle.controller_parts.specs.Words.{ComesFrom, IsCarriedWord, IsTold};
+ghost use Rattle.controller_model.specs.Reading as reading;
+ghost use Rattle.rsl_codec.specs.RslReading.{rsl_reading};
+ghost use Rattle.rsl_codec.specs.declared.rsl.Rsl.TheVariants as rsl;
+
+use crate::dtap::is_dtap;
+use crate::reports::{change_word, report_word};
+use conn_messages::Place;
+use conn_rules::Input;
+use controller_model::Word;
+use dtap_codec::Sapi;
+use octets::Memory;
+use rsl_codec::{
+    ChanNo, Data, ErrorReport, Establishment, Link, LinkId, MeasurementResult, Rsl, RslFault,
+};
+use std::alloc::Global;
+
+/// The SAPI of short messages, bits 3 to 1 of a link identifier (TS 48.058 clause 9.3.2).
+const SHORT_MESSAGE_SAPI: u8 = 3;
+
+/// The main signalling channel and the SACCH, bits 8 and 7 of a link identifier.
+const MAIN_CHANNEL: u8 = 0;
+
+const SACCH: u8 = 1;
+
+/// What a station says in this body of a frame.
+pub(crate) fn station_word(alloc: Global, station: u16, body: &[u8]) -> Result<Word, Memory>
+    requires { station ≢ SWITCH_LINK }
+    ensures word { IfOk result (λ word. word ≡ reading.station_word station (rsl_reading body.now)) }
+    ensures carried { IfOk result IsCarriedWord }
+    ensures comes { IfOk result (ComesFrom station) }
+{
+    match Rsl::read(alloc, body) {
+        Ok(message) => rsl_word(alloc, station, message),
+        Err(RslFault::Memory) => Err(Memory),
+        Err(_) => Ok(Word::Nothing),
+    }
+}
+
+// What a message says: its layer 3 message, where that goes on, isn't copied again.
+fn rsl_word(alloc: Global, station: u16, message: Rsl) -> Result<Word, Memory>
+    ensures { IfOk result (λ word. word ≡ reading.rsl_word station message) }
+{
+    match message {
+        Rsl::DataIndication(data) => data_word(alloc, station, data),
+        Rsl::EstablishIndication(establishment) => {
+            Ok(establishment_word(station, establishment))
+        }
+        message => told_word(alloc, station, &message),
+    }
+}
+
+// What a message says of which no part goes on.
+fn told_word(alloc: Global, station: u16, message: &Rsl) -> Result<Word, Memory>
+    requires { IsTold message.now }
+    ensures { IfOk result (λ word. word ≡ reading.rsl_word station message.now) }
+{
+    Ok(match message {
+        Rsl::ChannelRequired(request) => Word::Asks(request.reference, request.access_delay.0),
+        Rsl::ChannelActivationAck(ack) => {
+            let at = &place_at(station, ack.channel);
+            Word::OnChannel(*at, Input::ActivationAck { at: *at })
+        }
+        Rsl::ChannelActivationNack(failure) => {
+            let at = &place_at(station, failure.channel);
+            Word::OnChannel(*at, Input::ActivationNack { at: *at })
+        }
+        Rsl::EstablishConfirm(link) => confirmed_word(station, link),
+        Rsl::ReleaseIndication(link) => released_word(station, link),
+        Rsl::ErrorIndication(error) => error_word(station, error),
+        Rsl::ConnectionFailure(failure) => {
+            let at = &place_at(station, failure.channel);
+            Word::OnChannel(*at, Input::ConnectionFailure { at: *at })
+        }
+        Rsl::MeasurementResult(measured) => return measured_word(alloc, station, measured),
+        Rsl::RfChannelReleaseAck(channel) => {
+            let at = &place_at(station, *channel);
+            Word::OnChannel(*at, Input::ReleaseAck { at: *at })
+        }
+        _ => Word::Nothing,
+    })
+}
+
+fn confirmed_word(station: u16, link: &Link) -> Word
+    ensures { result ≡ reading.rsl_word station (rsl.EstablishConfirm link.now) }
+{
+    let at = &place_at(station, link.channel);
+    match sapi_of(link.link) {
+        Some(sapi) => Word::OnChannel(*at, Input::EstablishConfirm { at: *at, sapi }),
+        None => Word::Nothing,
+    }
+}
+
+fn released_word(station: u16, link: &Link) -> Word
+    ensures { result ≡ reading.rsl_word station (rsl.ReleaseIndication link.now) }
+{
+    let at = &place_at(station, link.channel);
+    match sapi_of(link.link) {
+        Some(sapi) => Word::OnChannel(*at, Input::ReleaseIndication { at: *at, sapi }),
+        None => Word::Nothing,
+    }
+}
+
+fn error_word(station: u16, error: &ErrorReport) -> Word
+    ensures { result ≡ reading.rsl_word station (rsl.ErrorIndication error.now) }
+{
+    let at = &place_at(station, error.channel);
+    match sapi_of(error.link) {
+        Some(sapi) => Word::OnChannel(*at, Input::ErrorIndication { at: *at, sapi }),
+        None => Word::Nothing,
+    }
+}
+
+// DATA INDICATION: DTAP, or a message of radio resource management.
+fn data_word(alloc: Global, station: u16, data: Data) -> Result<Word, Memory>
+    ensures { IfOk result (λ word. word ≡ reading.rsl_word station (rsl.DataIndication «data»)) }
+{
+    let at = &place_at(station, data.channel);
+    match (is_dtap(data.l3.as_slice()), sapi_of(data.link)) {
+        (true, Some(sapi)) => {
+            let message = data.l3;
+            Ok(Word::OnChannel(
+                *at,
+                Input::Dtap {
+                    at: *at,
+                    sapi,
+                    message,
+                },
+            ))
+        }
+        (false, Some(Sapi::Zero)) => change_word(alloc, at, data.l3.as_slice()),
+        _ => Ok(Word::Nothing),
+    }
+}
+
+// MEASUREMENT RESULT, perhaps with a report of the mobile.
+fn measured_word(alloc: Global, station: u16, measured: &MeasurementResult) -> Result<Word, Memory>
+    ensures { IfOk result (λ word. word ≡ reading.rsl_word station (rsl.MeasurementResult measured.now)) }
+{
+    let Some(l3) = &measured.l3 else {
+        return Ok(Word::Nothing);
+    };
+    report_word(
+        alloc,
+        &place_at(station, measured.channel),
+        measured.number.0,
+        l3.as_slice(),
+    )
+}
+
+fn establishment_word(station: u16, establishment: Establishment) -> Word
+    ensures { result ≡ reading.rsl_word station (rsl.EstablishIndication establishment) }
+{
+    let at = &place_at(station, establishment.channel);
+    match sapi_of(establishment.link) {
+        Some(sapi) => {
+            let message = establishment.l3;
+            Word::OnChannel(
+                *at,
+                Input::EstablishIndication {
+                    at: *at,
+                    sapi,
+                    message,
+                },
+            )
+        }
+        None => Word::Nothing,
+    }
+}
+
+// SAPI 0 is that of the main link alone; SAPI 3 is on the main link or on the SACCH.
+fn sapi_of(link: LinkId) -> Option<Sapi>
+    ensures { result ≡ reading.sapi_of link }
+{
+    let octet = link.octet();
+    if octet == LinkId::signalling().octet() {
+        return Some(Sapi::Zero);
+    }
+    let is_main_or_sacch = octet / 64 == MAIN_CHANNEL || octet / 64 == SACCH;
+    if octet % 8 == SHORT_MESSAGE_SAPI && is_main_or_sacch {
+        Some(Sapi::Three)
+    } else {
+        None
+    }
+}
+
+fn place_at(station: u16, number: ChanNo) -> Place
+    ensures { result ≡ channel_at station number }
+{
+    Place { station, number }
+}

@@ -1,5 +1,0 @@
-use Rattle.controller_table.proofs.Decides.{decision_is}
-use Rattle.controller_table.proofs.laws.decision_is_one.Goals as goal
-
-pub returns : goal.returns
-returns c = decision_is

@@ -1,5 +1,0 @@
-use Rattle.controller_table.proofs.Numbers.{keeps_number}
-use Rattle.controller_table.proofs.laws.row_keeps_number.Goals as goal
-
-pub returns : goal.returns
-returns c = keeps_number

@@ -1,0 +1,107 @@
+-- From the way of the call worker to its whole run.
+use Rattle.std.proofs.Common.{◌≡◌, ℕ, ◌<◌, ◌≤◌, nat_lt, nat_le, Bool, true, false, List, [], length, replicate, Option, Some, None, refl, sym, ap, ◌∙◌, subst, arith, zero, suc}
+use Rattle.std.proofs.lemmas.Bool.{false≢true}
+use Rattle.std.proofs.lemmas.Bool.Decides.{nat_tests}
+use mathlib.Core.Option.{some}
+use lib.ListN.{get_elem?}
+use Rattle.controller_worker.specs.declared.mark.Mark.{Mark}
+use Rattle.controller_worker.specs.Call.{AreNew, IsNew, Parts, Runs, Serves}
+use Rattle.controller_worker.specs.Going.{Ends, Finishes, Fits, Goes, GoesOn, GoesPart, IsSettled, State, ended_of, mark_at, unmarked}
+use Rattle.controller_worker.specs.Links.{AreSent, is_given_up}
+use Rattle.controller_worker.specs.Steps.{frames_to, items_of, over, whats_of}
+use Rattle.controller_worker.proofs.Marking.{ends_part, settled_by}
+use Rattle.controller_model.specs.declared.step.Step.{Step}
+use Rattle.ipa_framing.specs.declared.frame.Frame.{Frame}
+use Rattle.link_workers.specs.declared.fault.IoFault.{IoFault}
+use Rattle.ruled_relay.specs.declared.item.Item.{Item}
+use Rattle.ruled_relay.specs.Outbox.{PutterView}
+use Rattle.ruled_relay.proofs.Places.{within}
+
+abbrev pub parts_of : State → Parts
+parts_of s = record { controller = s.controller; desk = s.desk; putters = s.putters; told = s.told }
+
+-- ---- the beginning
+
+mark_of_new : (n link : ℕ) → mark_at (replicate n unmarked) link ≡ unmarked
+mark_of_new zero link = refl
+mark_of_new (suc n) zero = refl
+mark_of_new (suc n) (suc link) = mark_of_new n link
+
+pub settled_new : (s : State) → AreNew s.putters → IsSettled s
+settled_new s new link p here up = absurd (settled_by p (new link p here).2 up)
+
+fits_new : (p : PutterView) → IsNew p → Fits false p unmarked [] [] []
+fits_new p new = record {
+  carries = record { sent = []; put = new.0; first = subst (λ b. AreSent b [] []) (sym (ap (λ n. nat_le 1000 n) new.2)) refl };
+  items = refl;
+  given_up = λ h. absurd (false≢true h);
+  down = λ h. absurd (false≢true h);
+}
+
+-- ---- the end
+
+same_bool : (a b : Bool) → (a ≡ true → b ≡ true) → (b ≡ true → a ≡ true) → a ≡ b
+same_bool true b f g = sym (f refl)
+same_bool false true f g = g refl
+same_bool false false f g = refl
+
+serves : (fault : Option IoFault) (old new : State) (link : ℕ) (steps : List Step) (frames : List Frame) (items : List Item) (p q : PutterView)
+    → IsNew p → mark_at old.marks link ≡ unmarked → old.ended ≡ 0 → get_elem? new.putters link ≡ some q → new.ended ≡ length new.putters
+    → (fault ≡ None → Finishes new) → GoesOn old new link frames (whats_of link (items_of steps)) (whats_of link items) p q
+    → Serves fault steps frames items link p q
+serves fault old new link steps frames items p q is_new none unended here ended finishes goes =
+    let room : link < length new.putters = within new.putters link q here in
+    let no : nat_lt link 0 ≡ false = grind (arith, nat_tests) in
+    let before : Fits (ended_of old link) p (mark_at old.marks link) [] [] [] =
+    subst (λ (n : ℕ). Fits (nat_lt link n) p (mark_at old.marks link) [] [] []) (sym unended)
+    (subst (λ m. Fits (nat_lt link 0) p m [] [] []) (sym none) (subst (λ b. Fits b p unmarked [] [] []) (sym no) (fits_new p is_new))) in
+    let f = goes.fits [] [] [] before in
+    let m : Mark = mark_at new.marks link in
+    let all : ended_of new link ≡ true = grind (arith, nat_tests) in
+    let c = subst (λ b. Fits b q m frames (whats_of link (items_of steps)) (whats_of link items)) all f in record {
+      queue = goes.queue;
+      sent = c.carries.sent;
+      put = c.carries.put;
+      first = c.carries.first;
+      added = m.added;
+      stepped = c.items;
+      given_up = c.given_up;
+      whole = λ no. same_bool m.added (is_given_up q) c.given_up ((finishes no).settled link q here);
+      down = λ no. c.down ((finishes no).down link room);
+    }
+
+pub runs : (fault : Option IoFault) (last : List Item) (old new : State) (n : ℕ) → AreNew old.putters → old.marks ≡ replicate n unmarked → old.ended ≡ 0 → old.gathered ≡ 0 → Goes last old new
+    → new.ended ≡ length new.putters → length last ≤ 1 → (fault ≡ None → last ≡ []) → (fault ≡ None → Finishes new) → Runs fault (parts_of old) (parts_of new)
+runs fault last old new n fresh none unended start goes ended one no_last finishes = record {
+  steps = goes.steps;
+  controller = goes.controller;
+  items = goes.items;
+  last = last;
+  desk = goes.desk;
+  one = one;
+  none = no_last;
+  gathered = new.gathered;
+  told = let t = goes.time in omega arith;
+  tick = λ no. (finishes no).gathered;
+  count = goes.count;
+  links = λ link q here.
+      let p = goes.links link q here in (
+        p.0,
+        p.1,
+        serves fault old new link goes.steps (frames_to link (over old.controller goes.steps).outs) goes.items p.0 q (fresh link p.0 p.1) (ap (λ ms. mark_at ms link) none ∙ mark_of_new n link) unended here ended finishes p.2,
+      );
+}
+
+pub runs_whole : (old new : State) (n : ℕ) → AreNew old.putters → old.marks ≡ replicate n unmarked → old.ended ≡ 0 → old.gathered ≡ 0 → Goes [] old new → Finishes new → new.ended ≡ length new.putters
+    → Runs None (parts_of old) (parts_of new)
+runs_whole old new n fresh none unended start goes finishes ended =
+    runs None [] old new n fresh none unended start goes ended (omega arith) (λ no. refl) (λ no. finishes)
+
+no_fault : (fault : IoFault) → Some fault ≡ None → ⊥
+no_fault fault e = cc
+
+pub runs_part : (fault : IoFault) (old mid new : State) (n : ℕ) → AreNew old.putters → old.marks ≡ replicate n unmarked → old.ended ≡ 0 → old.gathered ≡ 0 → GoesPart old mid → Ends mid new
+    → new.ended ≡ length new.putters → Runs (Some fault) (parts_of old) (parts_of new)
+runs_part fault old mid new n fresh none unended start goes ends ended =
+    let p = ends_part old mid new goes ends in
+    runs (Some fault) p.0 old new n fresh none unended start p.2 ended p.1 (λ no. absurd (no_fault fault no)) (λ no. absurd (no_fault fault no))

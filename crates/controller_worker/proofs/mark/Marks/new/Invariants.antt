@@ -1,0 +1,6 @@
+use Rattle.std.proofs.Common.{◌≡◌, replicate}
+use Rattle.controller_worker.specs.Going.{unmarked}
+use Rattle.controller_worker.proofs.mark.Marks.new.Given as goal
+
+abbrev pub invariant-loop : goal.invariant-loop
+invariant-loop l = l.of_links.items ≡ replicate l.counter unmarked

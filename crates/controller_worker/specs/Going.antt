@@ -1,0 +1,161 @@
+-- The call worker on its way: what its calls do to it.
+use Rattle.std.specs.Prelude.{◌≡◌, ℕ, ◌+◌, ◌<◌, ◌≤◌, nat_lt, ◌&&◌, not, Bool, true, false, List, [], ◌∷◌, ◌++◌, length, slice_index_or, slice_set}
+use mathlib.Core.Option.{some}
+use lib.ListN.{get_elem?}
+use Rattle.controller_worker.specs.declared.limits.TheConstants.{TICK_MS}
+use Rattle.controller_worker.specs.declared.mark.Mark.{Mark}
+use Rattle.controller_worker.specs.Links.{AreSent, AreStepped, HasDown, is_given_up, lines}
+use Rattle.controller_worker.specs.Steps.{frames_to, items_of, over, ticked, whats_of}
+use Rattle.controller_worker.specs.Taking.{HasTaken}
+use Rattle.conn_messages.specs.declared.out.Out.{Out}
+use Rattle.controller_model.specs.declared.step.Step.{Step}
+use Rattle.controller.specs.Rest.{is_at_rest}
+use Rattle.controller_model.specs.Controller.{Controller}
+use Rattle.controller_model.specs.Life as words
+use Rattle.ipa_framing.specs.declared.frame.Frame.{Frame}
+use Rattle.ruled_relay.specs.declared.item.Item.{Item}
+use Rattle.ruled_relay.specs.declared.item.What.{What}
+use Rattle.ruled_relay.specs.declared.outbox.Line.{Line}
+use Rattle.ruled_relay.specs.declared.outbox.Line.TheVariants as marks
+use Rattle.ruled_relay.specs.Outbox.{PutterView}
+use Rattle.ruled_relay.specs.Row.{EachAt, Row}
+
+-- ---- the outbox of one link
+
+abbrev pub end_mark : Bool → List Line
+end_mark false = []
+end_mark true = marks.End ∷ []
+
+-- what was put of these frames: all, or the first of them; and then End, where that was put
+pub record Carries (ended : Bool) (p : PutterView) (frames : List Frame) : Type 0 where
+  pub sent : List Frame
+  pub put : p.put ≡ lines sent ++ end_mark ended
+  pub first : AreSent (is_given_up p) frames sent
+
+-- to all that was carried, these frames are added
+pub record Sends (ended : Bool) (old : PutterView) (frames : List Frame) (new : PutterView) : Type 0 where
+  pub queue : new.queue ≡ old.queue
+  pub stays : is_given_up old ≡ true → is_given_up new ≡ true
+  pub carries : (past : List Frame) → Carries ended old past → Carries ended new (past ++ frames)
+
+-- each output was added to what its link's outbox carries
+pub record SendsAll (ended : ℕ → Bool) (old : List PutterView) (outs : List Out) (new : List PutterView) : Type 0 where
+  pub count : length new ≡ length old
+  pub each : EachAt new (λ link p. (before : PutterView) × (get_elem? old link ≡ some before) × Sends (ended link) before (frames_to link outs) p)
+
+abbrev pub not_ended : ℕ → Bool
+not_ended link = false
+
+-- ---- the whole
+
+pub record State : Type 0 where
+  pub controller : Controller
+  pub desk : Row
+  pub putters : List PutterView
+  pub marks : List Mark
+  -- of the first links, how many outboxes have the mark behind their last frame
+  pub ended : ℕ
+  -- what the clock has answered, and what of it no tick has passed on yet, in milliseconds
+  pub told : ℕ
+  pub gathered : ℕ
+
+abbrev pub unmarked : Mark
+unmarked = record { added = false; down = false }
+
+abbrev pub mark_at : List Mark → ℕ → Mark
+mark_at ms link = slice_index_or ms link unmarked
+
+-- what is remembered once an item of this source was taken, a Down or another
+abbrev pub noted : Bool → ℕ → List Mark → List Mark
+noted false source ms = ms
+noted true source ms = slice_set ms source (record { added = (mark_at ms source).added; down = true })
+
+-- and once a Down of this source was added
+abbrev pub with_added : ℕ → List Mark → List Mark
+with_added source ms = slice_set ms source (record { added = true; down = (mark_at ms source).down })
+
+-- one link over all that came and went
+pub record Fits (ended : Bool) (p : PutterView) (m : Mark) (frames : List Frame) (stepped taken : List What) : Type 0 where
+  pub carries : Carries ended p frames
+  pub items : AreStepped m.added stepped taken
+  pub given_up : m.added ≡ true → is_given_up p ≡ true
+  pub down : m.down ≡ true → HasDown taken
+
+-- which outboxes have the mark behind their last frame
+abbrev pub ended_of : State → ℕ → Bool
+ended_of s link = nat_lt link s.ended
+
+-- ---- what calls do
+
+-- a step was done, and what it puts was sent
+pub record DoesStep (s : Step) (old new : State) : Type 0 where
+  pub controller : new.controller ≡ (words.step old.controller s).next
+  pub sent : SendsAll (ended_of old) old.putters (words.step old.controller s).outs new.putters
+  pub kept : new ≡ record old { controller = new.controller; putters = new.putters }
+
+-- what fitted before fits with this behind it
+pub record GoesOn (old new : State) (link : ℕ) (frames : List Frame) (stepped taken : List What) (before after : PutterView) : Type 0 where
+  pub queue : after.queue ≡ before.queue
+  pub fits : (fs : List Frame) (ss ts : List What) → Fits (ended_of old link) before (mark_at old.marks link) fs ss ts
+      → Fits (ended_of new link) after (mark_at new.marks link) (fs ++ frames) (ss ++ stepped) (ts ++ taken)
+
+-- from one state to a later one, where the last items taken are not in the steps
+pub record Goes (last : List Item) (old new : State) : Type 0 where
+  pub steps : List Step
+  pub controller : new.controller ≡ (over old.controller steps).next
+  pub items : List Item
+  pub desk : HasTaken old.desk (items ++ last) new.desk
+  pub time : new.told + old.gathered ≡ old.told + ticked steps + new.gathered
+  pub count : length new.putters ≡ length old.putters
+  pub down : (link : ℕ) → (mark_at old.marks link).down ≡ true → (mark_at new.marks link).down ≡ true
+  pub links : EachAt new.putters (λ link p.
+      (before : PutterView) × (get_elem? old.putters link ≡ some before)
+      × GoesOn old new link (frames_to link (over old.controller steps).outs) (whats_of link (items_of steps)) (whats_of link items) before p)
+
+-- the same up to a step that ran out of memory
+abbrev pub GoesPart : State → State → Type 0
+GoesPart old new = (last : List Item) × (length last ≤ 1) × Goes last old new
+
+-- ---- what holds between calls
+
+-- Each source has an outbox and a mark. Once an outbox has its End, steps put nothing.
+pub record Stands (s : State) : Type 0 where
+  pub sources : length s.desk ≡ length s.putters
+  pub marks : length s.marks ≡ length s.putters
+  pub rest : 0 < s.ended → is_at_rest s.controller ≡ true
+
+-- each link whose outbox was given up had its Down added
+abbrev pub IsSettled : State → Type 0
+IsSettled s = EachAt s.putters (λ link p. is_given_up p ≡ true → (mark_at s.marks link).added ≡ true)
+
+-- the outbox was given up, and its link's Down wasn't added
+abbrev pub pends : PutterView → Mark → Bool
+pends p m = is_given_up p && not m.added
+
+-- the link is there, its outbox was given up, and its Down wasn't added
+pub record IsPending (s : State) (link : ℕ) : Type 0 where
+  pub there : link < length s.putters
+  pub added : (mark_at s.marks link).added ≡ false
+  pub given_up : EachAt s.putters (λ at p. at ≡ link → is_given_up p ≡ true)
+
+-- a Down of each source was taken
+abbrev pub AreAllDown : State → Type 0
+AreAllDown s = (link : ℕ) → link < length s.putters → (mark_at s.marks link).down ≡ true
+
+-- what holds once a Down of each source was taken
+pub record Finishes (s : State) : Type 0 where
+  pub settled : IsSettled s
+  pub down : AreAllDown s
+  pub gathered : s.gathered < TICK_MS
+
+-- nothing but the mark behind the last frame was put
+pub record Ends (old new : State) : Type 0 where
+  pub kept : new ≡ record old { putters = new.putters; ended = new.ended }
+  pub count : length new.putters ≡ length old.putters
+  pub links : EachAt new.putters (λ link p. (before : PutterView) × (get_elem? old.putters link ≡ some before) × GoesOn old new link [] [] [] before p)
+  pub settled : IsSettled old → IsSettled new
+
+-- the mark was put behind all that was put, or refused
+abbrev pub PutsEnd : PutterView → Bool → PutterView → Type 0
+PutsEnd old true new = (new.queue ≡ old.queue) × (new.refusals ≡ old.refusals) × (new.put ≡ old.put ++ marks.End ∷ [])
+PutsEnd old false new = new ≡ old

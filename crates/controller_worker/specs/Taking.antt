@@ -1,0 +1,16 @@
+-- What a desk has taken in a run of it.
+use Rattle.std.specs.Prelude.{◌≡◌, List, ◌++◌}
+use mathlib.Core.Option.{some}
+use lib.ListN.{get_elem?}
+use Rattle.controller_worker.specs.Steps.{whats_of}
+use Rattle.ruled_relay.specs.declared.item.Item.{Item}
+use Rattle.ruled_relay.specs.declared.item.What.{What}
+use Rattle.ruled_relay.specs.Ends.{EndView}
+use Rattle.ruled_relay.specs.Inbox.{queues_of}
+use Rattle.ruled_relay.specs.Row.{EachAt, Row}
+
+-- these items were taken, each behind what was taken of its source before
+abbrev pub HasTaken : Row → List Item → Row → Type 0
+HasTaken old items new =
+    (queues_of new ≡ queues_of old)
+    × EachAt new (λ source e. (d : EndView What) × (get_elem? old source ≡ some d) × (e.seen.taken ≡ d.seen.taken ++ whats_of source items))

@@ -1,0 +1,120 @@
+ghost use Rattle.std.specs.Prelude.{◌≡◌, [], ◌<◌, ◌↔◌, length, IsTrue, MatchResult, OnOk, replicate, vec_len};
+ghost use Rattle.controller_worker.specs.Call.{AreNew, AreUnmarked, IsMemory, Runs};
+ghost use Rattle.controller_worker.specs.Going.{AreAllDown, Finishes, Goes, GoesPart, IsSettled, Stands, unmarked};
+ghost use Rattle.controller_worker.specs.Seen.{seen};
+
+use crate::clock::Clock;
+use crate::limits::TICK_MS;
+use crate::mark::Marks;
+use crate::worker::Worker;
+use controller::Controller;
+use link_workers::IoFault;
+use octets::Memory;
+use ruled_relay::{Desk, Putter};
+use std::alloc::Global;
+use std::sync::Wait;
+use std::time::Duration;
+
+/// Relays until each link has ended: takes the items of all links, and the time that the clock tells, and puts what the
+/// controller puts into the links' outboxes, the switch's first. It ends when a `Down` of each link was taken, or with
+/// `Memory`, the only fault; then it puts `End` into each outbox.
+///
+/// An outbox that refused a frame 1,000 times in a row is given up: nothing more but `End` is put there, and its link's
+/// `Down` is the next step, once for each link.
+pub fn call_worker<R: Wait, K: Clock + Drop>(
+    rt: &R,
+    alloc: Global,
+    controller: Controller,
+    desk: Desk,
+    putters: Vec<Putter>,
+    marks: Marks,
+    clock: K,
+) -> (Controller, Desk, Vec<Putter>, K, Option<IoFault>)
+    requires new { AreNew putters.items }
+    requires sources { length desk ≡ vec_len putters }
+    requires marks { AreUnmarked (vec_len putters) marks }
+    ensures runs { Runs result.4 (record { controller = controller; desk = desk; putters = putters.items; told = K.told clock }) (record { controller = result.0; desk = result.1; putters = result.2.items; told = K.told result.3 }) }
+    ensures fault { IsMemory result.4 }
+{
+    let mut worker = Worker {
+        alloc,
+        controller,
+        desk,
+        putters,
+        marks: marks.of_links,
+        ended: 0,
+        clock,
+        gathered: 0,
+        unrung: 0,
+    };
+    let fault = match worker.relay(rt) {
+        Ok(()) => None,
+        Err(Memory) => {
+            worker.end_alone(rt);
+            Some(IoFault::Memory)
+        }
+    };
+    (
+        worker.controller,
+        worker.desk,
+        worker.putters,
+        worker.clock,
+        fault,
+    )
+}
+
+impl<K: Clock> Worker<K> {
+    fn relay<R: Wait>(&mut self, rt: &R) -> Result<(), Memory>
+        requires new { AreNew self.old.putters.items }
+        requires sources { length self.old.desk ≡ vec_len self.old.putters }
+        requires start { (self.old.marks.items ≡ replicate (vec_len self.old.putters) unmarked) × (self.old.ended ≡ 0) × (self.old.gathered ≡ 0) }
+        ensures goes { MatchResult result (λ _. Goes [] (seen K.told self.old) (seen K.told self.new)) (λ _. GoesPart (seen K.told self.old) (seen K.told self.new)) }
+        ensures finishes { OnOk result (Finishes (seen K.told self.new)) }
+        ensures ended { OnOk result (self.new.ended ≡ vec_len self.new.putters) }
+    {
+        self.take_all(rt)?;
+        self.end_meanwhile(rt)
+    }
+
+    // Until a `Down` of each link was taken.
+    fn take_all<R: Wait>(&mut self, rt: &R) -> Result<(), Memory>
+        requires stands { Stands (seen K.told self.old) }
+        requires settled { IsSettled (seen K.told self.old) }
+        requires gathered { self.old.gathered < TICK_MS }
+        ensures stands { Stands (seen K.told self.new) }
+        ensures goes { MatchResult result (λ _. Goes [] (seen K.told self.old) (seen K.told self.new)) (λ _. GoesPart (seen K.told self.old) (seen K.told self.new)) }
+        ensures finishes { OnOk result (Finishes (seen K.told self.new)) }
+    {
+        for _ in rt.forever() {
+            if self.are_all_down() {
+                return Ok(());
+            }
+            if !self.turn(rt)? {
+                self.sleep(rt);
+            }
+        }
+        unreachable!()
+    }
+
+    fn are_all_down(&self) -> bool
+        requires { Stands (seen K.told self.now) }
+        ensures { IsTrue result ↔ AreAllDown (seen K.told self.now) }
+    {
+        for mark in &self.marks {
+            if !mark.down {
+                return false;
+            }
+        }
+        true
+    }
+
+    // Until something is there to be taken, or a tick is due.
+    fn sleep<R: Wait>(&mut self, rt: &R)
+        requires { self.old.gathered < TICK_MS }
+        ensures { seen K.told self.new ≡ seen K.told self.old }
+    {
+        self.ring();
+        self.desk
+            .wait(rt, Duration::from_millis(TICK_MS - self.gathered));
+    }
+}

@@ -1,0 +1,90 @@
+//! The mark behind the last frame, put into each outbox.
+ghost use Rattle.std.specs.Prelude.{◌≡◌, [], length, MatchResult, OnOk, vec_len};
+ghost use Rattle.controller_worker.specs.Going.{Ends, Finishes, Goes, GoesPart, PutsEnd, Stands};
+ghost use Rattle.controller_worker.specs.Seen.{seen};
+
+use crate::clock::Clock;
+use crate::worker::Worker;
+use link_workers::Pauses;
+use octets::Memory;
+use ruled_relay::{Line, Putter};
+use std::sync::Wait;
+
+impl<K: Clock> Worker<K> {
+    /// Puts the mark into each outbox. While one refuses it time is passed on and items are taken, as long as nothing can
+    /// come of them.
+    pub(crate) fn end_meanwhile<R: Wait>(&mut self, rt: &R) -> Result<(), Memory>
+        requires stands { Stands (seen K.told self.old) }
+        requires finishes { Finishes (seen K.told self.old) }
+        ensures goes { MatchResult result (λ _. Goes [] (seen K.told self.old) (seen K.told self.new)) (λ _. GoesPart (seen K.told self.old) (seen K.told self.new)) }
+        ensures finishes { OnOk result (Finishes (seen K.told self.new)) }
+        ensures ended { OnOk result (self.new.ended ≡ vec_len self.new.putters) }
+    {
+        let mut pauses = Pauses::new();
+        for _ in rt.forever() {
+            self.put_ends(rt);
+            if self.ended == self.putters.len() {
+                return Ok(());
+            }
+            self.turn_at_rest(rt)?;
+            pauses.pause(rt);
+        }
+        unreachable!()
+    }
+
+    // Asks the clock, ticks and takes, where nothing can come of it.
+    fn turn_at_rest<R: Wait>(&mut self, rt: &R) -> Result<(), Memory>
+        requires sources { length self.old.desk ≡ length self.old.putters.items }
+        requires marks { length self.old.marks.items ≡ length self.old.putters.items }
+        requires finishes { Finishes (seen K.told self.old) }
+        ensures sources { length self.new.desk ≡ length self.new.putters.items }
+        ensures marks { length self.new.marks.items ≡ length self.new.putters.items }
+        ensures goes { MatchResult result (λ _. Goes [] (seen K.told self.old) (seen K.told self.new)) (λ _. GoesPart (seen K.told self.old) (seen K.told self.new)) }
+        ensures finishes { OnOk result (Finishes (seen K.told self.new)) }
+    {
+        if !self.controller.is_at_rest() {
+            return Ok(());
+        }
+        match self.turn(rt) {
+            Ok(_) => Ok(()),
+            Err(Memory) => Err(Memory),
+        }
+    }
+
+    /// Puts the mark into each outbox, and does nothing else meanwhile.
+    pub(crate) fn end_alone<R: Wait>(&mut self, rt: &R)
+        ensures ends { Ends (seen K.told self.old) (seen K.told self.new) }
+        ensures ended { self.new.ended ≡ vec_len self.new.putters }
+    {
+        let mut pauses = Pauses::new();
+        for _ in rt.forever() {
+            self.put_ends(rt);
+            if self.ended == self.putters.len() {
+                return;
+            }
+            pauses.pause(rt);
+        }
+        unreachable!()
+    }
+
+    // From the first outbox on that has no mark yet, until one refuses it.
+    fn put_ends<R: Wait>(&mut self, rt: &R)
+        ensures { Ends (seen K.told self.old) (seen K.told self.new) }
+    {
+        for link in self.ended..self.putters.len() {
+            if !put_end(rt, &mut self.putters[link]) {
+                return;
+            }
+            self.ended = link + 1;
+        }
+    }
+}
+
+// Whether the outbox took the mark.
+fn put_end<R: Wait>(rt: &R, putter: &mut Putter) -> bool
+    ensures { PutsEnd putter.old result putter.new }
+{
+    let put = putter.put(rt, Line::End);
+    putter.ring();
+    put.is_ok()
+}

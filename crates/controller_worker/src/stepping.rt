@@ -1,0 +1,221 @@
+//! Steps of the controller: an item that was taken, time that has gathered, or the `Down` of a link that was given up.
+ghost use Rattle.std.specs.Prelude.{◌≡◌, ◌+◌, ◌<◌, ◌^◌, ◌↔◌, [], min, length, IsTrue, MatchOption, MatchResult, OnOk, OnErr, vec_len};
+ghost use Rattle.controller_worker.specs.Going.{DoesStep, Goes, GoesPart, IsPending, IsSettled, SendsAll, Stands, not_ended, noted, pends, with_added};
+ghost use Rattle.controller_worker.specs.Seen.{seen};
+ghost use Rattle.ruled_relay.specs.declared.item.What.TheVariants as whats;
+
+use crate::clock::Clock;
+use crate::limits::{STEPS_A_RING, TICK_MS};
+use crate::mark::Mark;
+use crate::sending::{is_given_up, ring_all, send_all, tell_given_up};
+use crate::worker::Worker;
+use conn_messages::Outputs;
+use controller_model::Step;
+use octets::Memory;
+use ruled_relay::{Item, Putter, What};
+use std::sync::Wait;
+
+impl<K: Clock> Worker<K> {
+    /// Asks the clock, passes on what has gathered once that is a tick, and takes an item, if there is one. Says whether
+    /// there was.
+    pub(crate) fn turn<R: Wait>(&mut self, rt: &R) -> Result<bool, Memory>
+        requires stands { Stands (seen K.told self.old) }
+        requires settled { IsSettled (seen K.told self.old) }
+        requires gathered { self.old.gathered < TICK_MS }
+        ensures stands { Stands (seen K.told self.new) }
+        ensures goes { MatchResult result (λ _. Goes [] (seen K.told self.old) (seen K.told self.new)) (λ _. GoesPart (seen K.told self.old) (seen K.told self.new)) }
+        ensures settled { OnOk result (IsSettled (seen K.told self.new)) }
+        ensures gathered { OnOk result (self.new.gathered < TICK_MS) }
+    {
+        self.pass_time(rt)?;
+        self.take(rt)
+    }
+
+    // In two ticks where it is over a `u32`.
+    fn pass_time<R: Wait>(&mut self, rt: &R) -> Result<(), Memory>
+        requires stands { Stands (seen K.told self.old) }
+        requires settled { IsSettled (seen K.told self.old) }
+        requires gathered { self.old.gathered < TICK_MS }
+        ensures stands { Stands (seen K.told self.new) }
+        ensures goes { MatchResult result (λ _. Goes [] (seen K.told self.old) (seen K.told self.new)) (λ _. GoesPart (seen K.told self.old) (seen K.told self.new)) }
+        ensures settled { OnOk result (IsSettled (seen K.told self.new)) }
+        ensures gathered { OnOk result (self.new.gathered < TICK_MS) }
+    {
+        self.ask_clock();
+        if self.gathered < TICK_MS {
+            return Ok(());
+        }
+        self.tick(rt)?;
+        if self.gathered > 0 {
+            self.tick(rt)?;
+        }
+        Ok(())
+    }
+
+    fn ask_clock(&mut self)
+        requires { self.old.gathered < TICK_MS }
+        ensures goes { Goes [] (seen K.told self.old) (seen K.told self.new) }
+        ensures same { seen K.told self.new ≡ record (seen K.told self.old) { told = K.told self.new.clock; gathered = self.new.gathered } }
+        ensures gathered { self.new.gathered < TICK_MS + 2 ^ 32 }
+    {
+        self.gathered += u64::from(self.clock.elapsed());
+    }
+
+    // Passes on as much of what has gathered as a tick can.
+    fn tick<R: Wait>(&mut self, rt: &R) -> Result<(), Memory>
+        requires stands { Stands (seen K.told self.old) }
+        ensures stands { Stands (seen K.told self.new) }
+        ensures goes { MatchResult result (λ _. Goes [] (seen K.told self.old) (seen K.told self.new)) (λ _. GoesPart (seen K.told self.old) (seen K.told self.new)) }
+        ensures settled { OnOk result (IsSettled (seen K.told self.new)) }
+        ensures gathered { OnOk result (self.new.gathered + min self.old.gathered 4294967295 ≡ self.old.gathered) }
+    {
+        let ms = largest_tick(self.gathered);
+        self.do_step(rt, Step::Tick(ms))?;
+        self.gathered -= u64::from(ms);
+        self.add_downs(rt)
+    }
+
+    fn take<R: Wait>(&mut self, rt: &R) -> Result<bool, Memory>
+        requires stands { Stands (seen K.told self.old) }
+        requires settled { IsSettled (seen K.told self.old) }
+        ensures stands { Stands (seen K.told self.new) }
+        ensures goes { MatchResult result (λ _. Goes [] (seen K.told self.old) (seen K.told self.new)) (λ _. GoesPart (seen K.told self.old) (seen K.told self.new)) }
+        ensures settled { OnOk result (IsSettled (seen K.told self.new)) }
+        ensures gathered { self.new.gathered ≡ self.old.gathered }
+    {
+        let Some(item) = self.desk.take(rt) else {
+            return Ok(false);
+        };
+        let source = usize::from(item.source);
+        let is_down = is_down(&item.what);
+        self.do_step(rt, Step::Take(item))?;
+        note(&mut self.marks, source, is_down);
+        self.add_downs(rt)?;
+        Ok(true)
+    }
+
+    // Of each link whose outbox was given up and whose `Down` wasn't added yet, the `Down` is the next step. Its writer is
+    // told, so that it shuts the link once it has written what waits.
+    fn add_downs<R: Wait>(&mut self, rt: &R) -> Result<(), Memory>
+        requires stands { Stands (seen K.told self.old) }
+        ensures stands { Stands (seen K.told self.new) }
+        ensures goes { MatchResult result (λ _. Goes [] (seen K.told self.old) (seen K.told self.new)) (λ _. GoesPart (seen K.told self.old) (seen K.told self.new)) }
+        ensures settled { OnOk result (IsSettled (seen K.told self.new)) }
+        ensures gathered { self.new.gathered ≡ self.old.gathered }
+    {
+        for _ in rt.forever() {
+            let Some(source) = self.pending() else {
+                return Ok(());
+            };
+            let what = What::Down;
+            self.do_step(rt, Step::Take(Item { source, what }))?;
+            note_added(&mut self.marks, usize::from(source));
+            tell_given_up(self.putters.as_slice(), usize::from(source));
+        }
+        unreachable!()
+    }
+
+    // The first link whose outbox was given up and whose `Down` wasn't added.
+    fn pending(&self) -> Option<u16>
+        requires { Stands (seen K.told self.now) }
+        ensures { MatchOption result (IsSettled (seen K.told self.now)) (λ link. IsPending (seen K.told self.now) link) }
+    {
+        for link in 0..self.desk.sources() {
+            let putter = &self.putters[usize::from(link)];
+            let mark = self.marks[usize::from(link)];
+            if is_pending(putter, mark) {
+                return Some(link);
+            }
+        }
+        None
+    }
+
+    // Does a step, and puts its outputs into the outboxes. A refusal changes nothing.
+    fn do_step<R: Wait>(&mut self, rt: &R, step: Step) -> Result<(), Memory>
+        requires { Stands (seen K.told self.old) }
+        ensures ok { OnOk result (DoesStep step (seen K.told self.old) (seen K.told self.new)) }
+        ensures err { OnErr result (seen K.told self.new ≡ seen K.told self.old) }
+        ensures stands { Stands (seen K.told self.new) }
+    {
+        let mut outputs = Outputs::new(self.alloc);
+        self.controller.run_one(step, &mut outputs)?;
+        if outputs.is_empty() {
+            self.put_none();
+        } else {
+            self.send(rt, outputs);
+        }
+        Ok(())
+    }
+
+    // A step that puts nothing counts too while something that was put waits for a bell: so it never waits for many steps.
+    fn put_none(&mut self)
+        ensures { seen K.told self.new ≡ seen K.told self.old }
+    {
+        if self.unrung > 0 {
+            self.count(1);
+        }
+    }
+
+    // Counts what came since the bells were rung, and rings them where it is much.
+    fn count(&mut self, more: usize)
+        ensures { seen K.told self.new ≡ seen K.told self.old }
+    {
+        self.unrung = self.unrung.saturating_add(more);
+        if self.unrung >= STEPS_A_RING {
+            self.ring();
+        }
+    }
+
+    fn send<R: Wait>(&mut self, rt: &R, outputs: Outputs)
+        ensures sent { SendsAll not_ended self.old.putters.items outputs.outs self.new.putters.items }
+        ensures same { seen K.told self.new ≡ record (seen K.told self.old) { putters = self.new.putters.items } }
+    {
+        let more = outputs.len();
+        send_all(rt, &mut self.putters, outputs.into_vec());
+        self.count(more);
+    }
+
+    /// Wakes the writers, if there may be something for them.
+    pub(crate) fn ring(&mut self)
+        ensures { seen K.told self.new ≡ seen K.told self.old }
+    {
+        if self.unrung > 0 {
+            ring_all(&mut self.putters);
+            self.unrung = 0;
+        }
+    }
+}
+
+fn largest_tick(gathered: u64) -> u32
+    ensures { result ≡ min gathered 4294967295 }
+{
+    gathered.min(u64::from(u32::MAX)) as u32
+}
+
+fn is_pending(putter: &Putter, mark: Mark) -> bool
+    ensures { result ≡ pends putter.now mark }
+{
+    is_given_up(putter) && !mark.added
+}
+
+fn is_down(what: &What) -> bool
+    ensures { IsTrue result ↔ (what.now ≡ whats.Down) }
+{
+    matches!(what, What::Down)
+}
+
+fn note(marks: &mut Vec<Mark>, source: usize, is_down: bool)
+    requires { source < vec_len marks.old }
+    ensures { marks.new.items ≡ noted is_down source marks.old.items }
+{
+    if is_down {
+        marks[source].down = true;
+    }
+}
+
+fn note_added(marks: &mut Vec<Mark>, source: usize)
+    requires { source < vec_len marks.old }
+    ensures { marks.new.items ≡ with_added source marks.old.items }
+{
+    marks[source].added = true;
+}

@@ -1,3 +1,0 @@
-pub mod FrameLine
-pub mod Decoding
-mod Rows

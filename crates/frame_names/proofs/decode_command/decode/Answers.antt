@@ -1,5 +1,0 @@
-use Rattle.frame_names.proofs.Decoding.{refused_only}
-use Rattle.frame_names.proofs.decode_command.decode.Goals as goal
-
-pub returns-in-Ok-clause-long : goal.returns-in-Ok-clause-long
-returns-in-Ok-clause-long g c = refused_only _ _ _ _ c.in-Ok.ensures.printed

@@ -1,4 +1,0 @@
-pub mod Stopping
-pub mod Names
-pub mod Decoded
-pub mod NamingLaws

@@ -1,4 +1,0 @@
-pub mod Passed
-mod Rows
-pub mod Valid
-pub mod Words

@@ -1,6 +1,0 @@
-use Rattle.std.proofs.Common.{◌≡◌, ◌++◌, drop}
-use Rattle.controller_table.specs.Views as views
-use Rattle.frame_reading.proofs.views.handed.Given as goal
-
-abbrev pub invariant-loop-out : goal.invariant-loop-out
-invariant-loop-out l = l.list.items ++ views.handed (drop l.out-index l.out-items) l.conn l.sapi ≡ views.handed l.out-items l.conn l.sapi

@@ -1,8 +1,0 @@
-use Rattle.lineup.proofs.Ordering.{IsInOrder-alive, Alive-steps}
-use Rattle.lineup.proofs.laws.line_up_is_accepted_in_order.Goals as goal
-
-pub returns-clause-alive : goal.returns-clause-alive
-returns-clause-alive c m l two alive = IsInOrder-alive two alive
-
-pub returns-clause-run : goal.returns-clause-run
-returns-clause-run c m before after two alive steps = IsInOrder-alive two (Alive-steps steps alive)

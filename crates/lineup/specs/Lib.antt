@@ -1,9 +1,0 @@
-pub mod LineUp
-pub mod Alive
-pub mod MobileStep
-pub mod RelayStep
-pub mod ChangeStep
-pub mod BreakStep
-pub mod Opening
-pub mod Order
-pub mod Steps

@@ -1,6 +1,0 @@
-use Rattle.std.proofs.Common.{◌≡◌, take}
-use Rattle.link_io.specs.Switching.{replies_text}
-use Rattle.link_io.proofs.switch.text_of.Given as goal
-
-abbrev pub invariant-loop-reply : goal.invariant-loop-reply
-invariant-loop-reply l = l.text.items ≡ replies_text (take l.reply-index l.replies)

@@ -1,6 +1,0 @@
-use Rattle.link_io.proofs.Gathering.{PutsSome}
-use Rattle.link_io.proofs.writing.write_octets.Given as goal
-
--- all but the rest was written
-abbrev pub invariant-loop : goal.invariant-loop
-invariant-loop g l = PutsSome l.octets l.rest (g.O.Write.contents l.initial.writer) (g.O.Write.contents l.writer)

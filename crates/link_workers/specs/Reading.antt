@@ -1,0 +1,129 @@
+-- What a reader makes of the octets of its link.
+use Rattle.std.specs.Prelude.{◌≡◌, ◌⊎◌, ℕ, ◌+◌, Bool, true, false, List, [], ◌∷◌, ◌++◌, Option, Some, None, Result, Ok, Err, map}
+use Rattle.std.specs.List.{flat_map, AllByRecursion}
+use Rattle.std.specs.Io.KnownBytes.{Consumes, IsAtEnd}
+use Rattle.ipa_framing.specs.declared.frame.Frame.{Frame}
+use Rattle.ipa_framing.specs.Frame.{frame_text, IsFrame, IsPartial, IsTooLong}
+use Rattle.ipa_framing.specs.Framer.{FramerState}
+use Rattle.ruled_relay.specs.declared.item.What.{What}
+use Rattle.ruled_relay.specs.declared.item.What.TheVariants.{Frame as GivenFrame, Down}
+use Rattle.ruled_relay.specs.Inbox.{PassView}
+use Rattle.link_workers.specs.declared.fault.IoFault.{IoFault}
+use Rattle.link_workers.specs.declared.fault.IoFault.TheVariants.{ReadFailed, FrameFault, Memory, GateShut}
+use Rattle.link_workers.specs.declared.unread.Unread.{Unread}
+use Rattle.link_workers.specs.declared.unread.Unread.TheVariants.{Endless, Device, Refused}
+use Rattle.link_workers.specs.Unread.{fault_for}
+
+-- the octets of frames, one behind the other
+abbrev pub frames_text : List Frame → List ℕ
+frames_text frames = flat_map frame_text frames
+
+-- The octets are these frames, and behind them a rest.
+pub record Parts (octets : List ℕ) (frames : List Frame) (rest : List ℕ) : Type 0 where
+  pub whole : octets ≡ frames_text frames ++ rest
+  pub each : AllByRecursion IsFrame frames
+
+-- what a link gave with these frames
+abbrev pub given : List Frame → List What
+given frames = map GivenFrame frames
+
+-- the pass after it has put these, behind what it had put
+abbrev pub having_put : PassView → List What → PassView
+having_put p whats = record { queue = p.queue; capacity = p.capacity; source = p.source; put = p.put ++ whats }
+
+-- how often in a row a gate has refused when it has let these frames through, each at once or after refusals
+abbrev pub after_letting : ℕ → List Frame → ℕ
+after_letting refused [] = refused
+after_letting refused (f ∷ fs) = 0
+
+-- how often in a row the gate refused what wasn't put any more
+abbrev pub shutting : ℕ → IoFault → ℕ
+shutting limit GateShut = limit
+shutting limit _ = 0
+
+-- What stands behind the frames that were put, by why no more were: nothing whole, a frame that is too long, or anything.
+abbrev pub StopsBefore : IoFault → List ℕ → Type 0
+StopsBefore ReadFailed rest = IsPartial rest
+StopsBefore FrameFault rest = IsTooLong rest
+StopsBefore Memory rest = Unit {0}
+StopsBefore GateShut rest = Unit {0}
+StopsBefore _ rest = ⊥
+
+-- Without a fault nothing whole stands there, and no octet is left to be read.
+abbrev pub Ends : Option IoFault → List ℕ → Option (List ℕ) → Type 0
+Ends None rest now = IsPartial rest × IsAtEnd now
+Ends (Some fault) rest now = StopsBefore fault rest
+
+-- The gate let the last item through, which is `Down`; or it refused an item so often in a row, after it let these frames
+-- through.
+abbrev pub AsksGate : Option IoFault → ℕ → List Frame → ℕ → ℕ → Type 0
+AsksGate (Some GateShut) limit frames refused now = now ≡ after_letting refused frames + limit
+AsksGate _ limit frames refused now = now ≡ 0
+
+-- Octets were read that are frames and a rest, these frames were put, and `Down` behind them. `refused` and `now` are how
+-- often in a row the gate had refused before, and has now.
+pub record Serves (start end : Option (List ℕ)) (limit refused now : ℕ) (old new : PassView) (fault : Option IoFault) : Type 0 where
+  pub octets : List ℕ
+  pub frames : List Frame
+  pub rest : List ℕ
+  pub read : Consumes start end octets
+  pub parts : Parts octets frames rest
+  pub ends : Ends fault rest end
+  pub put : new ≡ having_put old (given frames ++ Down ∷ [])
+  pub asks : AsksGate fault limit frames refused now
+
+-- The device was told of the fault; not where the gate stayed shut, since it may have refused `Down` alone.
+abbrev pub IsTold : Option IoFault → Option IoFault → Type 0
+IsTold None told = Unit {0}
+IsTold (Some GateShut) told = Unit {0}
+IsTold (Some fault) told = told ≡ Some fault
+
+-- ---- what the parts of a reader do
+
+-- The item was put last, and the gate let it through; or the gate refused it so often, and nothing was put.
+abbrev pub PutsGated : {X : Type 0} → ℕ → ℕ → ℕ → PassView → What → PassView → Result X IoFault → Type 0
+PutsGated limit refused now old what new (Ok _) = (new ≡ having_put old (what ∷ [])) × (now ≡ 0)
+PutsGated limit refused now old what new (Err fault) = (new ≡ old) × (now ≡ refused + limit) × (fault ≡ GateShut)
+
+-- `Down` was put, unasked where the gate had stayed shut; a gate that stays shut now is the fault.
+abbrev pub PutsDown : ℕ → ℕ → ℕ → PassView → PassView → Option IoFault → Option IoFault → Type 0
+PutsDown limit refused now old new (Some GateShut) fault = (new ≡ having_put old (Down ∷ [])) × (now ≡ refused) × (fault ≡ Some GateShut)
+PutsDown limit refused now old new before fault =
+    (new ≡ having_put old (Down ∷ [])) × (((now ≡ 0) × (fault ≡ before)) ⊎ ((now ≡ refused + limit) × (fault ≡ Some GateShut)))
+
+-- The octets are these frames and a rest, and the frames were put.
+pub record Puts (octets : List ℕ) (refused now : ℕ) (old new : PassView) (frames : List Frame) (rest : List ℕ) : Type 0 where
+  pub parts : Parts octets frames rest
+  pub put : new ≡ having_put old (given frames)
+  pub asks : now ≡ after_letting refused frames
+
+-- Frames were put, and then there was this fault.
+pub record BreaksOff (octets : List ℕ) (limit refused now : ℕ) (old new : PassView) (fault : IoFault) : Type 0 where
+  pub frames : List Frame
+  pub rest : List ℕ
+  pub before : ℕ
+  pub puts : Puts octets refused before old new frames rest
+  pub asks : now ≡ before + shutting limit fault
+  pub stops : StopsBefore fault rest
+
+-- All frames were put that the framer held whole.
+abbrev pub PutsWhole : {X : Type 0} → FramerState → FramerState → ℕ → ℕ → ℕ → PassView → PassView → Result X IoFault → Type 0
+PutsWhole held left limit refused now old new (Ok _) =
+    ((frames : List Frame) × Puts held.octets refused now old new frames left.octets) × IsPartial left.octets × (left.failed ≡ held.failed)
+PutsWhole held left limit refused now old new (Err fault) = BreaksOff held.octets limit refused now old new fault
+
+-- Octets were read to the end, and all their whole frames put.
+abbrev pub PutsAll : {X : Type 0} → Option (List ℕ) → Option (List ℕ) → ℕ → ℕ → ℕ → PassView → PassView → Result X Unread → Type 0
+PutsAll start end limit refused now old new (Ok _) =
+    (octets rest : List ℕ) × (frames : List Frame) × Consumes start end octets × Puts octets refused now old new frames rest × IsPartial rest × IsAtEnd end
+PutsAll start end limit refused now old new (Err unread) =
+    (octets : List ℕ) × Consumes start end octets × BreaksOff octets limit refused now old new (fault_for unread)
+
+-- Octets were read, and the framer holds them behind what it held; or nothing is left to be read. A read that fails gives
+-- none.
+abbrev pub ReadsOn : Option (List ℕ) → Option (List ℕ) → FramerState → FramerState → Result Bool Unread → Type 0
+ReadsOn start now held new (Ok true) = (octets : List ℕ) × Consumes start now octets × (new ≡ record { octets = held.octets ++ octets; failed = held.failed })
+ReadsOn start now held new (Ok false) = Consumes start now [] × (new ≡ held) × IsAtEnd now
+ReadsOn start now held new (Err (Endless reads)) = Consumes start now [] × (new ≡ held)
+ReadsOn start now held new (Err (Device error)) = Consumes start now [] × (new ≡ held)
+ReadsOn start now held new (Err (Refused fault)) = (octets : List ℕ) × Consumes start now octets × (new ≡ held) × (fault ≡ Memory)

@@ -1,0 +1,66 @@
+use bssmap_codec::InterfaceFault;
+use ipa_framing::FrameFault as FramingFault;
+use octets::Memory;
+use thiserror::Error;
+
+/// Why a link, or a worker of the relay, ended before its end.
+#[derive(Clone, Copy, Debug, Error)]
+pub enum IoFault {
+    /// The device failed at a read, or was read as often as a reader reads.
+    #[error("the read failed")]
+    ReadFailed,
+    /// The device failed at a write, or took no octet.
+    #[error("the write failed")]
+    WriteFailed,
+    /// A frame was longer than 2,048 octets.
+    #[error("a frame is too long")]
+    FrameFault,
+    /// There was no memory.
+    #[error("out of memory")]
+    Memory,
+    /// The gate stayed shut.
+    #[error("the gate stayed shut")]
+    GateShut,
+    /// The link's outbox was full 1,000 times in a row, and was given up.
+    #[error("the outbox stayed full")]
+    GivenUp,
+}
+
+impl From<Memory> for IoFault {
+    ghost use Rattle.std.specs.Prelude.{◌≡◌};
+    ghost use Rattle.link_workers.specs.declared.fault.IoFault.TheVariants as faults;
+
+    ghost from_gives = { λ _ fault. fault ≡ faults.Memory };
+
+    fn from(_memory: Memory) -> IoFault {
+        IoFault::Memory
+    }
+}
+
+impl From<FramingFault> for IoFault {
+    ghost use Rattle.std.specs.Prelude.{◌≡◌};
+    ghost use Rattle.link_workers.specs.Faults.{fault_of_frame};
+
+    ghost from_gives = { λ framing fault. fault ≡ fault_of_frame framing };
+
+    fn from(fault: FramingFault) -> IoFault {
+        match fault {
+            FramingFault::TooLong => IoFault::FrameFault,
+            FramingFault::Memory => IoFault::Memory,
+        }
+    }
+}
+
+impl From<InterfaceFault> for IoFault {
+    ghost use Rattle.std.specs.Prelude.{◌≡◌};
+    ghost use Rattle.link_workers.specs.Faults.{fault_of_reply};
+
+    ghost from_gives = { λ interface fault. fault ≡ fault_of_reply interface };
+
+    fn from(fault: InterfaceFault) -> IoFault {
+        match fault {
+            InterfaceFault::Memory => IoFault::Memory,
+            _ => IoFault::FrameFault,
+        }
+    }
+}

@@ -1,0 +1,43 @@
+ghost use Rattle.std.specs.Prelude.{◌≡◌, ◌+◌, ◌<◌, ◌≤◌, false, length, IfErr, OnOk};
+ghost use Rattle.link_workers.specs.declared.read_count.TheConstants.{MOST_READS};
+ghost use Rattle.link_workers.specs.Reading.{ReadsOn};
+ghost use Rattle.link_workers.specs.Unread.{IsUnread};
+
+use crate::IoFault;
+use crate::read_count::ReadCount;
+use crate::unread::Unread;
+use ipa_framing::Framer;
+use std::io::{ErrorKind, Read};
+
+/// The octets that one read asks for.
+pub(crate) const BLOCK: usize = 8192;
+
+/// Reads once, to the front of the block, and feeds the framer what was read. False at the end. An interrupted read is
+/// one of no octets. Where so many reads were made already it makes none.
+pub(crate) fn read_on<I: Read>(
+    reader: &mut I,
+    reads: &mut ReadCount,
+    block: &mut [u8],
+    framer: &mut Framer,
+) -> Result<bool, Unread>
+    requires within { reads.old.made ≤ MOST_READS }
+    requires room { 0 < length block.old }
+    requires working { framer.old.failed ≡ false }
+    ensures octets { ReadsOn (I.remaining reader.old) (I.remaining reader.new) framer.old framer.new result }
+    ensures why { IfErr result (λ unread. IsUnread unread) }
+    ensures counted { OnOk result (reads.new.made ≡ reads.old.made + 1) }
+    ensures bounded { reads.new.made ≤ MOST_READS }
+{
+    if reads.is_spent() {
+        return Err(Unread::Endless(*reads));
+    }
+    match reads.read(reader, block) {
+        Ok(0) => Ok(false),
+        Ok(count) => {
+            framer.feed(&block[..count]).map_err(IoFault::from)?;
+            Ok(true)
+        }
+        Err(error) if error.kind() == ErrorKind::Interrupted => Ok(true),
+        Err(error) => Err(Unread::Device(error)),
+    }
+}

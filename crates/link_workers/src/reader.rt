@@ -1,0 +1,121 @@
+ghost use Rattle.std.specs.Prelude.{◌≡◌, ◌≢◌, ◌⊎◌, ◌++◌, ℕ, IfErr, IfSome, List, Some};
+ghost use Rattle.ipa_framing.specs.declared.frame.Frame.{Frame as FrameValue};
+ghost use Rattle.ipa_framing.specs.Frame.{IsPartial, IsTooLong, Splits};
+ghost use Rattle.link_workers.specs.declared.fault.IoFault.TheVariants.{ReadFailed};
+ghost use Rattle.link_workers.specs.Reading.{IsTold, Parts, PutsAll, PutsDown, PutsWhole, Serves};
+ghost use Rattle.link_workers.specs.Unread.{IsUnread};
+
+use crate::framing::{BLOCK, read_on};
+use crate::gated_pass::{GatedPass, put_once_there_is_room};
+use crate::read_count::ReadCount;
+use crate::unread::{Unread, fault_of};
+use crate::{Gate, IoFault, LinkReader};
+use ipa_framing::Framer;
+use ruled_relay::{SourcePass, What};
+use std::alloc::Global;
+use std::io::Read;
+use std::sync::Wait;
+
+/// Reads the octets of a link to their end and puts the frames that they are cut into, as items of the pass's source;
+/// then puts `Down`. An item that there is no room for is put once there is. Gives all back, and why it ended before the
+/// end of the octets.
+///
+/// `ReadFailed`: a read failed, other than by an interruption, or there were 2^40 reads. `FrameFault`: a frame has a body of
+/// more than 2,048 octets. `Memory`: there was none for a frame. `GateShut`: the gate refused an item `limit` times in a
+/// row; where that item was `Down`, it stands in place of an earlier fault. `Down` is put all the same, and the gate isn't
+/// asked again. The reader is told of the fault at once, before `Down` is put.
+pub fn serve_reader<I: LinkReader, G: Gate, R: Wait>(
+    rt: &R,
+    alloc: Global,
+    mut reader: I,
+    gate: G,
+    pass: SourcePass,
+    limit: u32,
+) -> (I, G, SourcePass, Option<IoFault>)
+    ensures serves { Serves (I.remaining reader) (I.remaining result.0) limit (G.refused gate) (G.refused result.1) pass result.2 result.3 }
+    ensures told { IsTold result.3 (I.told result.0) }
+{
+    let mut gated = GatedPass { gate, pass, limit };
+    let fault = fault_of(put_all(rt, alloc, &mut reader, &mut gated));
+    tell(&mut reader, fault);
+    let fault = put_down(rt, &mut gated, fault);
+    let GatedPass { gate, pass, .. } = gated;
+    (reader, gate, pass, fault)
+}
+
+/// Tells the reader why nothing more is read, where that isn't its end.
+fn tell<I: LinkReader>(reader: &mut I, fault: Option<IoFault>)
+    ensures told { IfSome fault (λ fault. I.told reader.new ≡ Some fault) }
+    ensures same { I.remaining reader.new ≡ I.remaining reader.old }
+{
+    if let Some(fault) = fault {
+        reader.break_off(fault);
+    }
+}
+
+/// Puts `Down`, and gives the fault that the reader ends with.
+fn put_down<G: Gate, R: Wait>(
+    rt: &R,
+    gated: &mut GatedPass<G>,
+    fault: Option<IoFault>,
+) -> Option<IoFault>
+    ensures { PutsDown gated.old.limit (G.refused gated.old.gate) (G.refused gated.new.gate) gated.old.pass gated.new.pass fault result }
+{
+    let fault = match fault {
+        Some(IoFault::GateShut) => fault,
+        _ => match gated.ask(rt) {
+            Ok(()) => fault,
+            Err(shut) => Some(shut),
+        },
+    };
+    put_once_there_is_room(rt, &mut gated.pass, What::Down);
+    gated.pass.ring();
+    fault
+}
+
+/// Puts the frames of a link until there are no octets left to be read.
+fn put_all<I: Read, G: Gate, R: Wait>(
+    rt: &R,
+    alloc: Global,
+    reader: &mut I,
+    gated: &mut GatedPass<G>,
+) -> Result<(), Unread>
+    ensures puts { PutsAll (I.remaining reader.old) (I.remaining reader.new) gated.old.limit (G.refused gated.old.gate) (G.refused gated.new.gate) gated.old.pass gated.new.pass result }
+    ensures why { IfErr result (λ unread. IsUnread unread) }
+    ensures same { gated.new.limit ≡ gated.old.limit }
+{
+    let mut framer = Framer::new(alloc);
+    let mut block = [0; BLOCK];
+    let mut reads = ReadCount::none();
+    while read_on(reader, &mut reads, &mut block, &mut framer)? {
+        put_frames(rt, &mut framer, gated)?;
+        gated.pass.ring();
+    }
+    Ok(())
+}
+
+/// Puts the frames that the framer holds whole.
+fn put_frames<G: Gate, R: Wait>(
+    rt: &R,
+    framer: &mut Framer,
+    gated: &mut GatedPass<G>,
+) -> Result<(), IoFault>
+    ensures puts { PutsWhole framer.old framer.new gated.old.limit (G.refused gated.old.gate) (G.refused gated.new.gate) gated.old.pass gated.new.pass result }
+    ensures unfailed { IfErr result (λ fault. fault ≢ ReadFailed) }
+    ensures same { gated.new.limit ≡ gated.old.limit }
+{
+    while let Some(frame) = framer.next()? {
+        gated.put(rt, What::Frame(frame))?;
+    }
+    Ok(())
+}
+
+/// Law: frames that stand at the front of octets are the first of the frames that the octets are, and all of them where
+/// only the beginning of a frame stands behind them, or one that is too long.  So what a reader puts are the first
+/// frames of the octets that it read, and all of them unless memory ran out or its gate stayed shut.
+pub fn frames_put_are_the_first()
+    ensures first { (octets : List ℕ) (frames : List FrameValue) (rest : List ℕ) (all : List FrameValue) (end : List ℕ) →
+        Parts octets frames rest → Splits octets all end → (more : List FrameValue) × (all ≡ frames ++ more) }
+    ensures whole { (octets : List ℕ) (frames : List FrameValue) (rest : List ℕ) (all : List FrameValue) (end : List ℕ) →
+        Parts octets frames rest → IsPartial rest ⊎ IsTooLong rest → Splits octets all end → (all ≡ frames) × (end ≡ rest) }
+{}

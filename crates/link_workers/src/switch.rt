@@ -1,0 +1,128 @@
+ghost use Rattle.std.specs.Prelude.{◌≡◌, ◌++◌, IfErr, IfOk, OnOk};
+ghost use Rattle.ipa_framing.specs.Frame.{frame_text};
+ghost use Rattle.link_workers.specs.Switching.{AnswersFrame, AnswersWhole, IsAnswerFault, PlaysSwitch, message_in, replies_text, reply_frame};
+ghost use Rattle.link_workers.specs.Unread.{IsUnread, fault_in};
+
+use crate::IoFault;
+use crate::framing::{BLOCK, read_on};
+use crate::read_count::ReadCount;
+use crate::unread::{Unread, fault_of};
+use crate::writing::write_octets;
+use bssmap_codec::{InterfaceFault, Sccp, read_sccp, write_sccp};
+use ipa_framing::{Frame, Framer, SCCP_STREAM, write_frame};
+use msc_end::MscEnd;
+use octets::{Memory, Octets};
+use std::alloc::Global;
+use std::io::{Read, Write};
+
+/// Plays the switch at its end of a link: answers the messages of SCCP that are read, in order, and writes the replies. A
+/// frame of another stream, or that is no message of SCCP, gets no reply. Gives all back, and why it ended before the end of
+/// the octets.
+///
+/// `ReadFailed`: a read failed, other than by an interruption, or there were 2^40 reads. `WriteFailed`: a write failed,
+/// other than by an interruption, or took no octet. `FrameFault`: a frame has a body of more than 2,048 octets, or a reply
+/// can't be written. `Memory`: there was none.
+pub fn switch_worker<I: Read, O: Write>(
+    alloc: Global,
+    mut reader: I,
+    mut writer: O,
+    mut switch: MscEnd,
+) -> (I, O, MscEnd, Option<IoFault>)
+    ensures { PlaysSwitch (I.remaining reader) (I.remaining result.0) (O.contents writer) (O.contents result.1) switch result.2 result.3 }
+{
+    let answered = answer_all(alloc, &mut reader, &mut writer, &mut switch);
+    (reader, writer, switch, fault_of(answered))
+}
+
+/// Answers the frames of a link until there are no octets left to be read.
+fn answer_all<I: Read, O: Write>(
+    alloc: Global,
+    reader: &mut I,
+    writer: &mut O,
+    switch: &mut MscEnd,
+) -> Result<(), Unread>
+    ensures plays { PlaysSwitch (I.remaining reader.old) (I.remaining reader.new) (O.contents writer.old) (O.contents writer.new) switch.old switch.new (fault_in result) }
+    ensures why { IfErr result (λ unread. IsUnread unread) }
+{
+    let mut framer = Framer::new(alloc);
+    let mut block = [0; BLOCK];
+    let mut reads = ReadCount::none();
+    while read_on(reader, &mut reads, &mut block, &mut framer)? {
+        answer_frames(alloc, &mut framer, writer, switch)?;
+    }
+    Ok(())
+}
+
+/// Answers the frames that the framer holds whole.
+fn answer_frames<O: Write>(
+    alloc: Global,
+    framer: &mut Framer,
+    writer: &mut O,
+    switch: &mut MscEnd,
+) -> Result<(), IoFault>
+    ensures { AnswersWhole framer.old framer.new (O.contents writer.old) (O.contents writer.new) switch.old switch.new result }
+{
+    while let Some(frame) = framer.next()? {
+        answer(alloc, &frame, writer, switch)?;
+    }
+    Ok(())
+}
+
+/// Answers a frame.
+fn answer<O: Write>(
+    alloc: Global,
+    frame: &Frame,
+    writer: &mut O,
+    switch: &mut MscEnd,
+) -> Result<(), IoFault>
+    ensures { AnswersFrame (O.contents writer.old) (O.contents writer.new) switch.old switch.new frame.now result }
+{
+    let Some(message) = message_of(alloc, frame)? else {
+        return Ok(());
+    };
+    let mut replies = Vec::new(alloc);
+    switch.on_message(&message, &mut replies)?;
+    let text = text_of(alloc, replies.as_slice())?;
+    write_octets(writer, text.as_slice())
+}
+
+/// The message of SCCP that a frame carries; none where it carries none.
+fn message_of(alloc: Global, frame: &Frame) -> Result<Option<Sccp>, Memory>
+    ensures { IfOk result (λ message. message ≡ message_in frame.now) }
+{
+    if frame.stream != SCCP_STREAM {
+        return Ok(None);
+    }
+    match read_sccp(alloc, frame.body.as_slice()) {
+        Ok(message) => Ok(Some(message)),
+        Err(InterfaceFault::Memory) => Err(Memory),
+        Err(_) => Ok(None),
+    }
+}
+
+/// The octets of the frames that carry replies.
+fn text_of(alloc: Global, replies: &[Sccp]) -> Result<Vec<u8>, IoFault>
+    ensures text { IfOk result (λ text. text.items ≡ replies_text replies.now) }
+    ensures fault { IfErr result (λ fault. IsAnswerFault fault) }
+{
+    let mut text = Vec::new(alloc);
+    for reply in replies {
+        write_reply(alloc, reply, &mut text)?;
+    }
+    Ok(text)
+}
+
+/// Appends the octets of the frame that carries a reply.
+fn write_reply(alloc: Global, reply: &Sccp, text: &mut Vec<u8>) -> Result<(), IoFault>
+    ensures text { OnOk result (text.new.items ≡ text.old.items ++ frame_text (reply_frame reply.now)) }
+    ensures fault { IfErr result (λ fault. IsAnswerFault fault) }
+{
+    let mut body = Vec::new(alloc);
+    write_sccp(alloc, reply, &mut body)?;
+    let frame = Frame {
+        stream: SCCP_STREAM,
+        body: Octets::new(body),
+    };
+    write_frame(&frame, text)?;
+    Ok(())
+}

@@ -1,0 +1,22 @@
+-- Definitions against literal values. Words of the command line are tried on the built program, by tests/statuses: the model
+-- that `clap` brings with it doesn't compute.
+use Rattle.std.specs.Prelude.{◌≡◌, None, Some, [], codes}
+use Rattle.std.proofs.Common.{refl}
+use Rattle.program_base.specs.declared.words.Task.TheVariants.{Decode, Replay}
+use Rattle.program_base.specs.declared.words.TaskFault.TheVariants.{Words, Memory}
+use Rattle.program_base.specs.CommandLine.{IsTask}
+use Rattle.program_base.specs.WordStatus.{status_of_words}
+
+wrong_words : status_of_words Words ≡ 2
+wrong_words = refl
+
+no_memory : status_of_words Memory ≡ 3
+no_memory = refl
+
+decode : IsTask Decode (Some (codes "decode", []))
+unfolding IsTask
+decode = refl
+
+replay_without_options : IsTask (Replay None None) (Some (codes "replay", []))
+unfolding IsTask
+replay_without_options = (refl, refl, refl)

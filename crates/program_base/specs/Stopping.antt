@@ -1,0 +1,22 @@
+-- Why a stream isn't decoded to its end.
+use Rattle.std.specs.IoError.{error_kind}
+use Rattle.ipa_framing.specs.declared.fault.FrameFault.{FrameFault}
+use Rattle.ipa_framing.specs.declared.fault.FrameFault.TheVariants as faults
+use Rattle.program_base.specs.declared.failure.Failure.TheVariants.{Memory, Device}
+use Rattle.program_base.specs.declared.input.Unread.{Unread}
+use Rattle.program_base.specs.declared.input.Unread.TheVariants as unread
+use Rattle.program_base.specs.declared.input.Unread.TheVariants.{Endless, Refused}
+use Rattle.program_base.specs.Status.{failure_of}
+use Rattle.program_base.specs.declared.decode_command.Stop.{Stop}
+use Rattle.program_base.specs.declared.decode_command.Stop.TheVariants.{TooLong, Failed as StopFailed}
+
+-- an input that wasn't read to its end: one that has none counts as a device that fails
+abbrev pub stop_unread : Unread Stop → Stop
+stop_unread (Endless reads) = StopFailed Device
+stop_unread (unread.Device error) = StopFailed (failure_of (error_kind error))
+stop_unread (Refused stop) = stop
+
+-- why a fault of the framer stops `decode`
+abbrev pub stop_of : FrameFault → Stop
+stop_of faults.TooLong = TooLong
+stop_of faults.Memory = StopFailed Memory

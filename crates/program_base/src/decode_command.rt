@@ -1,0 +1,232 @@
+//! `bsc decode`: names the frames of a link.
+ghost use Rattle.std.specs.Prelude.{◌≡◌, ◌⊎◌, ℕ, List, [], Err, IfErr, IfSome, OnOk, codes};
+ghost use Rattle.std.specs.Io.KnownBytes.{IsAtEnd};
+ghost use Rattle.std.specs.IoError.{error_kind};
+ghost use Rattle.ipa_framing.specs.Frame.{IsPartial};
+ghost use Rattle.ipa_framing.specs.Framer.{new_framer};
+ghost use Rattle.program_base.specs.Decoded.{Begins, Decodes, IsRefused, PrintsFrames, RefusesWith, StopsAmong, frame_line, rest_line};
+ghost use Rattle.program_base.specs.Output.{Puts};
+ghost use Rattle.program_base.specs.Status.{failure_of};
+ghost use Rattle.program_base.specs.Stopping.{stop_of, stop_unread};
+ghost use Rattle.program_base.specs.declared.decode_command.Stop.TheVariants.{Failed, TooLong};
+
+use crate::failure::Failure;
+use crate::input::{Sink, Unread, read_all, room_for};
+use crate::names::frame_name;
+use crate::output::put;
+use ipa_framing::{Frame, FrameFault, Framer};
+use octets::Memory;
+use std::alloc::Global;
+use std::io::{self, Read, Write};
+
+/// The octets that one read asks for.
+const BLOCK: usize = 1 << 20;
+
+/// Why a stream isn't decoded to its end.
+#[derive(Clone, Copy)]
+enum Stop {
+    /// A frame has more than 2,048 octets.
+    TooLong,
+    Failed(Failure),
+}
+
+impl From<io::Error> for Stop {
+    ghost from_gives = { λ error stop. stop ≡ Failed (failure_of (error_kind error)) };
+
+    fn from(error: io::Error) -> Stop {
+        Stop::Failed(Failure::from(error))
+    }
+}
+
+impl From<Failure> for Stop {
+    ghost from_gives = { λ failure stop. stop ≡ Failed failure };
+
+    fn from(failure: Failure) -> Stop {
+        Stop::Failed(failure)
+    }
+}
+
+impl From<FrameFault> for Stop {
+    ghost from_gives = { λ fault stop. stop ≡ stop_of fault };
+
+    fn from(fault: FrameFault) -> Stop {
+        match fault {
+            FrameFault::TooLong => Stop::TooLong,
+            FrameFault::Memory => Stop::Failed(Failure::Memory),
+        }
+    }
+}
+
+impl From<Unread<Stop>> for Stop {
+    ghost from_gives = { λ unread stop. stop ≡ stop_unread unread };
+
+    fn from(unread: Unread<Stop>) -> Stop {
+        match unread {
+            Unread::Endless(_) => Stop::Failed(Failure::Device),
+            Unread::Device(error) => Stop::from(error),
+            Unread::Refused(stop) => stop,
+        }
+    }
+}
+
+/// Prints a frame's line. It is put together of octets, since a formatter took over a quarter of the program's time.
+fn print_frame<W: Write>(alloc: Global, frame: &Frame, output: &mut W) -> Result<(), Failure>
+    ensures { Puts result (W.contents output.old) (W.contents output.new) (frame_line frame.now) }
+{
+    let name = frame_name(alloc, frame)?;
+    let mut digits = [0; 2];
+    hex::encode_to_slice([frame.stream], &mut digits).unwrap();
+    put(output, &digits)?;
+    put(output, b" ")?;
+    put(output, name.as_bytes())?;
+    put(output, b"\n")?;
+    Ok(())
+}
+
+/// Prints a line for each frame that is whole.
+fn print_frames<W: Write>(alloc: Global, framer: &mut Framer, output: &mut W) -> Result<(), Stop>
+    ensures ok { OnOk result (PrintsFrames framer.old framer.new (W.contents output.old) (W.contents output.new) ×
+        IsPartial framer.new.octets × (framer.new.failed ≡ framer.old.failed)) }
+    ensures err { IfErr result (λ stop. StopsAmong framer.old.octets stop (W.contents output.old) (W.contents output.new)) }
+{
+    while let Some(frame) = framer.next()? {
+        print_frame(alloc, &frame, output)?;
+    }
+    Ok(())
+}
+
+/// Prints the count of the octets that remain of a started frame, where there are any.
+fn print_rest<W: Write>(alloc: Global, framer: &Framer, output: &mut W) -> Result<(), Failure>
+    requires { IsPartial framer.now.octets }
+    ensures { Puts result (W.contents output.old) (W.contents output.new) (rest_line framer.now.octets) }
+{
+    let rest = framer.rest();
+    if rest > 0 {
+        let line = format!(in alloc; "rest {rest}\n").map_err(Memory::from)?;
+        put(output, line.as_bytes())?;
+    }
+    Ok(())
+}
+
+/// Names the frames of a stream on an output, as far as they are whole.
+#[derive(Drop)]
+struct Namer<'a, W> {
+    alloc: Global,
+    framer: Framer,
+    output: &'a mut W,
+}
+
+impl<'a, W: Write> Namer<'a, W> {
+    fn new(alloc: Global, output: &'a mut W) -> Namer<'a, W>
+        ensures same_reference { result.output.ghost_name ≡ output.entry.ghost_name }
+        ensures output { result.output.now ≡ output.old }
+        ensures framer { result.framer ≡ new_framer }
+    {
+        Namer {
+            alloc,
+            framer: Framer::new(alloc),
+            output,
+        }
+    }
+}
+
+impl<W: Write> Sink for Namer<'_, W> {
+    ghost use Rattle.std.specs.Prelude.{◌≡◌};
+    ghost use Rattle.program_base.specs.Decoded.{NamesOctets, StopsNaming};
+    ghost use Rattle.program_base.specs.NamingLaws.{names_none, names_both, stops_later};
+    ghost use Rattle.std.proofs.Common.{refl, ◌∙◌};
+
+    type Fault = Stop;
+
+    ghost takes = { λ old octets new. (new.output.ghost_name ≡ old.output.ghost_name)
+        × NamesOctets old.framer octets new.framer (W.contents old.output.now) (W.contents new.output.now) };
+
+    ghost refuses = { λ old octets new stop. (new.output.ghost_name ≡ old.output.ghost_name)
+        × StopsNaming old.framer octets stop (W.contents old.output.now) (W.contents new.output.now) };
+
+    ghost takes_none = { λ namer. (refl, names_none namer.framer (W.contents namer.output.now)) };
+
+    ghost takes_both = { λ old mid new first second some more. (
+      more.0 ∙ some.0,
+      names_both old.framer mid.framer new.framer first second (W.contents old.output.now) (W.contents mid.output.now) (W.contents new.output.now) some.1 more.1,
+    ) };
+
+    ghost refuses_later = { λ old mid new first second stop some stops. (
+      stops.0 ∙ some.0,
+      stops_later old.framer mid.framer first second stop (W.contents old.output.now) (W.contents mid.output.now) (W.contents new.output.now) some.1 stops.1,
+    ) };
+
+    /// Names the frames that are whole with this piece. What is named is printed before more is read.
+    fn take(&mut self, piece: &[u8]) -> Result<(), Stop> {
+        self.framer.feed(piece)?;
+        print_frames(self.alloc, &mut self.framer, self.output)?;
+        self.output.flush()?;
+        Ok(())
+    }
+}
+
+/// Prints the frames of the input to its end, and what remains of a started one.
+fn print_stream<R: Read, W: Write>(alloc: Global, input: &mut R, output: &mut W) -> Result<(), Stop>
+    ensures read { OnOk result (IsAtEnd (R.remaining input.new)) }
+    ensures printed { OnOk result (Decodes (R.remaining input.old) (W.contents output.old) (W.contents output.new)) }
+    ensures long { result ≡ Err TooLong →
+        RefusesWith [] (R.remaining input.old) (W.contents output.old) (W.contents output.new) }
+    ensures begun { Begins [] (R.remaining input.old) (W.contents output.old) (W.contents output.new) }
+{
+    let mut room = room_for(alloc, BLOCK)?;
+    let mut namer = Namer::new(alloc, output);
+    let read = read_all(input, room.as_mut_slice(), &mut namer);
+    let Namer { framer, output, .. } = namer;
+    // No effect at run time. The proof reads what `output` holds from this use of it.
+    let _ = &*output;
+    read?;
+    print_rest(alloc, &framer, output)?;
+    Ok(())
+}
+
+/// Prints the stream, and a frame that is too long as its last line.
+fn print_all<R: Read, W: Write>(alloc: Global, input: &mut R, output: &mut W) -> Result<(), Stop>
+    ensures read { OnOk result (IsAtEnd (R.remaining input.new)) }
+    ensures printed { OnOk result (Decodes (R.remaining input.old) (W.contents output.old) (W.contents output.new)) }
+    ensures begun { Begins (codes "fault F1\n") (R.remaining input.old) (W.contents output.old) (W.contents output.new) }
+{
+    match print_stream(alloc, input, output) {
+        Err(Stop::TooLong) => {
+            put(output, b"fault F1\n")?;
+            output.flush()?;
+            Err(Stop::TooLong)
+        }
+        printed => {
+            output.flush()?;
+            printed
+        }
+    }
+}
+
+/// Names each frame of the IPA stream on `input`, and gives the status that the program ends with: 0, or 3 where a frame
+/// is too long, memory ran out or a device failed. The text of a status above 0 goes to `errors`, but for `fault F1`,
+/// the last line of the output where a frame is too long. The output is flushed after each read.
+pub fn decode<R: Read, W: Write, E: Write>(
+    alloc: Global,
+    input: &mut R,
+    output: &mut W,
+    errors: &mut E,
+) -> u8
+    ensures status { (result ≡ 0) ⊎ (result ≡ 3) }
+    // It ends with 0 only where all octets were read, if it is known which there are.
+    ensures read { result ≡ 0 → IsAtEnd (R.remaining input.new) }
+    // What is printed then are the lines of the frames that the octets are, if it is known what an output holds.
+    ensures printed { result ≡ 0 → Decodes (R.remaining input.old) (W.contents output.old) (W.contents output.new) }
+    // Where a frame is too long the lines end with `fault F1`. Whatever the status, what is printed is a beginning of them.
+    ensures begun { Begins (codes "fault F1\n") (R.remaining input.old) (W.contents output.old) (W.contents output.new) }
+    ensures long { IfSome (R.remaining input.old) (λ stream. (text : List ℕ) → IsRefused stream text → result ≡ 3) }
+{
+    match print_all(alloc, input, output) {
+        Ok(()) => 0,
+        Err(Stop::TooLong) => 3,
+        Err(Stop::Failed(failure)) => {
+            let _ = writeln!(errors, "bsc: {failure}");
+            3
+        }
+    }
+}

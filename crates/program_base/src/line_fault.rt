@@ -1,0 +1,35 @@
+ghost use Rattle.std.specs.Prelude.{◌≡◌};
+ghost use Rattle.program_base.specs.declared.line_fault.LineFault.TheVariants.{BadEvent as BadLine, Memory as OutOfMemory};
+
+use octets::Memory;
+use thiserror::Error;
+
+/// A script line is no event's text.
+#[derive(Clone, Copy)]
+pub(crate) struct BadEvent;
+
+/// Why a script line gave no event.
+#[derive(Clone, Copy, Debug, Error)]
+pub enum LineFault {
+    /// It is no event's text.
+    #[error("bad event")]
+    BadEvent,
+    #[error("out of memory")]
+    Memory,
+}
+
+impl From<BadEvent> for LineFault {
+    ghost from_gives = { λ _ fault. fault ≡ BadLine };
+
+    fn from(_fault: BadEvent) -> LineFault {
+        LineFault::BadEvent
+    }
+}
+
+impl From<Memory> for LineFault {
+    ghost from_gives = { λ _ fault. fault ≡ OutOfMemory };
+
+    fn from(_memory: Memory) -> LineFault {
+        LineFault::Memory
+    }
+}

@@ -1,0 +1,127 @@
+ghost use Rattle.std.specs.Prelude.{◌≡◌, ◌≢◌, ◌≤◌, [], ◌∷◌, option_map, IfOk, MatchResult};
+ghost use Rattle.std.specs.List.{slice_split};
+ghost use Rattle.program_base.specs.WordsLeft.{is_space, words_left};
+ghost use Rattle.program_base.specs.Words.{word_at, value_at, number_in, mobile_in, station_in, source_in, any_number_in, sapi_in, answer_in, octets_in, end_of, Reads, ReadsNext};
+
+use crate::hexadecimal::Hexadecimal;
+use crate::line_fault::BadEvent;
+use crate::value::{answer_in, number_in, sapi_in};
+use dtap_codec::Sapi;
+use std::marker::Model;
+
+/// The words of a script line that are still to be read. Words are parted by one space.
+#[derive(Drop)]
+pub(crate) struct Words<'a> {
+    /// From the next word on, or none where all were read.
+    rest: Option<&'a str>,
+}
+
+impl<'a> Model for Words<'a> {
+    ghost use Rattle.std.specs.Prelude.{List, ℕ, option_map};
+    ghost use Rattle.program_base.specs.WordsLeft.{words_left};
+
+    ghost Value = { List (List ℕ) };
+
+    ghost view = { λ words. words_left (option_map (λ line. line.now) words.rest) };
+}
+
+impl<'a> Words<'a> {
+    /// The words of a line.
+    pub(crate) fn of(line: &'a str) -> Words<'a>
+        ensures { result ≡ slice_split is_space line.now }
+    {
+        Words { rest: Some(line) }
+    }
+
+    /// The next word.
+    pub(crate) fn word(&mut self) -> Result<&'a str, BadEvent>
+        ensures { ReadsNext (λ word. word.now) result (word_at self.old) self.new }
+    {
+        let Some(line) = self.rest else {
+            return Err(BadEvent);
+        };
+        let (word, rest) = split_first(line);
+        self.rest = rest;
+        Ok(word)
+    }
+
+    /// The next word as a decimal number from low to high.
+    pub(crate) fn number(&mut self, low: u32, high: u32) -> Result<u32, BadEvent>
+        ensures said { ReadsNext (λ n. n) result (value_at (number_in low high) self.old) self.new }
+        ensures range { IfOk result (λ n. (low ≤ n) × (n ≤ high)) }
+    {
+        number_in(self.word()?, low, high)
+    }
+
+    /// The next word as the number of a mobile, from 1 to 255.
+    pub(crate) fn mobile(&mut self) -> Result<u8, BadEvent>
+        ensures { ReadsNext (λ mobile. mobile) result (value_at mobile_in self.old) self.new }
+    {
+        let mobile = self.number(1, 255)?;
+        Ok(mobile as u8)
+    }
+
+    /// The next word as the number of a station, from 1 to the number of cells.
+    pub(crate) fn station(&mut self, cells: u16) -> Result<u16, BadEvent>
+        ensures { ReadsNext (λ station. station) result (value_at (station_in cells) self.old) self.new }
+    {
+        let station = self.number(1, u32::from(cells))?;
+        Ok(station as u16)
+    }
+
+    /// The next word as the number of a source, from 0 to the number of cells.
+    pub(crate) fn source(&mut self, cells: u16) -> Result<u16, BadEvent>
+        ensures { ReadsNext (λ source. source) result (value_at (source_in cells) self.old) self.new }
+    {
+        let source = self.number(0, u32::from(cells))?;
+        Ok(source as u16)
+    }
+
+    /// The next word as any number below 2 to the 32.
+    pub(crate) fn any_number(&mut self) -> Result<u32, BadEvent>
+        ensures { ReadsNext (λ n. n) result (value_at any_number_in self.old) self.new }
+    {
+        self.number(0, u32::MAX)
+    }
+
+    /// The next word as a SAPI.
+    pub(crate) fn sapi(&mut self) -> Result<Sapi, BadEvent>
+        ensures { ReadsNext (λ sapi. sapi) result (value_at sapi_in self.old) self.new }
+    {
+        sapi_in(self.word()?)
+    }
+
+    /// The next word as yes or no.
+    pub(crate) fn answer(&mut self) -> Result<bool, BadEvent>
+        ensures { ReadsNext (λ answer. answer) result (value_at answer_in self.old) self.new }
+    {
+        answer_in(self.word()?)
+    }
+
+    /// The next word as octets in hexadecimal digits.
+    pub(crate) fn octets(&mut self) -> Result<Hexadecimal<'a>, BadEvent>
+        ensures { ReadsNext (λ octets. octets) result (value_at octets_in self.old) self.new }
+    {
+        Hexadecimal::read(self.word()?)
+    }
+
+    /// Whether no word is left.
+    pub(crate) fn end(&self) -> Result<(), BadEvent>
+        ensures { Reads (λ _. tt) result (end_of self.now) }
+    {
+        match self.rest {
+            None => Ok(()),
+            Some(_) => Err(BadEvent),
+        }
+    }
+}
+
+/// The first word of a line, and the line behind the space after it, if there is one.
+fn split_first(line: &str) -> (&str, Option<&str>)
+    ensures { slice_split is_space line.now ≡ result.0.now ∷ words_left (option_map (λ rest. rest.now) result.1) }
+{
+    match line.split_once(' ') {
+        Some((word, rest)) => (word, Some(rest)),
+        None => (line, None),
+    }
+}

@@ -1,0 +1,265 @@
+ghost use Rattle.std.specs.Prelude.{◌≡◌, ◌⊎◌, IfOk};
+ghost use Rattle.program_base.specs.Words.{Reads, mobile_in, station_in, source_in, any_number_in};
+ghost use Rattle.program_base.specs.ScriptReading.{GivesEvent, kind_in, action_in, last_at, mobile_and_sapi_in, upper_at, connect_at, report_at, dtap_at, switch_does_at, event_at, line_at};
+ghost use Rattle.program_base.specs.Script.{IsLine};
+ghost use Rattle.world_model.specs.declared.event.Event.{Event as WorldEvent};
+
+use crate::line_fault::{BadEvent, LineFault};
+use crate::line_words::Words;
+use dtap_codec::Sapi;
+use std::alloc::Global;
+use world_model::{Event, SwitchAction};
+
+/// The kinds of script line, by their first word.
+#[derive(Clone, Copy)]
+pub(crate) enum Kind {
+    Upper,
+    Connect,
+    AirUp,
+    AirAck,
+    AirDown,
+    AirDownLost,
+    Move,
+    Touch,
+    Arrive,
+    Return,
+    BaseTakes,
+    BasePush,
+    Handle,
+    SwitchTakes,
+    SwitchDoes,
+    Tick,
+    BaseDown,
+    Report,
+}
+
+/// What the switch does, by the second word of its line.
+#[derive(Clone, Copy)]
+pub(crate) enum Action {
+    Assign,
+    Clear,
+    Dtap,
+}
+
+/// The action with this name.
+#[tactic(auto, unfolding(crate::specs::ScriptReading::action_in))]
+fn action_in(word: &str) -> Result<Action, BadEvent>
+    ensures { Reads (λ action. action) result (action_in word.now) }
+{
+    match word {
+        "assign" => Ok(Action::Assign),
+        "clear" => Ok(Action::Clear),
+        "dtap" => Ok(Action::Dtap),
+        _ => Err(BadEvent),
+    }
+}
+
+/// The kind of line that begins with this word.
+#[tactic(auto, unfolding(crate::specs::ScriptReading::kind_in))]
+fn kind_in(word: &str) -> Result<Kind, BadEvent>
+    ensures { Reads (λ kind. kind) result (kind_in word.now) }
+{
+    match word {
+        "upper" => Ok(Kind::Upper),
+        "connect" => Ok(Kind::Connect),
+        "airup" => Ok(Kind::AirUp),
+        "airack" => Ok(Kind::AirAck),
+        "airdown" => Ok(Kind::AirDown),
+        "airdownlost" => Ok(Kind::AirDownLost),
+        "move" => Ok(Kind::Move),
+        "touch" => Ok(Kind::Touch),
+        "arrive" => Ok(Kind::Arrive),
+        "return" => Ok(Kind::Return),
+        "basetakes" => Ok(Kind::BaseTakes),
+        "basepush" => Ok(Kind::BasePush),
+        "handle" => Ok(Kind::Handle),
+        "switchtakes" => Ok(Kind::SwitchTakes),
+        "switchdoes" => Ok(Kind::SwitchDoes),
+        "tick" => Ok(Kind::Tick),
+        "basedown" => Ok(Kind::BaseDown),
+        "report" => Ok(Kind::Report),
+        _ => Err(BadEvent),
+    }
+}
+
+/// Reads what stands behind the word `upper`.
+#[tactic(auto, unfolding(crate::specs::ScriptReading::upper_at))]
+fn upper(alloc: Global, mut words: Words<'_>) -> Result<Event, LineFault>
+    ensures { GivesEvent result (upper_at words.entry) }
+{
+    let mobile = words.mobile()?;
+    let sapi = words.sapi()?;
+    let message = words.octets()?;
+    words.end()?;
+    let message = message.decode(alloc)?;
+    Ok(Event::Upper {
+        mobile,
+        sapi,
+        message,
+    })
+}
+
+/// Reads what stands behind the word `connect`.
+#[tactic(auto, unfolding(crate::specs::ScriptReading::connect_at))]
+fn connect(alloc: Global, cells: u16, mut words: Words<'_>) -> Result<Event, LineFault>
+    ensures { GivesEvent result (connect_at cells words.entry) }
+{
+    let mobile = words.mobile()?;
+    let station = words.station(cells)?;
+    let initial = words.octets()?;
+    let accepts_sapi_three = words.answer()?;
+    words.end()?;
+    let initial = initial.decode(alloc)?;
+    Ok(Event::Connect {
+        mobile,
+        station,
+        initial,
+        accepts_sapi_three,
+    })
+}
+
+/// Reads what stands behind the word `report`.
+#[tactic(auto, unfolding(crate::specs::ScriptReading::report_at))]
+fn report(alloc: Global, mut words: Words<'_>) -> Result<Event, LineFault>
+    ensures { GivesEvent result (report_at words.entry) }
+{
+    let mobile = words.mobile()?;
+    let report = words.octets()?;
+    words.end()?;
+    let report = report.decode(alloc)?;
+    Ok(Event::Report { mobile, report })
+}
+
+/// Reads what stands behind the word `dtap`.
+#[tactic(auto, unfolding(crate::specs::ScriptReading::dtap_at))]
+fn dtap(alloc: Global, mut words: Words<'_>) -> Result<Event, LineFault>
+    ensures { GivesEvent result (dtap_at words.entry) }
+{
+    let connection = words.any_number()?;
+    let sapi = words.sapi()?;
+    let message = words.octets()?;
+    words.end()?;
+    let message = message.decode(alloc)?;
+    Ok(Event::SwitchDoes(SwitchAction::Dtap {
+        connection,
+        sapi,
+        message,
+    }))
+}
+
+/// Reads what stands behind the word `switchdoes`.
+#[tactic(auto, unfolding(crate::specs::ScriptReading::switch_does_at))]
+fn switch_does(alloc: Global, mut words: Words<'_>) -> Result<Event, LineFault>
+    ensures { GivesEvent result (switch_does_at words.entry) }
+{
+    let action = action_in(words.word()?)?;
+    match action {
+        Action::Assign => Ok(Event::SwitchDoes(SwitchAction::Assign(last_number(words)?))),
+        Action::Clear => Ok(Event::SwitchDoes(SwitchAction::Clear(last_number(words)?))),
+        Action::Dtap => dtap(alloc, words),
+    }
+}
+
+/// Reads a mobile as the last word.
+fn last_mobile(mut words: Words<'_>) -> Result<u8, BadEvent>
+    ensures { Reads (λ mobile. mobile) result (last_at mobile_in words.entry) }
+{
+    let mobile = words.mobile()?;
+    words.end()?;
+    Ok(mobile)
+}
+
+/// Reads a mobile and a SAPI as the last words.
+fn last_mobile_and_sapi(mut words: Words<'_>) -> Result<(u8, Sapi), BadEvent>
+    ensures { Reads (λ pair. pair) result (mobile_and_sapi_in words.entry) }
+{
+    let mobile = words.mobile()?;
+    let sapi = words.sapi()?;
+    words.end()?;
+    Ok((mobile, sapi))
+}
+
+/// Reads a station as the last word.
+fn last_station(cells: u16, mut words: Words<'_>) -> Result<u16, BadEvent>
+    ensures { Reads (λ station. station) result (last_at (station_in cells) words.entry) }
+{
+    let station = words.station(cells)?;
+    words.end()?;
+    Ok(station)
+}
+
+/// Reads a source as the last word.
+fn last_source(cells: u16, mut words: Words<'_>) -> Result<u16, BadEvent>
+    ensures { Reads (λ source. source) result (last_at (source_in cells) words.entry) }
+{
+    let source = words.source(cells)?;
+    words.end()?;
+    Ok(source)
+}
+
+/// Reads any number below 2 to the 32 as the last word.
+fn last_number(mut words: Words<'_>) -> Result<u32, BadEvent>
+    ensures { Reads (λ number. number) result (last_at any_number_in words.entry) }
+{
+    let number = words.any_number()?;
+    words.end()?;
+    Ok(number)
+}
+
+/// Reads what stands behind the first word of a line of this kind.
+#[tactic(auto, unfolding(crate::specs::ScriptReading::event_at))]
+fn arguments(alloc: Global, cells: u16, kind: Kind, words: Words<'_>) -> Result<Event, LineFault>
+    ensures { GivesEvent result (event_at cells kind words.entry) }
+{
+    match kind {
+        Kind::Upper => upper(alloc, words),
+        Kind::Connect => connect(alloc, cells, words),
+        Kind::AirUp => {
+            let (mobile, sapi) = last_mobile_and_sapi(words)?;
+            Ok(Event::AirUp { mobile, sapi })
+        }
+        Kind::AirAck => {
+            let (mobile, sapi) = last_mobile_and_sapi(words)?;
+            Ok(Event::AirAck { mobile, sapi })
+        }
+        Kind::BaseTakes => Ok(Event::BaseTakes(last_station(cells, words)?)),
+        Kind::BasePush => Ok(Event::BasePush(last_source(cells, words)?)),
+        Kind::BaseDown => Ok(Event::BaseDown(last_source(cells, words)?)),
+        Kind::Tick => Ok(Event::Tick(last_number(words)?)),
+        Kind::SwitchDoes => switch_does(alloc, words),
+        Kind::Report => report(alloc, words),
+        Kind::Handle => {
+            words.end()?;
+            Ok(Event::Handle)
+        }
+        Kind::SwitchTakes => {
+            words.end()?;
+            Ok(Event::SwitchTakes)
+        }
+        Kind::AirDown => Ok(Event::AirDown(last_mobile(words)?)),
+        Kind::AirDownLost => Ok(Event::AirDownLost(last_mobile(words)?)),
+        Kind::Move => Ok(Event::Move(last_mobile(words)?)),
+        Kind::Touch => Ok(Event::Touch(last_mobile(words)?)),
+        Kind::Arrive => Ok(Event::Arrive(last_mobile(words)?)),
+        Kind::Return => Ok(Event::Return(last_mobile(words)?)),
+    }
+}
+
+/// Reads all words of a line.
+#[tactic(auto, unfolding(crate::specs::ScriptReading::line_at))]
+fn line_of(alloc: Global, cells: u16, mut words: Words<'_>) -> Result<Event, LineFault>
+    ensures { GivesEvent result (line_at cells words.entry) }
+{
+    let kind = kind_in(words.word()?)?;
+    arguments(alloc, cells, kind, words)
+}
+
+/// Reads one line of a script: the event whose text the line is, where there are so many cells. A line that is no
+/// event's text is `BadEvent`; memory is needed only where the line is one's.
+pub fn read_line(alloc: Global, cells: u16, line: &str) -> Result<Event, LineFault>
+    ensures event { IfOk result (λ event. IsLine cells event line.now) }
+    ensures only { (event : WorldEvent) → IsLine cells event line.now → (result ≡ Ok event) ⊎ (result ≡ Err LineFault.Memory) }
+    ensures memory { result ≡ Err LineFault.Memory → (event : WorldEvent) × IsLine cells event line.now }
+{
+    line_of(alloc, cells, Words::of(line))
+}

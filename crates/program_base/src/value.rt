@@ -1,0 +1,76 @@
+ghost use Rattle.std.specs.Prelude.{◌≡◌, ◌≤◌, ◌^◌, true, IfOk, MatchResult};
+ghost use Rattle.std.specs.Char.{is_ascii_digit};
+ghost use Rattle.std.specs.List.{list_all};
+ghost use Rattle.program_base.specs.Words.{Reads, is_decimal, decimal_after, number_in, source_in, sapi_in, answer_in};
+
+use crate::line_fault::BadEvent;
+use dtap_codec::Sapi;
+
+/// A decimal number from low to high, in digits alone, of which the first may be zeros.
+pub(crate) fn number_in(word: &str, low: u32, high: u32) -> Result<u32, BadEvent>
+    ensures number { Reads (λ n. n) result (number_in low high word.now) }
+    ensures range { IfOk result (λ n. (low ≤ n) × (n ≤ high)) }
+{
+    let number = decimal(word)?;
+    if number < low || high < number {
+        return Err(BadEvent);
+    }
+    Ok(number)
+}
+
+/// The number of a source, from 0, which is the switch, to the number of cells.
+pub fn read_source(cells: u16, word: &str) -> Option<u16>
+    ensures { result ≡ source_in cells word.now }
+{
+    match number_in(word, 0, u32::from(cells)) {
+        Ok(number) => Some(number as u16),
+        Err(BadEvent) => None,
+    }
+}
+
+/// The number that a word of decimal digits writes, where that is below 2 to the 32.
+fn decimal(word: &str) -> Result<u32, BadEvent>
+    ensures { MatchResult result (λ n. (is_decimal word.now ≡ true) × (decimal_after 0 word.now ≡ n)) (λ _. is_decimal word.now ≡ true → 2 ^ 32 ≤ decimal_after 0 word.now) }
+{
+    if !is_decimal(word) {
+        return Err(BadEvent);
+    }
+    match word.parse::<u32>() {
+        Ok(number) => Ok(number),
+        Err(_) => Err(BadEvent),
+    }
+}
+
+fn is_decimal(word: &str) -> bool
+    ensures { result ≡ is_decimal word.now }
+{
+    !word.is_empty() && all_digits(word.as_bytes())
+}
+
+fn all_digits(octets: &[u8]) -> bool
+    ensures { result ≡ list_all is_ascii_digit octets.now }
+{
+    octets.iter().all(|octet| octet.is_ascii_digit())
+}
+
+/// A SAPI, which is the word `0` or `3`.
+pub(crate) fn sapi_in(word: &str) -> Result<Sapi, BadEvent>
+    ensures { Reads (λ sapi. sapi) result (sapi_in word.now) }
+{
+    match word.as_bytes() {
+        [b'0'] => Ok(Sapi::Zero),
+        [b'3'] => Ok(Sapi::Three),
+        _ => Err(BadEvent),
+    }
+}
+
+/// Yes or no, which is the word `y` or `n`.
+pub(crate) fn answer_in(word: &str) -> Result<bool, BadEvent>
+    ensures { Reads (λ answer. answer) result (answer_in word.now) }
+{
+    match word.as_bytes() {
+        [b'y'] => Ok(true),
+        [b'n'] => Ok(false),
+        _ => Err(BadEvent),
+    }
+}

@@ -1,0 +1,47 @@
+ghost use Rattle.std.specs.Prelude.{◌≡◌};
+ghost use Rattle.program_base.specs.WordStatus.{status_of_words};
+ghost use Rattle.program_base.specs.declared.words.TaskFault.TheVariants.{Memory as OutOfMemory};
+
+use std::alloc::AllocError;
+use thiserror::Error;
+
+/// What the program is asked to do.
+#[derive(Drop)]
+pub enum Task {
+    /// `run --config FILE`: to relay between the switch and the stations of these settings.
+    Run(String),
+    /// `replay [--config FILE] [--break N]`: to replay a script.
+    Replay(Option<String>, Option<String>),
+    /// `decode`: to name the frames of a stream.
+    Decode,
+}
+
+/// Why the words weren't read.
+#[derive(Clone, Copy, Debug, Error)]
+pub enum TaskFault {
+    /// They are no command of the program, or ask for help.
+    #[error("these words are no command")]
+    Words,
+    #[error("out of memory")]
+    Memory,
+}
+
+impl TaskFault {
+    /// The status that the program ends with.
+    pub fn status(&self) -> u8
+        ensures { result ≡ status_of_words self.now }
+    {
+        match self {
+            TaskFault::Words => 2,
+            TaskFault::Memory => 3,
+        }
+    }
+}
+
+impl From<AllocError> for TaskFault {
+    ghost from_gives = { λ _ fault. fault ≡ OutOfMemory };
+
+    fn from(_error: AllocError) -> TaskFault {
+        TaskFault::Memory
+    }
+}

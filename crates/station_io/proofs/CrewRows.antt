@@ -1,0 +1,63 @@
+-- The definitions at literal workers and results. A worker is a number here, and may give back the next number.
+use Rattle.std.proofs.Common.{◌≡◌, ℕ, zero, suc, ◌+◌, List, [], ◌∷◌, ◌++◌, refl, sym, ap, ◌∙◌, arith}
+use mathlib.Core.Option.{some, some-injective, some-ne-none}
+use lib.ListN.{get_elem?}
+use Rattle.station_io.specs.CrewDone.{AllDone, BeginsWith}
+
+abbrev Next : ℕ → ℕ → Type 0
+Next w d = d ≡ w + 1
+
+-- ---- what came back
+
+next_each : (at : ℕ) (w d : ℕ) → get_elem? (10 ∷ 20 ∷ []) at ≡ some w → get_elem? (11 ∷ 21 ∷ []) at ≡ some d → Next w d
+next_each zero w d here there = let a = some-injective 10 w here in let b = some-injective 11 d there in omega arith
+next_each (suc zero) w d here there = let a = some-injective 20 w here in let b = some-injective 21 d there in omega arith
+next_each (suc (suc at)) w d here there = absurd (some-ne-none w (sym here))
+
+all_came_back : AllDone Next (10 ∷ 20 ∷ []) (11 ∷ 21 ∷ [])
+all_came_back = (refl, next_each)
+
+nobody_came_back : AllDone Next [] []
+nobody_came_back = (refl, λ at w d here there. absurd (some-ne-none w (sym here)))
+
+one_is_missing : AllDone Next (10 ∷ 20 ∷ []) (11 ∷ []) → ⊥
+one_is_missing bad = omega (arith, bad.0)
+
+one_too_many : AllDone Next (10 ∷ []) (11 ∷ 21 ∷ []) → ⊥
+one_too_many bad = omega (arith, bad.0)
+
+another_result : AllDone Next (10 ∷ 20 ∷ []) (11 ∷ 22 ∷ []) → ⊥
+another_result bad = omega (arith, bad.1 1 20 22 refl refl)
+
+exchanged : AllDone Next (10 ∷ 20 ∷ []) (21 ∷ 11 ∷ []) → ⊥
+exchanged bad = omega (arith, bad.1 0 10 21 refl refl)
+
+-- ---- how far they were started
+
+first_was_started : BeginsWith {W = ℕ} (5 ∷ []) (5 ∷ 10 ∷ []) (10 ∷ 20 ∷ [])
+first_was_started = (10 ∷ [], 20 ∷ [], refl, refl)
+
+none_was_started : BeginsWith {W = ℕ} (5 ∷ []) (5 ∷ []) (10 ∷ 20 ∷ [])
+none_was_started = ([], 10 ∷ 20 ∷ [], refl, refl)
+
+all_were_started : BeginsWith {W = ℕ} [] (10 ∷ 20 ∷ []) (10 ∷ 20 ∷ [])
+all_were_started = (10 ∷ 20 ∷ [], [], refl, refl)
+
+-- what is put behind 5 is the row without 5
+behind : (row first : List ℕ) → 5 ∷ row ≡ (5 ∷ []) ++ first → row ≡ first
+behind row first e = let l : 5 ∷ row ≡ 5 ∷ first = e in cc l
+
+second_alone : BeginsWith {W = ℕ} (5 ∷ []) (5 ∷ 20 ∷ []) (10 ∷ 20 ∷ []) → ⊥
+second_alone bad =
+    let is = behind (20 ∷ []) bad.0 bad.3 in
+    let l : 10 ∷ 20 ∷ [] ≡ 20 ∷ bad.1 = bad.2 ∙ ap (λ first. first ++ bad.1) (sym is) in
+    absurd (cc l)
+
+one_twice : BeginsWith {W = ℕ} (5 ∷ []) (5 ∷ 10 ∷ 10 ∷ []) (10 ∷ 20 ∷ []) → ⊥
+one_twice bad =
+    let is = behind (10 ∷ 10 ∷ []) bad.0 bad.3 in
+    let l : 10 ∷ 20 ∷ [] ≡ 10 ∷ 10 ∷ bad.1 = bad.2 ∙ ap (λ first. first ++ bad.1) (sym is) in
+    absurd (cc l)
+
+an_earlier_one_is_gone : BeginsWith {W = ℕ} (5 ∷ []) (10 ∷ []) (10 ∷ []) → ⊥
+an_earlier_one_is_gone bad = let l : 10 ∷ [] ≡ 5 ∷ bad.0 = bad.3 in absurd (cc l)

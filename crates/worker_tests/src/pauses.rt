@@ -1,0 +1,15 @@
+use link_workers::Pauses;
+use std::test::Fail;
+use std::time::Instant;
+
+/// So many tries, after which an outbox is given up, leave a peer that is slow some time to read.
+#[test]
+fn a_thousand_pauses_last_half_a_second(rt: HostRuntime) -> Result<(), Fail> {
+    let begin = Instant::now(&rt)?;
+    let mut pauses = Pauses::new();
+    for _ in 0..1_000 {
+        pauses.pause(&rt);
+    }
+    assert!(rt; begin.elapsed(&rt)?.as_millis() >= 500);
+    Ok(())
+}

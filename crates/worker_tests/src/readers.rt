@@ -1,0 +1,297 @@
+ghost use Rattle.std.specs.Prelude.{◌<◌};
+
+use crate::devices::{Call, Counts, PING, Shut, Source, ended, is_fault};
+use ipa_framing::CCM_STREAM;
+use link_workers::{Gate, IoFault, serve_reader};
+use ruled_relay::{Desk, Inbox, Item, SourcePass, What};
+use std::alloc::{AllocError, Global};
+use std::sync::atomic::{AtomicU64, Ordering};
+use std::sync::{Arc, Wait};
+use std::test::Fail;
+use std::thread;
+use std::time::{Clock, Duration};
+
+const OPEN: Shut = Shut {
+    left: 0,
+    refused: 0,
+    asked: 0,
+};
+
+/// The desk of an inbox with one source, and the source's pass.
+fn inbox(alloc: Global, capacity: usize) -> Result<(Desk, SourcePass), Fail>
+    requires { 0 < capacity }
+{
+    let (desk, mut passes) = Inbox::new(alloc, 1, capacity)?;
+    match passes.pop() {
+        Some(pass) => Ok((desk, pass)),
+        None => Err(Fail::new("no pass")),
+    }
+}
+
+/// Whether the next item is the frame PING.
+fn is_ping<R: Wait>(rt: &R, desk: &mut Desk) -> bool {
+    match desk.take(rt) {
+        Some(
+            Item {
+                source: 0,
+                what: What::Frame(frame),
+            },
+        ) => frame.stream == CCM_STREAM && frame.body.as_slice() == [0x00u8].as_slice(),
+        _ => false,
+    }
+}
+
+/// Whether the next item says that the link is down, and is the last.
+fn is_down_last<R: Wait>(rt: &R, desk: &mut Desk) -> bool {
+    matches!(
+        desk.take(rt),
+        Some(Item {
+            source: 0,
+            what: What::Down
+        })
+    ) && desk.take(rt).is_none()
+}
+
+/// How a reader ended: what its device was told, how often its gate was asked, and its fault.
+#[derive(Drop)]
+struct Ended {
+    desk: Desk,
+    told: Option<IoFault>,
+    asked: u32,
+    fault: Option<IoFault>,
+}
+
+/// Reads what the device gives behind a gate that refuses so often, with an inbox of 8 items.
+fn read<R: Wait>(
+    rt: &R,
+    alloc: Global,
+    calls: &[Call<'_>],
+    refused: u32,
+    limit: u32,
+) -> Result<Ended, Fail> {
+    let (desk, pass) = inbox(alloc, 8)?;
+    let gate = Shut {
+        left: refused,
+        ..OPEN
+    };
+    let (source, gate, _, fault) = serve_reader(rt, alloc, Source::new(calls), gate, pass, limit);
+    Ok(Ended {
+        desk,
+        told: source.told,
+        asked: gate.asked,
+        fault,
+    })
+}
+
+/// What a device gives, how often its gate refuses, and how often in a row is one refusal too many; then how the reader
+/// ends, and whether it has put the frame PING before `Down`.
+struct Reading<'a> {
+    calls: &'a [Call<'a>],
+    refused: u32,
+    limit: u32,
+    fault: Option<IoFault>,
+    told: Option<IoFault>,
+    asked: u32,
+    ping: bool,
+}
+
+/// The prefix of a frame that is longer than any.
+const TOO_LONG: &[u8] = &[0x08, 0x01];
+
+/// A device that works, in pieces, and with a last one that is no whole frame.
+const WORKS: Reading<'_> = Reading {
+    calls: &[
+        Call::Octets(&[0x00, 0x01]),
+        Call::Interrupted,
+        Call::Octets(&[0xfe, 0x00]),
+        Call::Octets(&[0x00, 0x01, 0xfe]),
+    ],
+    refused: 0,
+    limit: 10_000,
+    fault: None,
+    told: None,
+    asked: 2,
+    ping: true,
+};
+
+const FAILS_AFTER_A_FRAME: Reading<'_> = Reading {
+    calls: &[Call::Octets(PING), Call::Failed, Call::Octets(PING)],
+    fault: Some(IoFault::ReadFailed),
+    told: Some(IoFault::ReadFailed),
+    ..WORKS
+};
+
+const GIVES_TOO_LONG_A_FRAME: Reading<'_> = Reading {
+    calls: &[
+        Call::Octets(PING),
+        Call::Octets(TOO_LONG),
+        Call::Octets(PING),
+    ],
+    fault: Some(IoFault::FrameFault),
+    told: Some(IoFault::FrameFault),
+    ..WORKS
+};
+
+const GATE_ALWAYS_REFUSES: Reading<'_> = Reading {
+    calls: &[Call::Octets(PING)],
+    refused: 1_000,
+    limit: 3,
+    fault: Some(IoFault::GateShut),
+    told: Some(IoFault::GateShut),
+    asked: 3,
+    ping: false,
+};
+
+/// The gate refuses `Down` alone: the device is told of the earlier fault.
+const GATE_SHUT_AT_DOWN: Reading<'_> = Reading {
+    calls: &[Call::Failed],
+    refused: 2,
+    limit: 2,
+    fault: Some(IoFault::GateShut),
+    told: Some(IoFault::ReadFailed),
+    asked: 2,
+    ping: false,
+};
+
+const GATE_OPENS_AT_DOWN: Reading<'_> = Reading {
+    limit: 3,
+    fault: Some(IoFault::ReadFailed),
+    asked: 3,
+    ..GATE_SHUT_AT_DOWN
+};
+
+const READINGS: [Reading<'_>; 6] = [
+    WORKS,
+    FAILS_AFTER_A_FRAME,
+    GIVES_TOO_LONG_A_FRAME,
+    GATE_ALWAYS_REFUSES,
+    GATE_SHUT_AT_DOWN,
+    GATE_OPENS_AT_DOWN,
+];
+
+/// Whether a reader ends so.
+fn ends_so<R: Wait>(rt: &R, alloc: Global, reading: &Reading<'_>) -> Result<bool, Fail> {
+    let mut ended = read(rt, alloc, reading.calls, reading.refused, reading.limit)?;
+    let put = (!reading.ping || is_ping(rt, &mut ended.desk)) && is_down_last(rt, &mut ended.desk);
+    Ok(
+        put && ended.asked == reading.asked
+            && is_fault(ended.fault, reading.fault)
+            && is_fault(ended.told, reading.told),
+    )
+}
+
+#[test]
+fn a_reader_puts_what_was_whole_and_its_device_is_told(rt: HostRuntime) -> Result<(), Fail> {
+    for (place, reading) in READINGS.iter().enumerate() {
+        assert!(rt; ends_so(&rt, rt.alloc(), reading)?, "reading {place}");
+    }
+    Ok(())
+}
+
+/// How many frames come before `Down`, where that is the last item, and one of the next four.
+fn frames_before_down<R: Wait>(rt: &R, desk: &mut Desk) -> Option<u32> {
+    for frames in 0..4 {
+        if let What::Down = desk.take(rt)?.what {
+            return if desk.take(rt).is_none() {
+                Some(frames)
+            } else {
+                None
+            };
+        }
+    }
+    None
+}
+
+#[test]
+fn a_reader_that_wants_memory_puts_a_first_part(rt: HostRuntime) -> Result<(), Fail> {
+    let calls = [Call::Octets(PING); 3];
+    let mut read = read(&rt, rt.alloc(), &calls, 0, 10_000)?;
+    match frames_before_down(&rt, &mut read.desk) {
+        Some(frames) => assert!(rt; frames == 3 || read.fault.is_some()),
+        None => assert!(rt; false),
+    }
+    ended(read.fault)
+}
+
+/// How many frames come before `Down`.
+fn count_frames<R: Wait>(rt: &R, desk: &mut Desk) -> u32 {
+    let mut frames = 0u32;
+    for _ in rt.forever() {
+        match desk.take(rt) {
+            Some(item) => match item.what {
+                What::Frame(_) => frames = frames.saturating_add(1),
+                What::Down => break,
+            },
+            None => desk.wait(rt, Duration::from_millis(100)),
+        }
+    }
+    frames
+}
+
+/// Reads 100 frames into an inbox of one item.
+fn flood<R: Wait>(rt: &R, alloc: Global, pass: SourcePass) -> Option<IoFault> {
+    let calls = [Call::Octets(PING); 100];
+    serve_reader(rt, alloc, Source::new(&calls), OPEN, pass, 10_000).3
+}
+
+#[test]
+fn a_reader_that_finds_the_inbox_full_gets_on(rt: HostRuntime) -> Result<(), Fail> {
+    let alloc = rt.alloc();
+    let (mut desk, pass) = inbox(alloc, 1)?;
+    let reader = thread::spawn(&rt, move || flood(&rt, alloc, pass)).expect(&rt, "a thread");
+    assert!(rt; count_frames(&rt, &mut desk) == 100);
+    assert!(rt; reader.join(&rt).is_none());
+    Ok(())
+}
+
+/// The octets of a frame with the longest body.
+fn long_frame(alloc: Global) -> Result<Vec<u8>, AllocError> {
+    let mut text = vec![in alloc; 0; 2051]?;
+    text[0] = 0x08;
+    text[2] = 0xfe;
+    Ok(text)
+}
+
+/// Reads a frame 400 times, and counts those that came to be put.
+fn flood_with<R: Wait>(
+    rt: &R,
+    alloc: Global,
+    frame: &[u8],
+    counts: Counts,
+    pass: SourcePass,
+) -> Option<IoFault> {
+    let calls = [Call::Octets(frame); 400];
+    serve_reader(rt, alloc, Source::new(&calls), counts, pass, 1).3
+}
+
+/// How often a gate was asked, once that was more than 128 times and some time has passed.
+fn await_asked<R: Clock>(rt: &R, asked: &AtomicU64) -> u64 {
+    for _ in 0..20_000 {
+        if asked.load(Ordering::SeqCst) > 128 {
+            break;
+        }
+        thread::sleep(rt, Duration::from_millis(1));
+    }
+    thread::sleep(rt, Duration::from_millis(50));
+    asked.load(Ordering::SeqCst)
+}
+
+#[test]
+fn long_frames_wait_until_few_items_do(rt: HostRuntime) -> Result<(), Fail> {
+    let alloc = rt.alloc();
+    let (mut desk, pass) = inbox(alloc, 1_024)?;
+    let asked = Arc::new(alloc, AtomicU64::new(0)).expect(&rt, "a count");
+    let counts = Counts {
+        asked: Arc::try_clone(&asked).expect(&rt, "a share of it"),
+    };
+    let text = long_frame(alloc).expect(&rt, "a frame");
+    let reader = thread::spawn(
+        &rt,
+        move || flood_with(&rt, alloc, text.as_slice(), counts, pass),
+    )
+    .expect(&rt, "a thread");
+    // 128 wait, and one is to be put
+    assert!(rt; await_asked(&rt, &asked) == 129);
+    assert!(rt; count_frames(&rt, &mut desk) == 400);
+    ended(reader.join(&rt))
+}

@@ -1,0 +1,53 @@
+use crate::devices::{Call, Sink, Source, ended};
+use dtap_codec::Modulus;
+use link_workers::switch_worker;
+use msc_end::MscEnd;
+use std::test::Fail;
+
+/// A connection request in a frame.
+const REQUEST: &[u8] = &[
+    0x00, 0x1f, 0xfd, 0x01, 0x00, 0x00, 0x01, 0x02, 0x02, 0x04, 0x02, 0x42, 0xfe, 0x0f, 0x12, 0x00,
+    0x10, 0x57, 0x05, 0x08, 0x00, 0x00, 0xf1, 0x10, 0x00, 0x01, 0x00, 0x01, 0x17, 0x03, 0x05, 0x24,
+    0x71, 0x00,
+];
+
+/// The frame of the connection confirm that answers it.
+const CONFIRM: &[u8] = &[
+    0x00, 0x09, 0xfd, 0x02, 0x00, 0x00, 0x01, 0x80, 0x00, 0x01, 0x02, 0x00,
+];
+
+#[test]
+fn a_connection_request_is_confirmed(rt: HostRuntime) -> Result<(), Fail> {
+    let alloc = rt.alloc();
+    let calls = [
+        Call::Octets(&[0x00, 0x01, 0xfe, 0x00]),
+        Call::Octets(&[0x00, 0x01, 0xfd, 0x33]),
+        Call::Octets(REQUEST),
+    ];
+    let switch = MscEnd::new(alloc, Modulus::Four);
+    let (_, sink, switch, fault) = switch_worker(
+        alloc,
+        Source::new(&calls),
+        Sink::new(alloc),
+        switch,
+    );
+    assert!(rt; fault.is_none());
+    assert!(rt; sink.got.as_slice() == CONFIRM);
+    assert!(rt; switch.taken(1).is_some());
+    Ok(())
+}
+
+#[test]
+fn a_switch_that_wants_memory_writes_a_first_part(rt: HostRuntime) -> Result<(), Fail> {
+    let alloc = rt.alloc();
+    let sink = Sink {
+        got: Vec::with_capacity(alloc, 12)?,
+        ..Sink::new(alloc)
+    };
+    let switch = MscEnd::new(alloc, Modulus::Four);
+    let source = Source::new(&[Call::Octets(REQUEST)]);
+    let (_, sink, _, fault) = switch_worker(alloc, source, sink, switch);
+    assert!(rt; CONFIRM.starts_with(sink.got.as_slice()));
+    assert!(rt; sink.got.as_slice() == CONFIRM || fault.is_some());
+    ended(fault)
+}

@@ -1,0 +1,230 @@
+ghost use Rattle.std.specs.Prelude.{◌≡◌, ◌<◌, length, vec_len};
+ghost use Rattle.controller_worker.specs.Call.{AreNew, AreUnmarked};
+
+use crate::script::Script;
+use controller::Controller;
+use controller_worker::{Marks, call_worker};
+use ipa_framing::{CCM_STREAM, Frame, RSL_STREAM};
+use link_workers::IoFault;
+use octets::Octets;
+use ruled_relay::{Desk, Inbox, Item, Line, Outbox, Putter, SourcePass, Taker, What};
+use settings::Settings;
+use std::alloc::Global;
+use std::process::Abort;
+use std::sync::Wait;
+use std::sync::atomic::{AtomicU64, Ordering};
+use std::thread;
+use std::time::{Clock, Duration};
+
+const ONE_CELL: &str =
+    "[network]\nmcc = \"001\"\nmnc = \"01\"\n[switch]\naddress = \"127.0.0.1:5000\"\n\
+[[cell]]\nlisten = \"127.0.0.1:3003\"\nlac = 1\nci = 1\narfcn = 20\nbsic = 9\nchannels = [0x41, 0x49, 0x0a]\n";
+
+/// A body, and the stream that its frame is of.
+type Text<'a> = (u8, &'a [u8]);
+
+const CHANNEL_REQUIRED: Text<'_> = (
+    RSL_STREAM,
+    &[0x0c, 0x13, 0x01, 0x88, 0x13, 0x7f, 0x01, 0x02, 0x11, 0x05],
+);
+
+const ACTIVATION: Text<'_> = (
+    RSL_STREAM,
+    &[
+        0x08, 0x21, 0x01, 0x41, 0x03, 0x00, 0x06, 0x04, 0x00, 0x03, 0x01, 0x00,
+    ],
+);
+
+const ACTIVATION_ACK: Text<'_> = (RSL_STREAM, &[0x08, 0x22, 0x01, 0x41, 0x08, 0x00, 0x00]);
+
+const RELEASE: Text<'_> = (RSL_STREAM, &[0x08, 0x2e, 0x01, 0x41]);
+
+const PING: Text<'_> = (CCM_STREAM, &[0x00]);
+
+const PONG: Text<'_> = (CCM_STREAM, &[0x01]);
+
+/// The call worker's ends of the queues of a switch and of one station.
+#[derive(Drop)]
+struct Ends {
+    desk: Desk,
+    putters: Vec<Putter>,
+    marks: Marks,
+}
+
+/// The other ends of a link's queues.
+#[derive(Drop)]
+struct Link {
+    pass: SourcePass,
+    taker: Taker,
+}
+
+/// New queues, of which the station's outbox has room for so many lines; with the link of the switch, and the station's.
+fn queues<R: Abort>(rt: &R, alloc: Global, room: usize) -> (Ends, Link, Link)
+    requires { 0 < room }
+    ensures new { AreNew result.0.putters.items }
+    ensures sources { length result.0.desk ≡ vec_len result.0.putters }
+    ensures marks { AreUnmarked (vec_len result.0.putters) result.0.marks }
+{
+    let (desk, mut passes) = Inbox::new(alloc, 2, 8).expect(rt, "an inbox");
+    let station_pass = passes.pop().expect(rt, "the station's pass");
+    let switch_pass = passes.pop().expect(rt, "the switch's pass");
+    let (switch, switch_taker) = Outbox::new(alloc, 8).expect(rt, "an outbox");
+    let (station, station_taker) = Outbox::new(alloc, room).expect(rt, "an outbox");
+    let mut putters = Vec::with_capacity(alloc, 2).expect(rt, "room for two");
+    putters.push(switch).expect(rt, "room for the switch's");
+    putters.push(station).expect(rt, "room for the station's");
+    let marks = Marks::new(alloc, putters.len()).expect(rt, "marks");
+    let ends = Ends {
+        desk,
+        putters,
+        marks,
+    };
+    let switch = Link {
+        pass: switch_pass,
+        taker: switch_taker,
+    };
+    let station = Link {
+        pass: station_pass,
+        taker: station_taker,
+    };
+    (ends, switch, station)
+}
+
+/// How a run of the call worker ended.
+#[derive(Clone, Copy)]
+struct Ended {
+    fault: Option<IoFault>,
+    ignored: u64,
+    /// Of the switch's outbox, and of the station's.
+    refusals: (u32, u32),
+}
+
+/// A controller of one cell.
+fn controller<R: Abort>(rt: &R, alloc: Global) -> Controller {
+    let settings = Settings::read(alloc, ONE_CELL).expect(rt, "the settings");
+    Controller::new(alloc, settings).expect(rt, "a controller")
+}
+
+/// Runs the call worker of a controller of one cell.
+fn run<R: Abort + Wait>(rt: &R, alloc: Global, ends: Ends, clock: Script) -> Ended
+    requires new { AreNew ends.putters.items }
+    requires sources { length ends.desk ≡ vec_len ends.putters }
+    requires marks { AreUnmarked (vec_len ends.putters) ends.marks }
+{
+    let Ends {
+        desk,
+        putters,
+        marks,
+    } = ends;
+    let controller = controller(rt, alloc);
+    let (controller, _, putters, _, fault) = call_worker(
+        rt, alloc, controller, desk, putters, marks, clock,
+    );
+    Ended {
+        fault,
+        ignored: controller.ignored(),
+        refusals: refusals(putters.as_slice()),
+    }
+}
+
+/// How often the switch's outbox, and the station's, refused a frame.
+fn refusals(putters: &[Putter]) -> (u32, u32) {
+    match putters {
+        [switch, station] => (switch.refusals(), station.refusals()),
+        _ => (u32::MAX, u32::MAX),
+    }
+}
+
+/// Puts an item of this link.
+fn put<R: Abort + Wait>(rt: &R, pass: &mut SourcePass, what: What) {
+    let source = pass.source();
+    assert!(rt; pass.put(rt, Item { source, what }).is_ok());
+}
+
+/// Puts these frames, and then that the link is down.
+fn put_all<R: Abort + Wait>(rt: &R, alloc: Global, pass: &mut SourcePass, texts: &[Text]) {
+    for (stream, body) in texts {
+        let body = Octets::copy(alloc, *body).expect(rt, "a body");
+        let stream = *stream;
+        put(rt, pass, What::Frame(Frame { stream, body }));
+    }
+    put(rt, pass, What::Down);
+    pass.ring();
+}
+
+/// Waits until the clock was asked more than so often.
+fn await_asked<R: Clock>(rt: &R, asked: &AtomicU64, often: u64) {
+    for _ in 0..u64::MAX {
+        if asked.load(Ordering::SeqCst) > often {
+            return;
+        }
+        thread::sleep(rt, Duration::from_millis(1));
+    }
+}
+
+/// The next line of an outbox.
+fn next<R: Wait>(rt: &R, taker: &mut Taker) -> Line {
+    for _ in rt.forever() {
+        match taker.take(rt) {
+            Some(line) => return line,
+            None => taker.wait(rt, Duration::from_millis(10)),
+        }
+    }
+    unreachable!()
+}
+
+/// Whether an outbox gives these frames, then the mark behind the last, and no more.
+fn gives<R: Wait>(rt: &R, taker: &mut Taker, texts: &[Text]) -> bool {
+    for (stream, body) in texts {
+        match next(rt, taker) {
+            Line::Frame(frame) if frame.stream == *stream && frame.body.as_slice() == *body => {}
+            _ => return false,
+        }
+    }
+    matches!(next(rt, taker), Line::End) && taker.take(rt).is_none()
+}
+
+#[test]
+fn a_timer_expires_between_two_items(rt: HostRuntime) {
+    let alloc = rt.alloc();
+    let (ends, mut switch, mut station) = queues(&rt, alloc, 8);
+    put_all(&rt, alloc, &mut station.pass, &[CHANNEL_REQUIRED]);
+    let (clock, asked) = Script::counted(&rt, alloc, 3000);
+    let ender = thread::spawn(&rt, move || {
+        await_asked(&rt, &asked, 3);
+        put_all(&rt, alloc, &mut switch.pass, &[]);
+        gives(&rt, &mut switch.taker, &[])
+    })
+    .expect(&rt, "a thread");
+    let ended = run(&rt, alloc, ends, clock);
+    assert!(rt; ended.fault.is_none());
+    assert!(rt; gives(&rt, &mut station.taker, &[ACTIVATION, RELEASE]));
+    assert!(rt; ender.join(&rt));
+}
+
+#[test]
+fn an_outbox_that_nobody_empties_is_given_up(rt: HostRuntime) {
+    let alloc = rt.alloc();
+    let (ends, mut switch, mut station) = queues(&rt, alloc, 1);
+    put_all(
+        &rt,
+        alloc,
+        &mut station.pass,
+        &[CHANNEL_REQUIRED, ACTIVATION_ACK],
+    );
+    let (clock, asked) = Script::counted(&rt, alloc, 0);
+    let other = thread::spawn(&rt, move || {
+        await_asked(&rt, &asked, 5);
+        put_all(&rt, alloc, &mut switch.pass, &[PING]);
+        await_asked(&rt, &asked, 10);
+        station.taker.was_given_up()
+            && gives(&rt, &mut station.taker, &[ACTIVATION])
+            && gives(&rt, &mut switch.taker, &[PONG])
+    })
+    .expect(&rt, "a thread");
+    let ended = run(&rt, alloc, ends, clock);
+    assert!(rt; ended.fault.is_none());
+    assert!(rt; ended.ignored == 1);
+    assert!(rt; ended.refusals == (0, 1_000));
+    assert!(rt; other.join(&rt));
+}

@@ -1,0 +1,29 @@
+-- What the calls of the controller with its queues make of it.
+use Rattle.std.specs.Prelude.{ℕ, List, [], ◌∷◌, ◌++◌, Option, None}
+use Rattle.controller_model.specs.Controller.{Turn}
+use Rattle.controller_model.specs.Life.{take, tick}
+use Rattle.ruled_relay.specs.declared.item.Item.{Item}
+use Rattle.ruled_relay.specs.declared.item.What.TheVariants as whats
+use Rattle.world_model.specs.declared.seat.Tenure.{Tenure}
+use Rattle.world_actors.specs.Links.{all_joined_in, broken_in}
+use Rattle.world_actors.specs.RelayState.{RelayState}
+
+-- an item goes to the inbox's end
+abbrev pub with_item_in : Item → RelayState → RelayState
+with_item_in item r = record r { inbox = r.inbox ++ item ∷ [] }
+
+-- what the controller put joins the outboxes
+abbrev pub with_turn_in : Option Tenure → Turn → RelayState → RelayState
+with_turn_in target t r = record r { controller = t.next; links = all_joined_in target r.links t.outs }
+
+-- the controller handles an item
+abbrev pub handling : Option Tenure → Item → RelayState → RelayState
+handling target item r = with_turn_in target (take item r.controller) r
+
+-- time passes for it
+abbrev pub ticking : ℕ → RelayState → RelayState
+ticking ms r = with_turn_in None (tick ms r.controller) r
+
+-- the link of a source breaks
+abbrev pub breaking : ℕ → RelayState → RelayState
+breaking source r = with_item_in (record { source = source; what = whats.Down }) (record r { links = broken_in source r.links })

@@ -1,0 +1,73 @@
+ghost use Rattle.std.specs.Prelude.{◌≡◌, ◌∷◌, [], ◌++◌, OnOk, option_map};
+ghost use Rattle.world_model.specs.Lists.{behind_first, first_in};
+ghost use Rattle.world_model.specs.World.{broken_link, new_link};
+
+use octets::Memory;
+use std::alloc::Global;
+use std::collections::VecDeque;
+use std::marker::Model;
+use world_model::OutboxEntry;
+
+/// A link of the controller, with its outbox.
+#[derive(Drop)]
+pub(crate) struct RelayLink {
+    is_up: bool,
+    outbox: VecDeque<OutboxEntry>,
+}
+
+impl Model for RelayLink {
+    ghost use Rattle.world_model.specs.World.{Link};
+
+    ghost Value = { Link };
+
+    ghost view = { λ l. record { up = l.is_up; outbox = l.outbox.items } };
+}
+
+impl RelayLink {
+    /// A link that is up, with an empty outbox. It takes no memory.
+    pub(crate) fn new(alloc: Global) -> RelayLink
+        ensures { result ≡ new_link }
+    {
+        RelayLink {
+            is_up: true,
+            outbox: VecDeque::new(alloc),
+        }
+    }
+
+    pub(crate) fn is_up(&self) -> bool
+        ensures { result ≡ self.now.up }
+    {
+        self.is_up
+    }
+
+    /// The first entry of its outbox.
+    pub(crate) fn first(&self) -> Option<&OutboxEntry>
+        ensures { option_map (λ e. e.now) result ≡ first_in self.now.outbox }
+    {
+        self.outbox.front()
+    }
+
+    /// Takes the first entry.
+    pub(crate) fn take(&mut self) -> Option<OutboxEntry>
+        ensures entry { result ≡ first_in self.old.outbox }
+        ensures after { self.new ≡ record self.old { outbox = behind_first self.old.outbox } }
+    {
+        self.outbox.pop_front()
+    }
+
+    /// Puts an entry behind the others.
+    pub(crate) fn put(&mut self, entry: OutboxEntry) -> Result<(), Memory>
+        ensures { OnOk result (self.new ≡ record self.old { outbox = self.old.outbox ++ entry ∷ [] }) }
+    {
+        self.outbox.push_back(entry)?;
+        Ok(())
+    }
+
+    /// It breaks, and what its outbox has is lost.
+    pub(crate) fn break_down(&mut self)
+        ensures { self.new ≡ broken_link }
+    {
+        self.is_up = false;
+        self.outbox.clear();
+    }
+}

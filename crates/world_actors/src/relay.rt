@@ -1,0 +1,177 @@
+ghost use Rattle.std.specs.Prelude.{◌≡◌, ◌+◌, [], IfOk, OnOk, None, length, option_map, replicate};
+ghost use Rattle.bssmap_codec.specs.SccpText.{sccp_write_fault};
+ghost use Rattle.controller_model.specs.Controller.{new_controller};
+ghost use Rattle.ruled_relay.specs.declared.item.What.TheVariants as whats;
+ghost use Rattle.rsl_codec.specs.RslText.{rsl_write_fault};
+ghost use Rattle.world_model.specs.Lists.{behind_first, first_in};
+ghost use Rattle.world_model.specs.Relay.{station_item, switch_item};
+ghost use Rattle.world_model.specs.World.{new_link};
+ghost use Rattle.world_actors.specs.Links.{is_up_in, outbox_in, taken_of};
+ghost use Rattle.world_actors.specs.Relay.{breaking, handling, ticking, with_item_in};
+
+use crate::links::Links;
+use bssmap_codec::{Sccp, write_sccp};
+use conn_messages::SWITCH_LINK;
+use controller::{Controller, Outputs};
+use ipa_framing::{Frame, RSL_STREAM, SCCP_STREAM};
+use octets::{Memory, Octets};
+use rsl_codec::Rsl;
+use ruled_relay::{Item, What};
+use settings::Settings;
+use std::alloc::Global;
+use std::collections::VecDeque;
+use std::marker::Model;
+use world_model::{OutboxEntry, Tenure};
+
+/// The controller of a world, with the inbox of all its sources and an outbox for each of its links. An `Err` says that
+/// memory ran out.
+#[derive(Drop)]
+pub struct Relay {
+    alloc: Global,
+    inbox: VecDeque<Item>,
+    controller: Controller,
+    links: Links,
+}
+
+impl Model for Relay {
+    ghost use Rattle.world_actors.specs.RelayState.{RelayState};
+
+    ghost Value = { RelayState };
+
+    ghost view = { λ r. record { inbox = r.inbox.items; controller = r.controller; links = r.links } };
+}
+
+impl Relay {
+    /// A controller of these settings, all of whose links are up, with empty queues.
+    pub fn new(alloc: Global, settings: Settings) -> Result<Relay, Memory>
+        ensures { IfOk result (λ r. r ≡ record { inbox = []; controller = new_controller settings; links = replicate (length settings.cells + 1) new_link }) }
+    {
+        match Links::new(alloc, usize::from(settings.cell_count()) + 1) {
+            Ok(links) => Relay::with_links(alloc, links, settings),
+            Err(Memory) => {
+                drop(settings);
+                Err(Memory)
+            }
+        }
+    }
+
+    // The same with these links.
+    fn with_links(alloc: Global, links: Links, settings: Settings) -> Result<Relay, Memory>
+        ensures { IfOk result (λ r. r ≡ record { inbox = []; controller = new_controller settings; links = links }) }
+    {
+        match Controller::new(alloc, settings) {
+            Ok(controller) => Ok(Relay {
+                alloc,
+                inbox: VecDeque::new(alloc),
+                controller,
+                links,
+            }),
+            Err(Memory) => {
+                drop(links);
+                Err(Memory)
+            }
+        }
+    }
+
+    /// Whether a link is up.
+    pub fn is_up(&self, link: u16) -> bool
+        ensures { result ≡ is_up_in self.now.links link }
+    {
+        self.links.is_up(link)
+    }
+
+    /// The first entry of an outbox.
+    pub fn first_entry(&self, link: u16) -> Option<&OutboxEntry>
+        ensures { option_map (λ e. e.now) result ≡ first_in (outbox_in self.now.links link) }
+    {
+        self.links.first(link)
+    }
+
+    /// Takes the first entry of an outbox.
+    pub fn take_entry(&mut self, link: u16) -> Option<OutboxEntry>
+        ensures entry { result ≡ first_in (outbox_in self.old.links link) }
+        ensures after { self.new ≡ record self.old { links = taken_of link self.old.links } }
+    {
+        self.links.take(link)
+    }
+
+    /// A message that a station gives out goes to the inbox's end.
+    pub fn push_from_station(&mut self, station: u16, message: &Rsl) -> Result<(), Memory>
+        requires { rsl_write_fault message.now ≡ None }
+        ensures { OnOk result (self.new ≡ with_item_in (station_item station message.now) self.old) }
+    {
+        let mut body = Vec::new(self.alloc);
+        match message.write(self.alloc, &mut body) {
+            Ok(()) => self.push_frame(station, RSL_STREAM, Octets::new(body)),
+            Err(_) => Err(Memory),
+        }
+    }
+
+    /// A message that the switch gives out goes to the inbox's end.
+    pub fn push_from_switch(&mut self, message: &Sccp) -> Result<(), Memory>
+        requires { sccp_write_fault message.now ≡ None }
+        ensures { OnOk result (self.new ≡ with_item_in (switch_item message.now) self.old) }
+    {
+        let mut body = Vec::new(self.alloc);
+        match write_sccp(self.alloc, message, &mut body) {
+            Ok(()) => self.push_frame(SWITCH_LINK, SCCP_STREAM, Octets::new(body)),
+            Err(_) => Err(Memory),
+        }
+    }
+
+    fn push_frame(&mut self, source: u16, stream: u8, body: Octets) -> Result<(), Memory>
+        ensures { OnOk result (self.new ≡ with_item_in (record { source = source; what = whats.Frame (record { stream = stream; body = body }) }) self.old) }
+    {
+        self.push(Item {
+            source,
+            what: What::Frame(Frame { stream, body }),
+        })
+    }
+
+    fn push(&mut self, item: Item) -> Result<(), Memory>
+        ensures { OnOk result (self.new ≡ with_item_in item self.old) }
+    {
+        self.inbox.push_back(item)?;
+        Ok(())
+    }
+
+    /// Takes the first item of the inbox.
+    pub fn take_item(&mut self) -> Option<Item>
+        ensures item { result ≡ first_in self.old.inbox }
+        ensures after { self.new ≡ record self.old { inbox = behind_first self.old.inbox } }
+    {
+        self.inbox.pop_front()
+    }
+
+    /// The controller handles an item, and what it puts joins the outboxes. A command among it leads to the channel whose
+    /// activation the item acknowledges.
+    pub fn handle(&mut self, target: &Option<Tenure>, item: Item) -> Result<(), Memory>
+        ensures { OnOk result (self.new ≡ handling target.now item self.old) }
+    {
+        let mut outputs = Outputs::new(self.alloc);
+        match self.controller.step(item, &mut outputs) {
+            Ok(()) => self.links.join_all(target, outputs.into_vec()),
+            Err(_) => Err(Memory),
+        }
+    }
+
+    /// So many milliseconds pass for the controller, and what it puts joins the outboxes.
+    pub fn tick(&mut self, ms: u32) -> Result<(), Memory>
+        ensures { OnOk result (self.new ≡ ticking ms self.old) }
+    {
+        let mut outputs = Outputs::new(self.alloc);
+        self.controller.tick(ms, &mut outputs)?;
+        self.links.join_all(&None, outputs.into_vec())
+    }
+
+    /// The link of a source breaks: what its outbox has is lost, and its end goes to the inbox's end.
+    pub fn break_down(&mut self, source: u16) -> Result<(), Memory>
+        ensures { OnOk result (self.new ≡ breaking source self.old) }
+    {
+        self.links.break_down(source);
+        self.push(Item {
+            source,
+            what: What::Down,
+        })
+    }
+}

@@ -1,0 +1,9 @@
+pub mod Written
+pub mod Stations
+pub mod Activations
+pub mod Placed
+pub mod MobilesState
+pub mod Mobiles
+pub mod SwitchWritten
+pub mod SwitchSideState
+pub mod Switch

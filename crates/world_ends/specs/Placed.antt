@@ -1,0 +1,18 @@
+-- What holds of every mobile.
+use Rattle.std.specs.Prelude.{◌≡◌}
+use Rattle.mobile_end.specs.declared.mobile_end.Place.{Place}
+use Rattle.mobile_end.specs.declared.mobile_end.Place.TheVariants as places
+use Rattle.mobile_end.specs.MobileState.{MobileState}
+use Rattle.world_model.specs.declared.seat.Seat.{Seat}
+use Rattle.world_model.specs.declared.seat.Seat.TheVariants.{Moving}
+use Rattle.world_model.specs.Sized.{HasSized}
+
+-- its end is between two channels where the mobile left one
+abbrev pub IsPlaced : Seat → Place → Type 0
+IsPlaced (Moving from command) place = place ≡ places.Moving
+IsPlaced seat place = Unit {0}
+
+-- and its links have messages of 1 to 251 octets
+pub record IsFit (seat : Seat) (end : MobileState) : Type 0 where
+  pub placed : IsPlaced seat end.place
+  pub sized : HasSized end

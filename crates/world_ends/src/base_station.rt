@@ -1,0 +1,131 @@
+ghost use Rattle.std.specs.Prelude.{◌≡◌, true, OnOk, IfOk, IfSome, replicate};
+ghost use Rattle.controller_model.specs.declared.limits.TheConstants.{CHANNEL_NUMBERS};
+ghost use Rattle.link_model.specs.Base.{is_active, is_told, first_message};
+ghost use Rattle.world_model.specs.World.{new_spot, new_station};
+ghost use Rattle.world_ends.specs.Stations.{established_on, given_on, silenced, spot_of, told_to};
+ghost use Rattle.world_ends.specs.Written.{IsWritten};
+
+use crate::radio_channel::RadioChannel;
+use controller_model::CHANNEL_NUMBERS;
+use dtap_codec::Sapi;
+use link_model::BaseEnd;
+use octets::Memory;
+use rsl_codec::{ChanNo, Rsl};
+use std::alloc::Global;
+use std::marker::Model;
+
+/// A base station: its end of the link to the controller, with what it made, and its channels, by number. All that it made
+/// can be written.
+#[derive(Drop)]
+pub(crate) struct BaseStation {
+    pub(crate) alloc: Global,
+    pub(crate) base: BaseEnd,
+    pub(crate) channels: Vec<RadioChannel>,
+}
+
+impl Model for BaseStation {
+    ghost use Rattle.world_model.specs.World.{Station};
+    ghost use Rattle.world_ends.specs.Written.{HasWritten};
+
+    ghost Value = { Station };
+
+    ghost view = { λ s. record { base = s.base; spots = s.channels.items } };
+
+    ghost invariant = { λ s. HasWritten s.base };
+}
+
+impl BaseStation {
+    /// The station of this number, none of whose channels was ever active.
+    pub(crate) fn new(alloc: Global, number: u16) -> Result<BaseStation, Memory>
+        ensures { IfOk result (λ s. s ≡ new_station number) }
+    {
+        Ok(BaseStation {
+            alloc,
+            base: BaseEnd::new(alloc, number),
+            channels: new_channels(alloc)?,
+        })
+    }
+
+    pub(crate) fn is_active(&self, channel: ChanNo) -> bool
+        ensures { result ≡ is_active self.now.base.active channel }
+    {
+        self.base.is_active(channel)
+    }
+
+    /// The number of the last tenure of a channel.
+    pub(crate) fn tenure(&self, channel: ChanNo) -> u64
+        ensures { result ≡ (spot_of self.now channel).tenure }
+    {
+        match self.channels.get(usize::from(channel.octet())) {
+            Some(channel) => channel.tenure(),
+            None => 0,
+        }
+    }
+
+    pub(crate) fn is_sapi_three_up(&self, channel: ChanNo) -> bool
+        ensures { result ≡ (spot_of self.now channel).sapi_three_up }
+    {
+        match self.channels.get(usize::from(channel.octet())) {
+            Some(channel) => channel.is_sapi_three_up(),
+            None => false,
+        }
+    }
+
+    pub(crate) fn reports(&self, channel: ChanNo) -> u8
+        ensures { result ≡ (spot_of self.now channel).reports }
+    {
+        match self.channels.get(usize::from(channel.octet())) {
+            Some(channel) => channel.reports(),
+            None => 0,
+        }
+    }
+
+    /// Makes this message.
+    pub(crate) fn tell(&mut self, message: Rsl) -> Result<(), Memory>
+        requires told { is_told message ≡ true }
+        requires written { IsWritten message }
+        ensures { OnOk result (self.new ≡ told_to message self.old) }
+    {
+        match self.base.tell(message) {
+            Ok(()) => Ok(()),
+            Err(_) => Err(Memory),
+        }
+    }
+
+    /// A mobile establishes the main link of an active channel.
+    pub(crate) fn establish(&mut self, channel: ChanNo) -> Result<(), Memory>
+        requires { is_active self.old.base.active channel ≡ true }
+        ensures { OnOk result (self.new ≡ established_on channel self.old) }
+    {
+        match self.base.establish(channel, Sapi::Zero, None) {
+            Ok(()) => Ok(()),
+            Err(_) => Err(Memory),
+        }
+    }
+
+    /// All that was made is dropped.
+    pub(crate) fn take_down(&mut self)
+        ensures { self.new ≡ silenced self.old }
+    {
+        self.base.take_down();
+    }
+
+    /// Gives the first message out that it made.
+    pub(crate) fn next(&mut self) -> Option<Rsl>
+        ensures message { result ≡ first_message self.old.base }
+        ensures written { IfSome result IsWritten }
+        ensures after { self.new ≡ given_on self.old }
+    {
+        self.base.next()
+    }
+}
+
+fn new_channels(alloc: Global) -> Result<Vec<RadioChannel>, Memory>
+    ensures { IfOk result (λ channels. channels.items ≡ replicate CHANNEL_NUMBERS new_spot) }
+{
+    let mut channels = Vec::new(alloc);
+    for _ in 0..CHANNEL_NUMBERS {
+        channels.push(RadioChannel::new(alloc))?;
+    }
+    Ok(channels)
+}

@@ -1,0 +1,140 @@
+ghost use Rattle.std.specs.Prelude.{◌≡◌, ◌%◌, ◌+◌, length, Some, None, true, OnOk, IfOk};
+ghost use Rattle.dtap_codec.specs.declared.rr.RrMessage.TheVariants.{MeasurementReport};
+ghost use Rattle.dtap_codec.specs.RrText.{rr_text};
+ghost use Rattle.dtap_codec.specs.declared.sapi.Sapi.TheVariants.{Zero, Three};
+ghost use Rattle.link_model.specs.Base.{after_establish, after_up, is_active};
+ghost use Rattle.rsl_codec.specs.Rsl.{IsL3};
+ghost use Rattle.world_ends.specs.Stations.{brought_on, reported_on, spot_of, with_spot_of};
+
+use crate::base_station::BaseStation;
+use dtap_codec::{REPORT_LENGTH, RrMessage, Sapi};
+use octets::{Memory, Octets};
+use rsl_codec::{ChanNo, MeasurementNumber, MeasurementResult, Rsl};
+use std::alloc::Global;
+
+/// What comes from a mobile.
+impl BaseStation {
+    /// A frame of 1 to 251 octets comes on an active channel. On SAPI 0 an ESTABLISH INDICATION brings the initial message,
+    /// which it is where the mobile opens its connection, and a DATA INDICATION any other. On SAPI 3 the data link is
+    /// established first, where it isn't up.
+    pub(crate) fn bring(
+        &mut self,
+        channel: ChanNo,
+        opens: bool,
+        sapi: Sapi,
+        frame: &[u8],
+    ) -> Result<(), Memory>
+        requires active { is_active self.old.base.active channel ≡ true }
+        requires l3 { IsL3 (Some frame.now) }
+        ensures { OnOk result (self.new ≡ brought_on channel opens sapi frame.now self.old) }
+    {
+        match sapi {
+            Sapi::Zero => self.bring_signalling(channel, opens, frame),
+            Sapi::Three => self.bring_short_message(channel, frame),
+        }
+    }
+
+    fn bring_signalling(&mut self, channel: ChanNo, opens: bool, frame: &[u8]) -> Result<(), Memory>
+        requires active { is_active self.old.base.active channel ≡ true }
+        requires l3 { IsL3 (Some frame.now) }
+        ensures { OnOk result (self.new ≡ brought_on channel opens Zero frame.now self.old) }
+    {
+        if opens {
+            return self.bring_initial(channel, frame);
+        }
+        self.bring_data(channel, Sapi::Zero, frame)
+    }
+
+    fn bring_initial(&mut self, channel: ChanNo, frame: &[u8]) -> Result<(), Memory>
+        requires active { is_active self.old.base.active channel ≡ true }
+        requires l3 { IsL3 (Some frame.now) }
+        ensures { OnOk result (self.new ≡ brought_on channel true Zero frame.now self.old) }
+    {
+        match self.base.establish(channel, Sapi::Zero, Some(frame)) {
+            Ok(()) => Ok(()),
+            Err(_) => Err(Memory),
+        }
+    }
+
+    fn bring_data(&mut self, channel: ChanNo, sapi: Sapi, frame: &[u8]) -> Result<(), Memory>
+        requires active { is_active self.old.base.active channel ≡ true }
+        requires l3 { IsL3 (Some frame.now) }
+        ensures { OnOk result (self.new ≡ record self.old { base = after_up self.old.base channel sapi frame.now }) }
+    {
+        match self.base.up(channel, sapi, frame) {
+            Ok(()) => Ok(()),
+            Err(_) => Err(Memory),
+        }
+    }
+
+    fn bring_short_message(&mut self, channel: ChanNo, frame: &[u8]) -> Result<(), Memory>
+        requires active { is_active self.old.base.active channel ≡ true }
+        requires l3 { IsL3 (Some frame.now) }
+        ensures { OnOk result (self.new ≡ brought_on channel true Three frame.now self.old) }
+    {
+        if !self.is_sapi_three_up(channel) {
+            self.establish_short_messages(channel)?;
+        }
+        self.set_sapi_three(channel, true);
+        self.bring_data(channel, Sapi::Three, frame)
+    }
+
+    fn establish_short_messages(&mut self, channel: ChanNo) -> Result<(), Memory>
+        requires { is_active self.old.base.active channel ≡ true }
+        ensures { OnOk result (self.new ≡ record self.old { base = after_establish self.old.base channel Three None }) }
+    {
+        match self.base.establish(channel, Sapi::Three, None) {
+            Ok(()) => Ok(()),
+            Err(_) => Err(Memory),
+        }
+    }
+
+    /// The data link of SAPI 3 is up from now on, or down.
+    pub(crate) fn set_sapi_three(&mut self, channel: ChanNo, up: bool)
+        ensures { self.new ≡ with_spot_of channel (record (spot_of self.old channel) { sapi_three_up = up }) self.old }
+    {
+        if let Some(channel) = self.channels.get_mut(usize::from(channel.octet())) {
+            channel.set_sapi_three(up);
+        }
+    }
+
+    /// A measurement report comes: a MEASUREMENT RESULT is made with it and with its number, without what the station
+    /// measures itself.
+    pub(crate) fn report(&mut self, channel: ChanNo, report: &[u8]) -> Result<(), Memory>
+        requires { length report.now ≡ REPORT_LENGTH }
+        ensures { OnOk result (self.new ≡ reported_on channel report.now self.old) }
+    {
+        let number = MeasurementNumber(self.reports(channel));
+        let l3 = report_text(self.alloc, report)?;
+        self.count_report(channel);
+        self.tell(Rsl::MeasurementResult(MeasurementResult {
+            channel,
+            number,
+            uplink: None,
+            bs_power: None,
+            l1: None,
+            l3: Some(l3),
+        }))
+    }
+
+    fn count_report(&mut self, channel: ChanNo)
+        ensures { self.new ≡ with_spot_of channel (record (spot_of self.old channel) { reports = ((spot_of self.old channel).reports + 1) % 256 }) self.old }
+    {
+        if let Some(channel) = self.channels.get_mut(usize::from(channel.octet())) {
+            channel.count_report();
+        }
+    }
+}
+
+// MEASUREMENT REPORT with this value.
+fn report_text(alloc: Global, report: &[u8]) -> Result<Octets, Memory>
+    requires { length report.now ≡ REPORT_LENGTH }
+    ensures { IfOk result (λ text. text ≡ rr_text (MeasurementReport report.now)) }
+{
+    let Some(value) = report.first_chunk::<REPORT_LENGTH>() else {
+        unreachable!()
+    };
+    let mut text = Vec::new(alloc);
+    RrMessage::MeasurementReport { value: *value }.write(alloc, &mut text)?;
+    Ok(Octets::new(text))
+}

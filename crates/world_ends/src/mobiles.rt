@@ -1,0 +1,206 @@
+ghost use Rattle.std.specs.Prelude.{◌≡◌, ◌∷◌, [], ◌++◌, IsSome, IfSome, IfOk, OnOk, OnErr, true, unwrap_or, option_map};
+ghost use Rattle.std.specs.List.{find, position};
+ghost use Rattle.std.specs.Option.{option_and_then};
+ghost use Rattle.dtap_codec.specs.Number.{count_of};
+ghost use Rattle.mobile_end.specs.Lawful.{is_initial};
+ghost use Rattle.rsl_codec.specs.Rsl.{IsL3};
+ghost use Rattle.world_model.specs.Mobiles.{complete, connected, failure, hearing};
+ghost use Rattle.world_model.specs.Stations.{accepts, is_on};
+ghost use Rattle.world_model.specs.Takes.{Takes};
+ghost use Rattle.world_model.specs.World.{has_number};
+ghost use Rattle.world_ends.specs.Mobiles.{acknowledging, arriving, assigned_to, at_mobile, by_mobile, frame_of, is_moving, leaving, mobile_in, place_in, sending, taking};
+
+use crate::mobile_station::MobileStation;
+use conn_messages::Change;
+use dtap_codec::{Modulus, Sapi};
+use octets::{Memory, Octets};
+use std::alloc::Global;
+use std::marker::Model;
+use world_model::{AirMessage, Command, Tenure};
+
+/// The mobiles of a world, in the order in which they connected. What happens to a mobile of another number changes nothing.
+/// An `Err` says that memory ran out.
+#[derive(Drop)]
+pub struct Mobiles {
+    alloc: Global,
+    modulus: Modulus,
+    mobiles: Vec<MobileStation>,
+}
+
+impl Model for Mobiles {
+    ghost use Rattle.dtap_codec.specs.Number.{count_of};
+    ghost use Rattle.world_ends.specs.MobilesState.{MobilesState};
+
+    ghost Value = { MobilesState };
+
+    ghost view = { λ m. record { modulus = count_of m.modulus; mobiles = m.mobiles.items } };
+}
+
+impl Mobiles {
+    /// No mobiles. Those that connect number the messages of their flows by this modulus. It takes no memory.
+    pub fn new(alloc: Global, modulus: Modulus) -> Mobiles
+        ensures { result ≡ record { modulus = count_of modulus; mobiles = [] } }
+    {
+        Mobiles {
+            alloc,
+            modulus,
+            mobiles: Vec::new(alloc),
+        }
+    }
+
+    /// The mobile of this number.
+    pub fn get(&self, number: u8) -> Option<&MobileStation>
+        ensures { option_map (λ m. m.now) result ≡ mobile_in number self.now.mobiles }
+    {
+        self.mobiles.get(self.place_of(number))
+    }
+
+    // The place of the mobile of this number, and where there is none the place behind the last.
+    fn place_of(&self, number: u8) -> usize
+        ensures { result ≡ place_in number self.now.mobiles }
+    {
+        match self.position_of(number) {
+            Some(place) => place,
+            None => self.mobiles.len(),
+        }
+    }
+
+    fn position_of(&self, number: u8) -> Option<usize>
+        ensures { result ≡ position (has_number number) self.now.mobiles }
+    {
+        self.mobiles
+            .iter()
+            .position(|mobile| mobile.number() == number)
+    }
+
+    // The mobile of this tenure.
+    fn on(&self, tenure: &Tenure) -> Option<&MobileStation>
+        ensures { option_map (λ m. m.now) result ≡ find (λ p. is_on tenure.now p.seat) self.now.mobiles }
+    {
+        self.mobiles.iter().find(|mobile| mobile.is_on(tenure))
+    }
+
+    /// Whether the mobile of this tenure accepts the data link of SAPI 3; not where there is none.
+    pub fn accepts_sapi_three(&self, tenure: &Tenure) -> bool
+        ensures { result ≡ accepts (find (λ p. is_on tenure.now p.seat) self.now.mobiles) }
+    {
+        match self.on(tenure) {
+            Some(mobile) => mobile.accepts_sapi_three(),
+            None => false,
+        }
+    }
+
+    /// A new mobile asks for a channel. Its connection will begin with this message, of mobility management or of radio
+    /// resource management.
+    pub fn connect(
+        &mut self,
+        number: u8,
+        initial: &[u8],
+        accepts_sapi_three: bool,
+    ) -> Result<(), Memory>
+        requires { is_initial initial.now ≡ true }
+        ensures { OnOk result (self.new ≡ record self.old { mobiles = self.old.mobiles ++ connected self.old.modulus number initial.now accepts_sapi_three ∷ [] }) }
+    {
+        let mobile = MobileStation::connected(
+            self.alloc,
+            self.modulus,
+            number,
+            initial,
+            accepts_sapi_three,
+        )?;
+        self.mobiles.push(mobile)?;
+        Ok(())
+    }
+
+    /// The upper layers of a mobile send a message, where they may and where its end doesn't refuse it.
+    pub fn send(&mut self, number: u8, sapi: Sapi, message: &[u8]) -> Result<bool, Memory>
+        ensures ok { IfOk result (λ taken. Takes self.old (by_mobile number (sending sapi message.now) self.old) taken self.new) }
+        ensures memory { OnErr result (IsSome (by_mobile number (sending sapi message.now) self.old)) }
+    {
+        let place = self.place_of(number);
+        let Some(mobile) = self.mobiles.get_mut(place) else {
+            return Ok(false);
+        };
+        mobile.send(self.alloc, sapi, message)
+    }
+
+    /// The frame in the air of a mobile, which the station takes now. It has 1 to 251 octets.
+    pub fn frame(&mut self, number: u8, sapi: Sapi) -> Result<Option<Octets>, Memory>
+        ensures frame { IfOk result (λ frame. frame ≡ option_and_then (frame_of sapi) (mobile_in number self.old.mobiles)) }
+        ensures l3 { IfOk result IsL3 }
+        ensures after { OnOk result (self.new ≡ unwrap_or (by_mobile number (taking sapi) self.old) self.old) }
+        ensures memory { OnErr result (IsSome (option_and_then (frame_of sapi) (mobile_in number self.old.mobiles))) }
+    {
+        let place = self.place_of(number);
+        let Some(mobile) = self.mobiles.get_mut(place) else {
+            return Ok(None);
+        };
+        mobile.frame(self.alloc, sapi)
+    }
+
+    /// The station acknowledges the frame that it took.
+    pub fn acknowledge(&mut self, number: u8, sapi: Sapi) -> bool
+        ensures { Takes self.old (by_mobile number (acknowledging sapi) self.old) result self.new }
+    {
+        let place = self.place_of(number);
+        let Some(mobile) = self.mobiles.get_mut(place) else {
+            return false;
+        };
+        mobile.acknowledge(sapi)
+    }
+
+    /// A message comes: DTAP is received; a command of the controller is remembered, and a CHANNEL RELEASE lets the mobile go.
+    pub fn hear(&mut self, number: u8, heard: AirMessage) -> Result<(), Memory>
+        ensures { OnOk result (self.new ≡ at_mobile number (λ p. hearing p heard) self.old) }
+    {
+        let place = self.place_of(number);
+        match self.mobiles.get_mut(place) {
+            Some(mobile) => mobile.hear(self.alloc, heard),
+            None => Ok(()),
+        }
+    }
+
+    /// A mobile leaves its channel as the command told it.
+    pub fn leave(&mut self, number: u8, from: Tenure, command: Command)
+        ensures { self.new ≡ at_mobile number (leaving from command) self.old }
+    {
+        let place = self.place_of(number);
+        if let Some(mobile) = self.mobiles.get_mut(place) {
+            mobile.leave(from, command);
+        }
+    }
+
+    /// A mobile arrives on the channel to which it was told to change.
+    pub fn arrive(&mut self, number: u8, tenure: Tenure, change: Change) -> Result<(), Memory>
+        requires { IfSome (mobile_in number self.old.mobiles) (λ p. is_moving p.seat ≡ true) }
+        ensures { OnOk result (self.new ≡ at_mobile number (arriving tenure (complete change)) self.old) }
+    {
+        let place = self.place_of(number);
+        match self.mobiles.get_mut(place) {
+            Some(mobile) => mobile.arrive(self.alloc, tenure, change),
+            None => Ok(()),
+        }
+    }
+
+    /// A mobile returns to the channel that it left.
+    pub fn give_up(&mut self, number: u8, tenure: Tenure, change: Change) -> Result<(), Memory>
+        requires { IfSome (mobile_in number self.old.mobiles) (λ p. is_moving p.seat ≡ true) }
+        ensures { OnOk result (self.new ≡ at_mobile number (arriving tenure (failure change)) self.old) }
+    {
+        let place = self.place_of(number);
+        match self.mobiles.get_mut(place) {
+            Some(mobile) => mobile.give_up(self.alloc, tenure, change),
+            None => Ok(()),
+        }
+    }
+
+    /// A mobile is on the channel that it asked for.
+    pub fn assign(&mut self, number: u8, tenure: Tenure)
+        ensures { self.new ≡ at_mobile number (assigned_to tenure) self.old }
+    {
+        let place = self.place_of(number);
+        if let Some(mobile) = self.mobiles.get_mut(place) {
+            mobile.assign(tenure);
+        }
+    }
+}

@@ -1,0 +1,112 @@
+ghost use Rattle.std.specs.Prelude.{◌≡◌, ◌≢◌, ◌+◌, ◌%◌, ◌++◌, ◌∷◌, [], false, OnOk};
+ghost use Rattle.world_model.specs.declared.limits.TheConstants.{MAX_TENURE};
+ghost use Rattle.world_model.specs.Lists.{behind_first, first_in};
+ghost use Rattle.world_model.specs.Stations.{new_tenure};
+ghost use Rattle.world_model.specs.World.{new_spot};
+
+use octets::Memory;
+use std::alloc::Global;
+use std::collections::VecDeque;
+use std::marker::Model;
+use world_model::AirMessage;
+
+/// A channel of a station, beside whether it is active.
+#[derive(Drop)]
+pub(crate) struct RadioChannel {
+    /// The number of its last tenure, which is the present one while it is active.
+    tenure: u64,
+    /// Whether the data link of SAPI 3 is up.
+    sapi_three_up: bool,
+    /// The messages for the air.
+    air: VecDeque<AirMessage>,
+    /// How many reports came in this tenure, modulo 256.
+    reports: u8,
+}
+
+impl Model for RadioChannel {
+    ghost use Rattle.world_model.specs.World.{Spot};
+
+    ghost Value = { Spot };
+
+    ghost view = { λ c. record { tenure = c.tenure; sapi_three_up = c.sapi_three_up; air = c.air.items; reports = c.reports } };
+}
+
+impl RadioChannel {
+    /// A channel that was never active. It takes no memory.
+    pub(crate) fn new(alloc: Global) -> RadioChannel
+        ensures { result ≡ new_spot }
+    {
+        RadioChannel {
+            tenure: 0,
+            sapi_three_up: false,
+            air: VecDeque::new(alloc),
+            reports: 0,
+        }
+    }
+
+    pub(crate) fn tenure(&self) -> u64
+        ensures { result ≡ self.now.tenure }
+    {
+        self.tenure
+    }
+
+    pub(crate) fn is_sapi_three_up(&self) -> bool
+        ensures { result ≡ self.now.sapi_three_up }
+    {
+        self.sapi_three_up
+    }
+
+    pub(crate) fn reports(&self) -> u8
+        ensures { result ≡ self.now.reports }
+    {
+        self.reports
+    }
+
+    /// Begins a tenure, in which everything is new.
+    pub(crate) fn begin_tenure(&mut self)
+        requires { self.old.tenure ≢ MAX_TENURE }
+        ensures { self.new ≡ new_tenure self.old }
+    {
+        self.tenure += 1;
+        self.sapi_three_up = false;
+        self.air.clear();
+        self.reports = 0;
+    }
+
+    pub(crate) fn set_sapi_three(&mut self, up: bool)
+        ensures { self.new ≡ record self.old { sapi_three_up = up } }
+    {
+        self.sapi_three_up = up;
+    }
+
+    /// Drops the messages for the air, and the data link of SAPI 3 is down: the channel was left or released.
+    pub(crate) fn clear(&mut self)
+        ensures { self.new ≡ record self.old { air = []; sapi_three_up = false } }
+    {
+        self.air.clear();
+        self.sapi_three_up = false;
+    }
+
+    /// Puts a message for the air behind the others.
+    pub(crate) fn put(&mut self, message: AirMessage) -> Result<(), Memory>
+        ensures { OnOk result (self.new ≡ record self.old { air = self.old.air ++ message ∷ [] }) }
+    {
+        self.air.push_back(message)?;
+        Ok(())
+    }
+
+    /// Takes the first message for the air.
+    pub(crate) fn take(&mut self) -> Option<AirMessage>
+        ensures message { result ≡ first_in self.old.air }
+        ensures after { self.new ≡ record self.old { air = behind_first self.old.air } }
+    {
+        self.air.pop_front()
+    }
+
+    /// Counts a report.
+    pub(crate) fn count_report(&mut self)
+        ensures { self.new ≡ record self.old { reports = (self.old.reports + 1) % 256 } }
+    {
+        self.reports = self.reports.wrapping_add(1);
+    }
+}

@@ -1,0 +1,215 @@
+-- What becomes of a connection that is coming when the controller takes a step.
+use Rattle.world_laws.proofs.Prelude.{◌≡◌, ◌≢◌, ℕ, ◌+◌, ◌≤◌, ◌&&◌, nat_eq, not, Bool, true, List, [], ◌∷◌, ◌++◌, find, length, Option, Some}
+use Rattle.world_laws.proofs.Prelude.{None, refl, sym, ap, ◌∙◌, subst, append_assoc, arith, AllByRecursion, flat_map, eq-eqb}
+use Rattle.world_laws.proofs.Prelude.{Place, SWITCH_LINK, WaitActivation, WaitEstablish, WaitConfirm, Connection, enter, is_at, IsOpen}
+use Rattle.world_laws.proofs.Prelude.{IsAged, connection_of, aged_holds, Controller, Turn, place_of, to_be_taken, RelayItem, Parameters}
+use Rattle.world_laws.proofs.Prelude.{Event, AirMessage, On, Tenure, actors_after_all, with_turn, Actors, Mobile, base_of, has_number}
+use Rattle.world_laws.proofs.Prelude.{is_station_up, mobile_of, modulus_in, new_actors, tenure_at, turn-leads, same_Some}
+use Rattle.conn_rules.specs.Timers.{after_pass}
+use Rattle.world_laws.specs.LineUp.Alive.{Alive}
+use Rattle.world_laws.specs.LineUp.Places.{controls_in, controls_of, flow, fresh, messages_in}
+use Rattle.world_laws.specs.LineUp.Places.Item.{brought}
+use Rattle.world_laws.specs.LineUp.Places.Seat.{on_serving}
+use Rattle.world_laws.proofs.LineUp.Lines.{messages_in-append}
+use Rattle.world_laws.specs.Acknowledged.{messages_up, read_of}
+use Rattle.world_laws.specs.ComingUp.{brings_in, coming_up, made_of}
+use Rattle.world_laws.specs.GoingDown.{going_down}
+use Rattle.world_laws.specs.LineUps.{assembled, line_up, taken_of, waiting_of}
+use Rattle.world_laws.specs.Lives.{initial_by, initials_up}
+use Rattle.world_laws.specs.Seated.{Leads, LinedUp}
+use Rattle.world_laws.specs.Seated.Remembers.{nothing}
+use Rattle.world_laws.specs.Seated.Sits.{stays as sits_stays}
+use Rattle.world_laws.specs.Staying.{AreLinedUp}
+use Rattle.world_laws.proofs.Others.{turn-mobiles}
+use Rattle.world_laws.proofs.OwnTurn.{turn-stations}
+use Rattle.world_laws.proofs.Sublists.{Sub, sub-append, sub-behind, sub-flat_map, sub-itself, sub-length, sub-nothing}
+use Rattle.world_laws.specs.Access.Coming.{AreAssigned, BeginsOnce, Comes, IsComing, data_by, data_up}
+use Rattle.world_laws.specs.Access.Coming.BeginsOnce.{began, to_begin}
+use Rattle.world_laws.specs.Access.Coming.Comes.{arrived, asks}
+use Rattle.world_laws.specs.Access.Requested.{Came}
+use Rattle.world_laws.specs.Access.Requested.Came.{comes as still_comes}
+use Rattle.world_laws.proofs.Access.Arriving.{None-target}
+use Rattle.world_laws.proofs.Access.Beginning.{IsBareOf}
+use Rattle.world_laws.proofs.Access.Behind.{controls-sub}
+use Rattle.world_laws.proofs.Access.Requesting.{of_items, requests-alive}
+use Rattle.world_laws.specs.References.Taken.{IsEarlyIn}
+
+-- ---- time changes nothing of it
+
+pub record IsLike (s x : Connection) : Type 0 where
+  pub number : x.number ≡ s.number
+  pub state : x.state ≡ s.state
+  pub request : x.request ≡ s.request
+  pub serving : x.serving ≡ s.serving
+
+pub aged-like : (s x : Connection) → IsAged s x → IsLike s x
+aged-like s x aged = aged_holds (λ (y : Connection). IsLike s y) (λ ms y like. record { number = like.number; state = like.state; request = like.request; serving = like.serving }) s x aged (record { number = refl; state = refl; request = refl; serving = refl })
+
+passes-lined : {m : ℕ} {v : Actors} {one : Mobile} (ms : ℕ) (x : Connection) → LinedUp m v one x → LinedUp m v one (after_pass ms x)
+passes-lined ms x lined = record { alive = lined.alive; sits = lined.sits; led = lined.led; none_on_target = lined.none_on_target; apart = lined.apart; placed = lined.placed }
+
+passes-comes : {m : ℕ} {v : Actors} {one : Mobile} (ms : ℕ) (x : Connection) → Comes m v x one → Comes m v (after_pass ms x) one
+passes-comes ms x (asks seat new none uncommanded) = asks seat new none uncommanded
+passes-comes ms x (arrived state seat lined begun) = arrived state seat (passes-lined ms x lined) begun
+
+aged-comes : {m : ℕ} {v : Actors} {one : Mobile} (s x : Connection) → IsAged s x → Comes m v s one → Comes m v x one
+aged-comes {m} {v} {one} s x aged comes = aged_holds (λ (y : Connection). Comes m v y one) (λ ms y c. passes-comes ms y c) s x aged comes
+
+aged-assigned : (v : Actors) (mobile : ℕ) (s x : Connection) → IsAged s x → AreAssigned v mobile s → AreAssigned v mobile x
+aged-assigned v mobile s x aged assigned = aged_holds (λ (y : Connection). AreAssigned v mobile y) (λ ms y a. a) s x aged assigned
+
+-- ---- no command goes down where the mobile has none
+
+none-led : (w : Actors) (xs : List AirMessage) → AllByRecursion (λ a. Leads w a None) xs → xs ≡ []
+none-led w [] all = refl
+none-led w (a ∷ xs) all = absurd (elim all.0 [ ])
+
+module _ (settings : Parameters) (done : List Event) (mobile : ℕ) (s : Connection) where
+  abbrev world : Actors
+  world = actors_after_all (new_actors settings) done
+
+  abbrev modulus : ℕ
+  modulus = modulus_in settings
+
+  abbrev at : Place
+  at = place_of s.serving
+
+  -- ---- the world after a turn
+
+  abbrev pub before : List RelayItem → Actors
+  before items = record world { inbox = items }
+
+  abbrev pub turned : Option Tenure → Turn → List RelayItem → Actors
+  turned target t items = with_turn target t (before items)
+
+  pub v-controller : (target : Option Tenure) (t : Turn) (items : List RelayItem) → (turned target t items).controller ≡ t.next
+  v-controller target t items = turn-leads (λ v. v.controller ≡ t.next) target t (before items) (λ links. refl)
+
+  pub v-mobile : (target : Option Tenure) (t : Turn) (items : List RelayItem) (k : ℕ) → mobile_of (turned target t items) k ≡ mobile_of world k
+  v-mobile target t items k = ap (λ (ms : List Mobile). find (has_number k) ms) (turn-mobiles target t.outs (record (before items) { controller = t.next }))
+
+  pub v-coming : (target : Option Tenure) (t : Turn) (items : List RelayItem) (p : Place) → coming_up (turned target t items) p ≡ coming_up (before items) p
+  v-coming target t items p = turn-leads (λ v. coming_up v p ≡ coming_up (before items) p) target t (before items) (λ links. refl)
+
+  pub v-initials : (target : Option Tenure) (t : Turn) (items : List RelayItem) (p : Place) → initials_up (turned target t items) p ≡ initials_up (before items) p
+  v-initials target t items p = turn-leads (λ v. initials_up v p ≡ initials_up (before items) p) target t (before items) (λ links. refl)
+
+  pub v-data : (target : Option Tenure) (t : Turn) (items : List RelayItem) (p : Place) → data_up (turned target t items) p ≡ data_up (before items) p
+  v-data target t items p = turn-leads (λ v. data_up v p ≡ data_up (before items) p) target t (before items) (λ links. refl)
+
+  pub v-tenure : (target : Option Tenure) (t : Turn) (items : List RelayItem) (p : Place) → tenure_at (turned target t items) p ≡ tenure_at world p
+  v-tenure target t items p = turn-leads (λ v. tenure_at v p ≡ tenure_at world p) target t (before items) (λ links. refl)
+
+  pub v-taken : (target : Option Tenure) (t : Turn) (items : List RelayItem) (n : ℕ) → taken_of (turned target t items) n ≡ taken_of world n
+  v-taken target t items n = turn-leads (λ v. taken_of v n ≡ taken_of world n) target t (before items) (λ links. refl)
+
+  -- what is on its way up is no more than before
+  pub record IsLess (items : List RelayItem) : Type 0 where
+    pub messages : Sub (messages_in (coming_up (before items) at)) (messages_in (coming_up world at))
+    pub initials : Sub (initials_up (before items) at) (initials_up world at)
+    pub later : Sub (data_up (before items) at) (data_up world at)
+
+  pub first-of : (item : RelayItem) (items : List RelayItem) → world.inbox ≡ item ∷ items → coming_up world at ≡ brings_in at item ++ coming_up (before items) at
+  first-of item items stood = ap (λ (xs : List RelayItem). flat_map (brings_in at) xs ++ made_of at.number (base_of world at.station).messages) stood ∙ append_assoc (brings_in at item) (flat_map (brings_in at) items) (made_of at.number (base_of world at.station).messages)
+
+  pub behind-less : (item : RelayItem) (items : List RelayItem) → world.inbox ≡ item ∷ items → IsLess items
+  behind-less item items stood = record {
+    messages = subst (Sub (messages_in (coming_up (before items) at))) (sym (ap messages_in (first-of item items stood) ∙ messages_in-append (brings_in at item) (coming_up (before items) at))) (sub-behind (messages_in (brings_in at item)) (messages_in (coming_up (before items) at)));
+    initials = sub-flat_map (initial_by at.number) ups;
+    later = sub-flat_map (data_by at.number) ups;
+  } where
+    ups : Sub (messages_up (before items) at.station) (messages_up world at.station)
+    ups = sub-append (subst (λ (xs : List RelayItem). Sub (flat_map (read_of at.station) items) (flat_map (read_of at.station) xs)) (sym stood) (sub-behind (read_of at.station item) (flat_map (read_of at.station) items))) (sub-itself (base_of world at.station).messages)
+
+  -- ---- it stays as it is
+
+  pub turn-comes : (target : Option Tenure) (t : Turn) (items : List RelayItem) (one : Mobile) → IsLess items → going_down (turned target t items) at ≡ going_down world at → (s.state ≡ WaitEstablish → AreLinedUp modulus world mobile s → AreLinedUp modulus (turned target t items) mobile s)
+      → mobile_of world mobile ≡ Some one → Comes modulus world s one → Comes modulus (turned target t items) s one
+  turn-comes target t items one less down lined found (asks seat new none uncommanded) =
+      asks seat new (ap messages_in (v-coming target t items at) ∙ sub-nothing (subst (Sub (messages_in (coming_up (before items) at))) none less.messages)) (down ∙ uncommanded)
+  turn-comes target t items one less down lined found (arrived state seat own begun) =
+      let after = lined state (record { one = one; found = found; lined = own }) in
+      arrived state (seat ∙ ap (λ (x : Tenure). On x None) (sym (v-tenure target t items at))) (subst (λ (x : Mobile). LinedUp modulus (turned target t items) x s) (same_Some _ _ (sym after.found ∙ v-mobile target t items mobile ∙ found)) after.lined) (once begun) where
+        once : BeginsOnce world one at → BeginsOnce (turned target t items) one at
+        once (to_begin opens none behind) = to_begin opens (ap messages_in (v-coming target t items at) ∙ sub-nothing (subst (Sub (messages_in (coming_up (before items) at))) none less.messages)) behind
+        once (began opens few none) =
+            began opens (let fewer = sub-length less.initials in let same = ap length (v-initials target t items at) in omega (arith, few, fewer, same))
+            (let fewer = controls-sub less.later in let same = ap controls_of (v-data target t items at) in omega (arith, none, fewer, same))
+
+  pub stays-came : (target : Option Tenure) (t : Turn) (items : List RelayItem) (x : Connection) (coming : IsComing modulus world mobile s) → IsAged s x → connection_of t.next s.number ≡ Some x → Comes modulus (turned target t items) s coming.one → AreAssigned (turned target t items) mobile s → Came (IsComing modulus) modulus (turned target t items) mobile s.number
+  stays-came target t items x coming aged there comes assigned =
+      let like : IsLike s x = aged-like s x aged in
+      still_comes x like.number (record {
+        had = record {
+          there = ap (connection_of (turned target t items).controller) like.number ∙ ap (λ (c : Controller). connection_of c s.number) (v-controller target t items) ∙ there;
+          is_open = subst IsOpen (sym like.state) coming.had.is_open;
+          from_one = subst (λ (n : ℕ). 1 ≤ n) (sym like.number) coming.had.from_one;
+        };
+        early = subst IsEarlyIn (sym like.state) coming.early;
+        asked = ap (λ (r : _). r.access) like.request ∙ coming.asked;
+        one = coming.one;
+        found = v-mobile target t items mobile ∙ coming.found;
+        comes = aged-comes s x aged comes;
+        assigned = aged-assigned (turned target t items) mobile s x aged assigned;
+      })
+
+  -- ---- its channel was activated: its mobile is told
+
+  pub told-comes : (target : Option Tenure) (t : Turn) (items : List RelayItem) (one : Mobile) → s.state ≡ WaitActivation → IsLess items → going_down (turned target t items) at ≡ going_down world at → Comes modulus world s one → Comes modulus (turned target t items) (enter WaitEstablish s) one
+  told-comes target t items one state less down (asks seat new none uncommanded) =
+      asks seat new (ap messages_in (v-coming target t items at) ∙ sub-nothing (subst (Sub (messages_in (coming_up (before items) at))) none less.messages)) (down ∙ uncommanded)
+  told-comes target t items one state less down (arrived other seat own begun) = absurd (let both : WaitActivation ≡ WaitEstablish = sym state ∙ other in cc)
+
+  passes-told : {v : Actors} {one : Mobile} (ms : ℕ) (x : Connection) → Comes modulus v (enter WaitEstablish x) one → Comes modulus v (enter WaitEstablish (after_pass ms x)) one
+  passes-told ms x (asks seat new none uncommanded) = asks seat new none uncommanded
+  passes-told ms x (arrived state seat lined begun) = arrived state seat (record { alive = lined.alive; sits = lined.sits; led = lined.led; none_on_target = lined.none_on_target; apart = lined.apart; placed = lined.placed }) begun
+
+  pub told-came : (target : Option Tenure) (t : Turn) (items : List RelayItem) (x : Connection) (coming : IsComing modulus world mobile s) → IsAged s x → connection_of t.next s.number ≡ Some (enter WaitEstablish x) → Comes modulus (turned target t items) (enter WaitEstablish s) coming.one → AreAssigned (turned target t items) mobile (enter WaitEstablish s)
+      → Came (IsComing modulus) modulus (turned target t items) mobile s.number
+  told-came target t items x coming aged there comes assigned =
+      let like : IsLike s x = aged-like s x aged in
+      let v : Actors = turned target t items in
+      still_comes (enter WaitEstablish x) like.number (record {
+        had = record {
+          there = ap (connection_of v.controller) like.number ∙ ap (λ (c : Controller). connection_of c s.number) (v-controller target t items) ∙ there;
+          is_open = tt;
+          from_one = subst (λ (n : ℕ). 1 ≤ n) (sym like.number) coming.had.from_one;
+        };
+        early = tt;
+        asked = ap (λ (r : _). r.access) like.request ∙ coming.asked;
+        one = coming.one;
+        found = v-mobile target t items mobile ∙ coming.found;
+        comes = aged_holds (λ (y : Connection). Comes modulus v (enter WaitEstablish y) coming.one) (λ ms y c. passes-told ms y c) s x aged comes;
+        assigned = aged_holds (λ (y : Connection). AreAssigned v mobile (enter WaitEstablish y)) (λ ms y a. a) s x aged assigned;
+      })
+
+  -- ---- it asks the switch
+
+  here : is_at at s.serving ≡ true
+  here = ap (λ (b : Bool). b && nat_eq s.serving.number s.serving.number) (eq-eqb s.serving.station s.serving.station refl) ∙ eq-eqb s.serving.number s.serving.number refl
+
+  pub asks-lined : (target : Option Tenure) (t : Turn) (items : List RelayItem) (initial : List ℕ) (one : Mobile) → s.state ≡ WaitEstablish → IsBareOf s → one.seat ≡ On (tenure_at world at) None → LinedUp modulus world one s → s.serving.station ≢ SWITCH_LINK
+      → coming_up world at ≡ brought initial ∷ coming_up (turned target t items) at → going_down (turned target t items) at ≡ going_down world at → waiting_of world s.number ≡ [] → taken_of world s.number ≡ [] → waiting_of (turned target t items) s.number ≡ initial ∷ []
+      → controls_in (coming_up (turned target t items) at) + controls_of (to_be_taken one.end.zero) ≡ 0 → LinedUp modulus (turned target t items) one (enter WaitConfirm s)
+  asks-lined target t items initial one state bare seat lined placed came down unsaid untaken said left = record {
+    alive = subst (Alive modulus) (sym reads) (requests-alive one.end.sent one.end.zero initial (coming_up v at) (not (is_station_up world s.serving.station)) left (subst (Alive modulus) was lined.alive));
+    sits = rw (seat, sym (v-tenure target t items at)) (sits_stays refl nothing);
+    led = rw (down, quiet) tt;
+    none_on_target = tt;
+    apart = rw (bare.draining) (tt, tt);
+    placed = rw (bare.draining) (placed, tt);
+  } where
+    v : Actors
+    v = turned target t items
+
+    quiet : going_down world at ≡ []
+    quiet = none-led world (going_down world at) (subst (λ (o : Option _). AllByRecursion (λ a. Leads world a o) (going_down world at)) (None-target s.state state) lined.led)
+
+    up : is_station_up v s.serving.station ≡ is_station_up world s.serving.station
+    up = turn-stations target t.outs (record (before items) { controller = t.next }) s.serving.station
+
+    was : line_up world one s ≡ assembled one.end.sent one.end.zero on_serving WaitEstablish 0 [] (of_items (brought initial ∷ coming_up v at) (not (is_station_up world s.serving.station))) fresh [] []
+    was = rw (state, bare.draining, bare.tenures, seat, here, quiet, unsaid, untaken, came) refl
+
+    reads : line_up v one (enter WaitConfirm s) ≡ assembled one.end.sent one.end.zero on_serving WaitConfirm 0 [] (of_items (coming_up v at) (not (is_station_up world s.serving.station))) fresh (flow (initial ∷ [])) []
+    reads = rw (bare.draining, bare.tenures, seat, here, down, quiet, said, v-taken target t items s.number, untaken, up) refl

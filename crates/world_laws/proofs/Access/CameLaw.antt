@@ -1,0 +1,200 @@
+-- The law on a connection that is coming, when the controller handles an item or time passes for it.
+use Rattle.world_laws.proofs.Prelude.{◌≡◌, ◌≢◌, ℕ, Bool, true, List, [], ◌∷◌, ◌++◌, Option, Some, None, unwrap_or, refl, sym, ap, ◌∙◌}
+use Rattle.world_laws.proofs.Prelude.{subst, arith, AllByRecursion, Channel, Place, Message, Out, SWITCH_LINK}
+use Rattle.world_laws.proofs.Prelude.{outs_of, State, WaitEstablish, Connection, is_at, Row, Acts, ActsOn, IsAged, IsBrought, brought_in}
+use Rattle.world_laws.proofs.Prelude.{kept, kept_in, ages, rests, IsThere, connection_of, outs_for, ComesInOctets, IsSent, life_acts}
+use Rattle.world_laws.proofs.Prelude.{life_fits, life_sends, Step, Take, Controller, Turn, place_of, step, Zero, RelayItem, AreAllowed}
+use Rattle.world_laws.proofs.Prelude.{Parameters, Event, Tenure, actors_after, actors_after_all, owner_in, handled, target_in, rsl_in}
+use Rattle.world_laws.proofs.Prelude.{all_steps, step_at, first_taken, AllSitBy, Actors, is_up, modulus_in, new_actors, LivesByTable-new}
+use Rattle.world_laws.proofs.Prelude.{FitsNone, NamesItsMobile, IsNumbered, life_names, same_Some}
+use Rattle.conn_rules.specs.declared.input.Input.TheVariants as inputs
+use Rattle.controller_model.specs.LifeLaws.Acts.{IsTimer}
+use Rattle.controller_model.specs.LifeLaws.Acts.Brought.{passes as brings_time}
+use Rattle.controller_model.specs.LifeLaws.Acts.Acts.{goes as goes_by, opens as begins}
+use Rattle.controller_model.specs.declared.step.Step.TheVariants.{Tick}
+use Rattle.controller_model.specs.Life.{take, tick}
+use Rattle.world_laws.specs.LineUp.Places.{messages_in}
+use Rattle.world_model.specs.declared.event.Event.TheVariants as events
+use Rattle.world_model.specs.Life.{event_after}
+use Rattle.world_laws.specs.ComingUp.{coming_up}
+use Rattle.world_laws.specs.Lives.{initials_up, AcksAgree}
+use Rattle.world_laws.specs.OthersFrame.{CameInOctets}
+use Rattle.world_laws.specs.Staying.{AreLinedUp, IsForOthers, IsOthers, BringsNothing}
+use Rattle.world_laws.proofs.Others.{RelayLeavesOthers-new, TimeLeavesOthers-new}
+use Rattle.world_laws.proofs.OwnerRun.{MobilesSitOnTheirs-new}
+use Rattle.world_laws.proofs.Standing.{ConnectionsStand-new}
+use Rattle.world_laws.proofs.Sublists.{sub-itself}
+use Rattle.world_laws.specs.Access.Arriving.{IsKnown}
+use Rattle.world_laws.specs.Access.Coming.{IsComing, data_up}
+use Rattle.world_laws.specs.Access.Requested.{AreBeside, AssignsAnother, Came, ControllerBringsComing, IsBeside, AreForOthers, AreOneEach}
+use Rattle.world_laws.specs.Access.Requested.Came.{comes as still_comes, goes as is_gone}
+use Rattle.world_laws.proofs.Access.Beginning.{IsBareOf, bare-of}
+use Rattle.world_laws.proofs.Access.EarlyRows.{EarlyRow, early-row}
+use Rattle.world_laws.proofs.Access.EarlyRows.EarlyRow.{acked, asked as asks_switch, gone as row_gone}
+use Rattle.world_laws.proofs.Access.Came.{IsLess, IsLike, aged-like, behind-less, turned, v-controller}
+use Rattle.world_laws.proofs.Access.CameSteps.{Opens, acked-came, asked-came, not-time, opening-of, opens-with, quiet-came}
+use Rattle.world_laws.proofs.Access.Ignored.{ignored-silent, none-of-data}
+use Rattle.world_laws.proofs.Access.ForOthers.{all-without, item-others}
+use Rattle.world_laws.proofs.Access.Numbered.{step-another}
+use Rattle.world_laws.proofs.Apart.{all-both}
+use Rattle.world_laws.proofs.Events.{snoc-actors, snoc-steps}
+use Rattle.world_laws.proofs.Framing.{all-left, all-right}
+use Rattle.world_laws.specs.References.Taken.{IsEarlyIn}
+
+-- ---- lists of events
+
+-- no row that times bring is of an ESTABLISH INDICATION
+timer-not : (place : Place) (initial : List ℕ) → IsTimer (inputs.EstablishIndication place Zero (Some initial)) → ⊥
+timer-not place initial timer = timer
+
+module _ (settings : Parameters) (done : List Event) (mobile : ℕ) (s : Connection) where
+  abbrev world : Actors
+  world = actors_after_all (new_actors settings) done
+
+  abbrev modulus : ℕ
+  modulus = modulus_in settings
+
+  abbrev at : Place
+  at = place_of s.serving
+
+  abbrev after : Option Tenure → Turn → List RelayItem → Actors
+  after target t items = turned settings done mobile s target t items
+
+  -- what else is known of the step
+  record Stepping (st : Step) (target : Option Tenure) (items : List RelayItem) (owner : Tenure → ℕ) : Type 0 where
+    less : IsLess settings done mobile s items
+    sent : AllByRecursion IsSent (step world.controller st).outs
+    beside : AreBeside target mobile s (step world.controller st).outs
+    still : FitsNone (brought_in world.controller s.number st) (Some s) → AllByRecursion (IsForOthers target s) (step world.controller st).outs → s.state ≡ WaitEstablish → AreLinedUp modulus world mobile s → AreLinedUp modulus (after target (step world.controller st) items) mobile s
+    aging : brought_in world.controller s.number st ≡ brings_time → AllByRecursion (IsForOthers target s) (step world.controller st).outs → s.state ≡ WaitEstablish → AreLinedUp modulus world mobile s → AreLinedUp modulus (after target (step world.controller st) items) mobile s
+    opening : (place : Place) (initial : List ℕ) → IsBrought (brought_in world.controller s.number st) (inputs.EstablishIndication place Zero (Some initial)) → is_at place s.serving ≡ true → Opens settings done mobile s items initial
+    sits : AllSitBy owner (after target (step world.controller st) items)
+
+  acts-came : (st : Step) (target : Option Tenure) (items : List RelayItem) (owner : Tenure → ℕ) (coming : IsComing modulus world mobile s) → AreAllowed settings → IsKnown modulus world mobile s → is_up world SWITCH_LINK ≡ true → Stepping st target items owner
+      → (next : ℕ) (up : Bool) (was now : Option Connection) (put : List Message) → Acts s.number next up (brought_in world.controller s.number st) was put now → was ≡ Some s → connection_of (step world.controller st).next s.number ≡ now → outs_for s.number (step world.controller st).outs ≡ outs_of s.number put
+      → Came (IsComing modulus) modulus (after target (step world.controller st) items) mobile s.number
+  acts-came st target items owner coming allowed known switch h next up was now put (rests silent is none) there leads outs =
+      let same : connection_of (step world.controller st).next s.number ≡ Some s = leads ∙ is ∙ there in
+      quiet-came settings done mobile s target (step world.controller st) items s coming h.less ([], refl) same (outs ∙ ap (outs_of s.number) silent) h.beside (h.still (subst (FitsNone (brought_in world.controller s.number st)) there none))
+  acts-came st target items owner coming allowed known switch h next up was now put (ages old x by_time is aged silent is_now) there leads outs =
+      quiet-came settings done mobile s target (step world.controller st) items x coming h.less (subst (λ (o : Connection). IsAged o x) (same_Some _ _ (sym is ∙ there)) aged) (leads ∙ is_now) (outs ∙ ap (outs_of s.number) silent) h.beside (h.aging by_time)
+  acts-came st target items owner coming allowed known switch h next up was now put (begins is linked channel request delay none_brought none put_is is_now) there leads outs = absurd (let both : None ≡ Some s = sym none ∙ there in cc)
+  acts-came st target items owner coming allowed known switch h next up was now put (goes_by old s1 input offer r is aged brought_it fits put_is is_now) there leads outs = by (early-row s1 input offer r (subst IsEarlyIn (sym like.state) coming.early) fits) where
+    own_aged : IsAged s s1
+    own_aged = subst (λ (o : Connection). IsAged o s1) (same_Some _ _ (sym is ∙ there)) aged
+
+    like : IsLike s s1
+    like = aged-like s s1 own_aged
+
+    own : connection_of (step world.controller st).next s.number ≡ kept r.next
+    own = leads ∙ is_now
+
+    puts : outs_for s.number (step world.controller st).outs ≡ outs_of s.number r.outs
+    puts = outs ∙ ap (outs_of s.number) put_is
+
+    by : EarlyRow s1 input r → Came (IsComing modulus) modulus (after target (step world.controller st) items) mobile s.number
+    by (row_gone over) = is_gone (λ still_there. subst IsThere (ap (λ (c : Controller). connection_of c s.number) (v-controller settings done mobile s target (step world.controller st) items) ∙ own ∙ ap (λ (x : State). kept_in x r.next) over) still_there)
+    by (acked state row_is) =
+        acked-came settings done mobile s target (step world.controller st) items s1 coming h.less own_aged state (own ∙ ap (λ (x : Row). kept x.next) row_is) (puts ∙ ap (λ (x : Row). outs_of s.number x.outs) row_is) h.sent h.beside
+    by (asks_switch state place initial input_is here row_is) =
+        asked-came settings done mobile s target (step world.controller st) items s1 initial owner coming allowed known h.less own_aged state
+        (h.opening place initial (subst (IsBrought (brought_in world.controller s.number st)) input_is brought_it) (subst (λ (c : Channel). is_at place c ≡ true) like.serving here)) switch
+        (own ∙ ap (λ (x : Row). kept x.next) row_is) (puts ∙ ap (λ (x : Row). outs_of s.number x.outs) row_is) h.sent h.beside h.sits
+
+  step-came : (st : Step) (target : Option Tenure) (items : List RelayItem) (owner : Tenure → ℕ) (coming : IsComing modulus world mobile s) → AreAllowed settings → IsKnown modulus world mobile s → is_up world SWITCH_LINK ≡ true → Stepping st target items owner → Came (IsComing modulus) modulus (after target (step world.controller st) items) mobile s.number
+  step-came st target items owner coming allowed known switch h =
+      let acts : ActsOn s.number world.controller st = subst (λ (c : Controller). ActsOn s.number c st) (sym (LivesByTable-new settings done)) (life_acts settings (all_steps (new_actors settings) done) st s.number coming.had.from_one) in
+      acts-came st target items owner coming allowed known switch h world.controller.next_number _ (connection_of world.controller s.number) (connection_of (step world.controller st).next s.number) acts.put acts.acts coming.had.there refl acts.outs
+
+  -- what is put for others names other mobiles
+  beside-all : (st : Step) (target : Option Tenure) → AreOneEach world → IsComing modulus world mobile s → AllByRecursion IsSent (step world.controller st).outs → AreForOthers target s (step world.controller st).outs → AreBeside target mobile s (step world.controller st).outs
+  beside-all st target one_each coming sent others =
+      let steps : List Step = all_steps (new_actors settings) done in
+      let lives = LivesByTable-new settings done in
+      let numbered : IsNumbered world.controller = subst IsNumbered (sym lives) (life_fits settings steps 1 (omega arith)).numbered in
+      all-both (λ (out : Out). out.conn ≢ s.number → IsForOthers target s out) (λ (out : Out). out.conn ≢ s.number → AssignsAnother mobile (rsl_in out.frame)) (λ (out : Out). out.conn ≢ s.number → IsBeside target mobile s out) (step world.controller st).outs
+      (λ out one two. λ differs. record { for_others = one differs; assigns = two differs }) others
+      (step-another world.controller s.number mobile s.serving (λ m t is same. one_each m s.number t s is coming.had.there (same ∙ sym coming.asked)) st numbered sent
+      (λ m least. subst (λ (c : Controller). NamesItsMobile m c st) (sym lives) (life_names settings steps st m least)))
+
+  pub sends-at : (st : Step) → AreAllowed settings → AllByRecursion ComesInOctets (all_steps (new_actors settings) done) → ComesInOctets st → AllByRecursion IsSent (step world.controller st).outs
+  sends-at st allowed octets own = subst (λ (c : Controller). AllByRecursion IsSent (step c st).outs) (sym (LivesByTable-new settings done)) (life_sends settings (all_steps (new_actors settings) done) st allowed octets own)
+
+  sits-after : (event : Event) → AreAllowed settings → CameInOctets settings (done ++ event ∷ []) → AllSitBy (owner_in (new_actors settings) (done ++ event ∷ [])) (actors_after world event)
+  sits-after event allowed octets = subst (AllSitBy (owner_in (new_actors settings) (done ++ event ∷ []))) (snoc-actors (new_actors settings) done event) (MobilesSitOnTheirs-new settings (done ++ event ∷ []) allowed octets)
+
+  -- ---- it handles an item
+
+  pub handled-is : (items : List RelayItem) → world.inbox ≡ items → actors_after world events.Handle ≡ unwrap_or (handled items world) world
+  unfolding event_after
+  handled-is items stood = ap (λ (xs : List RelayItem). unwrap_or (handled xs world) world) stood
+
+  handle-came : AreAllowed settings → CameInOctets settings (done ++ events.Handle ∷ []) → is_up world SWITCH_LINK ≡ true → IsKnown modulus world mobile s → AcksAgree world s → AreOneEach world → IsComing modulus world mobile s → Came (IsComing modulus) modulus (actors_after world events.Handle) mobile s.number
+  handle-came allowed octets switch known acks one_each coming = by world.inbox refl where
+    both : AllByRecursion ComesInOctets (all_steps (new_actors settings) done ++ step_at world events.Handle)
+    both = subst (AllByRecursion ComesInOctets) (snoc-steps (new_actors settings) done events.Handle) octets
+
+    by : (items : List RelayItem) → world.inbox ≡ items → Came (IsComing modulus) modulus (actors_after world events.Handle) mobile s.number
+    by [] stood = subst (λ (v : Actors). Came (IsComing modulus) modulus v mobile s.number) (sym (handled-is [] stood)) (still_comes s refl coming)
+    by (item ∷ items) stood = subst (λ (v : Actors). Came (IsComing modulus) modulus v mobile s.number) (sym (handled-is (item ∷ items) stood)) (step-came (Take item) target items owner coming allowed known switch stepping) where
+      target : Option Tenure
+      target = target_in world item.source item.what
+
+      owner : Tenure → ℕ
+      owner = owner_in (new_actors settings) (done ++ events.Handle ∷ [])
+
+      own_octets : ComesInOctets (Take item)
+      own_octets = (subst (λ (xs : List RelayItem). AllByRecursion ComesInOctets (first_taken xs)) stood (all-right ComesInOctets (all_steps (new_actors settings) done) (step_at world events.Handle) both)).0
+
+      keeps_off : AreBeside target mobile s (take item world.controller).outs
+      keeps_off = beside-all (Take item) target one_each coming (sends-at (Take item) allowed (all-left ComesInOctets (all_steps (new_actors settings) done) (step_at world events.Handle) both) own_octets) (item-others settings done s item allowed (all-left ComesInOctets (all_steps (new_actors settings) done) (step_at world events.Handle) both) own_octets coming.had.from_one coming.had)
+
+      still : FitsNone (brought_in world.controller s.number (Take item)) (Some s) → AllByRecursion (IsForOthers target s) (take item world.controller).outs → s.state ≡ WaitEstablish → AreLinedUp modulus world mobile s → AreLinedUp modulus (after target (take item world.controller) items) mobile s
+      still fits_none others state lined =
+          let bare : IsBareOf s = bare-of s state (ConnectionsStand-new settings done s.number s coming.had.there) in
+          let silent : BringsNothing s item = rw (bare.draining, state) (ignored-silent settings done mobile s item items allowed coming.had stood acks state (none-of-data coming.comes) fits_none, tt) in
+          subst (λ (v : Actors). AreLinedUp modulus v mobile s) (handled-is (item ∷ items) stood) (RelayLeavesOthers-new settings done mobile s (subst (IsOthers world s) (sym stood) (silent, others)) lined)
+
+      stepping : Stepping (Take item) target items owner
+      stepping = record {
+        less = behind-less settings done mobile s item items stood;
+        sent = sends-at (Take item) allowed (all-left ComesInOctets (all_steps (new_actors settings) done) (step_at world events.Handle) both) own_octets;
+        beside = keeps_off;
+        still = still;
+        aging = λ by_time. absurd (not-time world.controller s.number item by_time);
+        opening = λ place initial brought_it here. opens-with settings done mobile s item items place initial stood (opening-of world.controller s.number item place initial brought_it) here;
+        sits = subst (AllSitBy owner) (handled-is (item ∷ items) stood) (sits-after events.Handle allowed octets);
+      }
+
+  -- ---- time passes
+
+  tick-is : (ms : ℕ) → actors_after world (events.Tick ms) ≡ after None (tick ms world.controller) world.inbox
+  unfolding event_after
+  tick-is ms = refl
+
+  tick-came : (ms : ℕ) → AreAllowed settings → CameInOctets settings (done ++ events.Tick ms ∷ []) → is_up world SWITCH_LINK ≡ true → IsKnown modulus world mobile s → AreOneEach world → IsComing modulus world mobile s → Came (IsComing modulus) modulus (actors_after world (events.Tick ms)) mobile s.number
+  tick-came ms allowed octets switch known one_each coming = subst (λ (v : Actors). Came (IsComing modulus) modulus v mobile s.number) (sym (tick-is ms)) (step-came (Tick ms) None world.inbox owner coming allowed known switch stepping) where
+    owner : Tenure → ℕ
+    owner = owner_in (new_actors settings) (done ++ events.Tick ms ∷ [])
+
+    both : AllByRecursion ComesInOctets (all_steps (new_actors settings) done ++ step_at world (events.Tick ms))
+    both = subst (AllByRecursion ComesInOctets) (snoc-steps (new_actors settings) done (events.Tick ms)) octets
+
+    ages_on : AllByRecursion (IsForOthers None s) (tick ms world.controller).outs → s.state ≡ WaitEstablish → AreLinedUp modulus world mobile s → AreLinedUp modulus (after None (tick ms world.controller) world.inbox) mobile s
+    ages_on others state lined = subst (λ (v : Actors). AreLinedUp modulus v mobile s) (tick-is ms) (TimeLeavesOthers-new settings done ms mobile s others lined)
+
+    stepping : Stepping (Tick ms) None world.inbox owner
+    stepping = record {
+      less = record { messages = sub-itself (messages_in (coming_up world at)); initials = sub-itself (initials_up world at); later = sub-itself (data_up world at) };
+      sent = sends-at (Tick ms) allowed (all-left ComesInOctets (all_steps (new_actors settings) done) (step_at world (events.Tick ms)) both) tt;
+      beside = beside-all (Tick ms) None one_each coming (sends-at (Tick ms) allowed (all-left ComesInOctets (all_steps (new_actors settings) done) (step_at world (events.Tick ms)) both) tt) (all-without s (tick ms world.controller).outs);
+      still = λ fits_none. ages_on;
+      aging = λ by_time. ages_on;
+      opening = λ place initial brought_it here. absurd (timer-not place initial brought_it);
+      sits = subst (AllSitBy owner) (tick-is ms) (sits-after (events.Tick ms) allowed octets);
+    }
+
+pub ControllerBringsComing-new : (settings : Parameters) (done : List Event) (event : Event) → ControllerBringsComing settings done event
+ControllerBringsComing-new settings done events.Handle mobile s is allowed octets switch known acks one_each coming = handle-came settings done mobile s allowed octets switch known acks one_each coming
+ControllerBringsComing-new settings done (events.Tick ms) mobile s is allowed octets switch known acks one_each coming = tick-came settings done mobile s ms allowed octets switch known one_each coming
+ControllerBringsComing-new settings done event mobile s is allowed octets switch known acks one_each coming = absurd cc

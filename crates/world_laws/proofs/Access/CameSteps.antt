@@ -1,0 +1,299 @@
+-- What each step of the controller makes of a connection that is coming.
+use Rattle.world_laws.proofs.Prelude.{◌≡◌, ◌≢◌, ℕ, ◌+◌, ◌≤◌, ◌==◌, Bool, true, false, if◌then◌else◌, cond, List, [], ◌∷◌, ◌++◌, length, map}
+use Rattle.world_laws.proofs.Prelude.{option_to_list, Ok, Err, Option, Some, None, refl, sym, ap, ◌∙◌, subst, arith}
+use Rattle.world_laws.proofs.Prelude.{AllByRecursion, flat_map, Channel, Place, Message, Out, SWITCH_LINK, outs_of}
+use Rattle.world_laws.proofs.Prelude.{immediate_assign_command, complete_layer3, Input, WaitActivation, WaitEstablish, WaitConfirm}
+use Rattle.world_laws.proofs.Prelude.{Connection, enter, is_at, relayed, IsAged, IsBrought, brought_by, brought_in, brought_with, if_held}
+use Rattle.world_laws.proofs.Prelude.{connection_of, outs_for, IsSent, messages_on, aged_holds, forwarded_seen, Forwarded, Take, Word}
+use Rattle.world_laws.proofs.Prelude.{Nothing, Ping, Asks, OnChannel, Reports, OnConnection, Controller, Turn, channel_state, holder, hears}
+use Rattle.world_laws.proofs.Prelude.{place_at, place_of, sapi_of, Sapi, Zero, Three, Frame, to_be_taken, RelayItem, What, Establishment}
+use Rattle.world_laws.proofs.Prelude.{Rsl, AreAllowed, Parameters, Event, On, Tenure, actors_after_all, rsl_in, AllSitBy, Actors, base_of}
+use Rattle.world_laws.proofs.Prelude.{is_up, mobile_of, modulus_in, new_actors, outbox_of, tenure_at, and-left, and-right, RrMessage}
+use Rattle.world_laws.proofs.Prelude.{ImmediateAssignment, RrFault, OutboxEntry}
+use Rattle.std.proofs.Common.{Result}
+use Rattle.conn_messages.specs.Out.{out_of}
+use Rattle.conn_rules.specs.declared.input.Input.TheVariants as inputs
+use Rattle.controller_model.specs.LifeLaws.Acts.Brought.{nothing as brings_nothing, comes as brings_input, passes as brings_time}
+use Rattle.controller_model.specs.Reading.{word_of}
+use Rattle.controller_model.specs.Views.{forwarded}
+use Rattle.world_laws.specs.LineUp.Places.{Item, controls_in, controls_of, messages_in}
+use Rattle.world_laws.specs.LineUp.Places.Item.{brought}
+use Rattle.ruled_relay.specs.declared.item.What.TheVariants as whats
+use Rattle.rsl_codec.specs.declared.rsl.Rsl.TheVariants as rsl
+use Rattle.world_model.specs.Relay.{entry_of}
+use Rattle.world_laws.specs.Acknowledged.{read_by, read_of}
+use Rattle.world_laws.specs.ComingUp.{brings_by, brings_if, brings_in, coming_up, made_of, of_establishment}
+use Rattle.world_laws.specs.GoingDown.{going_down, leading_by, leading_from_outbox}
+use Rattle.world_laws.specs.LineUps.{taken_in, taken_of, waiting_of}
+use Rattle.world_laws.specs.Lives.{initial_by, initials_up}
+use Rattle.world_laws.specs.Seated.{LinedUp}
+use Rattle.world_laws.specs.Staying.{AreLinedUp, IsForOthers}
+use Rattle.world_laws.proofs.Others.{entry-out}
+use Rattle.world_laws.proofs.OwnTurn.{turn-waiting}
+use Rattle.world_laws.proofs.Standing.{ConnectionsStand-new}
+use Rattle.world_laws.specs.Access.Arriving.{IsKnown}
+use Rattle.world_laws.specs.Access.Coming.{AreAssigned, Assigns, AssignsBy, AssignsIn, BeginsOnce, Comes, IsComing}
+use Rattle.world_laws.specs.Access.Coming.BeginsOnce.{began, to_begin}
+use Rattle.world_laws.specs.Access.Coming.Comes.{arrived, asks}
+use Rattle.world_laws.specs.Access.Requested.{AreBeside, Came, IsBeside}
+use Rattle.world_laws.specs.Access.Requested.Came.{requests as has_requested}
+use Rattle.world_laws.proofs.Access.Arriving.{serving-placed}
+use Rattle.world_laws.proofs.Access.Beginning.{IsBareOf, bare-of}
+use Rattle.world_laws.proofs.Access.Behind.{controls-sub}
+use Rattle.world_laws.proofs.Access.Brings.{Establishes, frame-establishes}
+use Rattle.world_laws.proofs.Access.Served.{served-by}
+use Rattle.world_laws.proofs.Access.Turning.{all-down, all-zero, another-assigns, assigned-turn, assigns-own, command_of, none-own, of-all}
+use Rattle.world_laws.proofs.Access.Turning.{own-among, own-assigns, own-leads}
+use Rattle.world_laws.proofs.Access.Came.{IsLess, IsLike, aged-like, asks-lined, before, stays-came, told-came, told-comes, turn-comes}
+use Rattle.world_laws.proofs.Access.Came.{turned, v-controller, v-initials, v-mobile, v-tenure, v-coming}
+use Rattle.world_laws.proofs.Access.Upcoming.{controls-up}
+use Rattle.dtap_codec.specs.RrReading.{rr_reading}
+use Rattle.world_laws.proofs.Apart.{all-both}
+
+-- ---- a frame that says an ESTABLISH INDICATION to the connection
+
+pub record SaysOpening (item : RelayItem) (place : Place) (initial : List ℕ) : Type 0 where
+  frame : Frame
+  is : item.what ≡ whats.Frame frame
+  establishment : Establishment
+  read : rsl_in frame ≡ Some (rsl.EstablishIndication establishment)
+  sapi : sapi_of establishment.link ≡ Some Zero
+  l3 : establishment.l3 ≡ Some initial
+  channel : place ≡ place_at item.source establishment.channel
+
+by-word : (c : Controller) (n source : ℕ) (frame : Frame) (word : Word) (place : Place) (initial : List ℕ) → Establishes source (rsl_in frame) word → IsBrought (brought_by c n word) (inputs.EstablishIndication place Zero (Some initial)) → Establishes source (rsl_in frame) (OnChannel place (inputs.EstablishIndication place Zero (Some initial)))
+by-word c n source frame (OnChannel holds input) place initial says brought_it = by (holder (channel_state c holds)) brought_it where
+  by : (o : Option ℕ) → IsBrought (if_held n o input) (inputs.EstablishIndication place Zero (Some initial)) → Establishes source (rsl_in frame) (OnChannel place (inputs.EstablishIndication place Zero (Some initial)))
+  by None none = absurd none
+  by (Some k) own = either (k == n) own where
+    either : (b : Bool) → IsBrought (if b then brings_input input else brings_nothing) (inputs.EstablishIndication place Zero (Some initial)) → Establishes source (rsl_in frame) (OnChannel place (inputs.EstablishIndication place Zero (Some initial)))
+    either true is = subst (λ (i : Input). Establishes source (rsl_in frame) (OnChannel holds i)) (sym is) says
+    either false none = absurd none
+by-word c n source frame (OnConnection d input) place initial says brought_it = either (d == n) brought_it where
+  either : (b : Bool) → IsBrought (if b then brings_input input else brings_nothing) (inputs.EstablishIndication place Zero (Some initial)) → Establishes source (rsl_in frame) (OnChannel place (inputs.EstablishIndication place Zero (Some initial)))
+  either true is = absurd (subst (λ (i : Input). Establishes source (rsl_in frame) (OnConnection d i)) (sym is) says)
+  either false none = absurd none
+by-word c n source frame (Reports p of report) place initial says brought_it = absurd cc
+by-word c n source frame Nothing place initial says brought_it = absurd brought_it
+by-word c n source frame Ping place initial says brought_it = absurd brought_it
+by-word c n source frame (Asks request delay) place initial says brought_it = absurd brought_it
+
+pub opening-of : (c : Controller) (n : ℕ) (item : RelayItem) (place : Place) (initial : List ℕ) → IsBrought (brought_in c n (Take item)) (inputs.EstablishIndication place Zero (Some initial)) → SaysOpening item place initial
+opening-of c n item place initial brought_it = by (hears c item.source) item.what refl brought_it where
+  breaks : (b : Bool) → inputs.EstablishIndication place Zero (Some initial) ≡ (if b then inputs.SwitchDown else inputs.StationDown item.source) → SaysOpening item place initial
+  breaks true is = absurd cc
+  breaks false is = absurd cc
+
+  by : (b : Bool) (what : What) → item.what ≡ what → IsBrought (if b then brought_with c n item.source what else brings_nothing) (inputs.EstablishIndication place Zero (Some initial)) → SaysOpening item place initial
+  by false what is none = absurd none
+  by true whats.Down is broke = breaks (item.source == SWITCH_LINK) broke
+  by true (whats.Frame frame) is own =
+      let says = by-word c n item.source frame (word_of item.source frame) place initial (frame-establishes item.source frame) own in
+      record { frame = frame; is = is; establishment = says.0; read = says.1; sapi = says.2; l3 = says.3; channel = says.4 }
+
+-- an IMMEDIATE ASSIGNMENT that was of the channel stays so
+told-in : (mobile : ℕ) (s : Connection) (station : ℕ) (r : Result RrMessage RrFault) → Assigns mobile s station r → Assigns mobile (enter WaitEstablish s) station r
+told-in mobile s station (Ok (ImmediateAssignment channel request advance)) assigns = λ same. ((assigns same).0, refl)
+told-in mobile s station (Ok _) assigns = tt
+told-in mobile s station (Err fault) assigns = tt
+
+told-by : (mobile : ℕ) (s : Connection) (station : ℕ) (o : Option Rsl) → AssignsBy mobile s station o → AssignsBy mobile (enter WaitEstablish s) station o
+told-by mobile s station (Some (rsl.ImmediateAssignCommand i)) assigns = told-in mobile s station (rr_reading i.information) assigns
+told-by mobile s station None assigns = tt
+told-by mobile s station (Some _) assigns = tt
+
+told-all : (mobile : ℕ) (s : Connection) (station : ℕ) (entries : List OutboxEntry) → AllByRecursion (AssignsIn mobile s station) entries → AllByRecursion (AssignsIn mobile (enter WaitEstablish s) station) entries
+told-all mobile s station [] all = tt
+told-all mobile s station (entry ∷ entries) all = (told-by mobile s station (rsl_in entry.out.frame) all.0, told-all mobile s station entries all.1)
+
+none-longer : (initial : List ℕ) (rest : List (List ℕ)) → length (initial ∷ rest) ≤ 1 → rest ≡ []
+none-longer initial [] few = refl
+none-longer initial (x ∷ rest) few = absurd (omega (arith, few))
+
+pub not-time : (c : Controller) (n : ℕ) (item : RelayItem) → brought_in c n (Take item) ≡ brings_time → ⊥
+not-time c n item = by (hears c item.source) item.what where
+  held : (o : Option ℕ) (input : Input) → if_held n o input ≡ brings_time → ⊥
+  held None input is = absurd cc
+  held (Some k) input is = either (k == n) is where
+    either : (b : Bool) → (if b then brings_input input else brings_nothing) ≡ brings_time → ⊥
+    either true is = absurd cc
+    either false is = absurd cc
+
+  by-said : (word : Word) → brought_by c n word ≡ brings_time → ⊥
+  by-said (OnChannel holds input) is = held (holder (channel_state c holds)) input is
+  by-said (OnConnection d input) is = held (Some d) input is
+  by-said (Reports p of report) is = absurd cc
+  by-said Nothing is = absurd cc
+  by-said Ping is = absurd cc
+  by-said (Asks request delay) is = absurd cc
+
+  by : (b : Bool) (what : What) → (if b then brought_with c n item.source what else brings_nothing) ≡ brings_time → ⊥
+  by false what is = absurd cc
+  by true whats.Down is = absurd cc
+  by true (whats.Frame frame) is = by-said (word_of item.source frame) is
+
+to-switch : (n : ℕ) (c : Channel) (initial : List ℕ) → (out_of n (complete_layer3 c initial)).to ≡ SWITCH_LINK
+unfolding out_of
+to-switch n c initial = refl
+
+module _ (settings : Parameters) (done : List Event) (mobile : ℕ) (s : Connection) where
+  abbrev world : Actors
+  world = actors_after_all (new_actors settings) done
+
+  abbrev modulus : ℕ
+  modulus = modulus_in settings
+
+  abbrev at : Place
+  at = place_of s.serving
+
+  abbrev after : Option Tenure → Turn → List RelayItem → Actors
+  after target t items = turned settings done mobile s target t items
+
+  abbrev waiting : List RelayItem → Actors
+  waiting items = before settings done mobile s items
+
+  -- the first that is on its way up is the initial message
+  pub record Opens (items : List RelayItem) (initial : List ℕ) : Type 0 where
+    pub came : coming_up world at ≡ brought initial ∷ coming_up (waiting items) at
+    pub one : initials_up world at ≡ initial ∷ initials_up (waiting items) at
+
+  pub opens-with : (item : RelayItem) (items : List RelayItem) (place : Place) (initial : List ℕ) → world.inbox ≡ item ∷ items → SaysOpening item place initial → is_at place s.serving ≡ true → Opens items initial
+  opens-with item items place initial stood says is =
+      let there : is_at (place_at item.source says.establishment.channel) s.serving ≡ true = ap (λ (p : Place). is_at p s.serving) (sym says.channel) ∙ is in
+      let station : (item.source == s.serving.station) ≡ true = and-left (item.source == s.serving.station) (says.establishment.channel == s.serving.number) there in
+      let number : (says.establishment.channel == s.serving.number) ≡ true = and-right (item.source == s.serving.station) (says.establishment.channel == s.serving.number) there in
+      let brings_it : brings_in at item ≡ brought initial ∷ [] =
+      ap (brings_by at item.source) says.is
+      ∙ ap (λ (b : Bool). cond b (brings_if s.serving.number (rsl_in says.frame)) []) station
+      ∙ ap (brings_if s.serving.number) says.read
+      ∙ ap (λ (b : Bool). cond b (of_establishment (sapi_of says.establishment.link) says.establishment.l3) []) number
+      ∙ ap (λ (o : Option Sapi). of_establishment o says.establishment.l3) says.sapi
+      ∙ ap (of_establishment (Some Zero)) says.l3 in
+      let reads_it : read_of at.station item ≡ rsl.EstablishIndication says.establishment ∷ [] =
+      ap (read_by at.station item.source) says.is
+      ∙ ap (λ (b : Bool). cond b (option_to_list (rsl_in says.frame)) []) station
+      ∙ ap option_to_list says.read in
+      let opens_it : initial_by s.serving.number (rsl.EstablishIndication says.establishment) ≡ initial ∷ [] =
+      ap (λ (b : Bool). cond b (messages_in (of_establishment (sapi_of says.establishment.link) says.establishment.l3)) []) number
+      ∙ ap (λ (o : Option Sapi). messages_in (of_establishment o says.establishment.l3)) says.sapi
+      ∙ ap (λ (o : Option (List ℕ)). messages_in (of_establishment (Some Zero) o)) says.l3 in
+      record {
+        came = ap (λ (xs : List RelayItem). flat_map (brings_in at) xs ++ made_of at.number (base_of world at.station).messages) stood
+            ∙ ap (λ (xs : List Item). (xs ++ flat_map (brings_in at) items) ++ made_of at.number (base_of world at.station).messages) brings_it;
+        one = ap (λ (xs : List RelayItem). flat_map (initial_by at.number) (flat_map (read_of at.station) xs ++ (base_of world at.station).messages)) stood
+            ∙ ap (λ (xs : List Rsl). flat_map (initial_by at.number) ((xs ++ flat_map (read_of at.station) items) ++ (base_of world at.station).messages)) reads_it
+            ∙ ap (λ (xs : List (List ℕ)). xs ++ flat_map (initial_by at.number) (flat_map (read_of at.station) items ++ (base_of world at.station).messages)) opens_it;
+      }
+
+  -- ---- nothing is put for it
+
+  pub quiet-came : (target : Option Tenure) (t : Turn) (items : List RelayItem) (x : Connection) (coming : IsComing modulus world mobile s) → IsLess settings done mobile s items → IsAged s x → connection_of t.next s.number ≡ Some x → outs_for s.number t.outs ≡ []
+      → AreBeside target mobile s t.outs → (AllByRecursion (IsForOthers target s) t.outs → s.state ≡ WaitEstablish → AreLinedUp modulus world mobile s → AreLinedUp modulus (after target t items) mobile s) → Came (IsComing modulus) modulus (after target t items) mobile s.number
+  quiet-came target t items x coming less aged there none beside lined =
+      let all : AllByRecursion (IsBeside target mobile s) t.outs = all-both (λ (out : Out). out.conn ≢ s.number) (λ (out : Out). out.conn ≢ s.number → IsBeside target mobile s out) (IsBeside target mobile s) t.outs (λ out other is. is other) (none-own s.number t.outs none) beside in
+      let u : Actors = record (waiting items) { controller = t.next } in
+      let down : going_down (after target t items) at ≡ going_down world at = all-down target s.serving t.outs u (all-both (IsBeside target mobile s) (IsBeside target mobile s) (λ (out : Out). out.to ≡ s.serving.station → leading_from_outbox s.serving.number (entry_of target out) ≡ []) t.outs (λ out one two. one.for_others.leads.0) all all) in
+      let others : AllByRecursion (IsForOthers target s) t.outs = all-both (IsBeside target mobile s) (IsBeside target mobile s) (IsForOthers target s) t.outs (λ out one two. one.for_others) all all in
+      let assigned : AreAssigned (after target t items) mobile s = assigned-turn mobile s target t.outs u (λ station. coming.assigned station) (all-both (IsBeside target mobile s) (IsBeside target mobile s) (λ (out : Out). AssignsBy mobile s out.to (rsl_in out.frame)) t.outs (λ out one two. another-assigns mobile s out.to (rsl_in out.frame) one.assigns) all all) in
+      stays-came settings done mobile s target t items x coming aged there (turn-comes settings done mobile s target t items coming.one less down (lined others) coming.found coming.comes) assigned
+
+  -- ---- it is told its channel
+
+  own-at : (target : Option Tenure) (s1 : Connection) (out : Out) → IsLike s s1 → IsSent out → (x : Message) × (out ≡ out_of s.number x) × (x ≡ immediate_assign_command s1.serving s1.request s1.delay)
+      → (out.to ≡ s.serving.station → leading_from_outbox s.serving.number (entry_of target out) ≡ []) × AssignsBy mobile (enter WaitEstablish s) out.to (rsl_in out.frame)
+  unfolding out_of
+  own-at target s1 out like sent own =
+      let is : out ≡ out_of s.number (immediate_assign_command s1.serving s1.request s1.delay) = own.1 ∙ ap (out_of s.number) own.2 in
+      let reads = assigns-own s.number s1.serving s1.request s1.delay (subst IsSent is sent) in
+      let frame : rsl_in out.frame ≡ Some reads.as_read = ap (λ (o : Out). rsl_in o.frame) is ∙ reads.reads in
+      let to : out.to ≡ s1.serving.station = ap (λ (o : Out). o.to) is in (
+        λ _. ap (λ (o : Out). leading_by s.serving.number (entry_of target out).target (rsl_in o.frame)) (entry-out target out) ∙ ap (leading_by s.serving.number (entry_of target out).target) frame ∙ own-leads (command_of s1.serving s1.request s1.delay) s.serving.number (entry_of target out).target reads.as_read reads.text,
+        subst (AssignsBy mobile (enter WaitEstablish s) out.to) (sym frame) (subst (λ (n : ℕ). AssignsBy mobile (enter WaitEstablish s) n (Some reads.as_read)) (sym to)
+            (own-assigns mobile (enter WaitEstablish s) s1.serving s1.request s1.delay reads.as_read reads.text (λ number same. (ap (place_at s1.serving.station) same ∙ ap place_of like.serving, refl)))),
+      )
+
+  pub acked-came : (target : Option Tenure) (t : Turn) (items : List RelayItem) (s1 : Connection) (coming : IsComing modulus world mobile s) → IsLess settings done mobile s items → IsAged s s1 → s1.state ≡ WaitActivation → connection_of t.next s.number ≡ Some (enter WaitEstablish s1)
+      → outs_for s.number t.outs ≡ outs_of s.number (immediate_assign_command s1.serving s1.request s1.delay ∷ []) → AllByRecursion IsSent t.outs → AreBeside target mobile s t.outs → Came (IsComing modulus) modulus (after target t items) mobile s.number
+  acked-came target t items s1 coming less aged state there put sent beside =
+      let like : IsLike s s1 = aged-like s s1 aged in
+      let u : Actors = record (waiting items) { controller = t.next } in
+      let own = own-among (λ (x : Message). x ≡ immediate_assign_command s1.serving s1.request s1.delay) s.number t.outs (immediate_assign_command s1.serving s1.request s1.delay ∷ []) put (refl, tt) in
+      let both = all-both (λ (out : Out). out.conn ≡ s.number → (x : Message) × (out ≡ out_of s.number x) × (x ≡ immediate_assign_command s1.serving s1.request s1.delay)) IsSent
+      (λ (out : Out). out.conn ≡ s.number → (out.to ≡ s.serving.station → leading_from_outbox s.serving.number (entry_of target out) ≡ []) × AssignsBy mobile (enter WaitEstablish s) out.to (rsl_in out.frame)) t.outs (λ out is is_sent. λ same. own-at target s1 out like is_sent (is same)) own sent in
+      let all = of-all (IsBeside target mobile s) (λ (out : Out). (out.to ≡ s.serving.station → leading_from_outbox s.serving.number (entry_of target out) ≡ []) × AssignsBy mobile (enter WaitEstablish s) out.to (rsl_in out.frame)) s.number t.outs
+      (λ out one. (one.for_others.leads.0, another-assigns mobile (enter WaitEstablish s) out.to (rsl_in out.frame) one.assigns)) beside both in
+      let down : going_down (after target t items) at ≡ going_down world at = all-down target s.serving t.outs u (all-both _ _ (λ (out : Out). out.to ≡ s.serving.station → leading_from_outbox s.serving.number (entry_of target out) ≡ []) t.outs (λ out one two. one.0) all all) in
+      let assigned : AreAssigned (after target t items) mobile (enter WaitEstablish s) = assigned-turn mobile (enter WaitEstablish s) target t.outs u (λ station. told-all mobile s station (outbox_of world station) (coming.assigned station)) (all-both _ _ (λ (out : Out). AssignsBy mobile (enter WaitEstablish s) out.to (rsl_in out.frame)) t.outs (λ out one two. one.1) all all) in
+      told-came settings done mobile s target t items s1 coming aged there (told-comes settings done mobile s target t items coming.one (sym like.state ∙ state) less down coming.comes) assigned
+
+  -- ---- it asks the switch
+
+  pub asked-came : (target : Option Tenure) (t : Turn) (items : List RelayItem) (s1 : Connection) (initial : List ℕ) (owner : Tenure → ℕ) (coming : IsComing modulus world mobile s) → AreAllowed settings → IsKnown modulus world mobile s → IsLess settings done mobile s items → IsAged s s1 → s1.state ≡ WaitEstablish → Opens items initial → is_up world SWITCH_LINK ≡ true
+      → connection_of t.next s.number ≡ Some (enter WaitConfirm s1) → outs_for s.number t.outs ≡ outs_of s.number (complete_layer3 s1.serving initial ∷ []) → AllByRecursion IsSent t.outs → AreBeside target mobile s t.outs → AllSitBy owner (after target t items) → Came (IsComing modulus) modulus (after target t items) mobile s.number
+  asked-came target t items s1 initial owner coming allowed known less aged state opens_with up there put sent beside sits = by coming.comes where
+    v : Actors
+    v = after target t items
+
+    u : Actors
+    u = record (waiting items) { controller = t.next }
+
+    like : IsLike s s1
+    like = aged-like s s1 aged
+
+    placed : s.serving.station ≢ SWITCH_LINK
+    placed = serving-placed settings done s allowed coming.had
+
+    came : coming_up world at ≡ brought initial ∷ coming_up v at
+    came = opens_with.came ∙ ap (λ (xs : List Item). brought initial ∷ xs) (sym (v-coming settings done mobile s target t items at))
+
+    -- its own goes to the switch
+    own-to : (out : Out) → (x : Message) × (out ≡ out_of s.number x) × (x ≡ complete_layer3 s1.serving initial) → out.to ≡ SWITCH_LINK
+    own-to out own = ap (λ (o : Out). o.to) (own.1 ∙ ap (out_of s.number) own.2) ∙ to-switch s.number s1.serving initial
+
+    down : going_down v at ≡ going_down world at
+    down = all-down target s.serving t.outs u
+        (of-all (IsBeside target mobile s) (λ (out : Out). out.to ≡ s.serving.station → leading_from_outbox s.serving.number (entry_of target out) ≡ []) s.number t.outs (λ out one. one.for_others.leads.0) beside
+        (all-both (λ (out : Out). out.conn ≡ s.number → (x : Message) × (out ≡ out_of s.number x) × (x ≡ complete_layer3 s1.serving initial)) IsSent (λ (out : Out). out.conn ≡ s.number → out.to ≡ s.serving.station → leading_from_outbox s.serving.number (entry_of target out) ≡ []) t.outs
+        (λ out is is_sent. λ same to. absurd (placed (sym to ∙ own-to out (is same))))
+        (own-among (λ (x : Message). x ≡ complete_layer3 s1.serving initial) s.number t.outs (complete_layer3 s1.serving initial ∷ []) put (refl, tt)) sent))
+
+    seen : (sapi : Sapi) → messages_on sapi (forwarded t.outs s.number) ≡ relayed sapi (complete_layer3 s1.serving initial ∷ [])
+    seen sapi = forwarded_seen s.number t.outs (complete_layer3 s1.serving initial ∷ []) coming.had.from_one put (tt, tt) sent sapi
+
+    said : waiting_of v s.number ≡ initial ∷ []
+    said = turn-waiting target t.outs u s.number up ∙ ap (λ (ms : List (List ℕ)). ms ++ map (λ (f : Forwarded). f.message) (forwarded t.outs s.number)) known.none_waits ∙ all-zero (forwarded t.outs s.number) (seen Three) ∙ seen Zero
+
+    untaken : taken_of world s.number ≡ []
+    untaken = ap taken_in known.none_taken
+
+    by : Comes modulus world s coming.one → Came (IsComing modulus) modulus v mobile s.number
+    by (asks seat new none uncommanded) = absurd (let both : initial ∷ messages_in (coming_up v at) ≡ [] = sym (ap messages_in came) ∙ none in cc)
+    by (arrived own_state seat lined begun) = once begun where
+      once : BeginsOnce world coming.one at → Came (IsComing modulus) modulus v mobile s.number
+      once (to_begin opens none behind) = absurd (let both : initial ∷ messages_in (coming_up v at) ≡ [] = sym (ap messages_in came) ∙ none in cc)
+      once (began opens few none) =
+          let none_left : initials_up (waiting items) at ≡ [] = none-longer initial (initials_up (waiting items) at) (let count = ap length opens_with.one in omega (arith, few, count)) in
+          let none_up : initials_up v (place_of s1.serving) ≡ [] = ap (λ (c : Channel). initials_up v (place_of c)) like.serving ∙ v-initials settings done mobile s target t items at ∙ none_left in
+          let left : controls_in (coming_up v at) + controls_of (to_be_taken coming.one.end.zero) ≡ 0 =
+          let all = ap controls_in (v-coming settings done mobile s target t items at) ∙ controls-up (waiting items) at in
+          let first = ap controls_of none_left in
+          let fewer = controls-sub less.later in
+          omega (arith, all, first, fewer, none) in
+          let bare : IsBareOf s = bare-of s own_state (ConnectionsStand-new settings done s.number s coming.had.there) in
+          let own : LinedUp modulus v coming.one (enter WaitConfirm s) = asks-lined settings done mobile s target t items initial coming.one own_state bare seat lined placed came down known.none_waits untaken said left in
+          let aged_own : LinedUp modulus v coming.one (enter WaitConfirm s1) = aged_holds (λ (y : Connection). LinedUp modulus v coming.one (enter WaitConfirm y)) (λ ms y l. record { alive = l.alive; sits = l.sits; led = l.led; none_on_target = l.none_on_target; apart = l.apart; placed = l.placed }) s s1 aged own in
+          let none_drains : s1.draining ≡ [] = aged_holds (λ (y : Connection). y.draining ≡ []) (λ ms y is. is) s s1 aged bare.draining in
+          let found : mobile_of v mobile ≡ Some coming.one = v-mobile settings done mobile s target t items mobile ∙ coming.found in
+          let sits_there : coming.one.seat ≡ On (tenure_at v (place_of s1.serving)) None = seat ∙ ap (λ (x : Tenure). On x None) (sym (v-tenure settings done mobile s target t items at) ∙ ap (λ (c : Channel). tenure_at v (place_of c)) (sym like.serving)) in
+          has_requested (enter WaitConfirm s1) like.number refl (record {
+            had = record {
+              there = ap (connection_of v.controller) like.number ∙ ap (λ (c : Controller). connection_of c s.number) (v-controller settings done mobile s target t items) ∙ there;
+              is_open = tt;
+              from_one = subst (λ (n : ℕ). 1 ≤ n) (sym like.number) coming.had.from_one;
+            };
+            requested = tt;
+            asked = ap (λ (r : _). r.access) like.request ∙ coming.asked;
+            lined = record { one = coming.one; found = found; lined = aged_own };
+            fresh = record { silent = tt; uncommanded = tt; led = tt };
+            opened = record { opened = opens; none_comes = rw (none_drains) (none_up, tt) };
+          }) (served-by owner v (tenure_at v (place_of s1.serving)) mobile coming.one sits found sits_there)

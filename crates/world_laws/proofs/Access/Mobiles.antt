@@ -1,0 +1,208 @@
+-- What becomes of each mobile at an event, where neither the controller nor a mobile's frame of SAPI 0 takes part.
+use Rattle.world_laws.proofs.Prelude.{◌≡◌, ℕ, ◌==◌, ◌&&◌, nat_eq, Bool, true, false, if◌then◌else◌, List, [], ◌∷◌, ◌++◌, find}
+use Rattle.world_laws.proofs.Prelude.{slice_index_or, Option, Some, None, Ok, Err, refl, sym, ap, ◌∙◌, subst, inl, inr, ◌⊎◌, is_none}
+use Rattle.world_laws.proofs.Prelude.{eqb-true, eqb-false, SWITCH_LINK, place_at, ChannelDescription, RrMessage, ImmediateAssignment}
+use Rattle.world_laws.proofs.Prelude.{RrFault, Sapi, Zero, Three, LinkFault, refusal_of_activate, after_acked, after_arrival, after_leave}
+use Rattle.world_laws.proofs.Prelude.{after_queue, refusal_of_send, is_channel, Rsl, Event, MAX_TENURE, AirMessage, OutboxEntry, Command}
+use Rattle.world_laws.proofs.Prelude.{Seat, Asking, On, Moving, Gone, Tenure, complete, connected, failure, framed, hearing, may_send}
+use Rattle.world_laws.proofs.Prelude.{sent_by, activated, activated_unless, rsl_in, took, sccp_in, Actors, Mobile, base_of, has_number}
+use Rattle.world_laws.proofs.Prelude.{is_active_at, is_reached, is_station_up, mobile_of, outbox_of, put_back, spot_at, tenure_at}
+use Rattle.world_laws.proofs.Prelude.{with_mobile, with_outbox, with_spot, back-found, back-other, found-number, air_down-leads}
+use Rattle.world_laws.proofs.Prelude.{air_down_lost-leads, air_up-leads, arrive-leads, base_takes-leads, broken-leads, by_mobile-leads}
+use Rattle.world_laws.proofs.Prelude.{connect-leads, does-leads, move-leads, only_if-leads, push-leads, report-leads, return-leads}
+use Rattle.world_laws.proofs.Prelude.{switch_takes-leads, switch_took-leads, touch-leads, unless_last-leads, hearing-number, same_Some}
+use Rattle.world_laws.proofs.Prelude.{and-right, and-left, found-front}
+use Rattle.std.proofs.Common.{Result}
+use Rattle.dtap_codec.specs.RrReading.{rr_reading}
+use Rattle.mobile_end.specs.Mobile.{is_acknowledged}
+use Rattle.rsl_codec.specs.declared.common_channel.ImmediateAssignment.{ImmediateAssignment as AssignCommand}
+use Rattle.rsl_codec.specs.declared.rsl.Rsl.TheVariants as rsl
+use Rattle.world_model.specs.declared.event.Event.TheVariants as events
+use Rattle.world_model.specs.Life.{event_after}
+use Rattle.world_model.specs.Mobiles.{acknowledged}
+use Rattle.world_model.specs.Stations.{assigned, assigned_from, assigned_to}
+use Rattle.world_model.proofs.Leads.{FromAir, OfTaken}
+use Rattle.world_laws.proofs.Access.Behind.{GivesNoMore, acked-gives, frame-gives, queue-gives}
+use Rattle.world_laws.proofs.Access.Travels.{is_passing}
+use Rattle.world_laws.proofs.MobileEvents.{on-asks}
+
+-- ---- what becomes of one
+
+-- its station takes an IMMEDIATE ASSIGNMENT that names it
+pub record IsAssigned (w : Actors) (event : Event) (v : Actors) (number : ℕ) (p q : Mobile) : Type 0 where
+  pub station : ℕ
+  pub first : OutboxEntry
+  pub others : List OutboxEntry
+  pub command : AssignCommand
+  pub channel : ChannelDescription
+  pub request : List ℕ
+  pub advance : ℕ
+  pub takes : event ≡ events.BaseTakes station
+  pub up : is_station_up w station ≡ true
+  pub stood : outbox_of w station ≡ first ∷ others
+  pub reads : rsl_in first.out.frame ≡ Some (rsl.ImmediateAssignCommand command)
+  pub says : rr_reading command.information ≡ Ok (ImmediateAssignment channel request advance)
+  pub names : slice_index_or request 0 0 ≡ number
+  pub asked : p.seat ≡ Asking
+  pub after : q ≡ record p { seat = On (tenure_at w (place_at station channel.channel.0)) None }
+  pub leads : v ≡ with_mobile q (with_outbox station others w)
+
+-- between two channels, or told to leave its channel
+abbrev pub IsToMove : Seat → Type 0
+IsToMove (On tenure (Some command)) = Unit {0}
+IsToMove (Moving from command) = Unit {0}
+IsToMove _ = ⊥
+
+pub data Goes (w : Actors) (event : Event) (v : Actors) (number : ℕ) (p q : Mobile) : Type 0 where
+  same : q ≡ p → Goes w event v number p q
+  stays : q.seat ≡ p.seat → q.opens ≡ p.opens → (p.seat ≡ Asking → ⊥) → GivesNoMore q.end.zero p.end.zero → Goes w event v number p q
+  hears : (tenure : Tenure) (command : Option Command) (first : AirMessage) (others : List AirMessage) → p.seat ≡ On tenure command → (spot_at w tenure.at).air ≡ first ∷ others → q ≡ hearing p first → Goes w event v number p q
+  moves : IsToMove p.seat → (q.opens ≡ p.opens) ⊎ (q.opens ≡ false) → Goes w event v number p q
+  comes : IsAssigned w event v number p q → Goes w event v number p q
+
+-- each mobile
+pub record AllGo (w : Actors) (event : Event) (v : Actors) : Type 0 where
+  pub each : (number : ℕ) (p : Mobile) → mobile_of w number ≡ Some p → (q : Mobile) × (mobile_of v number ≡ Some q) × Goes w event v number p q
+
+pub all-same : (w : Actors) (event : Event) (v : Actors) → v.mobiles ≡ w.mobiles → AllGo w event v
+all-same w event v is = record { each = λ number p found. (p, ap (λ (ms : List Mobile). find (has_number number) ms) is ∙ found, same refl) }
+
+-- one of them acts
+one-goes : (w u : Actors) (event : Event) (number : ℕ) (before q : Mobile) → mobile_of w number ≡ Some before → u.mobiles ≡ w.mobiles → q.number ≡ before.number → Goes w event (with_mobile q u) number before q → AllGo w event (with_mobile q u)
+one-goes w u event number before q acts is same_number goes = record { each = λ k p found. by k p found (nat_eq number k) refl } where
+  own_number : q.number ≡ number
+  own_number = same_number ∙ found-number number w.mobiles before acts
+
+  by : (k : ℕ) (p : Mobile) → mobile_of w k ≡ Some p → (b : Bool) → nat_eq number k ≡ b → (x : Mobile) × (mobile_of (with_mobile q u) k ≡ Some x) × Goes w event (with_mobile q u) k p x
+  by k p found true hit =
+      let k_is : number ≡ k = eqb-true number k hit in
+      let p_is : before ≡ p = same_Some _ _ (sym acts ∙ ap (mobile_of w) k_is ∙ found) in (
+        q,
+        ap (λ (n : ℕ). find (has_number n) (put_back q u.mobiles)) (sym k_is ∙ sym own_number) ∙ back-found q u.mobiles before (ap (λ (ms : List Mobile). find (has_number q.number) ms) is ∙ ap (λ (n : ℕ). find (has_number n) w.mobiles) own_number ∙ acts),
+        subst (λ (x : Mobile). Goes w event (with_mobile q u) k x q) p_is (subst (λ (n : ℕ). Goes w event (with_mobile q u) n before q) k_is goes),
+      )
+  by k p found false miss =
+      (p, back-other q u.mobiles k (λ is_k. eqb-false number k miss (sym own_number ∙ is_k)) ∙ ap (λ (ms : List Mobile). find (has_number k) ms) is ∙ found, same refl)
+
+-- ---- each event
+
+not-asking : {one seat : Seat} → one ≡ seat → (seat ≡ Asking → ⊥) → one ≡ Asking → ⊥
+not-asking is other asks = other (sym is ∙ asks)
+
+-- a new one stands behind the others
+connect-goes : (w : Actors) (event : Event) (u : Actors) (new : Mobile) → u.mobiles ≡ w.mobiles ++ new ∷ [] → AllGo w event u
+connect-goes w event u new is = record {
+  each = λ number p found. (p, ap (λ (ms : List Mobile). find (has_number number) ms) is ∙ found-front number p w.mobiles (new ∷ []) found, same refl);
+}
+
+can-send : (seat : Seat) → may_send seat ≡ true → seat ≡ Asking → ⊥
+can-send Asking may is = absurd cc
+can-send (On tenure command) may is = absurd cc
+can-send (Moving from command) may is = absurd cc
+can-send Gone may is = absurd cc
+
+acks-go : (w : Actors) (event : Event) (number : ℕ) (sapi : Sapi) (p : Mobile) → mobile_of w number ≡ Some p → OfTaken (AllGo w event) (acknowledged w sapi p p.seat)
+unfolding OfTaken
+acks-go w event number sapi p found = by_seat p.seat refl where
+  by_seat : (seat : Seat) → p.seat ≡ seat → OfTaken (AllGo w event) (acknowledged w sapi p seat)
+  by_seat Asking is = tt
+  by_seat (On tenure command) is = only_if-leads (AllGo w event) (is_reached w tenure && is_acknowledged p.end sapi) (with_mobile (record p { end = after_acked p.end sapi }) w)
+      (λ _. one-goes w w event number p (record p { end = after_acked p.end sapi }) found refl refl (stays refl refl (not-asking is on-asks) (acked-gives p.end sapi)))
+  by_seat (Moving from command) is = tt
+  by_seat Gone is = tt
+
+moves-where : (seat : Seat) {tenure : Tenure} {command : Command} → seat ≡ On tenure (Some command) → IsToMove seat
+moves-where seat is = subst IsToMove (sym is) tt
+
+moving-where : (seat : Seat) {from : Tenure} {command : Command} → seat ≡ Moving from command → IsToMove seat
+moving-where seat is = subst IsToMove (sym is) tt
+
+-- a station takes an entry
+takes-go : (w : Actors) (station : ℕ) (first : OutboxEntry) (others : List OutboxEntry) → is_station_up w station ≡ true → outbox_of w station ≡ first ∷ others
+    → OfTaken (AllGo w (events.BaseTakes station)) (took station first.target (rsl_in first.out.frame) (with_outbox station others w))
+unfolding OfTaken
+takes-go w station first others up stood = by_message (rsl_in first.out.frame) refl where
+  event : Event
+  event = events.BaseTakes station
+
+  u : Actors
+  u = with_outbox station others w
+
+  quiet : (v : Actors) → v.mobiles ≡ w.mobiles → AllGo w event v
+  quiet v is = all-same w event v is
+
+  activating : (channel : ℕ) (o : Option LinkFault) → AllGo w event (activated_unless o (place_at station channel) u)
+  activating channel None = quiet _ refl
+  activating channel (Some fault) = quiet _ refl
+
+  airing : (b : Bool) (x : Actors) → x.mobiles ≡ w.mobiles → AllGo w event (if b then x else u)
+  airing true x is = quiet x is
+  airing false x is = quiet u refl
+
+  assigning : (command : AssignCommand) → rsl_in first.out.frame ≡ Some (rsl.ImmediateAssignCommand command) → (channel : ChannelDescription) (request : List ℕ) (advance : ℕ) → rr_reading command.information ≡ Ok (ImmediateAssignment channel request advance)
+      → (o : Option Mobile) → mobile_of w (slice_index_or request 0 0) ≡ o → AllGo w event (assigned_to o (tenure_at u (place_at station channel.channel.0)) u)
+  assigning command reads channel request advance says None found = quiet u refl
+  assigning command reads channel request advance says (Some p) found = by_seat p.seat refl where
+    by_seat : (seat : Seat) → p.seat ≡ seat → AllGo w event (assigned_from seat (tenure_at u (place_at station channel.channel.0)) p u)
+    by_seat Asking is = one-goes w u event (slice_index_or request 0 0) p (record p { seat = On (tenure_at u (place_at station channel.channel.0)) None }) found refl refl (comes (record {
+      station = station;
+      first = first;
+      others = others;
+      command = command;
+      channel = channel;
+      request = request;
+      advance = advance;
+      takes = refl;
+      up = up;
+      stood = stood;
+      reads = reads;
+      says = says;
+      names = refl;
+      asked = is;
+      after = refl;
+      leads = refl;
+    }))
+    by_seat (On tenure c) is = quiet u refl
+    by_seat (Moving from c) is = quiet u refl
+    by_seat Gone is = quiet u refl
+
+  by_reading : (command : AssignCommand) → rsl_in first.out.frame ≡ Some (rsl.ImmediateAssignCommand command) → (r : Result RrMessage RrFault) → rr_reading command.information ≡ r → OfTaken (AllGo w event) (Some (assigned station r u))
+  by_reading command reads (Ok (ImmediateAssignment channel request advance)) says = by_number (is_channel channel.channel.0) where
+    by_number : (b : Bool) → AllGo w event (if b then assigned_to (mobile_of u (slice_index_or request 0 0)) (tenure_at u (place_at station channel.channel.0)) u else u)
+    by_number true = assigning command reads channel request advance says (mobile_of w (slice_index_or request 0 0)) refl
+    by_number false = quiet u refl
+  by_reading command reads (Ok _) says = quiet u refl
+  by_reading command reads (Err fault) says = quiet u refl
+
+  by_message : (o : Option Rsl) → rsl_in first.out.frame ≡ o → OfTaken (AllGo w event) (took station first.target o u)
+  by_message None is = quiet u refl
+  by_message (Some (rsl.ChannelActivation a)) is = unless_last-leads (AllGo w event) ((spot_at u (place_at station a.channel)).tenure == MAX_TENURE) (activated (place_at station a.channel) u) (activating a.channel (refusal_of_activate (base_of u station) a.channel))
+  by_message (Some (rsl.ImmediateAssignCommand i)) is = by_reading i is (rr_reading i.information) refl
+  by_message (Some (rsl.DataRequest d)) is = airing (is_active_at u (place_at station d.channel)) (with_spot (place_at station d.channel) (record (spot_at u (place_at station d.channel)) { air = (spot_at u (place_at station d.channel)).air ++ record { message = d.l3; target = first.target } ∷ [] }) u) refl
+  by_message (Some (rsl.EstablishRequest l)) is = quiet _ refl
+  by_message (Some (rsl.RfChannelRelease channel)) is = quiet _ refl
+  by_message (Some _) is = quiet u refl
+
+pub event-goes : (w : Actors) (event : Event) → is_passing event ≡ true → OfTaken (AllGo w event) (event_after w event)
+unfolding event_after FromAir
+event-goes w (events.Upper number sapi message) is = by_mobile-leads (AllGo w (events.Upper number sapi message)) w number (sent_by w sapi message) (λ p found.
+    only_if-leads (AllGo w (events.Upper number sapi message)) (may_send p.seat && is_none (refusal_of_send p.end sapi message)) (with_mobile (record p { end = after_queue p.end sapi message }) w)
+    (λ may. one-goes w w (events.Upper number sapi message) number p (record p { end = after_queue p.end sapi message }) found refl refl (stays refl refl (can-send p.seat (and-left (may_send p.seat) (is_none (refusal_of_send p.end sapi message)) may)) (queue-gives p.end sapi message (and-right (may_send p.seat) (is_none (refusal_of_send p.end sapi message)) may)))))
+event-goes w (events.Connect number station initial accepts) is = connect-leads (AllGo w _) w number station initial accepts (λ may. connect-goes w _ _ (connected w.modulus number initial accepts) refl)
+event-goes w (events.AirUp number Zero) is = absurd cc
+event-goes w (events.AirUp number Three) is = air_up-leads (AllGo w _) w number Three (λ p tenure command frame found seat lent reached. one-goes w _ _ number p (framed p Three) found refl refl (stays refl refl (not-asking seat on-asks) (frame-gives p.end)))
+event-goes w (events.AirAck number sapi) is = by_mobile-leads (AllGo w _) w number (λ p. acknowledged w sapi p p.seat) (λ p found. acks-go w (events.AirAck number sapi) number sapi p found)
+event-goes w (events.AirDown number) is = air_down-leads (AllGo w _) w number (λ p tenure command found seat reached first others air. one-goes w _ _ number p (hearing p first) found refl (hearing-number p first) (hears tenure command first others seat air refl))
+event-goes w (events.AirDownLost number) is = air_down_lost-leads (AllGo w _) w number (λ p tenure command found seat reached first others air. one-goes w _ _ number p p found refl refl (same refl))
+event-goes w (events.Move number) is = move-leads (AllGo w _) w number (λ p tenure command found seat reached. one-goes w _ _ number p (record p { end = after_leave p.end; seat = Moving tenure command; opens = false }) found refl refl (moves (moves-where p.seat seat) (inr refl)))
+event-goes w (events.Touch number) is = touch-leads (AllGo w _) w number (λ command reached. all-same w _ _ refl)
+event-goes w (events.Arrive number) is = arrive-leads (AllGo w _) w number (λ p from command found seat reached. one-goes w _ _ number p (record p { end = after_arrival p.end (complete command.change); seat = On command.target None }) found refl refl (moves (moving-where p.seat seat) (inl refl)))
+event-goes w (events.Return number) is = return-leads (AllGo w _) w number (λ p from command found seat reached. one-goes w _ _ number p (record p { end = after_arrival p.end (failure command.change); seat = On from None }) found refl refl (moves (moving-where p.seat seat) (inl refl)))
+event-goes w (events.BaseTakes station) is = base_takes-leads (AllGo w _) w station (λ first others up stood. takes-go w station first others up stood)
+event-goes w (events.BasePush source) is = push-leads (AllGo w _) w source (λ first others. all-same w _ _ refl) (λ message first. all-same w _ _ refl)
+event-goes w events.Handle is = absurd cc
+event-goes w events.SwitchTakes is = switch_takes-leads (AllGo w _) w (λ first others up stood. switch_took-leads (AllGo w _) (with_outbox SWITCH_LINK others w) (sccp_in first.out.frame) (all-same w _ _ refl) (λ next made. all-same w _ _ refl))
+event-goes w (events.SwitchDoes action) is = does-leads (AllGo w _) w action (λ next made. all-same w _ _ refl)
+event-goes w (events.Tick ms) is = absurd cc
+event-goes w (events.BaseDown source) is = broken-leads (AllGo w _) w source (λ up switch. all-same w _ _ refl) (λ up station. all-same w _ _ refl)
+event-goes w (events.Report number report) is = report-leads (AllGo w _) w number report (λ tenure reached. all-same w _ _ refl)

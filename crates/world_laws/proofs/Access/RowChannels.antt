@@ -1,0 +1,94 @@
+-- The channels that a connection uses after a row: those that it used, and one that it awaits.
+use Rattle.world_laws.proofs.Prelude.{◌≡◌, ℕ, zero, suc, Bool, true, false, if◌then◌else◌, List, [], ◌∷◌, ◌++◌, Option, Some, None, refl}
+use Rattle.world_laws.proofs.Prelude.{sym, ap, subst, AllByRecursion, Channel, Input, Drain, Active, Preparing, Changing, Draining, State}
+use Rattle.world_laws.proofs.Prelude.{WaitActivation, WaitEstablish, WaitConfirm, Live, Closed, Removed, Target, Connection, ChangesRoles}
+use Rattle.world_laws.proofs.Prelude.{ChangesRolesBy, RoleStep, Roles, TargetRole, after_step, completed, commanded, roles_of, step_by}
+use Rattle.world_laws.proofs.Prelude.{target_channels, target_role, with_target, goes_on, ends, had_ended, Stands, Row, done_at, IsOpen}
+use Rattle.world_laws.proofs.Prelude.{undone, used_channels, target_in-role, ChangesRoles-row, same_Some, AllByRecursion-append}
+use Rattle.conn_rules.specs.Roles.{still_draining}
+use Rattle.conn_rules.specs.Roles.RoleStep.{stays as it_stays, commands as it_commands, completes as it_completes}
+use Rattle.conn_rules.specs.Roles.RoleStep.{goes_back as it_goes_back, leaves as it_leaves}
+use Rattle.conn_rules.specs.Table.{row_of}
+use Rattle.controller_model.specs.LifeLaws.Owning.{used_in}
+use Rattle.world_laws.specs.Handled.{awaited_in}
+use Rattle.world_laws.proofs.Framing.{all-left, all-right}
+
+module _ (P : Channel → Type 0) where
+  -- ---- old channels
+
+  undone-done : (place : ℕ) (ds : List Drain) → AllByRecursion P (undone ds) → AllByRecursion P (undone (done_at place ds))
+  undone-done place [] all = tt
+  undone-done zero (d ∷ ds) all = by d.is_done all where
+    by : (b : Bool) → AllByRecursion P (if b then undone ds else d.channel ∷ undone ds) → AllByRecursion P (undone ds)
+    by true all = all
+    by false all = all.1
+  undone-done (suc place) (d ∷ ds) all = by d.is_done all (undone-done place ds) where
+    by : (b : Bool) → AllByRecursion P (if b then undone ds else d.channel ∷ undone ds) → (AllByRecursion P (undone ds) → AllByRecursion P (undone (done_at place ds))) → AllByRecursion P (if b then undone (done_at place ds) else d.channel ∷ undone (done_at place ds))
+    by true all others = others all
+    by false all others = (all.0, others all.1)
+
+  undone-still : (ds : List Drain) → AllByRecursion P (undone ds) → AllByRecursion P (undone (still_draining ds))
+  undone-still [] all = tt
+  undone-still (d ∷ ds) all = by d.is_done refl all (undone-still ds) where
+    by : (b : Bool) → d.is_done ≡ b → AllByRecursion P (if b then undone ds else d.channel ∷ undone ds) → (AllByRecursion P (undone ds) → AllByRecursion P (undone (still_draining ds))) → AllByRecursion P (undone (if b then still_draining ds else d ∷ ds))
+    by true is all others = others all
+    by false is all others = subst (λ (b : Bool). AllByRecursion P (if b then undone ds else d.channel ∷ undone ds)) (sym is) all
+
+  undone-more : (ds : List Drain) (c : Channel) → AllByRecursion P (undone ds) → P c → AllByRecursion P (undone (ds ++ record { channel = c; is_done = false } ∷ []))
+  undone-more [] c all own = (own, tt)
+  undone-more (d ∷ ds) c all own = by d.is_done all (undone-more ds c) where
+    by : (b : Bool) → AllByRecursion P (if b then undone ds else d.channel ∷ undone ds) → (AllByRecursion P (undone ds) → P c → AllByRecursion P (undone (ds ++ record { channel = c; is_done = false } ∷ []))) → AllByRecursion P (if b then undone (ds ++ record { channel = c; is_done = false } ∷ []) else d.channel ∷ undone (ds ++ record { channel = c; is_done = false } ∷ []))
+    by true all others = others all own
+    by false all others = (all.0, others all.1 own)
+
+  -- ---- steps
+
+  step-uses : (step : RoleStep) (roles : Roles) → AllByRecursion P (used_in roles) → AllByRecursion P (used_in (after_step step roles))
+  step-uses it_stays roles all = all
+  step-uses it_commands roles all = by roles.target (all-left P (undone roles.draining) (roles.serving ∷ target_channels roles.target) all) (all-right P (undone roles.draining) (roles.serving ∷ target_channels roles.target) all) where
+    by : (o : Option TargetRole) → AllByRecursion P (undone roles.draining) → AllByRecursion P (roles.serving ∷ target_channels o) → AllByRecursion P (undone roles.draining ++ roles.serving ∷ target_channels (commanded o))
+    by None old others = AllByRecursion-append P (undone roles.draining) (roles.serving ∷ []) old others
+    by (Some t) old others = AllByRecursion-append P (undone roles.draining) (roles.serving ∷ t.target.channel ∷ []) old others
+  step-uses it_completes roles all = by roles.target (all-left P (undone roles.draining) (roles.serving ∷ target_channels roles.target) all) (all-right P (undone roles.draining) (roles.serving ∷ target_channels roles.target) all) all where
+    by : (o : Option TargetRole) → AllByRecursion P (undone roles.draining) → AllByRecursion P (roles.serving ∷ target_channels o) → AllByRecursion P (used_in roles) → AllByRecursion P (used_in (completed o roles))
+    by None old others all = all
+    by (Some t) old others all = AllByRecursion-append P (undone (roles.draining ++ record { channel = roles.serving; is_done = false } ∷ [])) (t.target.channel ∷ []) (undone-more roles.draining roles.serving old others.0) (others.1.0, tt)
+  step-uses it_goes_back roles all =
+      AllByRecursion-append P (undone roles.draining) (roles.serving ∷ []) (all-left P (undone roles.draining) (roles.serving ∷ target_channels roles.target) all) ((all-right P (undone roles.draining) (roles.serving ∷ target_channels roles.target) all).0, tt)
+  step-uses (it_leaves place) roles all =
+      AllByRecursion-append P (undone (still_draining (done_at place roles.draining))) (roles.serving ∷ target_channels roles.target)
+      (undone-still (done_at place roles.draining) (undone-done place roles.draining (all-left P (undone roles.draining) (roles.serving ∷ target_channels roles.target) all)))
+      (all-right P (undone roles.draining) (roles.serving ∷ target_channels roles.target) all)
+
+  -- a change that begins
+  awaited : (state : State) (t : Target) → target_role state ≡ Some (record { target = t; is_commanded = false }) → AllByRecursion P (awaited_in state) → P t.channel
+  awaited (Live reference (Preparing target)) t is all = subst (λ (x : TargetRole). P x.target.channel) (same_Some _ _ is) all.0
+  awaited (Live reference (Changing target)) t is all = absurd (let both : true ≡ false = ap (λ (x : TargetRole). x.is_commanded) (same_Some _ _ is) in cc)
+  awaited (Live reference Active) t is all = absurd cc
+  awaited (Live reference Draining) t is all = absurd cc
+  awaited WaitActivation t is all = absurd cc
+  awaited WaitEstablish t is all = absurd cc
+  awaited WaitConfirm t is all = absurd cc
+  awaited (Closed clearing) t is all = absurd cc
+  awaited Removed t is all = absurd cc
+
+  begin-uses : (begun : Option Target) (old : Roles) (next : Connection) → roles_of next ≡ with_target begun old → AllByRecursion P (used_in old) → AllByRecursion P (awaited_in next.state) → AllByRecursion P (used_in (roles_of next))
+  begin-uses None old next is all new = subst (λ (r : Roles). AllByRecursion P (used_in r)) (sym is) all
+  begin-uses (Some t) old next is all new =
+      subst (λ (r : Roles). AllByRecursion P (used_in r)) (sym is)
+      (AllByRecursion-append P (undone old.draining) (old.serving ∷ t.channel ∷ []) (all-left P (undone old.draining) (old.serving ∷ target_channels old.target) all)
+      ((all-right P (undone old.draining) (old.serving ∷ target_channels old.target) all).0, (awaited next.state t (ap (λ (r : Roles). r.target) is) new, tt)))
+
+  of-roles : (s : Connection) → AllByRecursion P (used_in (roles_of s)) → AllByRecursion P (used_channels s)
+  of-roles s all = subst (λ (cs : List Channel). AllByRecursion P (undone s.draining ++ s.serving ∷ cs)) (target_in-role s.state) all
+
+  to-roles : (s : Connection) → AllByRecursion P (used_channels s) → AllByRecursion P (used_in (roles_of s))
+  to-roles s all = subst (λ (cs : List Channel). AllByRecursion P (undone s.draining ++ s.serving ∷ cs)) (sym (target_in-role s.state)) all
+
+  changed-uses : (s : Connection) (input : Input) (offer : Option Channel) (r : Row) → ChangesRoles s input offer r → IsOpen r.next.state → AllByRecursion P (used_channels s) → AllByRecursion P (awaited_in r.next.state) → AllByRecursion P (used_channels r.next)
+  changed-uses s input offer r (goes_on was is on) stays_open all new = of-roles r.next (begin-uses on.begun (after_step (step_by input (roles_of s)) (roles_of s)) r.next on.roles (step-uses (step_by input (roles_of s)) (roles_of s) (to-roles s all)) new)
+  changed-uses s input offer r (ends was shut over) stays_open all new = absurd (shut stays_open)
+  changed-uses s input offer r (had_ended was shut nothing) stays_open all new = absurd (shut stays_open)
+
+  pub row-uses : (s : Connection) (input : Input) (offer : Option Channel) (r : Row) → Stands s → row_of s input offer ≡ Some r → IsOpen r.next.state → AllByRecursion P (used_channels s) → AllByRecursion P (awaited_in r.next.state) → AllByRecursion P (used_channels r.next)
+  row-uses s input offer r stands fits stays_open all new = changed-uses s input offer r (subst (ChangesRolesBy s input offer) fits (ChangesRoles-row s input offer stands)) stays_open all new

@@ -1,0 +1,252 @@
+-- What is on its way up from a channel, by what stations' messages bring.
+use Rattle.world_laws.proofs.Prelude.{◌≡◌, ◌≢◌, ℕ, ◌+◌, ◌≤◌, ◌-◌, ◌==◌, ◌&&◌, nat_eq, Bool, true, false, if◌then◌else◌, cond, List, [], ◌∷◌}
+use Rattle.world_laws.proofs.Prelude.{◌++◌, length, Some, refl, sym, ap, ◌∙◌, subst, arith, append_assoc}
+use Rattle.world_laws.proofs.Prelude.{length-append, AllByRecursion, flat_map, eqb-false, flat_map-append, append-nil, Channel, Place}
+use Rattle.world_laws.proofs.Prelude.{SWITCH_LINK, is_at, place_of, sapi_of, Zero, BaseState, data_indication, establish_indication}
+use Rattle.world_laws.proofs.Prelude.{Rsl, Tenure, brought, signalling_brought, Actors, Mobile, base_of, is_reached}
+use Rattle.world_laws.proofs.Prelude.{no_station, station_of, base-elsewhere, reached-up, up-right}
+use Rattle.world_laws.specs.LineUp.Places.{controls_in, controls_of, messages_in}
+use Rattle.world_laws.specs.LineUp.Places.Item.{released}
+use Rattle.world_laws.proofs.LineUp.Lines.{controls-append, messages_in-append}
+use Rattle.rsl_codec.specs.declared.rsl.Rsl.TheVariants as rsl
+use Rattle.world_model.specs.World.{Station}
+use Rattle.world_laws.specs.Acknowledged.{messages_up, read_of}
+use Rattle.world_laws.specs.ComingUp.{brings, coming_up, of_establishment, of_main}
+use Rattle.world_laws.specs.Lives.{initial_by, initials_up}
+use Rattle.world_laws.proofs.Sublists.{Sub, set-related, sub-append, sub-flat_map, sub-front, sub-itself, sub-length, sub-none, sub-nothing}
+use Rattle.world_laws.specs.Access.Coming.{data_by, data_up}
+use Rattle.world_laws.proofs.Access.Behind.{controls-sub}
+use Rattle.world_laws.proofs.Access.Passes.{IsPlain, Passes}
+use Rattle.world_laws.proofs.Acknowledged.{coming-read}
+
+-- ---- what comes of a channel is what a station's messages bring
+
+-- ---- its messages
+
+abbrev pub messages_by : ℕ → Rsl → List (List ℕ)
+messages_by channel m = messages_in (brings channel m)
+
+all-messages : (channel : ℕ) (ms : List Rsl) → messages_in (flat_map (brings channel) ms) ≡ flat_map (messages_by channel) ms
+all-messages channel [] = refl
+all-messages channel (m ∷ ms) = messages_in-append (brings channel m) (flat_map (brings channel) ms) ∙ ap (λ (xs : List (List ℕ)). messages_in (brings channel m) ++ xs) (all-messages channel ms)
+
+pub messages-read : (w : Actors) (at : Place) → messages_in (coming_up w at) ≡ flat_map (messages_by at.number) (messages_up w at.station)
+messages-read w at = ap messages_in (coming-read w at) ∙ all-messages at.number (messages_up w at.station)
+
+-- an initial message is one of them
+initial-or : (channel : ℕ) (m : Rsl) → Sub (initial_by channel m) (messages_by channel m)
+initial-or channel (rsl.EstablishIndication e) = by (e.channel == channel) where
+  by : (b : Bool) → Sub (if b then messages_in (of_establishment (sapi_of e.link) e.l3) else []) (messages_in (if b then of_establishment (sapi_of e.link) e.l3 else []))
+  by true = sub-itself (messages_in (of_establishment (sapi_of e.link) e.l3))
+  by false = sub-none []
+initial-or channel m = sub-none (messages_by channel m)
+
+-- and what a DATA INDICATION brings is one
+data-or : (channel : ℕ) (m : Rsl) → Sub (data_by channel m) (messages_by channel m)
+data-or channel (rsl.DataIndication d) = by (d.channel == channel) where
+  by : (b : Bool) → Sub (if b then messages_in (of_main (sapi_of d.link) d.l3) else []) (messages_in (if b then of_main (sapi_of d.link) d.l3 else []))
+  by true = sub-itself (messages_in (of_main (sapi_of d.link) d.l3))
+  by false = sub-none []
+data-or channel m = sub-none (messages_by channel m)
+
+-- some of what each message brings
+abbrev IsPart : (ℕ → Rsl → List (List ℕ)) → Type 0
+IsPart f = (channel : ℕ) (m : Rsl) → Sub (f channel m) (messages_by channel m)
+
+abbrev part_up : (ℕ → Rsl → List (List ℕ)) → Actors → Place → List (List ℕ)
+part_up f w at = flat_map (f at.number) (messages_up w at.station)
+
+all-part : (f : ℕ → Rsl → List (List ℕ)) → IsPart f → (channel : ℕ) (ms : List Rsl) → Sub (flat_map (f channel) ms) (flat_map (messages_by channel) ms)
+all-part f part channel [] = sub-none []
+all-part f part channel (m ∷ ms) = sub-append (part channel m) (all-part f part channel ms)
+
+part-none : (f : ℕ → Rsl → List (List ℕ)) → IsPart f → (w : Actors) (at : Place) → messages_in (coming_up w at) ≡ [] → part_up f w at ≡ []
+part-none f part w at none = sub-nothing (subst (Sub (part_up f w at)) (sym (messages-read w at) ∙ none) (all-part f part at.number (messages_up w at.station)))
+
+pub initials-none : (w : Actors) (at : Place) → messages_in (coming_up w at) ≡ [] → initials_up w at ≡ []
+initials-none w at none = part-none initial_by initial-or w at none
+
+pub data-none : (w : Actors) (at : Place) → messages_in (coming_up w at) ≡ [] → data_up w at ≡ []
+data-none w at none = part-none data_by data-or w at none
+
+-- ---- those of radio resource management
+
+-- each is an initial message, or a DATA INDICATION brings it
+controls-of-one : (channel : ℕ) (m : Rsl) → controls_of (messages_by channel m) ≡ controls_of (initial_by channel m) + controls_of (data_by channel m)
+controls-of-one channel (rsl.EstablishIndication e) = by (e.channel == channel) where
+  by : (b : Bool) → controls_of (messages_in (if b then of_establishment (sapi_of e.link) e.l3 else [])) ≡ controls_of (if b then messages_in (of_establishment (sapi_of e.link) e.l3) else []) + 0
+  by true = omega arith
+  by false = refl
+controls-of-one channel (rsl.DataIndication d) = by (d.channel == channel) where
+  by : (b : Bool) → controls_of (messages_in (if b then of_main (sapi_of d.link) d.l3 else [])) ≡ 0 + controls_of (if b then messages_in (of_main (sapi_of d.link) d.l3) else [])
+  by true = omega arith
+  by false = refl
+controls-of-one channel (rsl.RfChannelReleaseAck number) = by (number == channel) where
+  by : (b : Bool) → controls_of (messages_in (if b then released ∷ [] else [])) ≡ 0
+  by true = refl
+  by false = refl
+controls-of-one channel m = refl
+
+controls-of-all : (channel : ℕ) (ms : List Rsl) → controls_of (flat_map (messages_by channel) ms) ≡ controls_of (flat_map (initial_by channel) ms) + controls_of (flat_map (data_by channel) ms)
+controls-of-all channel [] = refl
+controls-of-all channel (m ∷ ms) =
+    let one = controls-of-one channel m in
+    let others = controls-of-all channel ms in
+    let a = controls-append (messages_by channel m) (flat_map (messages_by channel) ms) in
+    let b = controls-append (initial_by channel m) (flat_map (initial_by channel) ms) in
+    let c = controls-append (data_by channel m) (flat_map (data_by channel) ms) in
+    omega (arith, one, others, a, b, c)
+
+pub controls-up : (w : Actors) (at : Place) → controls_in (coming_up w at) ≡ controls_of (initials_up w at) + controls_of (data_up w at)
+controls-up w at = ap controls_of (messages-read w at) ∙ controls-of-all at.number (messages_up w at.station)
+
+-- ---- where something passes
+
+none-plain : (channel : ℕ) (ms : List Rsl) → AllByRecursion IsPlain ms → flat_map (messages_by channel) ms ≡ []
+none-plain channel [] all = refl
+none-plain channel (m ∷ ms) all = ap (λ (xs : List (List ℕ)). xs ++ flat_map (messages_by channel) ms) (all.0 channel) ∙ none-plain channel ms all.1
+
+pub messages-pass : {w v : Actors} (at : Place) → at.station ≢ SWITCH_LINK → Passes w v → Sub (messages_in (coming_up v at)) (messages_in (coming_up w at))
+messages-pass {w} {v} at is passes =
+    let a = passes.ups at.station is in
+    subst (λ (xs : List (List ℕ)). Sub xs (messages_in (coming_up w at))) (sym (messages-read v at))
+    (subst (Sub (flat_map (messages_by at.number) (messages_up v at.station)))
+    (flat_map-append (messages_by at.number) (messages_up w at.station) a.0 ∙ ap (λ (xs : List (List ℕ)). flat_map (messages_by at.number) (messages_up w at.station) ++ xs) (none-plain at.number a.0 a.1) ∙ append-nil (flat_map (messages_by at.number) (messages_up w at.station)) ∙ sym (messages-read w at))
+    (sub-flat_map (messages_by at.number) a.2))
+
+pub none-passes : {w v : Actors} (at : Place) → at.station ≢ SWITCH_LINK → Passes w v → messages_in (coming_up w at) ≡ [] → messages_in (coming_up v at) ≡ []
+none-passes {w} {v} at is passes none = sub-nothing (subst (Sub (messages_in (coming_up v at))) none (messages-pass at is passes))
+
+plain-part : (f : ℕ → Rsl → List (List ℕ)) → IsPart f → (channel : ℕ) (ms : List Rsl) → AllByRecursion IsPlain ms → flat_map (f channel) ms ≡ []
+plain-part f part channel ms all = sub-nothing (subst (Sub (flat_map (f channel) ms)) (none-plain channel ms all) (all-part f part channel ms))
+
+part-pass : (f : ℕ → Rsl → List (List ℕ)) → IsPart f → {w v : Actors} (at : Place) → at.station ≢ SWITCH_LINK → Passes w v → Sub (part_up f v at) (part_up f w at)
+part-pass f part {w} {v} at is passes =
+    let a = passes.ups at.station is in
+    subst (Sub (part_up f v at))
+    (flat_map-append (f at.number) (messages_up w at.station) a.0 ∙ ap (λ (xs : List (List ℕ)). part_up f w at ++ xs) (plain-part f part at.number a.0 a.1) ∙ append-nil (part_up f w at))
+    (sub-flat_map (f at.number) a.2)
+
+pub initials-pass : {w v : Actors} (at : Place) → at.station ≢ SWITCH_LINK → Passes w v → Sub (initials_up v at) (initials_up w at)
+initials-pass at is passes = part-pass initial_by initial-or at is passes
+
+pub data-pass : {w v : Actors} (at : Place) → at.station ≢ SWITCH_LINK → Passes w v → Sub (data_up v at) (data_up w at)
+data-pass at is passes = part-pass data_by data-or at is passes
+
+-- ---- a frame of SAPI 0
+
+-- the message that its station makes of it
+abbrev pub told_of : Mobile → ℕ → List ℕ → Rsl
+told_of p channel frame = if p.opens then establish_indication channel Zero (Some frame) else data_indication channel Zero frame
+
+told-base : (base : BaseState) (channel : ℕ) (frame : List ℕ) (b : Bool) → (signalling_brought base channel b frame).messages ≡ base.messages ++ (if b then establish_indication channel Zero (Some frame) else data_indication channel Zero frame) ∷ []
+told-base base channel frame true = refl
+told-base base channel frame false = refl
+
+sent-ups : (w : Actors) (p : Mobile) (tenure : Tenure) (frame : List ℕ) (n : ℕ) → Sub (messages_up (brought w p tenure.at Zero frame) n) (messages_up w n ++ told_of p tenure.at.number frame ∷ [])
+sent-ups w p tenure frame n =
+    subst (Sub (messages_up (brought w p tenure.at Zero frame) n)) (sym (append_assoc (flat_map (read_of n) w.inbox) (base_of w n).messages (told_of p tenure.at.number frame ∷ [])))
+    (sub-append (sub-itself (flat_map (read_of n) w.inbox))
+    (set-related (λ (a b : Station). Sub a.base.messages (b.base.messages ++ told_of p tenure.at.number frame ∷ [])) (λ x. sub-front x.base.messages (told_of p tenure.at.number frame ∷ [])) w.stations no_station (tenure.at.station - 1) (n - 1) (record (station_of w tenure.at.station) { base = signalling_brought (base_of w tenure.at.station) tenure.at.number p.opens frame })
+    (subst (λ (xs : List Rsl). Sub xs ((base_of w tenure.at.station).messages ++ told_of p tenure.at.number frame ∷ [])) (sym (told-base (base_of w tenure.at.station) tenure.at.number frame p.opens)) (sub-itself ((base_of w tenure.at.station).messages ++ told_of p tenure.at.number frame ∷ [])))))
+
+initial-apart : (p : Mobile) (channel other : ℕ) (frame : List ℕ) → (channel == other) ≡ false → initial_by other (told_of p channel frame) ≡ []
+initial-apart p channel other frame apart = by p.opens where
+  by : (b : Bool) → initial_by other (if b then establish_indication channel Zero (Some frame) else data_indication channel Zero frame) ≡ []
+  by true = ap (λ (b : Bool). cond b (frame ∷ []) []) apart
+  by false = refl
+
+initial-few : (p : Mobile) (channel other : ℕ) (frame : List ℕ) → length (initial_by other (told_of p channel frame)) ≤ 1
+initial-few p channel other frame = by p.opens (channel == other) refl where
+  opening : (c : Bool) → length (if c then frame ∷ [] else []) ≤ 1
+  opening true = omega arith
+  opening false = omega arith
+
+  by : (b c : Bool) → (channel == other) ≡ c → length (initial_by other (if b then establish_indication channel Zero (Some frame) else data_indication channel Zero frame)) ≤ 1
+  by true c is = opening (channel == other)
+  by false c is = omega arith
+
+-- of a mobile that sent its initial message
+initial-later : (p : Mobile) (channel other : ℕ) (frame : List ℕ) → p.opens ≡ false → initial_by other (told_of p channel frame) ≡ []
+initial-later p channel other frame sent = ap (λ (b : Bool). initial_by other (if b then establish_indication channel Zero (Some frame) else data_indication channel Zero frame)) sent
+
+data-apart-one : (p : Mobile) (channel other : ℕ) (frame : List ℕ) → (channel == other) ≡ false → data_by other (told_of p channel frame) ≡ []
+data-apart-one p channel other frame apart = by p.opens where
+  by : (b : Bool) → data_by other (if b then establish_indication channel Zero (Some frame) else data_indication channel Zero frame) ≡ []
+  by true = refl
+  by false = ap (λ (b : Bool). cond b (frame ∷ []) []) apart
+
+-- of a mobile that is still to send it
+data-opening : (p : Mobile) (channel other : ℕ) (frame : List ℕ) → p.opens ≡ true → data_by other (told_of p channel frame) ≡ []
+data-opening p channel other frame opens = ap (λ (b : Bool). data_by other (if b then establish_indication channel Zero (Some frame) else data_indication channel Zero frame)) opens
+
+data-few : (p : Mobile) (channel other : ℕ) (frame : List ℕ) → controls_of (data_by other (told_of p channel frame)) ≤ controls_of (frame ∷ [])
+data-few p channel other frame = by p.opens where
+  later : (c : Bool) → controls_of (if c then frame ∷ [] else []) ≤ controls_of (frame ∷ [])
+  later true = omega arith
+  later false = omega arith
+
+  by : (b : Bool) → controls_of (data_by other (if b then establish_indication channel Zero (Some frame) else data_indication channel Zero frame)) ≤ controls_of (frame ∷ [])
+  by true = omega arith
+  by false = later (channel == other)
+
+-- on another channel it brings nothing
+part-apart : (f : ℕ → Rsl → List (List ℕ)) (w : Actors) (p : Mobile) (tenure : Tenure) (frame : List ℕ) (c : Channel) → is_reached w tenure ≡ true → c.station ≢ SWITCH_LINK → is_at tenure.at c ≡ false
+    → ((tenure.at.number == c.number) ≡ false → f c.number (told_of p tenure.at.number frame) ≡ []) → Sub (part_up f (brought w p tenure.at Zero frame) (place_of c)) (part_up f w (place_of c))
+part-apart f w p tenure frame c reached c_is apart brings_none = by_both (nat_eq tenure.at.station c.station) refl where
+  v : Actors
+  v = brought w p tenure.at Zero frame
+
+  by_both : (b : Bool) → nat_eq tenure.at.station c.station ≡ b → Sub (part_up f v (place_of c)) (part_up f w (place_of c))
+  by_both true hit =
+      let number : (tenure.at.number == c.number) ≡ false = ap (λ (b : Bool). b && (tenure.at.number == c.number)) (sym hit) ∙ apart in
+      subst (Sub (part_up f v (place_of c)))
+      (flat_map-append (f c.number) (messages_up w c.station) (told_of p tenure.at.number frame ∷ []) ∙ ap (λ (xs : List (List ℕ)). part_up f w (place_of c) ++ (xs ++ [])) (brings_none number) ∙ append-nil (part_up f w (place_of c)))
+      (sub-flat_map (f c.number) (sent-ups w p tenure frame c.station))
+  by_both false miss =
+      subst (λ (b : BaseState). Sub (flat_map (f c.number) (flat_map (read_of c.station) w.inbox ++ b.messages)) (part_up f w (place_of c)))
+      (sym (base-elsewhere w c.station tenure.at.station (signalling_brought (base_of w tenure.at.station) tenure.at.number p.opens frame) c_is (up-right tenure.at.station w (reached-up w tenure reached).0).0 (λ is. eqb-false tenure.at.station c.station miss (sym is))))
+      (sub-itself (part_up f w (place_of c)))
+
+pub initials-apart : (w : Actors) (p : Mobile) (tenure : Tenure) (frame : List ℕ) (c : Channel) → is_reached w tenure ≡ true → c.station ≢ SWITCH_LINK → is_at tenure.at c ≡ false → Sub (initials_up (brought w p tenure.at Zero frame) (place_of c)) (initials_up w (place_of c))
+initials-apart w p tenure frame c reached c_is apart = part-apart initial_by w p tenure frame c reached c_is apart (initial-apart p tenure.at.number c.number frame)
+
+pub data-apart : (w : Actors) (p : Mobile) (tenure : Tenure) (frame : List ℕ) (c : Channel) → is_reached w tenure ≡ true → c.station ≢ SWITCH_LINK → is_at tenure.at c ≡ false → Sub (data_up (brought w p tenure.at Zero frame) (place_of c)) (data_up w (place_of c))
+data-apart w p tenure frame c reached c_is apart = part-apart data_by w p tenure frame c reached c_is apart (data-apart-one p tenure.at.number c.number frame)
+
+-- one more at most, where the mobile sent none
+pub initials-more : (w : Actors) (p : Mobile) (tenure : Tenure) (frame : List ℕ) (at : Place) → length (initials_up (brought w p tenure.at Zero frame) at) ≤ length (initials_up w at) + 1
+initials-more w p tenure frame at =
+    let sub = subst (λ (xs : List (List ℕ)). Sub (initials_up (brought w p tenure.at Zero frame) at) xs) (flat_map-append (initial_by at.number) (messages_up w at.station) (told_of p tenure.at.number frame ∷ [])) (sub-flat_map (initial_by at.number) (sent-ups w p tenure frame at.station)) in
+    let all = sub-length sub in
+    let one = initial-few p tenure.at.number at.number frame in
+    let sum = length-append (initials_up w at) (initial_by at.number (told_of p tenure.at.number frame) ++ []) in
+    let last = ap length (append-nil (initial_by at.number (told_of p tenure.at.number frame))) in
+    omega (arith, all, one, sum, last)
+
+-- no more, where it sent it
+pub initials-later : (w : Actors) (p : Mobile) (tenure : Tenure) (frame : List ℕ) (at : Place) → p.opens ≡ false → Sub (initials_up (brought w p tenure.at Zero frame) at) (initials_up w at)
+initials-later w p tenure frame at sent =
+    subst (Sub (initials_up (brought w p tenure.at Zero frame) at))
+    (flat_map-append (initial_by at.number) (messages_up w at.station) (told_of p tenure.at.number frame ∷ []) ∙ ap (λ (xs : List (List ℕ)). initials_up w at ++ (xs ++ [])) (initial-later p tenure.at.number at.number frame sent) ∙ append-nil (initials_up w at))
+    (sub-flat_map (initial_by at.number) (sent-ups w p tenure frame at.station))
+
+-- ---- what it brings that isn't initial
+
+data-sent : (w : Actors) (p : Mobile) (tenure : Tenure) (frame : List ℕ) (at : Place) → Sub (data_up (brought w p tenure.at Zero frame) at) (data_up w at ++ (data_by at.number (told_of p tenure.at.number frame) ++ []))
+data-sent w p tenure frame at =
+    subst (λ (xs : List (List ℕ)). Sub (data_up (brought w p tenure.at Zero frame) at) xs) (flat_map-append (data_by at.number) (messages_up w at.station) (told_of p tenure.at.number frame ∷ [])) (sub-flat_map (data_by at.number) (sent-ups w p tenure frame at.station))
+
+-- an initial message joins no others
+pub data-first : (w : Actors) (p : Mobile) (tenure : Tenure) (frame : List ℕ) (at : Place) → p.opens ≡ true → Sub (data_up (brought w p tenure.at Zero frame) at) (data_up w at)
+data-first w p tenure frame at opens =
+    subst (Sub (data_up (brought w p tenure.at Zero frame) at)) (ap (λ (xs : List (List ℕ)). data_up w at ++ (xs ++ [])) (data-opening p tenure.at.number at.number frame opens) ∙ append-nil (data_up w at)) (data-sent w p tenure frame at)
+
+-- another message joins them
+pub data-later : (w : Actors) (p : Mobile) (tenure : Tenure) (frame : List ℕ) (at : Place) → controls_of (data_up (brought w p tenure.at Zero frame) at) ≤ controls_of (data_up w at) + controls_of (frame ∷ [])
+data-later w p tenure frame at =
+    let all = controls-sub (data-sent w p tenure frame at) in
+    let sum = controls-append (data_up w at) (data_by at.number (told_of p tenure.at.number frame) ++ []) in
+    let last = ap controls_of (append-nil (data_by at.number (told_of p tenure.at.number frame))) in
+    let few = data-few p tenure.at.number at.number frame in
+    omega (arith, all, sum, last, few)

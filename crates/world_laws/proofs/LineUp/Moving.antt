@@ -1,0 +1,175 @@
+-- What holds while a connection lives is kept by its mobile's doings.
+use Rattle.world_laws.proofs.Prelude.{◌≡◌, ℕ, ◌+◌, ◌%◌, ◌≤◌, ◌⊎◌, Bool, true, false, ◌||◌, Option, Some, List, [], ◌∷◌, ◌++◌, length, refl}
+use Rattle.world_laws.proofs.Prelude.{sym, ap, ◌∙◌, append_assoc, cond, arith, inl, inr, filter, not, option_to_list, cases_Bool, cond-true}
+use Rattle.world_laws.proofs.Prelude.{cond-false, is_flow_message, with_number, is_control, without_control, waits, lent_message}
+use Rattle.world_laws.proofs.Prelude.{after_lending, after_resume, to_be_taken, outstanding_messages, DataLinkState, is_control-apart}
+use Rattle.dtap_codec.proofs.Numbers.{is_flow-with_number}
+use Rattle.mobile_end.proofs.GoingOn.{GoesOn-acknowledged, GoesOn-resumed, GoesOn-numbered, GoesOn-unnumbered}
+use Rattle.mobile_end.proofs.Numbering.{to_be_taken-waits, to_be_taken-lent_message, to_be_taken-acknowledged}
+use Rattle.world_laws.specs.LineUp.Places.{Item, Tenure, LineUp, flow, messages_in, part_of, parts_of, with_items, line, controls_of}
+use Rattle.world_laws.specs.LineUp.Places.{controls_in}
+use Rattle.world_laws.specs.LineUp.Places.Item.{brought}
+use Rattle.world_laws.specs.LineUp.Alive.{Alive, some_lost}
+use Rattle.world_laws.specs.LineUp.Alive.Follows.{rises}
+use Rattle.world_laws.specs.LineUp.Alive.Condition.{left_the_cell}
+use Rattle.world_laws.specs.LineUp.MobileStep.{MobileStep}
+use Rattle.world_laws.specs.LineUp.MobileStep.MobileStep.{sends_numbered, sends_other, taken_on_serving, taken_on_target, acknowledged}
+use Rattle.world_laws.specs.LineUp.MobileStep.MobileStep.{follows_command, loses_command, arrives, returns, dismissed_from_serving}
+use Rattle.world_laws.specs.LineUp.MobileStep.MobileStep.{dismissed_from_target}
+use Rattle.world_laws.proofs.LineUp.Lines.{messages_in-append, controls-append, parts-whole, parts-lost, parts-tail, part-push, bare_target}
+use Rattle.world_laws.proofs.LineUp.Lines.{last_part}
+use Rattle.world_laws.proofs.LineUp.Standing.{Stands-fewer, Stands-link, Stands-taken_on_serving, Stands-taken_on_target, Stands-follows}
+use Rattle.world_laws.proofs.LineUp.Standing.{Stands-arrives, Stands-returns, Stands-dismissed_from_serving, Stands-dismissed_from_target}
+use Rattle.world_laws.proofs.LineUp.Standing.{Stands-no_texts}
+use Rattle.world_laws.proofs.LineUp.Conditions.{Condition-intact, Condition-on_serving, Condition-on_target, Condition-follows}
+use Rattle.world_laws.proofs.LineUp.Conditions.{Condition-arrives, Condition-returns}
+use Rattle.world_laws.proofs.LineUp.Following.{Follows-rise, Follows-link, Follows-sent, Follows-taken}
+
+-- ---- control messages of the link
+
+-- a message of the flow isn't one
+pub flow-no_control : (x : List ℕ) → is_flow_message x ≡ true → is_control x ≡ false
+flow-no_control x flow =
+    elim (cases_Bool (is_control x)) [
+      | inl control ↦ let apart = is_control-apart x control in absurd cc
+      | inr other ↦ other
+    ]
+
+-- a message that isn't one waits
+pub controls-waits : (link : DataLinkState) (x : List ℕ) → is_control x ≡ false → controls_of (to_be_taken (waits link x)) ≤ controls_of (to_be_taken link)
+controls-waits link x other =
+    let sum = ap controls_of (to_be_taken-waits link x) ∙ controls-append (to_be_taken link) (x ∷ []) in
+    let none = ap length (cond-false (is_control x) (x ∷ []) [] other) in
+    omega arith
+
+-- one that is lent goes from the link to the channel
+controls-lent : (link : DataLinkState) (x : List ℕ) (items : List Item) → lent_message link ≡ Some x → controls_in (items ++ brought x ∷ []) + controls_of (to_be_taken (after_lending link)) ≡ controls_in items + controls_of (to_be_taken link)
+controls-lent link x items lent =
+    let there = ap controls_of (messages_in-append items (brought x ∷ [])) ∙ controls-append (messages_in items) (x ∷ []) in
+    let first : (x ∷ []) ++ to_be_taken (after_lending link) ≡ to_be_taken link =
+    ap (λ (message : Option (List ℕ)). option_to_list message ++ to_be_taken (after_lending link)) (sym lent) ∙ to_be_taken-lent_message link.waiting link.air in
+    let here = sym (controls-append (x ∷ []) (to_be_taken (after_lending link))) ∙ ap controls_of first in
+    omega arith
+
+-- behind a change of channel the new one is the only one
+without_control-none : (xs : List (List ℕ)) → controls_of (without_control xs) ≡ 0
+without_control-none [] = refl
+without_control-none (x ∷ xs) =
+    elim (cases_Bool (is_control x)) [
+      | inl control ↦ ap controls_of (cond-false (not (is_control x)) (x ∷ without_control xs) (without_control xs) (ap not control)) ∙ without_control-none xs
+      | inr other ↦
+          ap controls_of (cond-true (not (is_control x)) (x ∷ without_control xs) (without_control xs) (ap not other))
+          ∙ ap length (cond-false (is_control x) (x ∷ filter is_control (without_control xs)) (filter is_control (without_control xs)) other) ∙ without_control-none xs
+    ]
+
+controls-resumed : (link : DataLinkState) (control : List ℕ) → is_control control ≡ true → controls_of (to_be_taken (after_resume link control)) ≡ 1
+controls-resumed link control is =
+    let kept : List (List ℕ) = without_control (outstanding_messages link) in
+    let none = without_control-none (outstanding_messages link) in
+    let count = ap length (cond-true (is_control control) (control ∷ filter is_control kept) (filter is_control kept) is) in
+    omega arith
+
+-- ---- a message joins the line
+
+-- on the serving channel, where nothing came of the target
+joins_serving : (old : List Tenure) (t target : Tenure) (x : List ℕ) → some_lost old ≡ false → parts_of (target ∷ []) ≡ [] → parts_of (old ++ with_items t (t.items ++ brought x ∷ []) ∷ target ∷ []) ≡ parts_of (old ++ t ∷ target ∷ []) ++ flow (x ∷ [])
+joins_serving old t target x none bare =
+    let alone : (s : Tenure) → parts_of (s ∷ target ∷ []) ≡ part_of s = λ s. ap (λ (rest : List (List ℕ)). part_of s ++ cond s.is_lost [] rest) bare ∙ last_part s in
+    parts-whole old _ _ (flow (x ∷ [])) none
+    (alone (with_items t (t.items ++ brought x ∷ [])) ∙ part-push t x ∙ ap (λ (part : List (List ℕ)). part ++ flow (x ∷ [])) (sym (alone t)))
+
+-- on the target
+joins_target : (old : List Tenure) (serving t : Tenure) (x : List ℕ) → some_lost old ≡ false → serving.is_lost ≡ false → parts_of (old ++ serving ∷ with_items t (t.items ++ brought x ∷ []) ∷ []) ≡ parts_of (old ++ serving ∷ t ∷ []) ++ flow (x ∷ [])
+joins_target old serving t x none whole =
+    parts-whole old _ _ (flow (x ∷ [])) none
+    (parts-whole (serving ∷ []) (with_items t (t.items ++ brought x ∷ []) ∷ []) (t ∷ []) (flow (x ∷ [])) (ap (λ (b : Bool). b || false) whole)
+    (last_part (with_items t (t.items ++ brought x ∷ [])) ∙ part-push t x ∙ ap (λ (part : List (List ℕ)). part ++ flow (x ∷ [])) (sym (last_part t))))
+
+-- behind something that is missing it isn't on the line
+passes_target : (old : List Tenure) (serving t : Tenure) (x : List ℕ) → (some_lost old ≡ true) ⊎ (serving.is_lost ≡ true) → parts_of (old ++ serving ∷ with_items t (t.items ++ brought x ∷ []) ∷ []) ≡ parts_of (old ++ serving ∷ t ∷ [])
+passes_target old serving t x (inl some) = parts-lost old _ _ some
+passes_target old serving t x (inr lost) = parts-tail old _ _ (parts-lost (serving ∷ []) (with_items t (t.items ++ brought x ∷ []) ∷ []) (t ∷ []) (ap (λ (b : Bool). b || false) lost))
+
+pub Alive-mobile : {m : ℕ} {before after : LineUp} → MobileStep m before after → Alive m before → Alive m after
+Alive-mobile {m} (sends_numbered l x clear) alive = record {
+  follows = Follows-sent (x ∷ []) (GoesOn-numbered l.link x clear) alive.follows;
+  first = alive.first;
+  stands = Stands-link (controls-waits l.link (with_number (length l.sent % m) x) (flow-no_control (with_number (length l.sent % m) x) (is_flow-with_number (length l.sent % m) x ∙ clear.is_flow))) alive.stands;
+  condition = alive.condition;
+  bare = alive.bare;
+}
+Alive-mobile (sends_other l x apart other) alive = record {
+  follows = Follows-link (GoesOn-unnumbered l.link x apart) alive.follows;
+  first = alive.first;
+  stands = Stands-link (controls-waits l.link x other) alive.stands;
+  condition = alive.condition;
+  bare = alive.bare;
+}
+Alive-mobile (taken_on_serving l x lent whole) alive =
+    let bare : parts_of (l.target ∷ []) ≡ [] = bare_target l.target alive.bare (Stands-no_texts alive.stands) in
+    let front : List (List ℕ) = flow l.taken ++ flow l.out in
+    record {
+      follows =
+          Follows-taken (line l) _ l.link x lent
+          (λ intact. ap (λ (parts : List (List ℕ)). front ++ parts) (joins_serving l.old l.serving l.target x (Condition-intact intact alive.condition).0 bare)
+          ∙ sym (append_assoc front (parts_of (l.old ++ l.serving ∷ l.target ∷ [])) (flow (x ∷ []))))
+          (λ isnt. ap (λ (parts : List (List ℕ)). front ++ parts) (parts-lost l.old _ _ (Condition-on_serving isnt whole alive.condition)))
+          alive.follows;
+      first = alive.first;
+      stands = Stands-taken_on_serving (controls-lent l.link x l.serving.items lent) alive.stands;
+      condition = alive.condition;
+      bare = alive.bare;
+    }
+Alive-mobile (taken_on_target l x lent whole) alive =
+    let front : List (List ℕ) = flow l.taken ++ flow l.out in
+    record {
+      follows =
+          Follows-taken (line l) _ l.link x lent
+          (λ intact.
+          let none = Condition-intact intact alive.condition in
+          ap (λ (parts : List (List ℕ)). front ++ parts) (joins_target l.old l.serving l.target x none.0 none.1)
+          ∙ sym (append_assoc front (parts_of (l.old ++ l.serving ∷ l.target ∷ [])) (flow (x ∷ []))))
+          (λ isnt. ap (λ (parts : List (List ℕ)). front ++ parts) (passes_target l.old l.serving l.target x (Condition-on_target isnt whole alive.condition)))
+          alive.follows;
+      first = alive.first;
+      stands = Stands-taken_on_target (controls-lent l.link x l.target.items lent) alive.stands;
+      condition = alive.condition;
+      bare = alive.bare;
+    }
+Alive-mobile (acknowledged l) alive =
+    let same = ap controls_of (to_be_taken-acknowledged l.link.waiting l.link.air) in
+    record {
+      follows = Follows-link (GoesOn-acknowledged l.link) alive.follows;
+      first = alive.first;
+      stands = Stands-link (omega arith) alive.stands;
+      condition = alive.condition;
+      bare = alive.bare;
+    }
+Alive-mobile (follows_command l) alive = record { follows = alive.follows; first = alive.first; stands = Stands-follows alive.stands; condition = Condition-follows alive.condition; bare = alive.bare }
+Alive-mobile (loses_command l) alive = record {
+  follows = alive.follows;
+  first = alive.first;
+  stands = Stands-fewer (omega arith) (omega arith) (omega arith) (omega arith) (omega arith) alive.stands;
+  condition = alive.condition;
+  bare = alive.bare;
+}
+Alive-mobile (arrives l complete is) alive = record {
+  follows = Follows-link (GoesOn-resumed l.link complete is) alive.follows;
+  first = alive.first;
+  stands = Stands-arrives (controls-resumed l.link complete is) alive.stands;
+  condition = Condition-arrives alive.condition;
+  bare = alive.bare;
+}
+Alive-mobile (returns l failure is) alive = record {
+  follows = Follows-link (GoesOn-resumed l.link failure is) alive.follows;
+  first = alive.first;
+  stands = Stands-returns (controls-resumed l.link failure is) alive.stands;
+  condition = Condition-returns alive.condition;
+  bare = alive.bare;
+}
+Alive-mobile (dismissed_from_serving l) alive =
+    let rise = Follows-rise alive.follows in
+    record { follows = rises rise.0 rise.1; first = alive.first; stands = Stands-dismissed_from_serving alive.stands; condition = left_the_cell; bare = alive.bare }
+Alive-mobile (dismissed_from_target l) alive =
+    let rise = Follows-rise alive.follows in
+    record { follows = rises rise.0 rise.1; first = alive.first; stands = Stands-dismissed_from_target alive.stands; condition = left_the_cell; bare = alive.bare }

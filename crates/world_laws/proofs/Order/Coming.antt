@@ -1,0 +1,70 @@
+-- A connection that begins is coming to its mobile.
+use Rattle.world_laws.proofs.Prelude.{◌≡◌, ℕ, Bool, true, false, if◌then◌else◌, List, [], ◌∷◌, Some, refl, sym, ap, subst, AllByRecursion}
+use Rattle.world_laws.proofs.Prelude.{Connection, Zero, is_flow_message, to_be_taken, waits, after_number, new_mobile, Parameters, Event}
+use Rattle.world_laws.proofs.Prelude.{OutboxEntry, actors_after, rsl_in, Actors, Mobile, modulus_in, outbox_of}
+use Rattle.world_laws.specs.LineUp.Places.{controls_of}
+use Rattle.mobile_end.specs.GoesOn.{GoesOn}
+use Rattle.mobile_end.specs.Lawful.{is_initial}
+use Rattle.mobile_end.specs.Mobile.{after_connect, connected_mobile, idle_link, link_of, with_link}
+use Rattle.mobile_end.proofs.GoingOn.{GoesOn-new, GoesOn-numbered, GoesOn-unnumbered}
+use Rattle.mobile_end.proofs.Lives.{is_initial-clear}
+use Rattle.mobile_end.proofs.Numbering.{IsClear-flow}
+use Rattle.world_laws.specs.Access.Coming.{AssignsIn, behind_first, IsComing, IsNew}
+use Rattle.world_laws.specs.Access.Coming.Comes.{asks}
+use Rattle.world_laws.specs.Access.Requested.{AssignsAnother}
+use Rattle.world_laws.specs.Order.Beginning.{Begins, ConnectionsBeginComing, HasBegun}
+use Rattle.world_laws.specs.Order.Beginning.HasBegun.{begins, not_yet}
+use Rattle.world_laws.specs.Order.Unanswered.{IsAsItConnected}
+use Rattle.world_laws.proofs.Order.Beginning.{ConnectionsBegin-new}
+use Rattle.world_laws.proofs.Access.Turning.{another-assigns}
+use Rattle.world_laws.specs.References.Taken.{IsEarlyIn}
+use Rattle.world_laws.proofs.Events.{world}
+
+-- ---- a mobile as it connected
+
+-- its link begins with what its upper layers sent
+pub connected-goes : (m : ℕ) (initial : List ℕ) → is_initial initial ≡ true → GoesOn m (after_connect (new_mobile m) (Some initial)).sent [] (after_connect (new_mobile m) (Some initial)).zero
+connected-goes m initial lawful = by (is_flow_message initial) refl where
+  by : (b : Bool) → is_flow_message initial ≡ b
+      → GoesOn m (connected_mobile (if b then after_number (new_mobile m) initial else with_link (new_mobile m) Zero (waits (link_of (new_mobile m) Zero) initial))).sent []
+      (connected_mobile (if b then after_number (new_mobile m) initial else with_link (new_mobile m) Zero (waits (link_of (new_mobile m) Zero) initial))).zero
+  by true flow = GoesOn-numbered {m = m} {sent = []} {xs = []} idle_link initial (IsClear-flow initial (is_initial-clear initial lawful) flow) (GoesOn-new m)
+  by false apart = GoesOn-unnumbered {m = m} {sent = []} {xs = []} idle_link initial apart (GoesOn-new m)
+
+-- and nothing stands behind it
+connected-controls : (m : ℕ) (initial : List ℕ) → controls_of (behind_first (to_be_taken (after_connect (new_mobile m) (Some initial)).zero)) ≡ 0
+connected-controls m initial = by (is_flow_message initial) where
+  by : (b : Bool) → controls_of (behind_first (to_be_taken (connected_mobile (if b then after_number (new_mobile m) initial else with_link (new_mobile m) Zero (waits (link_of (new_mobile m) Zero) initial))).zero)) ≡ 0
+  by true = refl
+  by false = refl
+
+new-connected : (m : ℕ) (run : List Event) (mobile : ℕ) (p : Mobile) → IsAsItConnected m run mobile p → IsNew m p
+new-connected m run mobile p is = subst (IsNew m) (sym is.same) (record { opens = refl; goes_on = connected-goes m is.initial is.lawful; no_control = connected-controls m is.initial })
+
+-- ---- no one told it a channel
+
+another-all : (k : ℕ) (s : Connection) (station : ℕ) (entries : List OutboxEntry) → AllByRecursion (λ entry. AssignsAnother k (rsl_in entry.out.frame)) entries → AllByRecursion (AssignsIn k s station) entries
+another-all k s station [] all = tt
+another-all k s station (entry ∷ entries) all = (another-assigns k s station (rsl_in entry.out.frame) all.0, another-all k s station entries all.1)
+
+-- ---- the law
+
+begins-coming : (m : ℕ) (run : List Event) (v : Actors) (s : Connection) → Begins m run v s → IsComing m v s.request.access s
+begins-coming m run v s begun = record {
+  had = begun.had;
+  early = subst IsEarlyIn (sym begun.state) tt;
+  asked = refl;
+  one = begun.one;
+  found = begun.found;
+  comes = asks (ap (λ (p : Mobile). p.seat) begun.as_connected.same) (new-connected m run s.request.access begun.one begun.as_connected) begun.quiet.nothing_comes begun.quiet.none_commanded;
+  assigned = λ station. another-all s.request.access s station (outbox_of v station) (begun.none_names station);
+}
+
+pub ConnectionsBeginComing-new : (settings : Parameters) (done : List Event) (event : Event) → ConnectionsBeginComing settings done event
+ConnectionsBeginComing-new settings done event number allowed octets from_one past = by (ConnectionsBegin-new settings done event number allowed octets from_one past) where
+  v : Actors
+  v = actors_after (world settings done) event
+
+  by : HasBegun (Begins (modulus_in settings) done) v number → HasBegun (λ w s. IsComing (modulus_in settings) w s.request.access s) v number
+  by (not_yet still) = not_yet still
+  by (begins s is begun) = begins s is (begins-coming (modulus_in settings) done v s begun)

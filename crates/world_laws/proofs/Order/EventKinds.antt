@@ -1,0 +1,70 @@
+-- Events by who takes part: the controller, the switch that takes, a station that takes, a link that breaks, or none of these.
+use Rattle.world_laws.proofs.Prelude.{◌≡◌, ◌⊎◌, inl, ℕ, Bool, true, false, if◌then◌else◌, [], refl, sym, ap, subst, SWITCH_LINK}
+use Rattle.world_laws.proofs.Prelude.{AllByRecursion, Event, BaseTakes, Handle, SwitchTakes, Tick, BaseDown, OutboxEntry, actors_after}
+use Rattle.world_laws.proofs.Prelude.{outputs, put, to_link, step_at, Actors, is_up, outbox_of, false≢true}
+use Rattle.world_laws.specs.Ended.{DeliversAt, PutsNoMore}
+use Rattle.world_laws.specs.Lives.{IsUnheard}
+use Rattle.world_laws.specs.Staying.{DeliversFirst, carried_for, is_beside_relay}
+use Rattle.world_laws.specs.Handling.Faring.{is_of_controller}
+
+pub data Kind (w : Actors) (number : ℕ) : Event → Type 0 where
+  handles : Kind w number Handle
+  ticks : (ms : ℕ) → Kind w number (Tick ms)
+  switch_takes : Kind w number SwitchTakes
+  station_takes : (station : ℕ) → Kind w number (BaseTakes station)
+  breaks : (source : ℕ) → Kind w number (BaseDown source)
+  beside : {event : Event} → is_beside_relay event ≡ true → (is_of_controller event ≡ true → ⊥) → step_at w event ≡ [] → outputs w event ≡ [] → DeliversAt w number event → Kind w number event
+
+pub kind : (w : Actors) (number : ℕ) (event : Event) → Kind w number event
+kind w number (BaseTakes station) = station_takes station
+kind w number Handle = handles
+kind w number SwitchTakes = switch_takes
+kind w number (Tick ms) = ticks ms
+kind w number (BaseDown source) = breaks source
+kind w number event = beside refl false≢true refl refl tt
+
+-- ---- the controller works, or it takes and puts nothing
+
+pub data Working (w : Actors) (event : Event) : Type 0 where
+  works : is_of_controller event ≡ true → Working w event
+  rests : (is_of_controller event ≡ true → ⊥) → step_at w event ≡ [] → outputs w event ≡ [] → Working w event
+
+pub working : {w : Actors} {number : ℕ} {event : Event} → Kind w number event → Working w event
+working handles = works refl
+working (ticks ms) = works refl
+working switch_takes = rests false≢true refl refl
+working (station_takes station) = rests false≢true refl refl
+working (breaks source) = rests false≢true refl refl
+working (beside is not none nothing delivers) = rests not none nothing
+
+-- ---- the switch takes what was put, or what it takes is of a connection that it never hears of
+
+pub delivers-or : {w : Actors} {number : ℕ} {event : Event} → Kind w number event → DeliversFirst w number (outbox_of w SWITCH_LINK) ⊎ IsUnheard (actors_after w SwitchTakes) number → DeliversAt w number event ⊎ IsUnheard (actors_after w event) number
+delivers-or handles or = inl tt
+delivers-or (ticks ms) or = inl tt
+delivers-or switch_takes or = or
+delivers-or (station_takes station) or = inl tt
+delivers-or (breaks source) or = inl tt
+delivers-or (beside is not none nothing delivers) or = inl delivers
+
+pub delivers-by : {w : Actors} {number : ℕ} {event : Event} → Kind w number event → DeliversFirst w number (outbox_of w SWITCH_LINK) → DeliversAt w number event
+delivers-by handles first = tt
+delivers-by (ticks ms) first = tt
+delivers-by switch_takes first = first
+delivers-by (station_takes station) first = tt
+delivers-by (breaks source) first = tt
+delivers-by (beside is not none nothing delivers) first = delivers
+
+-- ---- nothing is put
+
+pub none-put : (w : Actors) (event : Event) (number : ℕ) → put SWITCH_LINK w event ≡ [] → PutsNoMore w number event
+none-put w event number none = subst (AllByRecursion (λ (entry : OutboxEntry). carried_for number entry.out ≡ [])) (sym none) tt
+
+pub quiet-puts : (w : Actors) (event : Event) (number : ℕ) → outputs w event ≡ [] → PutsNoMore w number event
+quiet-puts w event number none = none-put w event number (by (is_up w SWITCH_LINK)) where
+  by : (b : Bool) → (if b then to_link SWITCH_LINK (outputs w event) else []) ≡ []
+  by true = ap (to_link SWITCH_LINK) none
+  by false = refl
+
+pub down-puts : (w : Actors) (event : Event) (number : ℕ) → is_up w SWITCH_LINK ≡ false → PutsNoMore w number event
+down-puts w event number down = none-put w event number (ap (λ (b : Bool). if b then to_link SWITCH_LINK (outputs w event) else []) down)

@@ -1,0 +1,435 @@
+-- The links of a connection's channels are up; and nothing comes of a link behind its end.
+use Rattle.world_laws.proofs.Prelude.{◌≡◌, ◌≢◌, ℕ, zero, suc, ◌+◌, ◌-◌, ◌==◌, nat_eq, Bool, true, false, cond, if◌then◌else◌, List, [], ◌∷◌}
+use Rattle.world_laws.proofs.Prelude.{◌++◌, get_or, length, map, option_to_list, replicate, unwrap_or, Option, Some, None, refl, sym, ap}
+use Rattle.world_laws.proofs.Prelude.{◌∙◌, subst, inl, inr, true≢false, cases_Bool, cond-false, eqb-true, eqb-false, ne_eqb, eq-eqb}
+use Rattle.world_laws.proofs.Prelude.{append-nil, filter-append, AllByRecursion, Sccp, Channel, SWITCH_LINK, AllByRecursion-append}
+use Rattle.world_laws.proofs.Prelude.{Connection, roles_of, used_channels, IsOpen, connection_of, Owns, OwnsOpen, is_link_up, links_with}
+use Rattle.world_laws.proofs.Prelude.{step_goes, life_owns, Step, Controller, Turn, hears, Frame, BaseState, after_take_down, first_message}
+use Rattle.world_laws.proofs.Prelude.{first_of_messages, Item, What, Rsl, AreAllowed, CellParameters, Parameters, Event, Connect}
+use Rattle.world_laws.proofs.Prelude.{BasePush, Handle}
+use Rattle.world_laws.proofs.Prelude.{Tick, BaseDown, Tenure, actors_after, actors_after_all}
+use Rattle.world_laws.proofs.Prelude.{after_connecting, first_of, after_base_push, after_break, handled, pushed_by_station}
+use Rattle.world_laws.proofs.Prelude.{pushed_by_switch, station_item, switch_item, target_in, with_turn, all_steps, Actors, Link, base_of}
+use Rattle.world_laws.proofs.Prelude.{broken_link, is_up, new_actors, with_base, new_link, no_station, stations_from, with_link, Plain}
+use Rattle.world_laws.proofs.Prelude.{base-elsewhere, base-there, as_before, ends_now, inbox-goes, after-taken, broken-leads, connect-leads}
+use Rattle.world_laws.proofs.Prelude.{turn-leads, LivesByTable-new, all_join, changed_link}
+use Rattle.std.proofs.lemmas.Option.{unwrap_or-slice_get}
+use Rattle.conn_rules.proofs.RolesApart.{channels_of-roles}
+use Rattle.controller_model.specs.LifeLaws.Owning.{LinkedOf}
+use Rattle.controller_model.proofs.LifeLaws.Beside.{other_link}
+use Rattle.controller_model.proofs.LifeLaws.OwningLife.{life_linked}
+use Rattle.controller_model.specs.declared.step.Step.TheVariants as steps
+use Rattle.controller_model.specs.Life.{life, take, tick}
+use Rattle.ruled_relay.specs.declared.item.What.TheVariants as whats
+use Rattle.world_model.specs.Life.{event_after}
+use Rattle.world_model.specs.Queues.{made_item, of_source}
+use Rattle.world_model.proofs.Honesty.{pushing}
+use Rattle.world_model.proofs.Honesty.Plain.{next}
+use Rattle.world_model.proofs.Outboxes.{other_link as link-else}
+use Rattle.world_laws.specs.Owners.LinkEnds.{EndsOnce, EndsWithDown, LinksEndOnce, LinksOfChannelsAreUp, down_of}
+use Rattle.world_laws.proofs.Owners.Making.{connects, is_plain, plain-quiet}
+use Rattle.world_laws.proofs.Owners.OneEach.{inbox-same, plain-pushes}
+use Rattle.world_laws.proofs.Events.{world}
+
+-- ---- the links of a connection
+
+pub owns-of : (settings : Parameters) (ss : List Step) (s : Connection) → AreAllowed settings → connection_of (life settings ss).next s.number ≡ Some s → IsOpen s.state → Owns (life settings ss).next.channels (life settings ss).next.links s.number (roles_of s)
+owns-of settings ss s allowed there is_open = subst (OwnsOpen (life settings ss).next.channels (life settings ss).next.links s.number) there (life_owns settings ss s.number allowed) is_open
+
+pub LinksOfChannelsAreUp-new : (settings : Parameters) (events : List Event) → LinksOfChannelsAreUp settings events
+LinksOfChannelsAreUp-new settings events s allowed had =
+    let w : Actors = world settings events in
+    let ss : List Step = all_steps (new_actors settings) events in
+    let c : Controller = (life settings ss).next in
+    let lives : w.controller ≡ c = LivesByTable-new settings events in
+    let there : connection_of c s.number ≡ Some s = subst (λ (d : Controller). connection_of d s.number ≡ Some s) lives had.there in
+    let owns : Owns c.channels c.links s.number (roles_of s) = owns-of settings ss s allowed there had.is_open in
+    let linked : hears c SWITCH_LINK ≡ true = subst (LinkedOf (hears c SWITCH_LINK)) there (life_linked settings ss s.number had.from_one) in
+    record {
+      switch = subst (λ (d : Controller). hears d SWITCH_LINK ≡ true) (sym lives) linked;
+      stations = subst (λ (d : Controller). AllByRecursion (λ (x : Channel). hears d x.station ≡ true) (used_channels s)) (sym lives)
+          (subst (AllByRecursion (λ (x : Channel). hears c x.station ≡ true)) (channels_of-roles s) owns.linked);
+    }
+
+-- ---- lists of items
+
+abbrev NoneIsDown : ℕ → List Item → Type 0
+NoneIsDown source items = AllByRecursion (λ item. item ≢ down_of source) items
+
+none-behind : (source : ℕ) (xs ys : List Item) → NoneIsDown source xs → EndsWithDown source ys → EndsWithDown source (xs ++ ys)
+none-behind source [] ys none ends = ends
+none-behind source (x ∷ xs) ys none ends = ((λ is. absurd (none.0 is)), none-behind source xs ys none.1 ends)
+
+none-ends : (source : ℕ) (xs : List Item) → NoneIsDown source xs → EndsWithDown source xs
+none-ends source [] none = tt
+none-ends source (x ∷ xs) none = ((λ is. absurd (none.0 is)), none-ends source xs none.1)
+
+of-both : (source : ℕ) (xs ys : List Item) → of_source source xs ≡ [] → of_source source ys ≡ [] → of_source source (xs ++ ys) ≡ []
+of-both source xs ys none none_too = filter-append (λ (item : Item). item.source == source) xs ys ∙ ap (λ (items : List Item). items ++ of_source source ys) none ∙ none_too
+
+others-behind : (source : ℕ) (xs ys : List Item) → of_source source ys ≡ [] → NoneIsDown source ys → EndsWithDown source xs → EndsWithDown source (xs ++ ys)
+others-behind source [] ys others none ends = none-ends source ys none
+others-behind source (x ∷ xs) ys others none ends = ((λ is. of-both source xs ys (ends.0 is) others), others-behind source xs ys others none ends.1)
+
+of-behind : (source : ℕ) (x : Item) (xs : List Item) → of_source source (x ∷ xs) ≡ [] → of_source source xs ≡ []
+of-behind source x xs none = by (x.source == source) none where
+  by : (b : Bool) → cond b (x ∷ of_source source xs) (of_source source xs) ≡ [] → of_source source xs ≡ []
+  by true is = absurd cc
+  by false is = is
+
+other-source : (source : ℕ) (item : Item) → (item.source == source) ≡ false → of_source source (item ∷ []) ≡ []
+other-source source item differs = cond-false _ (item ∷ []) [] differs
+
+other-down : (source : ℕ) (item : Item) → (item.source == source) ≡ false → item ≢ down_of source
+other-down source item differs is = true≢false (sym (eq-eqb item.source source (ap (λ (i : Item). i.source) is)) ∙ differs)
+
+pub frame-down : (source : ℕ) (item : Item) (frame : Frame) → item.what ≡ whats.Frame frame → item ≢ down_of source
+frame-down source item frame is same = never (sym is ∙ ap (λ (i : Item). i.what) same) where
+  never : whats.Frame frame ≡ whats.Down → ⊥
+  never both = absurd cc
+
+-- ---- an event that leaves the links
+
+record Leaves (source : ℕ) (w v : Actors) : Type 0 where
+  up : is_up v source ≡ is_up w source
+  hearing : hears v.controller source ≡ hears w.controller source
+  more : List Item
+  inbox : v.inbox ≡ w.inbox ++ more
+  frames : NoneIsDown source more
+  others : is_up w source ≡ false → of_source source more ≡ []
+  switch : source ≡ SWITCH_LINK → is_up w source ≡ false → w.switch_made ≡ [] → v.switch_made ≡ []
+  station : source ≢ SWITCH_LINK → is_up w source ≡ false → (base_of w source).messages ≡ [] → (base_of v source).messages ≡ []
+
+leaves-ends : (source : ℕ) (w v : Actors) → Leaves source w v → EndsOnce w source → EndsOnce v source
+leaves-ends source w v leaves ends = record {
+  last = subst (EndsWithDown source) (sym leaves.inbox) (by (is_up w source) refl);
+  none_yet = λ up. subst (NoneIsDown source) (sym leaves.inbox) (AllByRecursion-append (λ (item : Item). item ≢ down_of source) w.inbox leaves.more (ends.none_yet (sym leaves.up ∙ up)) leaves.frames);
+  switch_made = λ is down. leaves.switch is (sym leaves.up ∙ down) (ends.switch_made is (sym leaves.up ∙ down));
+  station_made = λ is down. leaves.station is (sym leaves.up ∙ down) (ends.station_made is (sym leaves.up ∙ down));
+  broke = λ deaf. leaves.up ∙ ends.broke (sym leaves.hearing ∙ deaf);
+  over = λ deaf.
+      let was = sym leaves.hearing ∙ deaf in
+      ap (of_source source) leaves.inbox ∙ of-both source w.inbox leaves.more (ends.over was) (leaves.others (ends.broke was));
+} where
+  by : (b : Bool) → is_up w source ≡ b → EndsWithDown source (w.inbox ++ leaves.more)
+  by true up = none-behind source w.inbox leaves.more (ends.none_yet up) (none-ends source leaves.more leaves.frames)
+  by false down = others-behind source w.inbox leaves.more (leaves.others down) leaves.frames ends.last
+
+plain-leaves : (source : ℕ) (w : Actors) (event : Event) → is_plain event ≡ true → Leaves source w (actors_after w event)
+plain-leaves source w event is =
+    let quiet = plain-quiet w event is in
+    let nothing = plain-pushes w event is in
+    record {
+      up = quiet.links source;
+      hearing = ap (λ (c : Controller). hears c source) quiet.controller;
+      more = [];
+      inbox = inbox-same w event nothing.0 nothing.1 ∙ sym (append-nil w.inbox);
+      frames = tt;
+      others = λ down. refl;
+      switch = λ same down empty. quiet.switch (ap (is_up w) (sym same) ∙ down) ∙ empty;
+      station = λ differs down empty. quiet.silent source differs down empty;
+    }
+
+stays-leaves : (source : ℕ) (w : Actors) → Leaves source w w
+stays-leaves source w = record { up = refl; hearing = refl; more = []; inbox = sym (append-nil w.inbox); frames = tt; others = λ down. refl; switch = λ same down empty. empty; station = λ differs down empty. empty }
+
+connect-leaves : (source : ℕ) (w : Actors) (number station : ℕ) (initial : List ℕ) (accepts : Bool) → Leaves source w (actors_after w (Connect number station initial accepts))
+unfolding event_after
+connect-leaves source w number station initial accepts =
+    after-taken (Leaves source w) (after_connecting w number station initial accepts) w
+    (connect-leads (Leaves source w) w number station initial accepts (λ may.
+    let now = connects w number station initial accepts may in
+    record {
+      up = refl;
+      hearing = refl;
+      more = [];
+      inbox = sym (append-nil w.inbox);
+      frames = tt;
+      others = λ down. refl;
+      switch = λ same down empty. empty;
+      station = λ differs down empty. now.silent source differs down empty;
+    })) (stays-leaves source w)
+
+-- ---- a push
+
+first-none : (messages : List Rsl) → messages ≡ [] → first_of_messages messages ≡ None
+first-none messages is = ap first_of_messages is
+
+push-leaves : (source other : ℕ) (w : Actors) → EndsOnce w source → Leaves source w (actors_after w (BasePush other))
+unfolding event_after
+push-leaves source other w ends = record {
+  up = up;
+  hearing = hearing;
+  more = made_item w other;
+  inbox = sym (inbox-goes w (BasePush other));
+  frames = frames;
+  others = λ down. others down;
+  switch = λ same down empty. switch empty;
+  station = λ differs down empty. station differs empty;
+} where
+  v : Actors
+  v = unwrap_or (after_base_push w other) w
+
+  Same : Actors → Type 0
+  Same u = (u.links ≡ w.links) × (u.controller ≡ w.controller)
+
+  made-same : (o : Option Rsl) → Same (unwrap_or (pushed_by_station other o w) w)
+  made-same None = (refl, refl)
+  made-same (Some message) = (refl, refl)
+
+  switch-same : (made : List Sccp) → Same (unwrap_or (pushed_by_switch made w) w)
+  switch-same [] = (refl, refl)
+  switch-same (first ∷ rest) = (refl, refl)
+
+  both : (b : Bool) → Same (unwrap_or (if b then pushed_by_switch w.switch_made w else pushed_by_station other (first_message (base_of w other)) w) w)
+  both true = switch-same w.switch_made
+  both false = made-same (first_message (base_of w other))
+
+  up : is_up v source ≡ is_up w source
+  up = ap (λ (links : List Link). (get_or links source broken_link).up) (both (other == SWITCH_LINK)).0
+
+  hearing : hears v.controller source ≡ hears w.controller source
+  hearing = ap (λ (c : Controller). hears c source) (both (other == SWITCH_LINK)).1
+
+  switch-frames : (made : List Sccp) → NoneIsDown source (map switch_item (first_of made))
+  switch-frames [] = tt
+  switch-frames (first ∷ rest) = (frame-down source (switch_item first) _ refl, tt)
+
+  station-frames : (o : Option Rsl) → NoneIsDown source (map (station_item other) (option_to_list o))
+  station-frames None = tt
+  station-frames (Some message) = (frame-down source (station_item other message) _ refl, tt)
+
+  frames-by : (b : Bool) → NoneIsDown source (if b then map switch_item (first_of w.switch_made) else map (station_item other) (option_to_list (first_message (base_of w other))))
+  frames-by true = switch-frames w.switch_made
+  frames-by false = station-frames (first_message (base_of w other))
+
+  frames : NoneIsDown source (made_item w other)
+  frames = frames-by (other == SWITCH_LINK)
+
+  switch-of : (made : List Sccp) → (source ≡ SWITCH_LINK → made ≡ []) → of_source source (map switch_item (first_of made)) ≡ []
+  switch-of [] none = refl
+  switch-of (first ∷ rest) none = other-source source (switch_item first) (ne_eqb SWITCH_LINK source (λ same. absurd (let empty = none (sym same) in cc)))
+
+  station-of : (o : Option Rsl) → (source ≡ other → o ≡ None) → of_source source (map (station_item other) (option_to_list o)) ≡ []
+  station-of None none = refl
+  station-of (Some message) none = other-source source (station_item other message) (ne_eqb other source (λ same. absurd (let empty = none (sym same) in cc)))
+
+  others-by : is_up w source ≡ false → (b : Bool) → (other == SWITCH_LINK) ≡ b → of_source source (if b then map switch_item (first_of w.switch_made) else map (station_item other) (option_to_list (first_message (base_of w other)))) ≡ []
+  others-by down true is = switch-of w.switch_made (λ same. ends.switch_made same down)
+  others-by down false is = station-of (first_message (base_of w other)) (λ same. ap (λ (n : ℕ). first_message (base_of w n)) (sym same) ∙ first-none (base_of w source).messages (ends.station_made (λ switch. eqb-false other SWITCH_LINK is (sym same ∙ switch)) down))
+
+  others : is_up w source ≡ false → of_source source (made_item w other) ≡ []
+  others down = others-by down (other == SWITCH_LINK) refl
+
+  switch-left : (made : List Sccp) → w.switch_made ≡ [] → made ≡ [] → (unwrap_or (pushed_by_switch made w) w).switch_made ≡ []
+  switch-left [] empty is = empty
+  switch-left (first ∷ rest) empty is = absurd cc
+
+  station-left : (o : Option Rsl) → w.switch_made ≡ [] → (unwrap_or (pushed_by_station other o w) w).switch_made ≡ []
+  station-left None empty = empty
+  station-left (Some message) empty = empty
+
+  switch-by : (b : Bool) → w.switch_made ≡ [] → (unwrap_or (if b then pushed_by_switch w.switch_made w else pushed_by_station other (first_message (base_of w other)) w) w).switch_made ≡ []
+  switch-by true empty = switch-left w.switch_made empty empty
+  switch-by false empty = station-left (first_message (base_of w other)) empty
+
+  switch : w.switch_made ≡ [] → v.switch_made ≡ []
+  switch empty = switch-by (other == SWITCH_LINK) empty
+
+  station-by : source ≢ SWITCH_LINK → Plain source w (BasePush other) v → (base_of w source).messages ≡ [] → (base_of v source).messages ≡ []
+  station-by differs (as_before same nothing) empty = ap (λ (b : BaseState). b.messages) same ∙ empty
+  station-by differs (next message first is gave) empty = absurd (let both : None ≡ Some message = sym (first-none (base_of w source).messages empty) ∙ first in cc)
+  station-by differs (ends_now down left nothing) empty = left
+
+  station : source ≢ SWITCH_LINK → (base_of w source).messages ≡ [] → (base_of v source).messages ≡ []
+  station differs empty = station-by differs (pushing source other w differs) empty
+
+-- ---- a break
+
+record Broken (source other : ℕ) (w v : Actors) : Type 0 where
+  links : v.links ≡ (with_link other broken_link w).links
+  controller : v.controller ≡ w.controller
+  inbox : v.inbox ≡ w.inbox ++ down_of other ∷ []
+  switch_now : source ≡ SWITCH_LINK → other ≡ source → v.switch_made ≡ []
+  switch_left : source ≡ SWITCH_LINK → w.switch_made ≡ [] → v.switch_made ≡ []
+  station_now : source ≢ SWITCH_LINK → other ≡ source → (base_of v source).messages ≡ []
+  station_left : source ≢ SWITCH_LINK → (base_of w source).messages ≡ [] → (base_of v source).messages ≡ []
+
+broken-ends : (source other : ℕ) (w v : Actors) → Broken source other w v → is_up w other ≡ true → EndsOnce w source → EndsOnce v source
+broken-ends source other w v broken up ends = elim (cases_Bool (nat_eq other source)) [
+  | inl hit ↦ own (eqb-true other source hit)
+  | inr miss ↦ leaves-ends source w v (record {
+    up = ap (λ (links : List Link). (get_or links source broken_link).up) broken.links ∙ ap (λ (l : Link). l.up) (link-else w source other broken_link (λ same. eqb-false other source miss (sym same)));
+    hearing = ap (λ (c : Controller). hears c source) broken.controller;
+    more = down_of other ∷ [];
+    inbox = broken.inbox;
+    frames = (other-down source (down_of other) miss, tt);
+    others = λ down. other-source source (down_of other) miss;
+    switch = λ same down empty. broken.switch_left same empty;
+    station = λ differs down empty. broken.station_left differs empty;
+  }) ends
+] where
+  own : other ≡ source → EndsOnce v source
+  own same =
+      let was_up : is_up w source ≡ true = ap (is_up w) (sym same) ∙ up in
+      let down : is_up v source ≡ false = ap (λ (links : List Link). (get_or links source broken_link).up) broken.links
+      ∙ ap (λ (n : ℕ). is_up (with_link n broken_link w) source) same ∙ ap (λ (l : Link). l.up) (changed_link w.links source broken_link was_up) in
+      record {
+        last = subst (EndsWithDown source) (sym broken.inbox) (none-behind source w.inbox (down_of other ∷ []) (ends.none_yet was_up) ((λ is. refl), tt));
+        none_yet = λ now_up. absurd (true≢false (sym now_up ∙ down));
+        switch_made = λ switch _. broken.switch_now switch same;
+        station_made = λ differs _. broken.station_now differs same;
+        broke = λ deaf. down;
+        over = λ deaf. absurd (true≢false (sym was_up ∙ ends.broke (ap (λ (c : Controller). hears c source) (sym broken.controller) ∙ deaf)));
+      }
+
+break-ends : (source other : ℕ) (w : Actors) → EndsOnce w source → EndsOnce (actors_after w (BaseDown other)) source
+unfolding event_after
+break-ends source other w ends =
+    after-taken (λ (v : Actors). EndsOnce v source) (after_break w other) w
+    (broken-leads (λ (v : Actors). EndsOnce v source) w other
+    (λ up is. broken-ends source other w _ (record {
+      links = refl;
+      controller = refl;
+      inbox = refl;
+      switch_now = λ switch same. refl;
+      switch_left = λ switch empty. refl;
+      station_now = λ differs same. absurd (differs (sym same ∙ is));
+      station_left = λ differs empty. empty;
+    }) up ends)
+    (λ up other_is. broken-ends source other w _ (record {
+      links = refl;
+      controller = refl;
+      inbox = refl;
+      switch_now = λ switch same. absurd (other_is (same ∙ switch));
+      switch_left = λ switch empty. empty;
+      station_now = λ differs same. subst (λ (n : ℕ). (base_of (with_base other (after_take_down (base_of (with_link other broken_link w) other)) (with_link other broken_link w)) n).messages ≡ []) same (taken-down (with_link other broken_link w));
+      station_left = λ differs empty. elim (cases_Bool (nat_eq other source)) [
+        | inl hit ↦ subst (λ (n : ℕ). (base_of (with_base other (after_take_down (base_of (with_link other broken_link w) other)) (with_link other broken_link w)) n).messages ≡ []) (eqb-true other source hit) (taken-down (with_link other broken_link w))
+        | inr miss ↦ ap (λ (b : BaseState). b.messages) (base-elsewhere (with_link other broken_link w) source other _ differs other_is (λ same. eqb-false other source miss (sym same))) ∙ empty
+      ];
+    }) up ends)) ends
+  where
+    taken-down : (u : Actors) → (base_of (with_base other (after_take_down (base_of u other)) u) other).messages ≡ []
+    taken-down u = elim (base-there u other (after_take_down (base_of u other))) [
+      | inl there ↦ ap (λ (b : BaseState). b.messages) there
+      | inr nowhere ↦ ap (λ (b : BaseState). b.messages) nowhere.0
+    ]
+
+-- ---- the controller works
+
+-- the controller learns that a link broke by the end of the link alone
+what-now : (up : Bool) (from source : ℕ) (what : What) (c : Controller) → is_link_up (links_with up from what c) source ≡ false → is_link_up c.links source ≡ true → (what ≡ whats.Down) × (from ≡ source)
+what-now true from source whats.Down c now was = elim (cases_Bool (nat_eq from source)) [
+  | inl hit ↦ (refl, eqb-true from source hit)
+  | inr miss ↦ absurd (true≢false (sym was ∙ sym (other_link c.links from source (λ same. eqb-false from source miss (sym same))) ∙ now))
+]
+what-now true from source (whats.Frame frame) c now was = absurd (true≢false (sym was ∙ now))
+what-now false from source whats.Down c now was = absurd (true≢false (sym was ∙ now))
+what-now false from source (whats.Frame frame) c now was = absurd (true≢false (sym was ∙ now))
+
+learns : (c : Controller) (item : Item) (source : ℕ) → hears c source ≡ true → hears (take item c).next source ≡ false → item ≡ down_of source
+learns c item source was now =
+    let links = (step_goes c (steps.Take item)).links_are in
+    let both = what-now (hears c item.source) item.source source item.what c (ap (λ (ls : List Bool). is_link_up ls source) (sym links) ∙ now) was in
+    ap (λ (what : What). record { source = item.source; what = what }) both.0 ∙ ap (λ (n : ℕ). down_of n) both.1
+
+take-ends : (source : ℕ) (w : Actors) (item : Item) (items : List Item) → w.inbox ≡ item ∷ items → EndsOnce w source → EndsOnce (with_turn (target_in w item.source item.what) (take item w.controller) (record w { inbox = items })) source
+take-ends source w item items stands ends = record {
+  last = subst (EndsWithDown source) (sym inbox) stood.1;
+  none_yet = λ now_up. subst (NoneIsDown source) (sym inbox) (subst (NoneIsDown source) stands (ends.none_yet (sym up ∙ now_up))).1;
+  switch_made = λ same down. turn-leads (λ (x : Actors). x.switch_made ≡ w.switch_made) target t u (λ links. refl) ∙ ends.switch_made same (sym up ∙ down);
+  station_made = λ differs down. turn-leads (λ (x : Actors). (base_of x source).messages ≡ (base_of w source).messages) target t u (λ links. refl) ∙ ends.station_made differs (sym up ∙ down);
+  broke = λ deaf. up ∙ broke-by (hears w.controller source) refl (now deaf);
+  over = λ deaf. ap (of_source source) inbox ∙ over-by (hears w.controller source) refl (now deaf);
+} where
+  target : Option Tenure
+  target = target_in w item.source item.what
+
+  t : Turn
+  t = take item w.controller
+
+  u : Actors
+  u = record w { inbox = items }
+
+  v : Actors
+  v = with_turn target t u
+
+  up : is_up v source ≡ is_up w source
+  up = (all_join source target t.outs (record u { controller = t.next })).up
+
+  inbox : v.inbox ≡ items
+  inbox = turn-leads (λ (x : Actors). x.inbox ≡ items) target t u (λ links. refl)
+
+  stood : EndsWithDown source (item ∷ items)
+  stood = subst (EndsWithDown source) stands ends.last
+
+  now : hears v.controller source ≡ false → hears t.next source ≡ false
+  now deaf = ap (λ (c : Controller). hears c source) (sym (turn-leads (λ (x : Actors). x.controller ≡ t.next) target t u (λ links. refl))) ∙ deaf
+
+  down-by : item ≡ down_of source → (b : Bool) → is_up w source ≡ b → is_up w source ≡ false
+  down-by is true was_up = absurd ((subst (NoneIsDown source) stands (ends.none_yet was_up)).0 is)
+  down-by is false down = down
+
+  broke-by : (b : Bool) → hears w.controller source ≡ b → hears t.next source ≡ false → is_up w source ≡ false
+  broke-by true was deaf = down-by (learns w.controller item source was deaf) (is_up w source) refl
+  broke-by false was deaf = ends.broke was
+
+  over-by : (b : Bool) → hears w.controller source ≡ b → hears t.next source ≡ false → of_source source items ≡ []
+  over-by true was deaf = stood.0 (learns w.controller item source was deaf)
+  over-by false was deaf = of-behind source item items (ap (of_source source) (sym stands) ∙ ends.over was)
+
+handle-ends : (source : ℕ) (w : Actors) → EndsOnce w source → EndsOnce (actors_after w Handle) source
+unfolding event_after
+handle-ends source w ends = by w.inbox refl where
+  by : (items : List Item) → w.inbox ≡ items → EndsOnce (unwrap_or (handled items w) w) source
+  by [] stands = ends
+  by (item ∷ items) stands = take-ends source w item items stands ends
+
+tick-leaves : (source : ℕ) (w : Actors) (ms : ℕ) → Leaves source w (actors_after w (Tick ms))
+unfolding event_after
+tick-leaves source w ms =
+    let t : Turn = tick ms w.controller in record {
+      up = (all_join source None t.outs (record w { controller = t.next })).up;
+      hearing = ap (λ (c : Controller). hears c source) (turn-leads (λ (x : Actors). x.controller ≡ t.next) None t w (λ links. refl)) ∙ ap (λ (ls : List Bool). is_link_up ls source) (step_goes w.controller (steps.Tick ms)).links_are;
+      more = [];
+      inbox = turn-leads (λ (x : Actors). x.inbox ≡ w.inbox) None t w (λ links. refl) ∙ sym (append-nil w.inbox);
+      frames = tt;
+      others = λ down. refl;
+      switch = λ same down empty. turn-leads (λ (x : Actors). x.switch_made ≡ w.switch_made) None t w (λ links. refl) ∙ empty;
+      station = λ differs down empty. turn-leads (λ (x : Actors). (base_of x source).messages ≡ (base_of w source).messages) None t w (λ links. refl) ∙ empty;
+    }
+
+-- ---- over all events
+
+ends-step : (source : ℕ) (w : Actors) (event : Event) → EndsOnce w source → EndsOnce (actors_after w event) source
+ends-step source w (Connect number station initial accepts) ends = leaves-ends source w _ (connect-leaves source w number station initial accepts) ends
+ends-step source w (BasePush other) ends = leaves-ends source w _ (push-leaves source other w ends) ends
+ends-step source w (BaseDown other) ends = break-ends source other w ends
+ends-step source w Handle ends = handle-ends source w ends
+ends-step source w (Tick ms) ends = leaves-ends source w _ (tick-leaves source w ms) ends
+ends-step source w event ends = leaves-ends source w _ (plain-leaves source w event refl) ends
+
+ends-all : (source : ℕ) (w : Actors) (events : List Event) → EndsOnce w source → EndsOnce (actors_after_all w events) source
+ends-all source w [] ends = ends
+ends-all source w (event ∷ events) ends = ends-all source (actors_after w event) events (ends-step source w event ends)
+
+new-messages : (k from : ℕ) (cells : List CellParameters) → (get_or (stations_from from cells) k no_station).base.messages ≡ []
+new-messages k from [] = refl
+new-messages zero from (cell ∷ cells) = refl
+new-messages (suc k) from (cell ∷ cells) = new-messages k (from + 1) cells
+
+new-links : (count link : ℕ) → get_or (replicate count true) link false ≡ false → (get_or (replicate count new_link) link broken_link).up ≡ false
+new-links zero link deaf = refl
+new-links (suc count) zero deaf = absurd (true≢false deaf)
+new-links (suc count) (suc link) deaf = new-links count link deaf
+
+pub LinksEndOnce-new : (settings : Parameters) (events : List Event) → LinksEndOnce settings events
+LinksEndOnce-new settings events source = ends-all source (new_actors settings) events (record {
+  last = tt;
+  none_yet = λ up. tt;
+  switch_made = λ same down. refl;
+  station_made = λ differs down. new-messages (source - 1) 1 settings.cells;
+  broke = λ deaf. new-links (length settings.cells + 1) source (sym (unwrap_or-slice_get (replicate (length settings.cells + 1) true) source false) ∙ deaf);
+  over = λ deaf. refl;
+})

@@ -1,0 +1,270 @@
+-- What the proofs of this crate name of the crates below it.
+pub use Rattle.bssmap_codec.specs.BssapReading.{bssap_reading}
+pub use Rattle.bssmap_codec.specs.BssapText.{bssap_text, bssap_write_fault}
+pub use Rattle.bssmap_codec.specs.Layer3.{IsLayer3}
+pub use Rattle.bssmap_codec.specs.Reference.{IsReference}
+pub use Rattle.bssmap_codec.specs.SccpText.{sccp_text}
+pub use Rattle.bssmap_codec.specs.declared.bssap.Bssap.{Bssap}
+pub use Rattle.bssmap_codec.specs.declared.bssap.Bssap.TheVariants.{Management, Transfer}
+pub use Rattle.bssmap_codec.specs.declared.bssmap.Bssmap.{Bssmap}
+pub use Rattle.bssmap_codec.specs.declared.fault.InterfaceFault.{InterfaceFault}
+pub use Rattle.bssmap_codec.specs.declared.sccp.Sccp.{Sccp}
+pub use Rattle.bssmap_codec.specs.declared.sccp.Sccp.TheVariants.{ConnectionConfirm, ConnectionRefused, ConnectionRequest, DataForm1}
+pub use Rattle.bssmap_codec.specs.declared.sccp.Sccp.TheVariants.{Released}
+pub use Rattle.conn_messages.specs.Out.{IsReadOf, outs_of}
+pub use Rattle.conn_messages.specs.StationMessage.{access_activation, change_activation, immediate_assign_command, immediate_assignment}
+pub use Rattle.conn_messages.specs.StationMessage.{rf_channel_release}
+pub use Rattle.conn_messages.specs.SwitchMessage.{complete_layer3}
+pub use Rattle.conn_messages.specs.declared.causes.TheConstants.{NORMAL_EVENT}
+pub use Rattle.conn_messages.specs.declared.channel.Change.{Change}
+pub use Rattle.conn_messages.specs.declared.channel.Change.TheVariants.{Assignment, Handover}
+pub use Rattle.conn_messages.specs.declared.channel.Channel.{Channel}
+pub use Rattle.conn_messages.specs.declared.channel.Place.{Place}
+pub use Rattle.conn_messages.specs.declared.message.Message.{Message}
+pub use Rattle.conn_messages.specs.declared.message.Message.TheVariants.{Data, ReleaseComplete, Request, Station}
+pub use Rattle.conn_messages.specs.declared.out.Out.{Out}
+pub use Rattle.conn_messages.specs.declared.parameters.TheConstants.{SWITCH_LINK}
+pub use Rattle.conn_rules.proofs.DownlinkMessages.{AllByRecursion-append, AllByRecursion-filter, AllByRecursion-so}
+pub use Rattle.conn_rules.proofs.RowPuts.{either, where_fits}
+pub use Rattle.conn_rules.proofs.RolesApart.{target_in-role}
+pub use Rattle.conn_rules.proofs.RolesTable.{ChangesRoles-row}
+pub use Rattle.conn_rules.proofs.Standing.{nothing as no-length}
+pub use Rattle.conn_rules.proofs.UplinkPlaces.{AreAway, apart_behind, same_place as place-is}
+pub use Rattle.conn_rules.specs.Connection.{Connection, drain_at, enter, is_at, new_connection}
+pub use Rattle.conn_rules.specs.Putting.{same_place}
+pub use Rattle.conn_rules.specs.Roles.{ChangesRoles, ChangesRolesBy, GoesOn, MayBegin, RoleEnd, RoleStep, Roles, TargetRole, after_step}
+pub use Rattle.conn_rules.specs.Roles.{awaits_at, begin_orders, changes_by, commanded, completed, end_messages, is_order, is_target_at}
+pub use Rattle.conn_rules.specs.Roles.{leaves_at, orders, roles_of, step_by, step_orders, target_channels, target_role, those_that_go}
+pub use Rattle.conn_rules.specs.Roles.{with_target}
+pub use Rattle.conn_rules.specs.Roles.ChangesRoles.{ends, goes_on, had_ended}
+pub use Rattle.conn_rules.specs.Roles.RoleEnd.{dismisses, drops, refused}
+pub use Rattle.conn_rules.specs.Roles.RoleStep.{commands, commands as role_commands, completes, completes as role_completes, goes_back}
+pub use Rattle.conn_rules.specs.Roles.RoleStep.{goes_back as role_goes_back, leaves, leaves as role_leaves, stays, stays as roles_stay}
+pub use Rattle.conn_rules.specs.Standing.{IsCarried, Stands, StandsBy}
+pub use Rattle.conn_rules.specs.Steps.{Row, done_at, dropping, row, without_station}
+pub use Rattle.conn_rules.specs.Streams.{AreApart, Future, IsApart, IsOpen, KeepsUplink, OfRow, from_input, is_dtap, relayed, undone}
+pub use Rattle.conn_rules.specs.Streams.{used_channels}
+pub use Rattle.conn_rules.specs.Table.{access, assign_immediately, command_to, dtap_in, on_activation_ack, on_activation_nack}
+pub use Rattle.conn_rules.specs.Table.{on_assignment_request, on_cipher_mode_command, on_clear_command, on_complete, on_confirm}
+pub use Rattle.conn_rules.specs.Table.{on_connection_failure, on_downlink, on_drain_expiry, on_dtap, on_error_indication}
+pub use Rattle.conn_rules.specs.Table.{on_establish_confirm, on_establish_indication, on_failure, on_move, on_refused, on_release_ack}
+pub use Rattle.conn_rules.specs.Table.{on_release_indication, on_released, on_station_down, on_switch_down, release_in, row_if, same_change}
+pub use Rattle.conn_rules.specs.declared.input.Input.{Input}
+pub use Rattle.conn_rules.specs.declared.state.Clearing.TheVariants.{Asked as WasAsked, Complete, Due}
+pub use Rattle.conn_rules.specs.declared.state.Drain.{Drain}
+pub use Rattle.conn_rules.specs.declared.state.Stage.TheVariants.{Active, Changing, Draining, Preparing}
+pub use Rattle.conn_rules.specs.declared.state.State.{State}
+pub use Rattle.conn_rules.specs.declared.state.State.TheVariants.{Closed, Live, Removed, WaitActivation, WaitConfirm, WaitEstablish}
+pub use Rattle.conn_rules.specs.declared.state.Target.{Target}
+pub use Rattle.controller_model.proofs.LifeLaws.Acting.{conn_of, outs_own}
+pub use Rattle.controller_model.proofs.LifeLaws.Beside.{links_with, step_goes}
+pub use Rattle.controller_model.proofs.LifeLaws.Entries.{find_above, find_below}
+pub use Rattle.controller_model.proofs.LifeLaws.Fitting.{aged_holds, fine_old, own_carried, pass_stands}
+pub use Rattle.controller_model.proofs.LifeLaws.Keeping.{Avoids}
+pub use Rattle.controller_model.proofs.LifeLaws.Lives.{life_acts, life_fits}
+pub use Rattle.controller_model.proofs.LifeLaws.NamingLife.{life_names}
+pub use Rattle.controller_model.proofs.LifeLaws.Owning.{IsOffered}
+pub use Rattle.controller_model.proofs.LifeLaws.OwningLife.{break_shut, life_owns, timer_shut}
+pub use Rattle.controller_model.proofs.LifeLaws.OwningSteps.{offered_free}
+pub use Rattle.controller_model.proofs.LifeLaws.OwningWords.{Holds, changes_of, if_is, owns_entry}
+pub use Rattle.controller_model.proofs.LifeLaws.Passing.{IsNotOn}
+pub use Rattle.controller_model.proofs.LifeLaws.Places.{IsIn, free≢release, free≢use, is_there, state_else, state_here}
+pub use Rattle.controller_model.proofs.LifeLaws.SeenFrames.{IsText, forwarded_seen}
+pub use Rattle.controller_model.proofs.LifeLaws.SeenStations.{same_channel}
+pub use Rattle.controller_model.proofs.LifeLaws.Silence.{same_state}
+pub use Rattle.controller_model.proofs.LifeLaws.SoundLife.{IsSoundAll, life_sends, life_sound, offer_list, request_sound}
+pub use Rattle.controller_model.proofs.LifeLaws.SoundRows.{RefersBy}
+pub use Rattle.controller_model.proofs.LifeLaws.Sources.{IsAtPlace, word_from}
+pub use Rattle.controller_model.proofs.LifeLaws.Turns.{step_does}
+pub use Rattle.controller_model.proofs.LifeLaws.UsingLife.{life_after, life_ready, life_uses, run_step}
+pub use Rattle.controller_model.proofs.LifeLaws.UsingRows.{contains_none}
+pub use Rattle.controller_model.proofs.LifeLaws.UsingWords.{IsHere, Ready, here_of}
+pub use Rattle.controller_model.proofs.LifeLaws.UsualRows.{PutsUsual, usual_row}
+pub use Rattle.controller_model.proofs.Lives.{usual_settings}
+pub use Rattle.controller_model.proofs.Numbers.{keeps_number}
+pub use Rattle.controller_model.specs.Channels.{access_channel, handover_offer, request_offer}
+pub use Rattle.controller_model.specs.Controller.{Controller, Entry, Turn, channel_state, each, entry_of, freed, freed_station, holder}
+pub use Rattle.controller_model.specs.Controller.{ignoring, is_up as hears, new_controller, place_at, place_of, state_in, turn, with_down}
+pub use Rattle.controller_model.specs.Controller.{with_entry, with_state}
+pub use Rattle.controller_model.specs.Life.{aged, all_aged, break_of, by_fitting, concerning, concerning_too, entry_at, expiry, frees}
+pub use Rattle.controller_model.specs.Life.{given, may_open, measured, measures, on_break, on_decision, on_expiry, on_freed, on_report}
+pub use Rattle.controller_model.specs.Life.{on_state, on_what, on_word, pong, row_in, step, timed, with_report}
+pub use Rattle.controller_model.specs.LifeLaws.Acts.{Acts, ActsOn, Brought, FitsNone, IsAged, IsBrought, brought_by, brought_in}
+pub use Rattle.controller_model.specs.LifeLaws.Acts.{brought_with, if_held, kept, kept_in}
+pub use Rattle.controller_model.specs.LifeLaws.Acts.Acts.{ages, goes, opens, rests}
+pub use Rattle.controller_model.specs.LifeLaws.Acts.Brought.{nothing}
+pub use Rattle.controller_model.specs.LifeLaws.End.{IsThere}
+pub use Rattle.controller_model.specs.LifeLaws.History.{connection_of, connection_of as controllers, is_for, outs_for, word_by, word_in}
+pub use Rattle.controller_model.specs.LifeLaws.Naming.{Names, NamesItsMobile, SameRequest}
+pub use Rattle.controller_model.specs.LifeLaws.Numbers.{AreRising, IsAbove, IsNumbered}
+pub use Rattle.controller_model.specs.LifeLaws.Owning.{AreIn, Owns, OwnsOpen, is_link_up}
+pub use Rattle.controller_model.specs.LifeLaws.Seen.{messages_on, passed_by}
+pub use Rattle.controller_model.specs.LifeLaws.Sending.{ComesInOctets, IsOfOctets, IsSent}
+pub use Rattle.controller_model.specs.LifeLaws.Using.{AreUsed}
+pub use Rattle.controller_model.specs.Ownership.{concerned}
+pub use Rattle.controller_model.specs.Reading.{body_word, bssap_word, change_word, data_word, management_of_link, management_word, of_sapi}
+pub use Rattle.controller_model.specs.Reading.{report_word, result_word, rr_word, rsl_word, sapi_of, station_word, switch_word}
+pub use Rattle.controller_model.specs.Reading.Carried.{connection_control, link_management, other, radio_signalling}
+pub use Rattle.controller_model.specs.Reports.{decision_over, report_reading}
+pub use Rattle.controller_model.specs.Views.{forwarded_by}
+pub use Rattle.controller_model.specs.declared.channel_kind.ChannelKind.TheVariants.{Sdcch}
+pub use Rattle.controller_model.specs.declared.channel_state.ChannelState.{ChannelState}
+pub use Rattle.controller_model.specs.declared.channel_state.ChannelState.TheVariants.{Free, InUse, Releasing}
+pub use Rattle.controller_model.specs.declared.forwarded.Forwarded.{Forwarded}
+pub use Rattle.controller_model.specs.declared.limits.TheConstants.{CHANNEL_NUMBERS}
+pub use Rattle.controller_model.specs.declared.step.Step.{Step}
+pub use Rattle.controller_model.specs.declared.step.Step.TheVariants.{Take}
+pub use Rattle.controller_model.specs.declared.word.Word.{Word}
+pub use Rattle.controller_model.specs.declared.word.Word.TheVariants.{Asks, Nothing, OnChannel, OnConnection, Ping, Reports}
+pub use Rattle.dtap_codec.specs.Message.{is_flow_message}
+pub use Rattle.dtap_codec.specs.Number.{with_number}
+pub use Rattle.dtap_codec.specs.Places.{Carries, Rise}
+pub use Rattle.dtap_codec.specs.Places.Rise.{next}
+pub use Rattle.dtap_codec.specs.RrText.{rr_text}
+pub use Rattle.dtap_codec.specs.declared.rr.ChannelDescription.{ChannelDescription}
+pub use Rattle.dtap_codec.specs.declared.rr.RrMessage.{RrMessage}
+pub use Rattle.dtap_codec.specs.declared.rr.RrMessage.TheVariants.{AssignmentCommand, AssignmentComplete, AssignmentFailure, ChannelRelease}
+pub use Rattle.dtap_codec.specs.declared.rr.RrMessage.TheVariants.{HandoverCommand, HandoverComplete, HandoverFailure, ImmediateAssignment}
+pub use Rattle.dtap_codec.specs.declared.rr.RrMessage.TheVariants.{MeasurementReport}
+pub use Rattle.dtap_codec.specs.declared.rr_fault.RrFault.{RrFault}
+pub use Rattle.dtap_codec.specs.declared.sapi.Sapi.{Sapi}
+pub use Rattle.dtap_codec.specs.declared.sapi.Sapi.TheVariants.{Three, Zero}
+pub use Rattle.controller_model.specs.Decision.{Decision}
+pub use Rattle.controller_model.specs.Decision.TheVariants.{Stay}
+pub use Rattle.hold_queue.specs.ChainState.{Tenure as Held, empty_tenure}
+pub use Rattle.world_model.specs.Frame.{Frame}
+pub use Rattle.world_model.specs.StreamNumbers.{CCM_STREAM, PING, RSL_STREAM, SCCP_STREAM}
+pub use Rattle.link_model.specs.Base.{after_activate, after_establish, after_next, after_release, after_take_down, after_tell}
+pub use Rattle.link_model.specs.Base.{first_message, first_of_messages, is_active, messages_behind_first, refusal_of_activate}
+pub use Rattle.link_model.specs.BaseState.{BaseState}
+pub use Rattle.link_model.specs.Message.{activation_ack, data_indication, establish_indication}
+pub use Rattle.link_model.specs.Tenures.{Tenures, is_bound_of}
+pub use Rattle.link_model.specs.Tenures.Tenures.{apart, brings as tenure_brings}
+pub use Rattle.link_model.specs.declared.air_link.Air.TheVariants.{Empty, Given, Reached}
+pub use Rattle.link_model.specs.declared.fault.LinkFault.{LinkFault}
+pub use Rattle.link_model.specs.declared.fault.LinkFault.TheVariants.{Busy}
+pub use Rattle.mobile_end.proofs.Resuming.{is_control-apart}
+pub use Rattle.mobile_end.specs.Control.{is_control, without_control}
+pub use Rattle.mobile_end.specs.DataLink.{after_acknowledgement, after_lending, after_resume, lent_message, outstanding_messages}
+pub use Rattle.mobile_end.specs.DataLink.{to_be_taken, waits}
+pub use Rattle.mobile_end.specs.DataLinkState.{DataLinkState}
+pub use Rattle.mobile_end.specs.Mobile.{after_acked, after_acked_at, after_arrival, after_frame, after_frame_at, after_leave, after_number}
+pub use Rattle.mobile_end.specs.Mobile.{after_queue, frame_answer, new_mobile, refusal_of_connect, refusal_of_send}
+pub use Rattle.mobile_end.specs.MobileState.{MobileState}
+pub use Rattle.mobile_end.specs.declared.mobile_end.Place.{Place as Whereabouts}
+pub use Rattle.mobile_end.specs.declared.mobile_end.Stage.{Stage}
+pub use Rattle.mobile_end.specs.declared.mobile_end.Stage.TheVariants.{Connected, New}
+pub use Rattle.msc_end.specs.Refusal.{send_fault}
+pub use Rattle.msc_end.specs.Switch.{after_clear, assignment_request, clear_command, connection_after, connection_by, connections_after}
+pub use Rattle.msc_end.specs.Switch.{connections_after_clear, connections_by, data_form_by, data_forms_on, dlci_for, live_connection_after}
+pub use Rattle.msc_end.specs.Switch.{message_in, replies, with_connection, with_stage}
+pub use Rattle.msc_end.specs.SwitchState.{SwitchState}
+pub use Rattle.msc_end.specs.declared.connection.Connection.{Connection as SwitchConnection}
+pub use Rattle.msc_end.specs.declared.connection.Stage.TheVariants.{Clearing, Ended, Open}
+pub use Rattle.msc_end.specs.declared.parameters.TheConstants.{CONNECTION_LIMIT, REFERENCE_BASE}
+pub use Rattle.octets.specs.Element.{AreOctets}
+pub use Rattle.octets.specs.declared.limits.TheConstants.{INITIAL_LIMIT}
+pub use Rattle.rsl_codec.specs.ChannelNumber.{is_channel}
+pub use Rattle.rsl_codec.specs.Rsl.{IsL3}
+pub use Rattle.rsl_codec.specs.RslReading.{rsl_reading}
+pub use Rattle.rsl_codec.specs.RslText.{rsl_text}
+pub use Rattle.rsl_codec.specs.declared.channel_number.TheConstants.{FIRST_SDCCH}
+pub use Rattle.rsl_codec.specs.declared.dedicated_channel.Activation.{Activation}
+pub use Rattle.rsl_codec.specs.declared.dedicated_channel.ActivationAck.{ActivationAck}
+pub use Rattle.rsl_codec.specs.declared.fault.RslFault.{RslFault}
+pub use Rattle.rsl_codec.specs.declared.link_identifier.TheConstants.{MAIN_LINK_SAPI_3, SACCH_SAPI_3}
+pub use Rattle.rsl_codec.specs.declared.radio_link.Data.{Data as DataMessage}
+pub use Rattle.rsl_codec.specs.declared.radio_link.Establishment.{Establishment}
+pub use Rattle.rsl_codec.specs.declared.rsl.Rsl.{Rsl}
+pub use Rattle.rsl_codec.specs.declared.rsl.Rsl.TheVariants.{ChannelActivation, DataRequest, EstablishRequest, ImmediateAssignCommand}
+pub use Rattle.rsl_codec.specs.declared.rsl.Rsl.TheVariants.{RfChannelRelease, RfChannelReleaseAck}
+pub use Rattle.rsl_codec.specs.declared.values.RequestReference.{RequestReference}
+pub use Rattle.ruled_relay.specs.declared.item.Item.{Item, Item as RelayItem}
+pub use Rattle.ruled_relay.specs.declared.item.What.{What}
+pub use Rattle.settings.specs.Parameters.{AreAllowed, CellParameters, Parameters}
+pub use Rattle.std.proofs.Common.{Bool, Contains, Err, List, None, Ok, Option, Some, [], ap, append_assoc, arith, cond, drop, false, filter}
+pub use Rattle.std.proofs.Common.{find, fold, get_or, if◌then◌else◌, inl, inr, leb, length, length-append, map, nat_eq, nat_le, not}
+pub use Rattle.std.proofs.Common.{option_map, option_to_list, refl, replicate, set, slice_index_or, subst, suc, sym, true, true≢false}
+pub use Rattle.std.proofs.Common.{unwrap_or, zero, ℕ, ◌%◌, ◌&&◌, ◌++◌, ◌+◌, ◌-◌, ◌<◌, ◌==◌, ◌^◌, ◌||◌, ◌∙◌, ◌∷◌, ◌≡◌, ◌≢◌, ◌≤◌, ◌⊎◌}
+pub use Rattle.std.proofs.lemmas.Bool.{and_parts, cases_Bool, cond-false, cond-true, eq-eqb, eqb-false, eqb-true, false≢true, leb-false}
+pub use Rattle.std.proofs.lemmas.Bool.{leb-true, ne_eqb}
+pub use Rattle.std.proofs.lemmas.Grind.{flat_map-append}
+pub use Rattle.std.proofs.lemmas.List.{append-nil, map-append}
+pub use Rattle.std.proofs.lemmas.List.Elements.{filter-append}
+pub use Rattle.std.proofs.lemmas.Option.{none-some, same_Some}
+pub use Rattle.std.specs.List.{AllByRecursion, flat_map, list_any}
+pub use Rattle.std.specs.Option.{is_none, option_and_then, option_or}
+pub use Rattle.std.specs.Prelude.{slice_get, slice_set}
+pub use Rattle.std.specs.Result.{result_ok}
+pub use Rattle.world_model.proofs.Found.{back-found, back-other, found-front, found-number}
+pub use Rattle.world_model.proofs.Footprints.{Becomes, Joins, Lends, Respots, Tells, air-after, became-number, event-keeps}
+pub use Rattle.world_model.proofs.Footprints.{hearing-end, hearing-number, hearing-opens, is_on_air}
+pub use Rattle.world_model.proofs.Heard.{Good, end-of, good-all, good-new, good-step}
+pub use Rattle.world_model.proofs.Honesty.{Plain, SameEnds, base-elsewhere, base-there, base-with_spot, reached-up, up-right}
+pub use Rattle.world_model.proofs.Honesty.Plain.{as_before, ends_now}
+pub use Rattle.world_model.proofs.Inboxes.{inbox-goes}
+pub use Rattle.world_model.proofs.Leads.{aerial-leads, taking-leads}
+pub use Rattle.world_model.proofs.Leads.{after-taken, air_ack-leads, air_down-leads, air_down_lost-leads, air_up-leads, and-left, and-right}
+pub use Rattle.world_model.proofs.Leads.{arrive-leads, assigned-leads, base_takes-leads, broken-leads, by_mobile-leads, connect-leads}
+pub use Rattle.world_model.proofs.Leads.{does-leads, handle-leads, move-leads, only_if-leads, push-leads, report-leads, return-leads}
+pub use Rattle.world_model.proofs.Leads.{switch_takes-leads, switch_took-leads, took-leads, touch-leads, turn-leads, unless_last-leads}
+pub use Rattle.world_model.proofs.Leads.{upper-leads}
+pub use Rattle.world_model.proofs.Living.{LivesByTable-new}
+pub use Rattle.world_model.proofs.Mobility.{control-complete, found-all}
+pub use Rattle.world_model.proofs.Outboxes.{Both-empty, Step as OutboxStep, all_join, changed_link, down-after, new_outbox}
+pub use Rattle.world_model.proofs.Outboxes.{step as outbox-step}
+pub use Rattle.world_model.proofs.Outboxes.Step.{breaks}
+pub use Rattle.world_model.proofs.OwnerEvents.{Rests, beside-rests}
+pub use Rattle.world_model.proofs.OwnerItems.{IsKnown, IsKnownItem, known-inbox}
+pub use Rattle.world_model.proofs.OwnerPuts.{Goes, Passes, Runs, entries_to, said_to}
+pub use Rattle.world_model.proofs.OwnerPuts.Goes.{activates, first_passes, runs}
+pub use Rattle.world_model.proofs.OwnerPuts.Runs.{over, passes, releases}
+pub use Rattle.world_model.proofs.OwnerRuns.{Right, handle-turned, heard_of, kinds, right-new, right-step, there-of, tick-turned}
+pub use Rattle.world_model.proofs.OwnerTakes.{kept-controller}
+pub use Rattle.world_model.proofs.OwnerTenures.{beside-step}
+pub use Rattle.world_model.proofs.OwnerTurn.{IsOne, Serves, Turned, hear}
+pub use Rattle.world_model.proofs.Piping.{Step as PipeStep, acks-append, length-stations_from, step as pipe-step}
+pub use Rattle.world_model.proofs.Piping.Step.{flows, stops}
+pub use Rattle.world_model.proofs.Rows.{opened}
+pub use Rattle.world_model.proofs.Soundness.{IsSound, sound-read}
+pub use Rattle.world_model.proofs.Ticketing.{reached-station, spot-with_base}
+pub use Rattle.world_model.proofs.Worlds.{after_all}
+pub use Rattle.world_model.specs.Life.{actors_after, actors_after_all}
+pub use Rattle.world_model.specs.Lists.{first_in}
+pub use Rattle.world_model.specs.Mobiles.{after_air_ack, after_air_down, after_air_down_lost, after_air_up, after_arriving}
+pub use Rattle.world_model.specs.Mobiles.{after_connecting, after_move, after_report, after_return, after_touch, after_upper, brought}
+pub use Rattle.world_model.specs.Mobiles.{channel_required, complete, connected, controlled, failure, frame_in, framed, handover_detection}
+pub use Rattle.world_model.specs.Mobiles.{hearing, is_new, may_send, measurement_result, remembering, seated, sent_by}
+pub use Rattle.world_model.specs.Mobiles.{short_message_brought, signalling_brought}
+pub use Rattle.world_model.specs.OwnerLines.{Agrees, AllAgree, acknowledged_in, active_behind, asker, is_in_use, said, said_by}
+pub use Rattle.world_model.specs.OwnerLines.{tenure_behind, to_come}
+pub use Rattle.world_model.specs.OwnerLines.Comes.{began, begins, begins_and_ends}
+pub use Rattle.world_model.specs.Owners.{owner_in}
+pub use Rattle.world_model.specs.Pipe.{acknowledgement, acknowledgements, active_all, due, is_active_then}
+pub use Rattle.world_model.specs.Queues.{all_popped, all_pushed, first_of, outputs, outputs_at, pushed, put, taken, to_link}
+pub use Rattle.world_model.specs.Relay.{acknowledged_tenure, after_base_push, after_break, after_handle, after_tick, handled, joined_by}
+pub use Rattle.world_model.specs.Relay.{pushed_by_station, pushed_by_switch, station_item, switch_item, target_in, target_in as tenure_in}
+pub use Rattle.world_model.specs.Relay.{with_item, with_turn}
+pub use Rattle.world_model.specs.Stations.{accepts, activated, activated_unless, after_base_takes, answered, link_answer, mobile_on}
+pub use Rattle.world_model.specs.Stations.{new_tenure, rsl_in, took}
+pub use Rattle.world_model.specs.Steps.{all_steps, first_taken, step_at}
+pub use Rattle.world_model.specs.SwitchSide.{after_switch_does, after_switch_takes, is_layer_3, may_send_on, sccp_in, sent_on, switch_took}
+pub use Rattle.world_model.specs.SwitchSide.{switch_took_first}
+pub use Rattle.world_model.specs.Tickets.{AllSitBy}
+pub use Rattle.world_model.specs.World.{Actors, Link, Mobile, Spot, World, base_of, broken_link, has_number, is_active_at, is_reached}
+pub use Rattle.world_model.specs.World.{is_station_up, is_up, link_of, mobile_of, modulus_in, new_actors, new_link, new_spot, new_world}
+pub use Rattle.world_model.specs.World.{no_station, outbox_of, put_back, spot_at, station_of, stations_from, tenure_at, with_base}
+pub use Rattle.world_model.specs.World.{with_link, with_mobile, with_outbox, with_spot}
+pub use Rattle.world_model.specs.declared.event.Event.{Event}
+pub use Rattle.world_model.specs.declared.event.Event.TheVariants.{AirAck, AirDown, AirDownLost, AirUp, Arrive, BaseDown, BasePush}
+pub use Rattle.world_model.specs.declared.event.Event.TheVariants.{BaseTakes, Connect, Handle, Move, Report, Return, SwitchDoes}
+pub use Rattle.world_model.specs.declared.event.Event.TheVariants.{SwitchTakes, Tick, Touch, Upper}
+pub use Rattle.world_model.specs.declared.event.SwitchAction.{SwitchAction}
+pub use Rattle.world_model.specs.declared.event.SwitchAction.TheVariants.{Assign, Clear, Dtap}
+pub use Rattle.world_model.specs.declared.limits.TheConstants.{MAX_TENURE}
+pub use Rattle.world_model.specs.declared.line.AirMessage.{AirMessage}
+pub use Rattle.world_model.specs.declared.line.OutboxEntry.{OutboxEntry}
+pub use Rattle.world_model.specs.declared.seat.Command.{Command}
+pub use Rattle.world_model.specs.declared.seat.Seat.{Seat, Seat as MobileSeat}
+pub use Rattle.world_model.specs.declared.seat.Seat.TheVariants.{Asking, Gone, Moving, On}
+pub use Rattle.world_model.specs.declared.seat.Tenure.{Tenure, Tenure as ChannelTenure}

@@ -1,0 +1,329 @@
+-- The switch takes the first entry: the names agree after it, and it is taken as it was put, or its connection is refused.
+use Rattle.world_laws.proofs.Prelude.{◌≡◌, ◌≢◌, ◌⊎◌, ℕ, ◌+◌, ◌<◌, ◌≤◌, ◌^◌, ◌==◌, Bool, true, cond, List, [], ◌∷◌, ◌++◌, find, map, Option}
+use Rattle.world_laws.proofs.Prelude.{Some, None, refl, sym, ap, ◌∙◌, subst, arith, inl, inr, AllByRecursion, cases_Bool, eq-eqb, eqb-true}
+use Rattle.world_laws.proofs.Prelude.{eqb-false, ne_eqb, append-nil, Bssap, Management, Transfer, Sccp, ConnectionConfirm}
+use Rattle.world_laws.proofs.Prelude.{ConnectionRefused, ConnectionRequest, DataForm1, Released, SWITCH_LINK, outs_for, REFERENCE_BASE}
+use Rattle.world_laws.proofs.Prelude.{connections_after, message_in, replies, OutboxEntry, sccp_in, switch_took, Actors, is_up, outbox_of}
+use Rattle.world_laws.proofs.Prelude.{with_outbox}
+use Rattle.bssmap_codec.specs.declared.bssmap.Bssmap.TheVariants as bssmap
+use Rattle.bssmap_codec.specs.declared.sccp.Sccp.TheVariants.{ReleaseComplete}
+use Rattle.msc_end.specs.declared.connection.Connection.{Connection}
+use Rattle.world_laws.specs.LineUps.{is_of_peer, taken_in, taken_of}
+use Rattle.world_laws.specs.Staying.{carried_for}
+use Rattle.world_laws.specs.References.Agree.{Agrees, AsksOnce, ConfirmsBy, Never, HasAsked, Heeds, IsHeeded, IsKnown, IsOnItsWay, IsRight}
+use Rattle.world_laws.specs.References.Agree.{IsUnknown, NamesAgree, Runs, StandsAt, is_over, over_after, reads, reads_of}
+use Rattle.world_laws.specs.References.Agree.Agrees.{is_unasked, is_asking, is_unheard, is_known}
+use Rattle.world_laws.specs.References.Reads.{AreNothing, IsNothing, Read, asks, carried, data_read, initial_read, nothing, sccp_read}
+use Rattle.world_laws.specs.References.Reads.{carries as read_carries, clears as read_clears, tells as read_tells, odd as read_odd}
+use Rattle.world_laws.proofs.References.OwnTaking.{heeds-data, own-asks, own-data}
+use Rattle.world_laws.proofs.References.Peers.{Differ, HaveOwnPeers, effect-differs, peers_of}
+use Rattle.world_laws.proofs.References.Places.{stands-find}
+use Rattle.world_laws.proofs.References.Right.{other-carries}
+use Rattle.world_laws.proofs.References.Taking.{After, asked-same, same-unknown, Effect, IsSame, Took, after-took, confirms-after}
+use Rattle.world_laws.proofs.References.Taking.{other-keeps, other-none, other-same, other-stands, same-agrees, took-nothing}
+use Rattle.world_laws.proofs.References.Taking.{took_connections, took_replies}
+use Rattle.world_laws.proofs.References.Taking.Effect.{same}
+
+-- ---- the first of what waits
+
+pub first-own : (n : ℕ) (first : OutboxEntry) (others : List OutboxEntry) → first.out.conn ≡ n → reads_of n (first ∷ others) ≡ reads first.out ∷ reads_of n others
+first-own n first others is = ap (λ (b : Bool). map reads (cond b (first.out ∷ outs_for n (map (λ entry. entry.out) others)) (outs_for n (map (λ entry. entry.out) others)))) (eq-eqb first.out.conn n is)
+
+pub first-other : (n : ℕ) (first : OutboxEntry) (others : List OutboxEntry) → first.out.conn ≢ n → reads_of n (first ∷ others) ≡ reads_of n others
+first-other n first others differ = ap (λ (b : Bool). map reads (cond b (first.out ∷ outs_for n (map (λ entry. entry.out) others)) (outs_for n (map (λ entry. entry.out) others)))) (ne_eqb first.out.conn n differ)
+
+nothing-or : (r : Read) → IsNothing r ⊎ (IsNothing r → ⊥)
+nothing-or nothing = inl tt
+nothing-or (asks source initial) = inr (λ is. is)
+nothing-or (read_carries d m) = inr (λ is. is)
+nothing-or (read_clears d) = inr (λ is. is)
+nothing-or (read_tells d) = inr (λ is. is)
+nothing-or read_odd = inr (λ is. is)
+
+asks-tail : (n : ℕ) (r : Read) (rest : List Read) → IsNothing r → AsksOnce n (r ∷ rest) → AsksOnce n rest
+asks-tail n nothing rest is once = once
+asks-tail n (asks source initial) rest is once = absurd is
+asks-tail n (read_carries d m) rest is once = absurd is
+asks-tail n (read_clears d) rest is once = absurd is
+asks-tail n (read_tells d) rest is once = absurd is
+asks-tail n read_odd rest is once = absurd is
+
+runs-tail : (k : ℕ) (over last : Bool) (r : Read) (rest : List Read) → IsNothing r → Runs k over (r ∷ rest) last → Runs k over rest last
+runs-tail k over last nothing rest is runs = runs.1
+runs-tail k over last (asks source initial) rest is runs = absurd is
+runs-tail k over last (read_carries d m) rest is runs = absurd is
+runs-tail k over last (read_clears d) rest is runs = absurd is
+runs-tail k over last (read_tells d) rest is runs = absurd is
+runs-tail k over last read_odd rest is runs = absurd is
+
+-- ---- what the switch doesn't heed
+
+data-heeds : (d : ℕ) (q : Option Bssap) → IsNothing (data_read d q) → ⊥
+data-heeds d None is = is
+data-heeds d (Some (Transfer dlci message)) is = is
+data-heeds d (Some (Management bssmap.ClearComplete)) is = is
+data-heeds d (Some (Management (bssmap.CompleteLayer3Information cell initial))) is = is
+data-heeds d (Some (Management (bssmap.ClearRequest cause))) is = is
+data-heeds d (Some (Management (bssmap.AssignmentRequest channel_type))) is = is
+data-heeds d (Some (Management (bssmap.AssignmentComplete rr_cause))) is = is
+data-heeds d (Some (Management (bssmap.AssignmentFailure cause rr_cause))) is = is
+data-heeds d (Some (Management (bssmap.HandoverPerformed cause cell))) is = is
+data-heeds d (Some (Management (bssmap.ClearCommand cause))) is = is
+data-heeds d (Some (Management (bssmap.SapiNReject dlci cause))) is = is
+data-heeds d (Some (Management bssmap.CipherModeCommand)) is = is
+data-heeds d (Some (Management (bssmap.CipherModeReject cause))) is = is
+
+initial-heeds : (s : ℕ) (q : Option Bssap) → IsNothing (initial_read s q) → ⊥
+initial-heeds s None is = is
+initial-heeds s (Some (Transfer dlci message)) is = is
+initial-heeds s (Some (Management (bssmap.CompleteLayer3Information cell initial))) is = is
+initial-heeds s (Some (Management _)) is = is
+
+nothing-same : (m : ℕ) (cs : List Connection) (o : Option Sccp) → IsNothing (sccp_read o) → (took_connections m cs o ≡ cs) × (took_replies cs o ≡ [])
+nothing-same m cs None is = (refl, refl)
+nothing-same m cs (Some (ConnectionRequest s None)) is = absurd is
+nothing-same m cs (Some (ConnectionRequest s (Some user))) is = absurd (initial-heeds s (message_in user) is)
+nothing-same m cs (Some (DataForm1 d user)) is = absurd (data-heeds d (message_in user) is)
+nothing-same m cs (Some (ConnectionConfirm d s)) is = (refl, refl)
+nothing-same m cs (Some (ConnectionRefused d)) is = (refl, refl)
+nothing-same m cs (Some (Released d s)) is = (refl, refl)
+nothing-same m cs (Some (ReleaseComplete d s)) is = (refl, refl)
+
+-- ---- one of the connection's
+
+module _ (w v : Actors) (others : List OutboxEntry) (n : ℕ) (three : n < w.controller.next_number → n < 2 ^ 24) where
+  Result : Option Sccp → Type 0
+  Result o = Took w v n (took_connections w.switch.modulus w.switch.connections o) (took_replies w.switch.connections o) (sccp_read o)
+
+  Comes : Option Sccp → Type 0
+  Comes o = After w v others (took_connections w.switch.modulus w.switch.connections o) (took_replies w.switch.connections o)
+
+  own-nothing : (o : Option Sccp) → reads_of n (outbox_of w SWITCH_LINK) ≡ sccp_read o ∷ reads_of n others → IsNothing (sccp_read o) → Comes o → Agrees w n → Result o
+  unfolding Result Comes
+  own-nothing o stood is after agrees =
+      let cs : List Connection = w.switch.connections in
+      let both = nothing-same w.switch.modulus cs o is in
+      let now : After w v others cs [] = subst (λ (xs : List Sccp). After w v others cs xs) both.1 (subst (λ (xs : List Connection). After w v others xs (took_replies cs o)) both.0 after) in
+      let wire : reads_of n (outbox_of v SWITCH_LINK) ≡ reads_of n others = ap (reads_of n) now.rest in
+      let kept : IsSame w v n = record {
+        controller_is = now.controller_is;
+        none = λ none. subst (λ (xs : List Connection). find (is_of_peer n) xs ≡ None) (sym now.conns) none;
+        stands = λ place c stands. (c, subst (StandsAt n place c) (sym now.conns) stands, refl);
+        quiet = λ quiet. subst AreNothing (sym wire) (subst AreNothing stood quiet).1;
+        once = λ once. subst (AsksOnce n) (sym wire) (asks-tail n (sccp_read o) (reads_of n others) is (subst (AsksOnce n) stood once));
+        runs = λ k over last runs. subst (λ (xs : List Read). Runs k over xs last) (sym wire) (runs-tail k over last (sccp_read o) (reads_of n others) is (subst (λ (xs : List Read). Runs k over xs last) stood runs));
+      } in
+      subst (λ (xs : List Connection). Took w v n xs (took_replies cs o) (sccp_read o)) (sym both.0)
+      (subst (λ (xs : List Sccp). Took w v n cs xs (sccp_read o)) (sym both.1) (took-nothing n (sccp_read o) now is (λ P confirms. confirms-after P n now confirms tt) kept agrees))
+
+  own-request : HasAsked w n → IsOnItsWay w n → (s : ℕ) (user : List ℕ) (q : Option Bssap) → message_in user ≡ q → AsksOnce n (initial_read s q ∷ reads_of n others) → Comes (Some (ConnectionRequest s (Some user)))
+      → Took w v n (took_connections w.switch.modulus w.switch.connections (Some (ConnectionRequest s (Some user)))) (took_replies w.switch.connections (Some (ConnectionRequest s (Some user)))) (initial_read s q)
+  unfolding Comes
+  own-request has way s user (Some (Management (bssmap.CompleteLayer3Information cell message))) is once after =
+      subst (λ (x : ℕ). After w v others (connections_after w.switch.modulus w.switch.connections (ConnectionRequest x (Some user))) (replies w.switch.connections (ConnectionRequest x (Some user)))
+      → Took w v n (connections_after w.switch.modulus w.switch.connections (ConnectionRequest x (Some user))) (replies w.switch.connections (ConnectionRequest x (Some user))) (asks x message))
+      (sym once.0) (own-asks w v others n (three has.past) has way.none way.unconfirmed once.1 user message cell is) after
+  own-request has way s user None is once after = absurd once
+  own-request has way s user (Some (Transfer dlci message)) is once after = absurd once
+  own-request has way s user (Some (Management _)) is once after = absurd once
+
+  data-asks : (d : ℕ) (q : Option Bssap) → AsksOnce n (data_read d q ∷ reads_of n others) → ⊥
+  data-asks d None once = once
+  data-asks d (Some (Transfer dlci message)) once = once
+  data-asks d (Some (Management bssmap.ClearComplete)) once = once
+  data-asks d (Some (Management (bssmap.CompleteLayer3Information cell initial))) once = once
+  data-asks d (Some (Management (bssmap.ClearRequest cause))) once = once
+  data-asks d (Some (Management (bssmap.AssignmentRequest channel_type))) once = once
+  data-asks d (Some (Management (bssmap.AssignmentComplete rr_cause))) once = once
+  data-asks d (Some (Management (bssmap.AssignmentFailure cause rr_cause))) once = once
+  data-asks d (Some (Management (bssmap.HandoverPerformed cause cell))) once = once
+  data-asks d (Some (Management (bssmap.ClearCommand cause))) once = once
+  data-asks d (Some (Management (bssmap.SapiNReject dlci cause))) once = once
+  data-asks d (Some (Management bssmap.CipherModeCommand)) once = once
+  data-asks d (Some (Management (bssmap.CipherModeReject cause))) once = once
+
+  own-asking : HasAsked w n → IsOnItsWay w n → (o : Option Sccp) → (IsNothing (sccp_read o) → ⊥) → AsksOnce n (sccp_read o ∷ reads_of n others) → Comes o → Result o
+  unfolding Result
+  own-asking has way None heeds once after = absurd (heeds tt)
+  own-asking has way (Some (ConnectionRequest s None)) heeds once after = absurd once
+  own-asking has way (Some (ConnectionRequest s (Some user))) heeds once after = own-request has way s user (message_in user) refl once after
+  own-asking has way (Some (DataForm1 d user)) heeds once after = absurd (data-asks d (message_in user) once)
+  own-asking has way (Some (ConnectionConfirm d s)) heeds once after = absurd (heeds tt)
+  own-asking has way (Some (ConnectionRefused d)) heeds once after = absurd (heeds tt)
+  own-asking has way (Some (Released d s)) heeds once after = absurd (heeds tt)
+  own-asking has way (Some (ReleaseComplete d s)) heeds once after = absurd (heeds tt)
+
+  initial-unheeded : (k : ℕ) (over : Bool) (s : ℕ) (q : Option Bssap) → Heeds k over (initial_read s q) → ⊥
+  initial-unheeded k over s None heeds = heeds
+  initial-unheeded k over s (Some (Transfer dlci message)) heeds = heeds
+  initial-unheeded k over s (Some (Management (bssmap.CompleteLayer3Information cell initial))) heeds = heeds
+  initial-unheeded k over s (Some (Management _)) heeds = heeds
+
+  own-form : n < w.controller.next_number → (known : IsKnown w n) (d : ℕ) (user : List ℕ) (q : Option Bssap) → message_in user ≡ q → Heeds (REFERENCE_BASE + (known.place + 1)) (is_over known.of.stage) (data_read d q)
+      → Runs (REFERENCE_BASE + (known.place + 1)) (over_after (is_over known.of.stage) (data_read d q)) (reads_of n others) known.last → Comes (Some (DataForm1 d user))
+      → Took w v n (took_connections w.switch.modulus w.switch.connections (Some (DataForm1 d user))) (took_replies w.switch.connections (Some (DataForm1 d user))) (data_read d q)
+  unfolding Comes
+  own-form past known d user None is heeds runs after = absurd heeds
+  own-form past known d user (Some q) is heeds runs after =
+      let heedful = heeds-data (REFERENCE_BASE + (known.place + 1)) d (is_over known.of.stage) q heeds in
+      subst (λ (x : ℕ). IsHeeded (data_read x (Some q)) → Runs (REFERENCE_BASE + (known.place + 1)) (over_after (is_over known.of.stage) (data_read x (Some q))) (reads_of n others) known.last
+      → After w v others (connections_after w.switch.modulus w.switch.connections (DataForm1 x user)) (replies w.switch.connections (DataForm1 x user))
+      → Took w v n (connections_after w.switch.modulus w.switch.connections (DataForm1 x user)) (replies w.switch.connections (DataForm1 x user)) (data_read x (Some q)))
+      (sym heedful.to) (own-data w v others n past known user q is heedful.living) heedful.heeded runs after
+
+  own-known : n < w.controller.next_number → (known : IsKnown w n) (o : Option Sccp) → (IsNothing (sccp_read o) → ⊥) → Runs (REFERENCE_BASE + (known.place + 1)) (is_over known.of.stage) (sccp_read o ∷ reads_of n others) known.last → Comes o → Result o
+  unfolding Result
+  own-known past known None heeds runs after = absurd (heeds tt)
+  own-known past known (Some (ConnectionRequest s None)) heeds runs after = absurd runs.0
+  own-known past known (Some (ConnectionRequest s (Some user))) heeds runs after = absurd (initial-unheeded (REFERENCE_BASE + (known.place + 1)) (is_over known.of.stage) s (message_in user) runs.0)
+  own-known past known (Some (DataForm1 d user)) heeds runs after = own-form past known d user (message_in user) refl runs.0 runs.1 after
+  own-known past known (Some (ConnectionConfirm d s)) heeds runs after = absurd (heeds tt)
+  own-known past known (Some (ConnectionRefused d)) heeds runs after = absurd (heeds tt)
+  own-known past known (Some (Released d s)) heeds runs after = absurd (heeds tt)
+  own-known past known (Some (ReleaseComplete d s)) heeds runs after = absurd (heeds tt)
+
+  own-agreed : (o : Option Sccp) → reads_of n (outbox_of w SWITCH_LINK) ≡ sccp_read o ∷ reads_of n others → (IsNothing (sccp_read o) → ⊥) → Comes o → Agrees w n → Result o
+  own-agreed o stood heeds after (is_unasked un unknown) = absurd (heeds (subst AreNothing stood unknown.quiet).0)
+  own-agreed o stood heeds after (is_unheard has unknown) = absurd (heeds (subst AreNothing stood unknown.quiet).0)
+  own-agreed o stood heeds after (is_asking has way) = own-asking has way o heeds (subst (AsksOnce n) stood way.once) after
+  own-agreed o stood heeds after (is_known past known) = own-known past known o heeds (subst (λ (xs : List Read). Runs (REFERENCE_BASE + (known.place + 1)) (is_over known.of.stage) xs known.last) stood known.runs) after
+
+  own-took : (o : Option Sccp) → reads_of n (outbox_of w SWITCH_LINK) ≡ sccp_read o ∷ reads_of n others → Comes o → Agrees w n → Result o
+  own-took o stood after agrees = elim (nothing-or (sccp_read o)) [
+    | inl is ↦ own-nothing o stood is after agrees
+    | inr heeds ↦ own-agreed o stood heeds after agrees
+  ]
+
+-- ---- any
+
+-- where the numbers have three octets
+pub record IsFirst (w : Actors) (first : OutboxEntry) (others : List OutboxEntry) : Type 0 where
+  pub agree : NamesAgree w
+  pub few : w.controller.next_number ≤ 2 ^ 24
+  pub up : is_up w SWITCH_LINK ≡ true
+  pub stood : outbox_of w SWITCH_LINK ≡ first ∷ others
+
+module _ (w : Actors) (first : OutboxEntry) (others : List OutboxEntry) (h : IsFirst w first others) where
+  abbrev v : Actors
+  v = switch_took (sccp_in first.out.frame) (with_outbox SWITCH_LINK others w)
+
+  abbrev taken_connections : List Connection
+  taken_connections = took_connections w.switch.modulus w.switch.connections (sccp_in first.out.frame)
+
+  abbrev taken_replies : List Sccp
+  taken_replies = took_replies w.switch.connections (sccp_in first.out.frame)
+
+  after : After w v others taken_connections taken_replies
+  after = after-took w others (sccp_in first.out.frame) h.up
+
+  rights : AllByRecursion (λ entry. IsRight entry.out) (first ∷ others)
+  rights = subst (AllByRecursion (λ (entry : OutboxEntry). IsRight entry.out)) h.stood h.agree.right
+
+  -- the entry of this connection, which isn't beyond all that there were
+  own-entry : (n : ℕ) → 1 ≤ n → first.out.conn ≡ n → Took w v n taken_connections taken_replies (reads first.out)
+  unfolding Result Comes
+  own-entry n from_one is =
+      let wire : reads_of n (outbox_of w SWITCH_LINK) ≡ reads first.out ∷ reads_of n others = ap (reads_of n) h.stood ∙ first-own n first others is in
+      own-took w v others n less (sccp_in first.out.frame) wire after (h.agree.each n from_one)
+    where
+      less : n < w.controller.next_number → n < 2 ^ 24
+      less past = let few = h.few in omega (arith, past, few)
+
+  zero-or : (m : ℕ) → (m ≡ 0) ⊎ (1 ≤ m)
+  zero-or m = elim (cases_Bool (m == 0)) [
+    | inl hit ↦ inl (eqb-true m 0 hit)
+    | inr miss ↦ inr (some (eqb-false m 0 miss))
+  ] where
+    some : (m ≡ 0 → ⊥) → 1 ≤ m
+    some other = omega (arith, other)
+
+  effect : Effect first.out.conn w.switch.connections taken_connections taken_replies
+  effect = elim (zero-or first.out.conn) [
+    | inl zero ↦ beside (rights.0.beside zero)
+    | inr from_one ↦ (own-entry first.out.conn from_one refl).effect
+  ] where
+    beside : reads first.out ≡ nothing → Effect first.out.conn w.switch.connections taken_connections taken_replies
+    beside is =
+        let both = nothing-same w.switch.modulus w.switch.connections (sccp_in first.out.frame) (subst IsNothing (sym is) tt) in
+        subst (λ (xs : List Connection). Effect first.out.conn w.switch.connections xs taken_replies) (sym both.0) (subst (λ (xs : List Sccp). Effect first.out.conn w.switch.connections w.switch.connections xs) (sym both.1) same)
+
+  -- each has a peer of its own
+  pub peers-after : HaveOwnPeers w → HaveOwnPeers v
+  peers-after differ = subst (λ (xs : List Connection). Differ (peers_of xs)) (sym after.conns) (elim (zero-or first.out.conn) [
+    | inl zero ↦ subst (λ (xs : List Connection). Differ (peers_of xs)) (sym (nothing-same w.switch.modulus w.switch.connections (sccp_in first.out.frame) (subst IsNothing (sym (rights.0.beside zero)) tt)).0) differ
+    | inr from_one ↦ effect-differs first.out.conn w.switch.connections from_one (own-entry first.out.conn from_one refl).effect differ
+  ])
+
+  other-wire : (n : ℕ) → first.out.conn ≢ n → reads_of n others ≡ reads_of n (outbox_of w SWITCH_LINK)
+  other-wire n differ = sym (ap (reads_of n) h.stood ∙ first-other n first others differ)
+
+  other-agrees : (n : ℕ) → 1 ≤ n → first.out.conn ≢ n → Agrees v n
+  other-agrees n from_one differ =
+      same-agrees w v n (other-same first.out.conn n differ after effect (other-wire n differ)) (other-keeps first.out.conn n differ after effect) (h.agree.each n from_one)
+
+  pub names-after : NamesAgree v
+  names-after = record {
+    each = λ n from_one. elim (cases_Bool (first.out.conn == n)) [
+      | inl hit ↦ (own-entry n from_one (eqb-true first.out.conn n hit)).agrees
+      | inr miss ↦ other-agrees n from_one (eqb-false first.out.conn n miss)
+    ];
+    right = subst (AllByRecursion (λ (entry : OutboxEntry). IsRight entry.out)) (sym after.rest) rights.1;
+  }
+
+  -- ---- what it took
+
+  took-taken : (n : ℕ) (o : Option Sccp) → taken_of (switch_took o w) n ≡ taken_in (find (is_of_peer n) (took_connections w.switch.modulus w.switch.connections o))
+  took-taken n None = refl
+  took-taken n (Some message) = refl
+
+  other-found : (n : ℕ) → first.out.conn ≢ n → Agrees w n → taken_in (find (is_of_peer n) taken_connections) ≡ taken_of w n
+  other-found n differ (is_unasked un unknown) = ap taken_in (other-none w first.out.conn n differ effect unknown.none) ∙ sym (ap taken_in unknown.none)
+  other-found n differ (is_asking has way) = ap taken_in (other-none w first.out.conn n differ effect way.none) ∙ sym (ap taken_in way.none)
+  other-found n differ (is_unheard has unknown) = ap taken_in (other-none w first.out.conn n differ effect unknown.none) ∙ sym (ap taken_in unknown.none)
+  other-found n differ (is_known past known) =
+      ap taken_in (stands-find n known.place known.of taken_connections (other-stands w first.out.conn n differ effect known.place known.of known.stands))
+      ∙ sym (ap taken_in (stands-find n known.place known.of w.switch.connections known.stands))
+
+  abbrev Delivers : ℕ → Type 0
+  Delivers n = taken_of (switch_took (sccp_in first.out.frame) w) n ≡ taken_of w n ++ carried_for n first.out
+
+  other-delivers : (n : ℕ) → 1 ≤ n → first.out.conn ≢ n → Delivers n
+  other-delivers n from_one differ =
+      took-taken n (sccp_in first.out.frame) ∙ other-found n differ (h.agree.each n from_one) ∙ sym (append-nil (taken_of w n)) ∙ ap (λ (xs : List (List ℕ)). taken_of w n ++ xs) (sym (other-carries n first.out differ))
+
+  own-delivers : (n : ℕ) → 1 ≤ n → first.out.conn ≡ n → Delivers n ⊎ (HasAsked v n × IsUnknown v n)
+  own-delivers n from_one is =
+      let took = own-entry n from_one is in
+      let carries : carried_for n first.out ≡ carried (reads first.out) = subst (λ (x : ℕ). 1 ≤ x → IsHeeded (reads first.out) → carried_for x first.out ≡ carried (reads first.out)) is rights.0.carries_as_read from_one took.heeded in
+      elim took.delivers [
+        | inl all ↦ inl (took-taken n (sccp_in first.out.frame) ∙ all ∙ ap (λ (xs : List (List ℕ)). taken_of w n ++ xs) (sym carries))
+        | inr never ↦ inr never
+      ]
+
+  pub delivers-or : (n : ℕ) → 1 ≤ n → (taken_of (switch_took (sccp_in first.out.frame) w) n ≡ taken_of w n ++ carried_for n first.out) ⊎ (HasAsked v n × IsUnknown v n)
+  delivers-or n from_one = elim (cases_Bool (first.out.conn == n)) [
+    | inl hit ↦ own-delivers n from_one (eqb-true first.out.conn n hit)
+    | inr miss ↦ inl (other-delivers n from_one (eqb-false first.out.conn n miss))
+  ]
+
+  -- one that the switch never hears of stays so
+  pub unheard-after : (n : ℕ) → 1 ≤ n → HasAsked w n → IsUnknown w n → HasAsked v n × IsUnknown v n
+  unheard-after n from_one has unknown = elim (cases_Bool (first.out.conn == n)) [
+    | inl hit ↦ by (eqb-true first.out.conn n hit)
+    | inr miss ↦ (
+      asked-same w v n after.controller_is has,
+      same-unknown w v n (other-same first.out.conn n (eqb-false first.out.conn n miss) after effect (other-wire n (eqb-false first.out.conn n miss))) (other-keeps first.out.conn n (eqb-false first.out.conn n miss) after effect) unknown,
+    )
+  ] where
+    by : first.out.conn ≡ n → HasAsked v n × IsUnknown v n
+    by is =
+        let wire : reads_of n (outbox_of w SWITCH_LINK) ≡ reads first.out ∷ reads_of n others = ap (reads_of n) h.stood ∙ first-own n first others is in
+        let quiet = subst AreNothing wire unknown.quiet in
+        let both = nothing-same w.switch.modulus w.switch.connections (sccp_in first.out.frame) quiet.0 in (
+          asked-same w v n after.controller_is has,
+          record {
+            none = subst (λ (xs : List Connection). find (is_of_peer n) xs ≡ None) (sym (after.conns ∙ both.0)) unknown.none;
+            quiet = subst (λ (entries : List OutboxEntry). AreNothing (reads_of n entries)) (sym after.rest) quiet.1;
+            unconfirmed = confirms-after Never n after unknown.unconfirmed (subst (AllByRecursion (ConfirmsBy Never n)) (sym both.1) tt);
+          },
+        )

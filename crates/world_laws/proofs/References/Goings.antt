@@ -1,0 +1,108 @@
+-- What a step of the controller does to one connection, by how far that is.
+use Rattle.world_laws.proofs.Prelude.{◌≡◌, ◌⊎◌, ℕ, Bool, List, [], ◌∷◌, fold, Option, None, refl, sym, ap, subst, inl, inr, Message}
+use Rattle.world_laws.proofs.Prelude.{Input, Due, WasAsked, Complete, State, WaitActivation, WaitEstablish, WaitConfirm, Live, Closed}
+use Rattle.world_laws.proofs.Prelude.{Removed, Connection, Row, OfRow, Acts, Brought, IsBrought, kept_in, rests, ages, opens, goes}
+use Rattle.world_laws.proofs.Prelude.{same_state}
+use Rattle.conn_rules.specs.declared.input.Input.TheVariants as inputs
+use Rattle.controller_model.specs.LifeLaws.Acts.{passed}
+use Rattle.world_laws.specs.References.Naming.{AreQuiet, From, FromCleared, FromEarly, FromNamed, FromWaiting, Goes, Reach, early, waits}
+use Rattle.world_laws.specs.References.Naming.{due, named, cleared, reach_in, reach_of}
+use Rattle.world_laws.specs.References.Naming.Goes.{stays, leaves, fails, asks, confirmed, speaks, clears}
+use Rattle.world_laws.proofs.References.NamedRows.{named_row}
+
+-- ---- one row
+
+module _ (came : ℕ → Type 0) (input : Input) (put : List Message) (comes : (r : ℕ) → input ≡ inputs.ConnectionConfirm r → came r) where
+  from-early : (after : State) → FromEarly put after → Goes came put early (reach_in after)
+  from-early WaitActivation from = stays from
+  from-early WaitEstablish from = stays from
+  from-early Removed from = leaves from
+  from-early WaitConfirm from = asks from
+  from-early (Live reference stage) from = absurd from
+  from-early (Closed clearing) from = absurd from
+
+  from-waits : (after : State) → FromWaiting input put after → Goes came put waits (reach_in after)
+  from-waits WaitConfirm from = stays from
+  from-waits (Closed (Due cause)) from = fails tt tt from
+  from-waits Removed from = leaves from
+  from-waits (Live reference stage) from = confirmed reference tt (comes reference from.0) from.1
+  from-waits (Closed (WasAsked reference)) from = confirmed reference tt (comes reference from.0) from.1
+  from-waits (Closed Complete) from = absurd from
+  from-waits WaitActivation from = absurd from
+  from-waits WaitEstablish from = absurd from
+
+  from-due : (after : State) → FromWaiting input put after → Goes came put due (reach_in after)
+  from-due WaitConfirm from = fails tt tt from
+  from-due (Closed (Due cause)) from = stays from
+  from-due Removed from = leaves from
+  from-due (Live reference stage) from = confirmed reference tt (comes reference from.0) from.1
+  from-due (Closed (WasAsked reference)) from = confirmed reference tt (comes reference from.0) from.1
+  from-due (Closed Complete) from = absurd from
+  from-due WaitActivation from = absurd from
+  from-due WaitEstablish from = absurd from
+
+  from-named : (k : ℕ) (after : State) → FromNamed k put after → Goes came put (named k) (reach_in after)
+  from-named k (Live own stage) from = subst (λ (r : ℕ). Goes came put (named k) (named r)) (sym from.0) (speaks from.1)
+  from-named k (Closed (WasAsked own)) from = subst (λ (r : ℕ). Goes came put (named k) (named r)) (sym from.0) (speaks from.1)
+  from-named k (Closed Complete) from = clears from
+  from-named k Removed from = leaves from
+  from-named k (Closed (Due cause)) from = absurd from
+  from-named k WaitActivation from = absurd from
+  from-named k WaitEstablish from = absurd from
+  from-named k WaitConfirm from = absurd from
+
+  from-cleared : (after : State) → FromCleared put after → Goes came put cleared (reach_in after)
+  from-cleared (Closed Complete) from = stays from
+  from-cleared Removed from = leaves from
+  from-cleared (Closed (Due cause)) from = absurd from
+  from-cleared (Closed (WasAsked own)) from = absurd from
+  from-cleared (Live own stage) from = absurd from
+  from-cleared WaitActivation from = absurd from
+  from-cleared WaitEstablish from = absurd from
+  from-cleared WaitConfirm from = absurd from
+
+  goes-by : (before after : State) → From input put before after → Goes came put (reach_in before) (reach_in after)
+  goes-by WaitActivation after from = from-early after from
+  goes-by WaitEstablish after from = from-early after from
+  goes-by WaitConfirm after from = from-waits after from
+  goes-by (Live k stage) after from = from-named k after from
+  goes-by (Closed (Due cause)) after from = from-due after from
+  goes-by (Closed (WasAsked k)) after from = from-named k after from
+  goes-by (Closed Complete) after from = from-cleared after from
+  goes-by Removed after from = absurd from
+
+-- a connection that is removed goes
+kept-reach : (state : State) (s : Connection) → s.state ≡ state → reach_of (kept_in state s) ≡ reach_in state
+kept-reach Removed s is = refl
+kept-reach WaitActivation s is = ap reach_in is
+kept-reach WaitEstablish s is = ap reach_in is
+kept-reach WaitConfirm s is = ap reach_in is
+kept-reach (Live k stage) s is = ap reach_in is
+kept-reach (Closed clearing) s is = ap reach_in is
+
+passed-state : (s : Connection) (times : List ℕ) → (fold passed s times).state ≡ s.state
+passed-state s [] = refl
+passed-state s (ms ∷ times) = passed-state (passed s ms) times
+
+-- ---- one step
+
+-- it begins as the next one, and is early, and puts what is quiet; or it goes on
+pub record Begins (next number : ℕ) (put : List Message) (before after : Option Connection) : Type 0 where
+  pub is_next : number ≡ next
+  pub none : before ≡ None
+  pub is_early : reach_of after ≡ early
+  pub quiet : AreQuiet put
+
+pub acts-go : {number next : ℕ} {up : Bool} {brought : Brought} {before after : Option Connection} {put : List Message} (came : ℕ → Type 0) → ((r : ℕ) → IsBrought brought (inputs.ConnectionConfirm r) → came r) → Acts number next up brought before put after
+    → Begins next number put before after ⊎ Goes came put (reach_of before) (reach_of after)
+acts-go {before = before} {put = put} came comes (rests silent same none) = inr (subst (λ (o : Option Connection). Goes came put (reach_of before) (reach_of o)) (sym same) (stays (subst AreQuiet (sym silent) tt)))
+acts-go {after = after} {put = put} came comes (ages old s is_time was aged silent same) =
+    inr (subst (λ (o : Option Connection). Goes came put (reach_of o) (reach_of after)) (sym was) (subst (λ (o : Option Connection). Goes came put (reach_in old.state) (reach_of o)) (sym same)
+    (subst (λ (state : State). Goes came put (reach_in old.state) (reach_in state)) (sym (same_state old s aged)) (stays (subst AreQuiet (sym silent) tt)))))
+acts-go came comes (opens begins linked channel request delay is_nothing none put_is same) = inl (record { is_next = begins; none = none; is_early = ap reach_of same; quiet = subst AreQuiet (sym put_is) (tt, tt) })
+acts-go {brought = brought} {after = after} {put = put} came comes (goes old s input offer r was aged by fits put_is same) =
+    let from : From input r.outs s.state r.next.state = subst (OfRow (λ (q : Row). From input q.outs s.state q.next.state)) fits (named_row s input offer) in
+    let one : Goes came r.outs (reach_in s.state) (reach_in r.next.state) = goes-by came input r.outs (λ k is. comes k (subst (IsBrought brought) is by)) s.state r.next.state from in
+    let own : Goes came put (reach_in s.state) (reach_in r.next.state) = subst (λ (xs : List Message). Goes came xs (reach_in s.state) (reach_in r.next.state)) (sym put_is) one in
+    let whole : Goes came put (reach_in s.state) (reach_of after) = subst (λ (o : Option Connection). Goes came put (reach_in s.state) (reach_of o)) (sym same) (subst (λ (x : Reach). Goes came put (reach_in s.state) x) (sym (kept-reach r.next.state r.next refl)) own) in
+    inr (subst (λ (o : Option Connection). Goes came put (reach_of o) (reach_of after)) (sym was) (subst (λ (state : State). Goes came put (reach_in state) (reach_of after)) (same_state old s aged) whole))

@@ -1,0 +1,127 @@
+-- CC on its way: what is read of what the switch made, and of what stations gave.
+use Rattle.world_laws.proofs.Prelude.{◌≡◌, ◌≢◌, ℕ, List, [], ◌++◌, Ok, Err, refl, sym, ap, ◌∙◌, subst, Bssap, Management, Transfer, Bssmap}
+use Rattle.world_laws.proofs.Prelude.{InterfaceFault, Sccp, ConnectionConfirm, ConnectionRefused, ConnectionRequest, DataForm1, Released}
+use Rattle.world_laws.proofs.Prelude.{bssap_reading, IsReference, sccp_text, SWITCH_LINK, word_by, word_from, Word, Nothing, Ping, Asks}
+use Rattle.world_laws.proofs.Prelude.{OnChannel, Reports, OnConnection, bssap_word, management_word, switch_word, Rsl, station_item}
+use Rattle.world_laws.proofs.Prelude.{switch_item}
+use Rattle.std.proofs.Common.{Result, append-nil}
+use Rattle.bssmap_codec.specs.declared.bssmap.Bssmap.TheVariants as bssmap
+use Rattle.bssmap_codec.specs.declared.fault.InterfaceFault.TheVariants.{Short}
+use Rattle.bssmap_codec.specs.declared.sccp.Sccp.TheVariants.{ReleaseComplete}
+use Rattle.bssmap_codec.specs.declared.sccp_type.SccpType.{SccpType}
+use Rattle.bssmap_codec.specs.declared.sccp_type.SccpType.TheVariants as kinds
+use Rattle.bssmap_codec.specs.Reference.{reference_at, references_at}
+use Rattle.bssmap_codec.specs.SccpReading.{content_at, data_behind_at, data_form_at, fixed_references_at, part_at, refused_at, request_at}
+use Rattle.bssmap_codec.specs.SccpReading.{sccp_reading, user_data_at}
+use Rattle.bssmap_codec.specs.SccpText.{content_text}
+use Rattle.bssmap_codec.specs.SccpType.{sccp_type, type_of}
+use Rattle.bssmap_codec.proofs.Sccps.{sccp_again}
+use Rattle.bssmap_codec.proofs.SccpTexts.{sccp_written}
+use Rattle.controller_model.proofs.LifeLaws.Sources.{IsFrom}
+use Rattle.controller_model.specs.Reading.{word_of}
+use Rattle.octets.proofs.Steps.{bind_ok, ok_is, result_map_ok}
+use Rattle.octets.specs.Front.{counted_at, octet_at}
+use Rattle.world_laws.specs.References.Agree.{ConfirmsBeing, ConfirmsBy, ConfirmsIn}
+
+-- ---- what the text of a message is read as has its type
+
+request_kind : (octets : List ℕ) (m : Sccp) → request_at octets ≡ Ok m → type_of m ≡ kinds.ConnectionRequest
+unfolding request_at
+request_kind octets m is =
+    let a = bind_ok (reference_at octets) _ m is in
+    let b = bind_ok (octet_at Short a.0.1) _ m a.2 in
+    let c = bind_ok (octet_at Short b.0.1) _ m b.2 in
+    let d = bind_ok (octet_at Short c.0.1) _ m c.2 in
+    let f = bind_ok (part_at c.0.0 b.0.1) _ m d.2 in
+    let g = bind_ok (counted_at Short f.0) _ m f.2 in
+    let h = bind_ok (user_data_at d.0.0 c.0.1) _ m g.2 in
+    sym (ap type_of (ok_is {A = Sccp} {F = InterfaceFault} (ConnectionRequest a.0.0 h.0) m h.2))
+
+refused_kind : (octets : List ℕ) (m : Sccp) → refused_at octets ≡ Ok m → type_of m ≡ kinds.ConnectionRefused
+unfolding refused_at
+refused_kind octets m is =
+    let a = bind_ok (reference_at octets) _ m is in
+    let b = bind_ok (octet_at Short a.0.1) _ m a.2 in
+    let c = bind_ok (octet_at Short b.0.1) _ m b.2 in
+    sym (ap type_of (ok_is {A = Sccp} {F = InterfaceFault} (ConnectionRefused a.0.0) m c.2))
+
+form_kind : (octets : List ℕ) (m : Sccp) → data_form_at octets ≡ Ok m → type_of m ≡ kinds.DataForm1
+unfolding data_form_at
+form_kind octets m is =
+    let a = bind_ok (reference_at octets) _ m is in
+    let b = bind_ok (octet_at Short a.0.1) _ m a.2 in
+    let c = bind_ok (octet_at Short b.0.1) _ m b.2 in
+    let d = bind_ok (data_behind_at b.0.0 b.0.1 c.0.0) _ m c.2 in
+    sym (ap type_of (ok_is {A = Sccp} {F = InterfaceFault} (DataForm1 a.0.0 d.0.0) m d.2))
+
+content_kind : (kind : SccpType) (octets : List ℕ) (m : Sccp) → content_at kind octets ≡ Ok m → type_of m ≡ kind
+content_kind kinds.ConnectionRequest octets m is = request_kind octets m is
+content_kind kinds.ConnectionConfirm octets m is = let a = result_map_ok (λ p. ConnectionConfirm p.0 p.1) (fixed_references_at octets) m is in sym (ap type_of a.2)
+content_kind kinds.ConnectionRefused octets m is = refused_kind octets m is
+content_kind kinds.Released octets m is = let a = result_map_ok (λ p. Released p.0 p.1) (fixed_references_at octets) m is in sym (ap type_of a.2)
+content_kind kinds.ReleaseComplete octets m is = let a = result_map_ok (λ p. ReleaseComplete p.0 p.1) (references_at octets) m is in sym (ap type_of a.2)
+content_kind kinds.DataForm1 octets m is = form_kind octets m is
+
+-- the reading of a text is that of its content
+text-content : (message : Sccp) → sccp_reading (sccp_text message) ≡ content_at (type_of message) (content_text message)
+unfolding sccp_reading octet_at sccp_type
+text-content (ConnectionRequest source user) = refl
+text-content (ConnectionConfirm destination source) = refl
+text-content (ConnectionRefused destination) = refl
+text-content (Released destination source) = refl
+text-content (ReleaseComplete destination source) = refl
+text-content (DataForm1 destination user) = refl
+
+confirm-read : (d s : ℕ) → IsReference d → IsReference s → sccp_reading (sccp_text (ConnectionConfirm d s)) ≡ Ok (ConnectionConfirm d s)
+confirm-read d s first second =
+    subst (λ (octets : List ℕ). sccp_reading octets ≡ Ok (ConnectionConfirm d s)) (append-nil (sccp_text (ConnectionConfirm d s)))
+    (sccp_again (sccp_text (ConnectionConfirm d s) ++ []) (ConnectionConfirm d s) (sccp_written (ConnectionConfirm d s) [] (first, second) refl))
+
+-- ---- words
+
+module _ (P : ℕ → Type 0) (n : ℕ) where
+  of-management : (number : ℕ) (message : Bssmap) → ConfirmsIn P n (management_word number message)
+  of-management number (bssmap.AssignmentRequest channel_type) = tt
+  of-management number (bssmap.ClearCommand cause) = tt
+  of-management number bssmap.CipherModeCommand = tt
+  of-management number _ = tt
+
+  of-bssap : (number : ℕ) (r : Result Bssap InterfaceFault) → ConfirmsIn P n (bssap_word number r)
+  of-bssap number (Ok (Management message)) = of-management number message
+  of-bssap number (Ok (Transfer dlci message)) = tt
+  of-bssap number (Err fault) = tt
+
+  of-other : (r : Result Sccp InterfaceFault) → ((m : Sccp) → r ≡ Ok m → type_of m ≡ kinds.ConnectionConfirm → ⊥) → ConfirmsIn P n (switch_word r)
+  of-other (Ok (ConnectionConfirm d s)) other = absurd (other (ConnectionConfirm d s) refl refl)
+  of-other (Ok (ConnectionRefused d)) other = tt
+  of-other (Ok (Released d s)) other = tt
+  of-other (Ok (DataForm1 d user)) other = of-bssap d (bssap_reading user)
+  of-other (Ok (ConnectionRequest s user)) other = tt
+  of-other (Ok (ReleaseComplete d s)) other = tt
+  of-other (Err fault) other = tt
+
+  read-other : (message : Sccp) → (type_of message ≡ kinds.ConnectionConfirm → ⊥) → ConfirmsIn P n (switch_word (sccp_reading (sccp_text message)))
+  read-other message other = of-other (sccp_reading (sccp_text message)) (λ m is kind. other (sym (content_kind (type_of message) (content_text message) m (sym (text-content message) ∙ is)) ∙ kind))
+
+  read-made : (message : Sccp) → ConfirmsBy P n message → ConfirmsIn P n (switch_word (sccp_reading (sccp_text message)))
+  read-made (ConnectionConfirm d s) confirms = subst (λ (r : Result Sccp InterfaceFault). ConfirmsIn P n (switch_word r)) (sym (confirm-read d s confirms.0 confirms.1)) confirms.2
+  read-made (ConnectionRequest s user) confirms = read-other (ConnectionRequest s user) (λ is. absurd cc)
+  read-made (ConnectionRefused d) confirms = read-other (ConnectionRefused d) (λ is. absurd cc)
+  read-made (Released d s) confirms = read-other (Released d s) (λ is. absurd cc)
+  read-made (ReleaseComplete d s) confirms = read-other (ReleaseComplete d s) (λ is. absurd cc)
+  read-made (DataForm1 d user) confirms = read-other (DataForm1 d user) (λ is. absurd cc)
+
+  pub switch-item : (message : Sccp) → ConfirmsBy P n message → ConfirmsBeing P n (switch_item message)
+  unfolding word_of
+  switch-item message confirms = read-made message confirms
+
+  of-station : (source : ℕ) (word : Word) → source ≢ SWITCH_LINK → IsFrom source word → ConfirmsIn P n word
+  of-station source (OnConnection d input) station from = absurd (station from.0)
+  of-station source Nothing station from = tt
+  of-station source Ping station from = tt
+  of-station source (Asks request delay) station from = tt
+  of-station source (OnChannel at input) station from = tt
+  of-station source (Reports at number report) station from = tt
+
+  pub station-item : (source : ℕ) (message : Rsl) → source ≢ SWITCH_LINK → ConfirmsBeing P n (station_item source message)
+  station-item source message station = of-station source (word_by source (station_item source message).what) station (word_from source _)

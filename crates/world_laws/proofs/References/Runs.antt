@@ -1,0 +1,268 @@
+-- A step of the controller keeps what a connection and the switch agree on.
+use Rattle.world_laws.proofs.Prelude.{◌≡◌, ◌⊎◌, ℕ, ◌+◌, ◌≤◌, ◌<◌, nat_le, Bool, true, false, List, [], ◌∷◌, ◌++◌, find, None, refl, sym, ap}
+use Rattle.world_laws.proofs.Prelude.{◌∙◌, subst, arith, inl, inr, cases_Bool, leb-true, IsReference, Message, SWITCH_LINK}
+use Rattle.world_laws.proofs.Prelude.{AllByRecursion-append, connection_of, REFERENCE_BASE, SwitchState, Actors, outbox_of}
+use Rattle.world_laws.specs.LineUps.{is_of_peer}
+use Rattle.world_laws.specs.References.Agree.{Agrees, AsksOnce, Confirms, HasAsked, IsAsked, IsKnown, IsOnItsWay, IsUnknown, Knows, Never}
+use Rattle.world_laws.specs.References.Agree.{Only, Runs, StandsAt, is_over, over_after, reads_of}
+use Rattle.world_laws.specs.References.Agree.Agrees.{is_unasked, is_asking, is_unheard, is_known}
+use Rattle.world_laws.specs.References.Naming.{ArePlain, AreQuiet, Goes, IsAsking, IsClearing, IsUnnamed, Reach, early, waits, due, named}
+use Rattle.world_laws.specs.References.Naming.{cleared, gone, reach_of}
+use Rattle.world_laws.specs.References.Naming.Goes.{stays, leaves, fails, asks, confirmed, speaks, clears}
+use Rattle.world_laws.specs.References.Reads.{AreNothing, ArePlainReads, IsNothing, Read, asks as read_asks, carries as read_carries}
+use Rattle.world_laws.specs.References.Reads.{clears as read_clears, tells as read_tells, nothing as read_nothing, odd as read_odd}
+use Rattle.world_laws.proofs.References.Goings.{Begins}
+
+-- ---- what is put behind what waits
+
+nothing-more : (xs ys : List Read) → AreNothing xs → AreNothing ys → AreNothing (xs ++ ys)
+nothing-more xs ys first rest = AllByRecursion-append IsNothing xs ys first rest
+
+asks-more : (n : ℕ) (xs ys : List Read) → AsksOnce n xs → AreNothing ys → AsksOnce n (xs ++ ys)
+asks-more n [] ys once quiet = absurd once
+asks-more n (read_asks source initial ∷ xs) ys once quiet = (once.0, nothing-more xs ys once.1 quiet)
+asks-more n (read_nothing ∷ xs) ys once quiet = asks-more n xs ys once quiet
+asks-more n (read_carries d message ∷ xs) ys once quiet = absurd once
+asks-more n (read_clears d ∷ xs) ys once quiet = absurd once
+asks-more n (read_tells d ∷ xs) ys once quiet = absurd once
+asks-more n (read_odd ∷ xs) ys once quiet = absurd once
+
+asks-behind : (n : ℕ) (message : List ℕ) (xs : List Read) → AreNothing xs → AsksOnce n (xs ++ read_asks n message ∷ [])
+asks-behind n message [] quiet = (refl, tt)
+asks-behind n message (read_nothing ∷ xs) quiet = asks-behind n message xs quiet.1
+asks-behind n message (read_asks source initial ∷ xs) quiet = absurd quiet.0
+asks-behind n message (read_carries d m ∷ xs) quiet = absurd quiet.0
+asks-behind n message (read_clears d ∷ xs) quiet = absurd quiet.0
+asks-behind n message (read_tells d ∷ xs) quiet = absurd quiet.0
+asks-behind n message (read_odd ∷ xs) quiet = absurd quiet.0
+
+pub quiet-runs : (k : ℕ) (over : Bool) (ys : List Read) → AreNothing ys → Runs k over ys over
+quiet-runs k over [] quiet = refl
+quiet-runs k over (read_nothing ∷ ys) quiet = (tt, quiet-runs k over ys quiet.1)
+quiet-runs k over (read_asks source initial ∷ ys) quiet = absurd quiet.0
+quiet-runs k over (read_carries d m ∷ ys) quiet = absurd quiet.0
+quiet-runs k over (read_clears d ∷ ys) quiet = absurd quiet.0
+quiet-runs k over (read_tells d ∷ ys) quiet = absurd quiet.0
+quiet-runs k over (read_odd ∷ ys) quiet = absurd quiet.0
+
+plain-runs : (k : ℕ) (ys : List Read) → ArePlainReads k ys → Runs k false ys false
+plain-runs k [] plain = refl
+plain-runs k (read_nothing ∷ ys) plain = (tt, plain-runs k ys plain.1)
+plain-runs k (read_asks source initial ∷ ys) plain = absurd plain.0
+plain-runs k (read_carries d m ∷ ys) plain = ((refl, plain.0), plain-runs k ys plain.1)
+plain-runs k (read_tells d ∷ ys) plain = ((refl, plain.0), plain-runs k ys plain.1)
+plain-runs k (read_clears d ∷ ys) plain = absurd plain.0
+plain-runs k (read_odd ∷ ys) plain = absurd plain.0
+
+clear-runs : (k : ℕ) (qs : List Read) → AreNothing qs → Runs k false (qs ++ read_clears k ∷ []) true
+clear-runs k [] quiet = ((refl, refl), refl)
+clear-runs k (read_nothing ∷ qs) quiet = (tt, clear-runs k qs quiet.1)
+clear-runs k (read_asks source initial ∷ qs) quiet = absurd quiet.0
+clear-runs k (read_carries d m ∷ qs) quiet = absurd quiet.0
+clear-runs k (read_clears d ∷ qs) quiet = absurd quiet.0
+clear-runs k (read_tells d ∷ qs) quiet = absurd quiet.0
+clear-runs k (read_odd ∷ qs) quiet = absurd quiet.0
+
+runs-more : (k : ℕ) (over between last : Bool) (xs ys : List Read) → Runs k over xs between → Runs k between ys last → Runs k over (xs ++ ys) last
+runs-more k over between last [] ys first rest = subst (λ (b : Bool). Runs k b ys last) (sym first) rest
+runs-more k over between last (x ∷ xs) ys first rest = (first.0, runs-more k (over_after over x) between last xs ys first.1 rest)
+
+-- ---- the connection
+
+-- what of the put messages is put for the switch, as that will read it
+pub record Says (n : ℕ) (put : List Message) (more : List Read) : Type 0 where
+  pub quiet : AreQuiet put → AreNothing more
+  pub plain : (k : ℕ) → IsReference k → ArePlain k put → ArePlainReads k more
+  pub asking : IsAsking put → (more ≡ []) ⊎ ((message : List ℕ) × (more ≡ read_asks n message ∷ []))
+  pub clearing : (k : ℕ) → IsReference k → IsClearing k put → (more ≡ []) ⊎ ((qs : List Read) × AreNothing qs × (more ≡ qs ++ read_clears k ∷ []))
+
+-- The switch is as it was, and what waits for it is longer by these.
+pub record Grows (w v : Actors) (n : ℕ) (more : List Read) : Type 0 where
+  pub same : v.switch ≡ w.switch
+  pub all : reads_of n (outbox_of v SWITCH_LINK) ≡ reads_of n (outbox_of w SWITCH_LINK) ++ more
+  pub numbers : w.controller.next_number ≤ v.controller.next_number
+  pub there : reach_of (connection_of v.controller n) ≡ early → n < v.controller.next_number
+
+Keeps : Actors → Actors → ℕ → Type 1
+Keeps w v n = (P : ℕ → Type 0) → Confirms P w n → Confirms P v n
+
+early-named : (k : ℕ) → early ≡ named k → ⊥
+early-named k is = absurd cc
+
+early-unnamed : (a : Reach) → early ≡ a → IsUnnamed a → ⊥
+early-unnamed a is un = absurd (subst IsUnnamed (sym is) un)
+
+asked-unnamed : (b : Reach) → IsUnnamed b → IsAsked b
+asked-unnamed waits un = tt
+asked-unnamed due un = tt
+asked-unnamed early un = absurd un
+asked-unnamed (named k) un = absurd un
+asked-unnamed cleared un = absurd un
+asked-unnamed gone un = absurd un
+
+knows-unnamed : (k : ℕ) (last : Bool) (a : Reach) → IsUnnamed a → Knows k last a → last ≡ false
+knows-unnamed k last waits un knows = knows
+knows-unnamed k last due un knows = knows
+knows-unnamed k last early un knows = absurd un
+knows-unnamed k last (named own) un knows = absurd un
+knows-unnamed k last cleared un knows = absurd un
+knows-unnamed k last gone un knows = absurd un
+
+unnamed-knows : (k : ℕ) (last : Bool) (a : Reach) → IsUnnamed a → last ≡ false → Knows k last a
+unnamed-knows k last waits un is = is
+unnamed-knows k last due un is = is
+unnamed-knows k last early un is = absurd un
+unnamed-knows k last (named own) un is = absurd un
+unnamed-knows k last cleared un is = absurd un
+unnamed-knows k last gone un is = absurd un
+
+module _ (w v : Actors) (n : ℕ) (put : List Message) (more : List Read) (grows : Grows w v n more) (keeps : (P : ℕ → Type 0) → Confirms P w n → Confirms P v n) (says : Says n put more) where
+  none-there : find (is_of_peer n) w.switch.connections ≡ None → find (is_of_peer n) v.switch.connections ≡ None
+  none-there none = subst (λ (s : SwitchState). find (is_of_peer n) s.connections ≡ None) (sym grows.same) none
+
+  unknown-more : IsUnknown w n → AreNothing more → IsUnknown v n
+  unknown-more unknown quiet = record {
+    none = none-there unknown.none;
+    quiet = subst AreNothing (sym grows.all) (nothing-more (reads_of n (outbox_of w SWITCH_LINK)) more unknown.quiet quiet);
+    unconfirmed = keeps Never unknown.unconfirmed;
+  }
+
+  on-way : IsOnItsWay w n → AreNothing more → IsOnItsWay v n
+  on-way way quiet = record {
+    none = none-there way.none;
+    once = subst (AsksOnce n) (sym grows.all) (asks-more n (reads_of n (outbox_of w SWITCH_LINK)) more way.once quiet);
+    unconfirmed = keeps Never way.unconfirmed;
+  }
+
+  -- it begins
+  pub begins-agree : Begins w.controller.next_number n put (connection_of w.controller n) (connection_of v.controller n) → Agrees w n → Agrees v n
+  begins-agree begins (is_unasked un unknown) = is_unasked (inr (grows.there begins.is_early, begins.is_early)) (unknown-more unknown (says.quiet begins.quiet))
+  begins-agree begins (is_asking has way) = absurd (let past = has.past in let is = begins.is_next in omega (arith, past, is))
+  begins-agree begins (is_unheard has unknown) = absurd (let past = has.past in let is = begins.is_next in omega (arith, past, is))
+  begins-agree begins (is_known past known) = absurd (let is = begins.is_next in omega (arith, past, is))
+
+  past-more : n < w.controller.next_number → n < v.controller.next_number
+  past-more past = let rises = grows.numbers in omega (arith, past, rises)
+
+  has-asked : n < w.controller.next_number → (b : Reach) → reach_of (connection_of v.controller n) ≡ b → IsAsked b → HasAsked v n
+  has-asked past b is asked = record { past = past-more past; asked = subst IsAsked (sym is) asked }
+
+  -- it wasn't there
+  goes-none : IsUnknown w n → (b : Reach) → reach_of (connection_of v.controller n) ≡ b → IsAsked b → AreNothing more → Agrees v n
+  goes-none unknown b is asked quiet = elim (cases_Bool (nat_le v.controller.next_number n)) [
+    | inl hit ↦ is_unasked (inl (leb-true v.controller.next_number n hit)) (unknown-more unknown quiet)
+    | inr miss ↦ is_unheard (record { past = less miss; asked = subst IsAsked (sym is) asked }) (unknown-more unknown quiet)
+  ] where
+    less : nat_le v.controller.next_number n ≡ false → n < v.controller.next_number
+    less miss = grind (arith, miss)
+
+  asking-now : n < w.controller.next_number → IsUnknown w n → (b : Reach) → reach_of (connection_of v.controller n) ≡ b → IsAsked b → (more ≡ []) ⊎ ((message : List ℕ) × (more ≡ read_asks n message ∷ [])) → Agrees v n
+  asking-now past unknown b is asked (inl none) = is_unheard (has-asked past b is asked) (unknown-more unknown (subst AreNothing (sym none) tt))
+  asking-now past unknown b is asked (inr (message, one)) = is_asking (has-asked past b is asked) (record {
+    none = none-there unknown.none;
+    once = subst (AsksOnce n) (sym (grows.all ∙ ap (λ (xs : List Read). reads_of n (outbox_of w SWITCH_LINK) ++ xs) one)) (asks-behind n message (reads_of n (outbox_of w SWITCH_LINK)) unknown.quiet);
+    unconfirmed = keeps Never unknown.unconfirmed;
+  })
+
+  module _ (came : ℕ → Type 0) (told : (P : ℕ → Type 0) → Confirms P w n → (r : ℕ) → came r → P r) where
+    goes-early : n < w.controller.next_number → IsUnknown w n → {a b : Reach} → early ≡ a → reach_of (connection_of v.controller n) ≡ b → Goes came put a b → Agrees v n
+    goes-early past unknown from to (stays quiet) = is_unasked (inr (past-more past, to ∙ sym from)) (unknown-more unknown (says.quiet quiet))
+    goes-early past unknown from to (leaves quiet) = is_unheard (has-asked past gone to tt) (unknown-more unknown (says.quiet quiet))
+    goes-early past unknown {a} from to (fails un_a un_b quiet) = absurd (early-unnamed a from un_a)
+    goes-early past unknown from to (asks asking) = asking-now past unknown waits to tt (says.asking asking)
+    goes-early past unknown {a} from to (confirmed k un_a comes plain) = absurd (early-unnamed a from un_a)
+    goes-early past unknown from to (speaks {reference = k} plain) = absurd (early-named k from)
+    goes-early past unknown from to (clears {reference = k} clearing) = absurd (early-named k from)
+
+    goes-asked : {a b : Reach} → Confirms Never w n → IsAsked a → Goes came put a b → IsAsked b × AreNothing more
+    goes-asked un asked (stays quiet) = (asked, says.quiet quiet)
+    goes-asked un asked (leaves quiet) = (tt, says.quiet quiet)
+    goes-asked {b = b} un asked (fails un_a un_b quiet) = (asked-unnamed b un_b, says.quiet quiet)
+    goes-asked un asked (asks asking) = absurd asked
+    goes-asked un asked (confirmed k un_a comes plain) = absurd (told Never un k comes)
+    goes-asked un asked (speaks plain) = absurd asked
+    goes-asked un asked (clears clearing) = absurd asked
+
+    -- the last flag, how it runs on, and what it knows then
+    record RunsOn (known : IsKnown w n) (b : Reach) : Type 0 where
+      then_last : Bool
+      on : Runs (REFERENCE_BASE + (known.place + 1)) known.last more then_last
+      knows_then : Knows (REFERENCE_BASE + (known.place + 1)) then_last b
+
+    plain-on : (known : IsKnown w n) → known.last ≡ false → ArePlainReads (REFERENCE_BASE + (known.place + 1)) more → (r : ℕ) → r ≡ REFERENCE_BASE + (known.place + 1) → RunsOn known (named r)
+    plain-on known unclear plain r is = record {
+      then_last = false;
+      on = subst (λ (b : Bool). Runs (REFERENCE_BASE + (known.place + 1)) b more false) (sym unclear) (plain-runs (REFERENCE_BASE + (known.place + 1)) more plain);
+      knows_then = (is, refl);
+    }
+
+    clear-on : (known : IsKnown w n) → known.last ≡ false → (more ≡ []) ⊎ ((qs : List Read) × AreNothing qs × (more ≡ qs ++ read_clears (REFERENCE_BASE + (known.place + 1)) ∷ [])) → RunsOn known cleared
+    clear-on known unclear (inl none) = record { then_last = known.last; on = subst (λ (xs : List Read). Runs (REFERENCE_BASE + (known.place + 1)) known.last xs known.last) (sym none) refl; knows_then = tt }
+    clear-on known unclear (inr (qs, quiet, are)) = record {
+      then_last = true;
+      on = subst (λ (xs : List Read). Runs (REFERENCE_BASE + (known.place + 1)) known.last xs true) (sym are)
+          (subst (λ (b : Bool). Runs (REFERENCE_BASE + (known.place + 1)) b (qs ++ read_clears (REFERENCE_BASE + (known.place + 1)) ∷ []) true) (sym unclear) (clear-runs (REFERENCE_BASE + (known.place + 1)) qs quiet));
+      knows_then = tt;
+    }
+
+    quiet-on : (known : IsKnown w n) (b : Reach) → Knows (REFERENCE_BASE + (known.place + 1)) known.last b → AreNothing more → RunsOn known b
+    quiet-on known b knows quiet = record { then_last = known.last; on = quiet-runs (REFERENCE_BASE + (known.place + 1)) known.last more quiet; knows_then = knows }
+
+    goes-known : (known : IsKnown w n) {a b : Reach} → Knows (REFERENCE_BASE + (known.place + 1)) known.last a → Goes came put a b → RunsOn known b
+    goes-known known {a} knows (stays quiet) = quiet-on known a knows (says.quiet quiet)
+    goes-known known knows (leaves quiet) = quiet-on known gone tt (says.quiet quiet)
+    goes-known known {a} {b} knows (fails un_a un_b quiet) = quiet-on known b (unnamed-knows (REFERENCE_BASE + (known.place + 1)) known.last b un_b (knows-unnamed (REFERENCE_BASE + (known.place + 1)) known.last a un_a knows)) (says.quiet quiet)
+    goes-known known knows (asks asking) = absurd knows
+    goes-known known {a} knows (confirmed k un_a comes plain) =
+        let is : k ≡ REFERENCE_BASE + (known.place + 1) = told (Only (REFERENCE_BASE + (known.place + 1))) known.confirmed k comes in
+        plain-on known (knows-unnamed (REFERENCE_BASE + (known.place + 1)) known.last a un_a knows) (says.plain (REFERENCE_BASE + (known.place + 1)) known.fits (subst (λ (x : ℕ). ArePlain x put) is plain)) k is
+    goes-known known knows (speaks {reference = k} plain) =
+        plain-on known knows.1 (says.plain (REFERENCE_BASE + (known.place + 1)) known.fits (subst (λ (x : ℕ). ArePlain x put) knows.0 plain)) k knows.0
+    goes-known known knows (clears {reference = k} clearing) =
+        clear-on known knows.1 (says.clearing (REFERENCE_BASE + (known.place + 1)) known.fits (subst (λ (x : ℕ). IsClearing x put) knows.0 clearing))
+
+    known-more : (known : IsKnown w n) (b : Reach) → reach_of (connection_of v.controller n) ≡ b → RunsOn known b → IsKnown v n
+    known-more known b to on = record {
+      place = known.place;
+      of = known.of;
+      last = on.then_last;
+      stands = subst (λ (s : SwitchState). StandsAt n known.place known.of s.connections) (sym grows.same) known.stands;
+      fits = known.fits;
+      runs = subst (λ (xs : List Read). Runs (REFERENCE_BASE + (known.place + 1)) (is_over known.of.stage) xs on.then_last) (sym grows.all)
+          (runs-more (REFERENCE_BASE + (known.place + 1)) (is_over known.of.stage) known.last on.then_last (reads_of n (outbox_of w SWITCH_LINK)) more known.runs on.on);
+      confirmed = keeps (Only (REFERENCE_BASE + (known.place + 1))) known.confirmed;
+      knows = subst (Knows (REFERENCE_BASE + (known.place + 1)) on.then_last) (sym to) on.knows_then;
+    }
+
+    -- one that wasn't there, or is gone, stays so
+    goes-beyond : w.controller.next_number ≤ n → reach_of (connection_of w.controller n) ≡ gone → IsUnknown w n → Goes came put (reach_of (connection_of w.controller n)) (reach_of (connection_of v.controller n)) → Agrees v n
+    goes-beyond beyond none unknown goes =
+        let on = goes-asked {a = gone} {b = reach_of (connection_of v.controller n)} unknown.unconfirmed tt (subst (λ (a : Reach). Goes came put a (reach_of (connection_of v.controller n))) none goes) in
+        goes-none unknown (reach_of (connection_of v.controller n)) refl on.0 on.1
+
+    pub goes-agree : (w.controller.next_number ≤ n → reach_of (connection_of w.controller n) ≡ gone) → Goes came put (reach_of (connection_of w.controller n)) (reach_of (connection_of v.controller n)) → Agrees w n → Agrees v n
+    goes-agree none goes (is_unasked (inl beyond) unknown) = goes-beyond beyond (none beyond) unknown goes
+    goes-agree none goes (is_unasked (inr (past, is)) unknown) = goes-early past unknown (sym is) refl goes
+    goes-agree none goes (is_asking has way) =
+        let on = goes-asked way.unconfirmed has.asked goes in
+        is_asking (has-asked has.past (reach_of (connection_of v.controller n)) refl on.0) (on-way way on.1)
+    goes-agree none goes (is_unheard has unknown) =
+        let on = goes-asked unknown.unconfirmed has.asked goes in
+        is_unheard (has-asked has.past (reach_of (connection_of v.controller n)) refl on.0) (unknown-more unknown on.1)
+    goes-agree none goes (is_known past known) = is_known (past-more past) (known-more known (reach_of (connection_of v.controller n)) refl (goes-known known known.knows goes))
+
+    -- one that the switch never hears of stays so
+    pub goes-unheard : Goes came put (reach_of (connection_of w.controller n)) (reach_of (connection_of v.controller n)) → HasAsked w n → IsUnknown w n → HasAsked v n × IsUnknown v n
+    goes-unheard goes has unknown =
+        let on = goes-asked unknown.unconfirmed has.asked goes in
+        (has-asked has.past (reach_of (connection_of v.controller n)) refl on.0, unknown-more unknown on.1)
+
+    -- one that didn't ask stays so, or asks, or goes with nothing on its way
+    pub early-goes : n < w.controller.next_number → IsUnknown w n → {a b : Reach} → early ≡ a → reach_of (connection_of v.controller n) ≡ b → Goes came put a b → (reach_of (connection_of v.controller n) ≡ early) ⊎ (reach_of (connection_of v.controller n) ≡ waits) ⊎ (HasAsked v n × IsUnknown v n)
+    early-goes past unknown from to (stays quiet) = inl (to ∙ sym from)
+    early-goes past unknown from to (leaves quiet) = inr (inr (has-asked past gone to tt, unknown-more unknown (says.quiet quiet)))
+    early-goes past unknown {a} from to (fails un_a un_b quiet) = absurd (early-unnamed a from un_a)
+    early-goes past unknown from to (asks asking) = inr (inl to)
+    early-goes past unknown {a} from to (confirmed k un_a comes plain) = absurd (early-unnamed a from un_a)
+    early-goes past unknown from to (speaks {reference = k} plain) = absurd (early-named k from)
+    early-goes past unknown from to (clears {reference = k} clearing) = absurd (early-named k from)

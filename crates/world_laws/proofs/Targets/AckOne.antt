@@ -1,0 +1,65 @@
+-- By an ACTIVATION ACK the controller puts one output at most.
+use Rattle.world_laws.proofs.Prelude.{◌≡◌, ◌≢◌, ◌⊎◌, inl, inr, ℕ, Bool, true, false, List, [], ◌∷◌, Option, Some, None, refl, sym, ap, ◌∙◌}
+use Rattle.world_laws.proofs.Prelude.{subst, Place, Out, outs_of, Active, Preparing, Changing, Draining, State, WaitActivation}
+use Rattle.world_laws.proofs.Prelude.{WaitEstablish, WaitConfirm, Live, Closed, Removed, Connection, is_at, Row, assign_immediately}
+use Rattle.world_laws.proofs.Prelude.{command_to, on_activation_ack, ChannelState, Free, InUse, Releasing, Word, Controller, Entry}
+use Rattle.world_laws.proofs.Prelude.{channel_state, entry_of, ignoring, hears, place_at, by_fitting, concerning, entry_at, on_state}
+use Rattle.world_laws.proofs.Prelude.{on_what, on_word, row_in, rsl_word, Frame, What, Rsl, acknowledged_tenure, target_in, rsl_in, Actors}
+use Rattle.world_laws.proofs.Prelude.{IsKnown, IsKnownItem, if_is}
+use Rattle.conn_rules.specs.declared.input.Input.TheVariants as inputs
+use Rattle.conn_rules.specs.Table.{row_of}
+use Rattle.controller_model.specs.Reading.{word_of}
+use Rattle.ruled_relay.specs.declared.item.What.TheVariants as whats
+use Rattle.rsl_codec.specs.declared.rsl.Rsl.TheVariants as rsl
+use Rattle.world_laws.proofs.OrderHeard.{read-known, word-known}
+use Rattle.world_laws.proofs.OwnerRun.{source-or}
+
+abbrev pub IsOneOut : List Out → Type 0
+IsOneOut outs = (outs ≡ []) ⊎ ((out : Out) × (outs ≡ out ∷ []))
+
+one-row : (n : ℕ) (p : Place) (state : State) (s : Connection) (r : Row) → on_activation_ack state s p ≡ Some r → IsOneOut (outs_of n r.outs)
+one-row n p WaitActivation s r fits = subst (λ (q : Row). IsOneOut (outs_of n q.outs)) (if_is (is_at p s.serving) (assign_immediately s) r fits).1 (inr (_, refl))
+one-row n p (Live reference (Preparing target)) s r fits = subst (λ (q : Row). IsOneOut (outs_of n q.outs)) (if_is (is_at p target.channel) (command_to reference target s) r fits).1 (inr (_, refl))
+one-row n p (Live reference Active) s r fits = absurd cc
+one-row n p (Live reference Draining) s r fits = absurd cc
+one-row n p (Live reference (Changing target)) s r fits = absurd cc
+one-row n p WaitEstablish s r fits = absurd cc
+one-row n p WaitConfirm s r fits = absurd cc
+one-row n p (Closed clearing) s r fits = absurd cc
+one-row n p Removed s r fits = absurd cc
+
+one-fitting : (p : Place) (c : Controller) (e : Entry) (o : Option Row) → row_in c e.connection (inputs.ActivationAck p) ≡ o → IsOneOut (by_fitting (ignoring c) e o c).outs
+unfolding row_of
+one-fitting p c e None is = inl refl
+one-fitting p c e (Some r) is = one-row e.connection.number p e.connection.state e.connection r is
+
+one-concerning : (p : Place) (c : Controller) (o : Option Entry) → IsOneOut (concerning (inputs.ActivationAck p) c o).outs
+one-concerning p c None = inl refl
+one-concerning p c (Some e) = one-fitting p c e (row_in c e.connection (inputs.ActivationAck p)) refl
+
+one-state : (p : Place) (c : Controller) (state : ChannelState) → IsOneOut (on_state state p (inputs.ActivationAck p) c (entry_at c state)).outs
+one-state p c Free = inl refl
+one-state p c (InUse k) = one-concerning p c (entry_of c k)
+one-state p c (Releasing k) = one-concerning p c (entry_of c k)
+
+-- ---- an item of the inbox
+
+one-message : (w : Actors) (source : ℕ) (m : Rsl) → (acknowledged_tenure w source (Some m) ≡ None) ⊎ IsOneOut (on_word source (rsl_word source m) w.controller).outs
+one-message w source (rsl.ChannelActivationAck a) = let p : Place = place_at source a.channel in inr (one-state p w.controller (channel_state w.controller p))
+one-message w source _ = inl refl
+
+one-frame : (w : Actors) (source : ℕ) (frame : Frame) (up : Bool) → source ≢ 0 → IsKnown (whats.Frame frame) → (acknowledged_tenure w source (rsl_in frame) ≡ None) ⊎ IsOneOut (on_what up source (whats.Frame frame) w.controller).outs
+one-frame w source frame false station known = inr (inl refl)
+one-frame w source frame true station (m, is, read, no_nack) =
+    let says : rsl_in frame ≡ Some m = ap rsl_in is ∙ read-known m read in
+    let word : word_of source frame ≡ rsl_word source m = ap (word_of source) is ∙ word-known source m station read in
+    subst (λ (o : Option Rsl). (acknowledged_tenure w source o ≡ None) ⊎ IsOneOut (on_word source (word_of source frame) w.controller).outs) (sym says)
+    (subst (λ (x : Word). (acknowledged_tenure w source (Some m) ≡ None) ⊎ IsOneOut (on_word source x w.controller).outs) (sym word) (one-message w source m))
+
+-- it leads nowhere, or one output is put at most
+pub one-item : (w : Actors) (source : ℕ) (what : What) → IsKnownItem (record { source = source; what = what }) → (target_in w source what ≡ None) ⊎ IsOneOut (on_what (hears w.controller source) source what w.controller).outs
+one-item w source whats.Down known = inl refl
+one-item w source (whats.Frame frame) known = elim (source-or source) [
+  | inl switch ↦ inl (ap (acknowledged_tenure w source) (known.switch switch))
+  | inr station ↦ one-frame w source frame (hears w.controller source) station (known.station station)
+]

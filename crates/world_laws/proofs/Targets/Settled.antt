@@ -1,0 +1,163 @@
+-- Channels stay settled at each event.
+use Rattle.world_laws.proofs.Prelude.{◌≡◌, ◌≢◌, ◌⊎◌, inl, inr, ℕ, ◌-◌, ◌<◌, ◌||◌, Bool, true, false, List, [], ◌∷◌, ◌++◌, length, refl, sym}
+use Rattle.world_laws.proofs.Prelude.{ap, ◌∙◌, subst, flat_map-append, append-nil, flat_map, list_any, Place, ChannelState, Free, InUse}
+use Rattle.world_laws.proofs.Prelude.{Releasing, channel_state, hears, is_active, activation_ack, Tenures, Rsl, RfChannelReleaseAck, Event}
+use Rattle.world_laws.proofs.Prelude.{Tenure, actors_after, Agrees, active_behind, is_in_use, to_come, began, begins, begins_and_ends}
+use Rattle.world_laws.proofs.Prelude.{acknowledgements, due, put, taken, Actors, Link, is_active_at, is_up, outbox_of, Good, Both-empty}
+use Rattle.world_laws.proofs.Prelude.{outbox-step, OutboxStep, breaks, acks-append, pipe-step, PipeStep, flows, stops, false≢true}
+use Rattle.world_model.specs.OwnerLines.{Comes}
+use Rattle.world_model.specs.OwnerLines.Comes.{nothing, ends}
+use Rattle.world_model.specs.Queues.{popped}
+use Rattle.world_model.proofs.Outboxes.Step.{goes}
+use Rattle.world_laws.specs.Acknowledged.{acknowledgements_up, is_release_ack, messages_up, read_of}
+use Rattle.world_laws.specs.ComingUp.{brings, coming_up}
+use Rattle.world_laws.proofs.Acknowledged.{coming-read}
+use Rattle.world_laws.specs.Targets.Quiet.{IsSettled, StandWithin, is_ending}
+use Rattle.world_laws.proofs.Targets.Air.{IdleAir}
+use Rattle.world_laws.proofs.Targets.Calm.{down-active}
+use Rattle.world_laws.proofs.Targets.Ways.{WaysStand, any-middle, behind-end, nothing-before, still-within, ways-down}
+use Rattle.world_laws.proofs.Targets.Within.{still-all, within-append, within-behind}
+use Rattle.world_laws.proofs.Channels.RoleAcks.{up-first}
+
+-- ---- what comes of a channel that is free, or whose end is on its way
+
+-- behind it nothing is due, and the channel isn't in use
+pub comes-idle : (k : ℕ) (state : ChannelState) (all xs ys : List Rsl) → Comes k state all → all ≡ xs ++ ys → (state ≡ Free) ⊎ (list_any is_release_ack xs ≡ true) → (ys ≡ []) × (is_in_use state ≡ false)
+comes-idle k Free all xs ys nothing is why = ((Both-empty xs ys is).1, refl)
+comes-idle k (InUse number) all xs ys comes is (inl free) = absurd cc
+comes-idle k (InUse number) all [] ys comes is (inr any) = absurd cc
+comes-idle k (InUse number) all (x ∷ xs) ys began is (inr any) = absurd cc
+comes-idle k (InUse number) all (x ∷ xs) ys begins is (inr any) = absurd (none xs any first (Both-empty xs ys cc).0) where
+  first : activation_ack k ≡ x
+  first = cc
+
+  none : (zs : List Rsl) → is_release_ack x || list_any is_release_ack zs ≡ true → activation_ack k ≡ x → zs ≡ [] → ⊥
+  none zs any is_ack empty = absurd (false≢true (sym (ap (list_any is_release_ack) empty) ∙ ap (λ (m : Rsl). is_release_ack m || list_any is_release_ack zs) is_ack ∙ any))
+comes-idle k (Releasing number) all xs ys comes is (inl free) = absurd cc
+comes-idle k (Releasing number) all [] ys comes is (inr any) = absurd cc
+comes-idle k (Releasing number) all (x ∷ xs) ys ends is (inr any) = ((Both-empty xs ys cc).1, refl)
+comes-idle k (Releasing number) all (x ∷ []) ys begins_and_ends is (inr any) = absurd (false≢true (ap (λ (m : Rsl). is_release_ack m || false) first ∙ any)) where
+  first : activation_ack k ≡ x
+  first = cc
+comes-idle k (Releasing number) all (x ∷ y ∷ xs) ys begins_and_ends is (inr any) = ((Both-empty xs ys cc).1, refl)
+
+pub comes-free : (k : ℕ) (state : ChannelState) (all : List Rsl) → Comes k state all → state ≡ Free → all ≡ []
+comes-free k Free all nothing is = refl
+comes-free k (InUse number) all comes is = absurd cc
+comes-free k (Releasing number) all comes is = absurd cc
+
+-- ---- what an event is to a channel
+
+-- the channel is free then: it was before, or its RF CHANNEL RELEASE ACK is taken
+pub record Frees (w : Actors) (event : Event) (at : Place) : Type 0 where
+  pub hearing : hears (actors_after w event).controller at.station ≡ true → hears w.controller at.station ≡ true
+  pub freed : hears (actors_after w event).controller at.station ≡ true → channel_state (actors_after w event).controller at ≡ Free
+      → (channel_state w.controller at ≡ Free) ⊎ ((channel : ℕ) × (acknowledgements at.number (flat_map (read_of at.station) (popped w event)) ≡ RfChannelReleaseAck channel ∷ []))
+
+pub record Around (owner : Tenure → ℕ) (w : Actors) (event : Event) (at : Place) : Type 0 where
+  pub least : at.station ≢ 0
+  pub there : at.station - 1 < length w.stations
+  pub none : is_up w at.station ≡ false → outbox_of w at.station ≡ []
+  pub good : Good w
+  pub agrees : Agrees owner (actors_after w event) at
+  pub before : WaysStand w at
+  pub after : WaysStand (actors_after w event) at
+  pub puts : StandWithin at.number (active_behind w at) (put at.station w event)
+  pub air : IdleAir (actors_after w event)
+  pub frees : Frees w event at
+
+module _ (owner : Tenure → ℕ) (w : Actors) (event : Event) (at : Place) (a : Around owner w event at) (settled : IsSettled w at) where
+  abbrev v : Actors
+  v = actors_after w event
+
+  abbrev n : ℕ
+  n = at.station
+
+  abbrev k : ℕ
+  k = at.number
+
+  -- ---- the line
+
+  line-by : OutboxStep n w event v → PipeStep n k w event v → StandWithin k (is_active_at v at) (outbox_of v n)
+  line-by (goes up all) (flows acks active) =
+      subst (λ (b : Bool). StandWithin k b (outbox_of v n)) (sym active)
+      (within-behind k (is_active_at w at) (taken n w event) (outbox_of v n) (subst (StandWithin k (is_active_at w at)) all (within-append k (is_active_at w at) (outbox_of w n) (put n w event) settled.line a.puts)))
+  line-by (breaks broken unput nobody) pipe = subst (λ (l : Link). StandWithin k (is_active_at v at) l.outbox) (sym broken) tt
+  line-by (goes up all) (stops down left dropped ungiven nobody) = subst (StandWithin k (is_active_at v at)) (sym dropped) tt
+
+  line : StandWithin k (is_active_at v at) (outbox_of v n)
+  line = line-by (outbox-step n w event) (pipe-step n k w event a.least a.there a.none)
+
+  -- ---- while the link is up
+
+  idle-up : hears v.controller n ≡ true → is_up v n ≡ true → (channel_state v.controller at ≡ Free) ⊎ (is_ending v at ≡ true) → is_active_at v at ≡ false
+  idle-up hearing up why =
+      let way = a.agrees.way hearing in
+      let all : to_come v at ++ way.lost ≡ acknowledgements_up v at ++ due k (is_active_at v at) (outbox_of v n) = ap (λ (xs : List Rsl). to_come v at ++ xs) (way.all up) ∙ append-nil (to_come v at) ∙ up-first v at in
+      let both = comes-idle k (channel_state v.controller at) (to_come v at ++ way.lost) (acknowledgements_up v at) (due k (is_active_at v at) (outbox_of v n)) way.comes all why in
+      sym (still-all k (is_active_at v at) (outbox_of v n) both.0) ∙ way.active up ∙ both.1
+
+  -- no acknowledgement comes of a free channel
+  none-acks : hears v.controller n ≡ true → channel_state v.controller at ≡ Free → acknowledgements k (messages_up v n) ≡ []
+  none-acks hearing free =
+      let way = a.agrees.way hearing in
+      let none : to_come v at ++ way.lost ≡ [] = comes-free k (channel_state v.controller at) (to_come v at ++ way.lost) way.comes free in
+      (Both-empty (acknowledgements_up v at) (due k (is_active_at v at) (outbox_of v n)) (sym (sym (up-first v at) ∙ (Both-empty (to_come v at) way.lost (sym none)).0))).0
+
+  silent-up : hears v.controller n ≡ true → is_up v n ≡ true → channel_state v.controller at ≡ Free → coming_up v at ≡ []
+  silent-up hearing up free =
+      let none = none-acks hearing free in
+      let outside : a.after.within ≡ false = still-within k (messages_up v n) a.after.stand none ∙ a.after.now up ∙ idle-up hearing up (inl free) in
+      coming-read v at ∙ nothing-before k (messages_up v n) [] (subst (λ (ms : List Rsl). Tenures k false ms a.after.end) (sym (append-nil (messages_up v n))) (subst (λ (b : Bool). Tenures k b (messages_up v n) a.after.end) outside a.after.stand)) none
+
+  -- ---- once it is down
+
+  module _ (down : is_up v n ≡ false) where
+    abbrev read : List Rsl
+    read = flat_map (read_of n) (popped w event)
+
+    gone : (rest : List Rsl) × (messages_up w n ≡ read ++ (messages_up v n ++ rest))
+    gone = ways-down n w event a.least a.good down
+
+    acks-go : acknowledgements_up w at ≡ acknowledgements k read ++ (acknowledgements_up v at ++ acknowledgements k gone.0)
+    acks-go =
+        ap (acknowledgements k) gone.1 ∙ acks-append k read (messages_up v n ++ gone.0)
+        ∙ ap (λ (ms : List Rsl). acknowledgements k read ++ ms) (acks-append k (messages_up v n) gone.0)
+
+    was-ending : (channel : ℕ) → acknowledgements k read ≡ RfChannelReleaseAck channel ∷ [] → is_ending w at ≡ true
+    was-ending channel is = ap (list_any is_release_ack) (acks-go ∙ ap (λ (ms : List Rsl). ms ++ (acknowledgements_up v at ++ acknowledgements k gone.0)) is)
+
+    still-ending : is_ending v at ≡ true → is_ending w at ≡ true
+    still-ending is = ap (list_any is_release_ack) acks-go ∙ any-middle (acknowledgements k read) (acknowledgements_up v at) (acknowledgements k gone.0) is
+
+    idle-down : hears v.controller n ≡ true → (channel_state v.controller at ≡ Free) ⊎ (is_ending v at ≡ true) → is_active_at v at ≡ false
+    idle-down hearing why =
+        ap (λ (active : List ℕ). is_active active k) (down-active n w event a.least down)
+        ∙ settled.idle (a.frees.hearing hearing) (elim why [
+          | inr ending ↦ inr (still-ending ending)
+          | inl free ↦ elim (a.frees.freed hearing free) [
+            | inl was ↦ inl was
+            | inr acks ↦ inr (was-ending acks.0 acks.1)
+          ]
+        ])
+
+    brings-go : flat_map (brings k) (messages_up w n) ≡ flat_map (brings k) read ++ (flat_map (brings k) (messages_up v n) ++ flat_map (brings k) gone.0)
+    brings-go =
+        ap (flat_map (brings k)) gone.1 ∙ flat_map-append (brings k) read (messages_up v n ++ gone.0)
+        ∙ ap (λ (xs : List _). flat_map (brings k) read ++ xs) (flat_map-append (brings k) (messages_up v n) gone.0)
+
+    silent-down : hears v.controller n ≡ true → channel_state v.controller at ≡ Free → coming_up v at ≡ []
+    silent-down hearing free = coming-read v at ∙ elim (a.frees.freed hearing free) [
+      | inl was ↦
+          let none : flat_map (brings k) (messages_up w n) ≡ [] = sym (coming-read w at) ∙ settled.silent (a.frees.hearing hearing) was in
+          let behind = (Both-empty (flat_map (brings k) read) (flat_map (brings k) (messages_up v n) ++ flat_map (brings k) gone.0) (sym none ∙ brings-go)).1 in
+          (Both-empty (flat_map (brings k) (messages_up v n)) (flat_map (brings k) gone.0) (sym behind)).0
+      | inr acks ↦
+          nothing-before k (messages_up v n) gone.0 (behind-end k acks.0 read (messages_up v n ++ gone.0) (subst (λ (ms : List Rsl). Tenures k a.before.within ms a.before.end) gone.1 a.before.stand) acks.1) (none-acks hearing free)
+    ]
+
+  pub settled-after : IsSettled v at
+  settled-after = by (is_up v n) refl where
+    by : (b : Bool) → is_up v n ≡ b → IsSettled v at
+    by true up = record { line = line; air = λ idle. a.air at a.least idle; idle = λ hearing why. idle-up hearing up why; silent = λ hearing free. silent-up hearing up free }
+    by false down = record { line = line; air = λ idle. a.air at a.least idle; idle = λ hearing why. idle-down down hearing why; silent = λ hearing free. silent-down down hearing free }

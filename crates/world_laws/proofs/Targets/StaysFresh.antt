@@ -1,0 +1,259 @@
+-- In every run the target of a change stays fresh until the connection's mobile comes there.
+use Rattle.world_laws.proofs.Prelude.{◌≡◌, ◌≢◌, ◌⊎◌, inl, inr, ℕ, suc, ◌≤◌, ◌&&◌, Bool, true, false, cond, filter, unwrap_or, List, []}
+use Rattle.world_laws.proofs.Prelude.{◌∷◌, ◌++◌, length, Option, Some, None, refl, sym, ap, ◌∙◌, subst, append_assoc, arith, flat_map}
+use Rattle.world_laws.proofs.Prelude.{AllByRecursion, Channel, Place, SWITCH_LINK, Active, Preparing, Changing, Draining, State, Live}
+use Rattle.world_laws.proofs.Prelude.{Target, Connection, TargetRole, changes_by, is_target_at, roles_of, target_channels, target_role}
+use Rattle.world_laws.proofs.Prelude.{Stands, undone, ActsOn, brought_in, connection_of, Owns, is_link_up, ComesInOctets, AreUsed}
+use Rattle.world_laws.proofs.Prelude.{life_acts, life_ready, life_uses, Ready, InUse, Step, Take, Controller, channel_state, hears}
+use Rattle.world_laws.proofs.Prelude.{place_at, place_of, state_in, step, is_control, Item, What, Rsl, AreAllowed, Parameters, Event}
+use Rattle.world_laws.proofs.Prelude.{BaseTakes, Handle, Tick, Tenure, actors_after, complete, owner_in}
+use Rattle.world_laws.proofs.Prelude.{acknowledgements, handled, tenure_in, with_turn, all_steps, first_taken, step_at, Actors, Mobile}
+use Rattle.world_laws.proofs.Prelude.{base_of, mobile_of, modulus_in, new_actors, spot_at, turn-leads, LivesByTable-new, IsKnownItem}
+use Rattle.world_laws.proofs.Prelude.{known-inbox, handle-turned, heard_of, tick-turned, beside-step, Serves, same_Some, control-complete}
+use Rattle.world_laws.proofs.Prelude.{kept-controller}
+use Rattle.conn_rules.specs.Streams.{target_in}
+use Rattle.controller_model.specs.declared.step.Step.TheVariants as steps
+use Rattle.controller_model.specs.Life.{life, take, tick}
+use Rattle.world_laws.specs.LineUp.Places.{Item as Brings, controls_of, messages_in}
+use Rattle.world_laws.proofs.LineUp.Lines.{messages_in-append}
+use Rattle.ruled_relay.specs.declared.item.What.TheVariants as whats
+use Rattle.world_model.specs.Life.{event_after}
+use Rattle.world_model.proofs.OwnerRuns.{ServesAt}
+use Rattle.world_laws.specs.Acknowledged.{messages_up, read_of}
+use Rattle.world_laws.specs.ComingUp.{brings_in, coming_up}
+use Rattle.world_laws.specs.GoingDown.{going_down}
+use Rattle.world_laws.specs.Handled.{awaited_in}
+use Rattle.world_laws.specs.LineUps.{commanded_target}
+use Rattle.world_laws.specs.Lives.{IsLed, Lives, TargetIsFresh, initials_up}
+use Rattle.world_laws.specs.OthersFrame.{CameInOctets, IsHad}
+use Rattle.world_laws.specs.Seated.{IsAlone, commanded_channels}
+use Rattle.world_laws.proofs.Framing.{all-right, all-left}
+use Rattle.world_laws.proofs.OrderServes.{Lawful}
+use Rattle.world_laws.proofs.OwnHandle.{first-coming, handled_by}
+use Rattle.world_laws.proofs.OwnerRun.{lawful-life, life-settings, serves-event}
+use Rattle.world_laws.proofs.Standing.{ConnectionsStand-new}
+use Rattle.world_laws.specs.Targets.Fresh.{BeginWith, FreshTells, IsFreshIn, IsLedBy, TargetsStayFresh}
+use Rattle.world_laws.proofs.Targets.AckServes.{ack-item}
+use Rattle.world_laws.proofs.Targets.Beside.{beside-fresh}
+use Rattle.world_laws.proofs.Targets.Comings.{is_relays}
+use Rattle.world_laws.proofs.Targets.Completing.{hits, says-complete}
+use Rattle.world_laws.proofs.Targets.FreeQuiet.{Keeps, keeps-run}
+use Rattle.world_laws.proofs.Targets.FreshTurn.{Before, TurnOf, owns-of, role-channel, turn-fresh}
+use Rattle.world_laws.proofs.Targets.RoleGoes.{IsComplete, role}
+use Rattle.world_laws.proofs.Targets.Ways.{WaysStand-new, said-read}
+use Rattle.world_laws.proofs.Events.{snoc-actors, snoc-steps, world}
+
+-- ---- a run, and an event more
+
+same-controller : (w : Actors) (event : Event) → is_relays event ≡ false → (actors_after w event).controller ≡ w.controller
+same-controller w Handle is = absurd cc
+same-controller w (Tick ms) is = absurd cc
+same-controller w (BaseTakes station) is = kept-controller w station
+same-controller w e is = (beside-step w e refl).controller
+
+module _ (settings : Parameters) (events : List Event) (event : Event) (mobile : ℕ) (s s2 : Connection) (q : Mobile) (allowed : AreAllowed settings) (octets_all : CameInOctets settings (events ++ event ∷ [])) (lives : Lives (modulus_in settings) (world settings events) mobile s) (alone : IsAlone (world settings events) mobile s)
+    (fresh : IsFreshIn (world settings events) lives.lined.one s.state) (number : s2.number ≡ s.number) (had_then : IsHad (actors_after (world settings events) event) s2) (found_then : mobile_of (actors_after (world settings events) event) mobile ≡ Some q) where
+  abbrev w : Actors
+  w = world settings events
+
+  abbrev v : Actors
+  v = actors_after w event
+
+  abbrev owner : Tenure → ℕ
+  owner = owner_in (new_actors settings) events
+
+  abbrev p : Mobile
+  p = lives.lined.one
+
+  all_octets : AllByRecursion ComesInOctets (all_steps (new_actors settings) events ++ step_at w event)
+  all_octets = subst (AllByRecursion ComesInOctets) (snoc-steps (new_actors settings) events event) octets_all
+
+  octets : AllByRecursion ComesInOctets (all_steps (new_actors settings) events)
+  octets = all-left ComesInOctets (all_steps (new_actors settings) events) (step_at w event) all_octets
+
+  own_octets : AllByRecursion ComesInOctets (step_at w event)
+  own_octets = all-right ComesInOctets (all_steps (new_actors settings) events) (step_at w event) all_octets
+
+  keeps : Keeps settings owner w []
+  keeps = keeps-run settings events allowed octets
+
+  -- ---- the controller does nothing
+
+  beside : is_relays event ≡ false → IsFreshIn v q s2.state
+  beside other =
+      let same : s2 ≡ s = same_Some _ _ (sym had_then.there ∙ ap (λ (c : Controller). connection_of c s2.number) (same-controller w event other) ∙ ap (connection_of w.controller) number ∙ lives.had.there) in
+      subst (λ (x : Connection). IsFreshIn v q x.state) (sym same)
+      (beside-fresh w event mobile p s lives.lined.found lives.lined.lined alone keeps.right.good other q found_then s.state refl fresh)
+
+  -- ---- the controller works
+
+  by_life : w.controller ≡ (life settings (all_steps (new_actors settings) events)).next
+  by_life = LivesByTable-new settings events
+
+  life_then : v.controller ≡ (life settings (all_steps (new_actors settings) (events ++ event ∷ []))).next
+  life_then = ap (λ (x : Actors). x.controller) (sym (snoc-actors (new_actors settings) events event)) ∙ LivesByTable-new settings (events ++ event ∷ [])
+
+  ready_then : Ready v.controller
+  ready_then = subst Ready (sym life_then) (life_ready settings (all_steps (new_actors settings) (events ++ event ∷ [])) allowed)
+
+  used_then : AreUsed v.controller
+  used_then = subst AreUsed (sym life_then) (life_uses settings (all_steps (new_actors settings) (events ++ event ∷ [])) allowed)
+
+  same_settings : v.controller.settings ≡ settings
+  same_settings = ap (λ (c : Controller). c.settings) life_then ∙ life-settings settings (all_steps (new_actors settings) (events ++ event ∷ []))
+
+  acts_on : (st : Step) → ActsOn s.number w.controller st
+  acts_on st = subst (λ (c : Controller). ActsOn s.number c st) (sym by_life) (life_acts settings (all_steps (new_actors settings) events) st s.number lives.had.from_one)
+
+  laws_on : (st : Step) → ComesInOctets st → Lawful w.controller st
+  laws_on st own = subst (λ (c : Controller). Lawful c st) (sym by_life) (lawful-life settings (all_steps (new_actors settings) events) st allowed octets own)
+
+  stands : Stands s
+  stands = ConnectionsStand-new settings events s.number s lives.had.there
+
+  before-of : (st : Step) (target : Option Tenure) (heard : Place → List Rsl) → ((at : Place) → 1 ≤ at.station → at.station ≤ length settings.cells → Serves owner w at target (step w.controller st) (heard at)) → (at : Place) → 1 ≤ at.station → at.station ≤ length settings.cells → Before owner w st target heard at
+  before-of st target heard serves at least most = record {
+    agrees = keeps.right.agree at least most;
+    none = keeps.right.none at.station;
+    settled = keeps.settled at least most;
+    ways = WaysStand-new settings events at (λ zero. absurd (omega (arith, zero, least)));
+    serves = serves at least most;
+  }
+
+  -- ---- an item of the inbox
+
+  target-facts : (t : Target) → target_role s.state ≡ Some (role t true) → (t.channel.station ≢ SWITCH_LINK) × (channel_state w.controller (place_of t.channel) ≡ InUse s.number) × (hears w.controller t.channel.station ≡ true) × (initials_up w (place_of t.channel) ≡ [])
+  target-facts t is =
+      let ready_w : Ready w.controller = subst Ready (sym by_life) (life_ready settings (all_steps (new_actors settings) events) allowed) in
+      let owns : Owns w.controller.channels w.controller.links s.number (roles_of s) = owns-of w.controller s.number s ready_w lives.had.there lives.had.is_open in
+      let channel : target_in s.state ≡ t.channel ∷ [] = role-channel s.state t true is in (
+        (subst (AllByRecursion (λ c. c.station ≢ SWITCH_LINK)) channel (all-right (λ c. c.station ≢ SWITCH_LINK) (undone s.draining) (s.serving ∷ target_in s.state) lives.lined.lined.placed).1).0,
+        (subst (λ (o : Option TargetRole). AllByRecursion (λ c. state_in w.controller.channels (place_of c) ≡ InUse s.number) (target_channels o)) is owns.using.1).0,
+        (subst (λ (o : Option TargetRole). AllByRecursion (λ c. is_link_up w.controller.links c.station ≡ true) (target_channels o)) is (all-right (λ c. is_link_up w.controller.links c.station ≡ true) (undone s.draining) (s.serving ∷ target_channels (target_role s.state)) owns.linked).1).0,
+        (subst (AllByRecursion (λ c. initials_up w (place_of c) ≡ [])) channel (all-right (λ c. initials_up w (place_of c) ≡ []) (undone s.draining) (s.serving ∷ target_in s.state) lives.opened.none_comes).1).0,
+      )
+
+  module _ (source : ℕ) (what : What) (items : List Item) (stood : w.inbox ≡ record { source = source; what = what } ∷ items) where
+    abbrev item : Item
+    item = record { source = source; what = what }
+
+    abbrev then : Actors
+    then = handled_by w item items
+
+    known : IsKnownItem item
+    known = (subst (AllByRecursion IsKnownItem) stood (known-inbox settings events)).0
+
+    turn-of : Lawful w.controller (Take item) → TurnOf w then (Take item) (tenure_in w source what) (λ at. heard_of at item) (λ at. brings_in at item) (λ n. read_of n item)
+    unfolding take
+    turn-of laws = record {
+      next = (handle-turned w (place_at 0 0) item items stood).controller;
+      mobiles = turn-leads (λ u. u.mobiles ≡ w.mobiles) (tenure_in w source what) (take item w.controller) (record w { inbox = items }) (λ links. refl);
+      turned = λ at. handle-turned w at item items stood;
+      spots = λ at. turn-leads (λ u. spot_at u at ≡ spot_at w at) (tenure_in w source what) (take item w.controller) (record w { inbox = items }) (λ links. refl);
+      comes = λ at. first-coming w item items at stood;
+      ways = λ n.
+          ap (λ (xs : List Item). flat_map (read_of n) xs ++ (base_of w n).messages) stood
+          ∙ append_assoc (read_of n item) (flat_map (read_of n) items) (base_of w n).messages
+          ∙ turn-leads (λ u. read_of n item ++ messages_up (record w { inbox = items }) n ≡ read_of n item ++ messages_up u n) (tenure_in w source what) (take item w.controller) (record w { inbox = items }) (λ links. refl);
+      heard_is = λ at. ap (acknowledgements at.number) (said-read at.station item);
+      leads = λ at. elim (ack-item at w source what known) [
+        | inl none ↦ inl none
+        | inr all ↦ inr (all laws.sent)
+      ];
+    }
+
+    no-complete : (t : Target) → target_role s.state ≡ Some (role t true) → IsLedBy w p t → (messages_in (brings_in (place_of t.channel) item) ≡ [] → ⊥) → IsComplete (brought_in w.controller s.number (Take item)) (target_role s.state)
+    no-complete t is led some = by what refl where
+      by : (x : What) → what ≡ x → IsComplete (brought_in w.controller s.number (Take item)) (target_role s.state)
+      by whats.Down same = absurd (some (ap (λ (x : What). messages_in (brings_in (place_of t.channel) (record { source = source; what = x }))) same))
+      by (whats.Frame frame) same =
+          let says = says-complete w source frame items (stood ∙ ap (λ (x : What). record { source = source; what = x } ∷ items) same) (subst (λ (x : What). IsKnownItem (record { source = source; what = x })) same known) t s.number (target-facts t is).0 (target-facts t is).1 (target-facts t is).2 (target-facts t is).3 (messages_in (coming_up w (place_of t.channel))) (messages_in (coming_up then (place_of t.channel)))
+          (ap messages_in (first-coming w item items (place_of t.channel) stood) ∙ messages_in-append (brings_in (place_of t.channel) item) (coming_up then (place_of t.channel)) ∙ ap (λ (x : What). messages_in (brings_in (place_of t.channel) (record { source = source; what = x })) ++ messages_in (coming_up then (place_of t.channel))) same)
+          led.first (λ none. some (ap (λ (x : What). messages_in (brings_in (place_of t.channel) (record { source = source; what = x }))) same ∙ none)) in
+          (place_of t.channel, t.change, says.0, ap (λ (x : What). brought_in w.controller s.number (Take (record { source = source; what = x }))) same ∙ says.1, subst (λ (o : Option TargetRole). is_target_at (place_of t.channel) o && changes_by t.change o ≡ true) (sym is) (hits t))
+
+    handled-fresh : ComesInOctets (Take item) → ((at : Place) → 1 ≤ at.station → at.station ≤ length settings.cells → Serves owner w at (tenure_in w source what) (take item w.controller) (heard_of at item)) → v ≡ then → IsFreshIn then q s2.state
+    handled-fresh own serves same =
+        let laws = laws_on (Take item) own in
+        turn-fresh settings owner w then (Take item) (tenure_in w source what) (λ at. heard_of at item) (λ at. brings_in at item) (λ n. read_of n item) (turn-of laws) (before-of (Take item) (tenure_in w source what) (λ at. heard_of at item) serves) laws
+        (subst (λ (u : Actors). Ready u.controller) same ready_then) (subst (λ (u : Actors). AreUsed u.controller) same used_then) (ap (λ (u : Actors). u.controller.settings) (sym same) ∙ same_settings)
+        mobile p s s2 lives.lined.found lives.lined.lined lives.had (subst (λ (u : Actors). IsHad u s2) same had_then) number stands (acts_on (Take item)) fresh no-complete q (ap (λ (u : Actors). mobile_of u mobile) (sym same) ∙ found_then)
+
+  -- ---- the events
+
+  handle-fresh : event ≡ Handle → IsFreshIn v q s2.state
+  unfolding event_after ServesAt
+  handle-fresh is = by w.inbox refl where
+    now : v ≡ actors_after w Handle
+    now = ap (actors_after w) is
+
+    serving : ServesAt settings owner w Handle
+    serving = serves-event settings owner events w Handle refl allowed octets (subst (λ (e : Event). AllByRecursion ComesInOctets (step_at w e)) is own_octets) keeps.right.agree
+
+    by : (items : List Item) → w.inbox ≡ items → IsFreshIn v q s2.state
+    by [] empty =
+        let same : v ≡ w = now ∙ ap (λ (items : List Item). unwrap_or (handled items w) w) empty in
+        let one : s2 ≡ s = same_Some _ _ (sym had_then.there ∙ ap (λ (u : Actors). connection_of u.controller s2.number) same ∙ ap (connection_of w.controller) number ∙ lives.had.there) in
+        let who : q ≡ p = same_Some _ _ (sym found_then ∙ ap (λ (u : Actors). mobile_of u mobile) same ∙ lives.lined.found) in
+        subst (λ (u : Actors). IsFreshIn u q s2.state) (sym same) (subst (λ (x : Mobile). IsFreshIn w x s2.state) (sym who) (subst (λ (x : Connection). IsFreshIn w p x.state) (sym one) fresh))
+    by (item ∷ items) stood =
+        let same : v ≡ handled_by w item items = now ∙ ap (λ (all : List Item). unwrap_or (handled all w) w) stood in
+        let own : ComesInOctets (Take item) = (subst (λ (all : List Item). AllByRecursion ComesInOctets (first_taken all)) stood (subst (λ (e : Event). AllByRecursion ComesInOctets (step_at w e)) is own_octets)).0 in
+        subst (λ (u : Actors). IsFreshIn u q s2.state) (sym same) (handled-fresh item.source item.what items stood own (λ at least most. serving item items stood at least most) same)
+
+  tick-fresh : (ms : ℕ) → event ≡ Tick ms → IsFreshIn v q s2.state
+  unfolding event_after ServesAt
+  tick-fresh ms is =
+      let then : Actors = with_turn None (tick ms w.controller) w in
+      let same : v ≡ then = ap (actors_after w) is in
+      let own : ComesInOctets (steps.Tick ms) = tt in
+      let laws = laws_on (steps.Tick ms) own in
+      let serving : ServesAt settings owner w (Tick ms) = serves-event settings owner events w (Tick ms) refl allowed octets (subst (λ (e : Event). AllByRecursion ComesInOctets (step_at w e)) is own_octets) keeps.right.agree in
+      let turn : TurnOf w then (steps.Tick ms) None (λ at. []) (λ at. []) (λ n. []) = record {
+        next = (tick-turned w (place_at 0 0) ms).controller;
+        mobiles = turn-leads (λ u. u.mobiles ≡ w.mobiles) None (tick ms w.controller) w (λ links. refl);
+        turned = λ at. tick-turned w at ms;
+        spots = λ at. turn-leads (λ u. spot_at u at ≡ spot_at w at) None (tick ms w.controller) w (λ links. refl);
+        comes = λ at. turn-leads (λ u. coming_up w at ≡ coming_up u at) None (tick ms w.controller) w (λ links. refl);
+        ways = λ n. turn-leads (λ u. messages_up w n ≡ messages_up u n) None (tick ms w.controller) w (λ links. refl);
+        heard_is = λ at. refl;
+        leads = λ at. inl refl;
+      } in
+      subst (λ (u : Actors). IsFreshIn u q s2.state) (sym same)
+      (turn-fresh settings owner w then (steps.Tick ms) None (λ at. []) (λ at. []) (λ n. []) turn (before-of (steps.Tick ms) None (λ at. []) (λ at least most. serving at least most)) laws
+      (subst (λ (u : Actors). Ready u.controller) same ready_then) (subst (λ (u : Actors). AreUsed u.controller) same used_then) (ap (λ (u : Actors). u.controller.settings) (sym same) ∙ same_settings)
+      mobile p s s2 lives.lined.found lives.lined.lined lives.had (subst (λ (u : Actors). IsHad u s2) same had_then) number stands (acts_on (steps.Tick ms)) fresh (λ t to led some. absurd (some refl)) q (ap (λ (u : Actors). mobile_of u mobile) (sym same) ∙ found_then))
+
+  pub stays-fresh : (e : Event) → event ≡ e → IsFreshIn v q s2.state
+  stays-fresh Handle is = handle-fresh is
+  stays-fresh (Tick ms) is = tick-fresh ms is
+  stays-fresh e is = beside (ap is_relays is)
+
+pub TargetsStayFresh-new : (settings : Parameters) (events : List Event) (event : Event) → TargetsStayFresh settings events event
+TargetsStayFresh-new settings events event mobile s s2 q allowed octets lives alone fresh number had found = stays-fresh settings events event mobile s s2 q allowed octets lives alone fresh number had found event refl
+
+-- ---- so the target is fresh
+
+led-of : (text : List ℕ) (items : List Brings) → is_control text ≡ true → BeginWith text (messages_in items) → IsLed items
+led-of text items control first = by (messages_in items) refl first where
+  by : (xs : List (List ℕ)) → messages_in items ≡ xs → BeginWith text xs → (messages_in items ≡ []) ⊎ (1 ≤ controls_of (messages_in items))
+  by [] is began = inl is
+  by (x ∷ xs) is began = inr (subst (λ (k : ℕ). 1 ≤ k) (sym (ap controls_of is ∙ counted)) (omega arith)) where
+    counted : controls_of (x ∷ xs) ≡ suc (controls_of xs)
+    counted = ap (λ (b : Bool). length (cond b (x ∷ filter is_control xs) (filter is_control xs))) (ap is_control began ∙ control)
+
+pub FreshTells-new : (w : Actors) (p : Mobile) (s : Connection) → FreshTells w p s
+FreshTells-new w p s fresh = by s.state refl fresh where
+  tells : (cs ds : List Channel) → awaited_in s.state ≡ cs → commanded_channels (commanded_target s.state) ≡ ds → AllByRecursion (λ c. messages_in (coming_up w (place_of c)) ≡ []) cs → AllByRecursion (λ c. going_down w (place_of c) ≡ []) cs → AllByRecursion (λ c. IsLed (coming_up w (place_of c))) ds → TargetIsFresh w s
+  tells cs ds awaits commands silent uncommanded led = record {
+    silent = subst (AllByRecursion (λ c. messages_in (coming_up w (place_of c)) ≡ [])) (sym awaits) silent;
+    uncommanded = subst (AllByRecursion (λ c. going_down w (place_of c) ≡ [])) (sym awaits) uncommanded;
+    led = subst (AllByRecursion (λ c. IsLed (coming_up w (place_of c)))) (sym commands) led;
+  }
+
+  by : (state : State) → s.state ≡ state → IsFreshIn w p state → TargetIsFresh w s
+  by (Live reference (Preparing target)) is a = tells (target.channel ∷ []) [] (ap awaited_in is) (ap (λ (x : State). commanded_channels (commanded_target x)) is) (a.silent, tt) (a.uncommanded, tt) tt
+  by (Live reference (Changing target)) is led = tells [] (target.channel ∷ []) (ap awaited_in is) (ap (λ (x : State). commanded_channels (commanded_target x)) is) tt tt (led-of (complete target.change) (coming_up w (place_of target.channel)) (control-complete target.change) led.first, tt)
+  by (Live reference Active) is so = tells [] [] (ap awaited_in is) (ap (λ (x : State). commanded_channels (commanded_target x)) is) tt tt tt
+  by (Live reference Draining) is so = tells [] [] (ap awaited_in is) (ap (λ (x : State). commanded_channels (commanded_target x)) is) tt tt tt
+  by _ is so = tells [] [] (ap awaited_in is) (ap (λ (x : State). commanded_channels (commanded_target x)) is) tt tt tt

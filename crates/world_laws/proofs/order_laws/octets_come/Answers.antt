@@ -1,0 +1,5 @@
+use Rattle.world_laws.proofs.Order.Fairly.{ComeInOctets-new}
+use Rattle.world_laws.proofs.order_laws.octets_come.Goals as goal
+
+pub returns : goal.returns
+returns c = ComeInOctets-new

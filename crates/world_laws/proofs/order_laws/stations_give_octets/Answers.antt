@@ -1,0 +1,5 @@
+use Rattle.world_laws.proofs.Order.OctetMakers.{StationsGiveOctets-new}
+use Rattle.world_laws.proofs.order_laws.stations_give_octets.Goals as goal
+
+pub returns : goal.returns
+returns c = StationsGiveOctets-new

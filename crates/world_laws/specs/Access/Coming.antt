@@ -1,0 +1,82 @@
+-- A connection that is coming: it has its channel, and hasn't asked the switch for its connection yet. How its mobile comes to it.
+use Rattle.std.specs.Prelude.{◌≡◌, ℕ, ◌+◌, ◌≤◌, ◌==◌, if◌then◌else◌, true, false, List, [], ◌∷◌, length, slice_index_or, Option, Some, None, Result, Ok}
+use Rattle.std.specs.List.{AllByRecursion, flat_map}
+use Rattle.world_laws.specs.Prelude.{WaitEstablish, Place, Connection, place_of, sapi_of, RrMessage, RrFault, rr_reading, to_be_taken}
+use Rattle.world_laws.specs.Prelude.{GoesOn, Rsl, OutboxEntry, Asking, On, rsl_in, Actors, Mobile, mobile_of, outbox_of, tenure_at}
+use Rattle.controller_model.specs.Controller.{place_at}
+use Rattle.dtap_codec.specs.declared.rr.RrMessage.TheVariants.{ImmediateAssignment}
+use Rattle.world_laws.specs.LineUp.Places.{controls_of, messages_in}
+use Rattle.rsl_codec.specs.declared.rsl.Rsl.TheVariants.{DataIndication, ImmediateAssignCommand}
+use Rattle.world_laws.specs.Acknowledged.{messages_up}
+use Rattle.world_laws.specs.ComingUp.{coming_up, of_main}
+use Rattle.world_laws.specs.GoingDown.{going_down}
+use Rattle.world_laws.specs.Lives.{initials_up}
+use Rattle.world_laws.specs.OthersFrame.{IsHad}
+use Rattle.world_laws.specs.Seated.{LinedUp}
+use Rattle.world_laws.specs.References.Taken.{IsEarlyIn}
+
+-- ---- the mobile
+
+-- the messages behind the first one
+abbrev pub behind_first : List (List ℕ) → List (List ℕ)
+behind_first [] = []
+behind_first (_ ∷ messages) = messages
+
+-- it sent nothing yet: its link begins with the first message of the flow that its upper layers sent, whatever that is, and gives no
+-- message of radio resource management behind it
+pub record IsNew (m : ℕ) (p : Mobile) : Type 0 where
+  pub opens : p.opens ≡ true
+  pub goes_on : GoesOn m p.end.sent [] p.end.zero
+  pub no_control : controls_of (behind_first (to_be_taken p.end.zero)) ≡ 0
+
+-- what a DATA INDICATION of SAPI 0 brings of a channel
+abbrev pub data_by : ℕ → Rsl → List (List ℕ)
+data_by channel (DataIndication d) = if d.channel == channel then messages_in (of_main (sapi_of d.link) d.l3) else []
+data_by channel _ = []
+
+-- the messages on their way up from a channel that aren't initial ones
+abbrev pub data_up : Actors → Place → List (List ℕ)
+data_up w at = flat_map (data_by at.number) (messages_up w at.station)
+
+-- It is to send its initial message, and nothing came of the channel; or it sent it, and at most one initial message is on its way.
+-- Behind the initial message, which may be any, none of radio resource management is on its way up or to be taken of its link.
+pub data BeginsOnce (w : Actors) (p : Mobile) (at : Place) : Type 0 where
+  to_begin : p.opens ≡ true → messages_in (coming_up w at) ≡ [] → controls_of (behind_first (to_be_taken p.end.zero)) ≡ 0 → BeginsOnce w p at
+  began : p.opens ≡ false → length (initials_up w at) ≤ 1 → controls_of (data_up w at) + controls_of (to_be_taken p.end.zero) ≡ 0 → BeginsOnce w p at
+
+-- It asks for a channel, and the serving channel is quiet; or it is on the serving channel in its present tenure, lined up with the
+-- connection.
+pub data Comes (m : ℕ) (w : Actors) (s : Connection) (p : Mobile) : Type 0 where
+  asks : p.seat ≡ Asking → IsNew m p → messages_in (coming_up w (place_of s.serving)) ≡ [] → going_down w (place_of s.serving) ≡ [] → Comes m w s p
+  arrived : s.state ≡ WaitEstablish → p.seat ≡ On (tenure_at w (place_of s.serving)) None → LinedUp m w p s → BeginsOnce w p (place_of s.serving) → Comes m w s p
+
+-- ---- who is told its channel
+
+-- an IMMEDIATE ASSIGNMENT that names the mobile is of the serving channel of the connection, whose activation was acknowledged
+abbrev pub Assigns : ℕ → Connection → ℕ → Result RrMessage RrFault → Type 0
+Assigns mobile s station (Ok (ImmediateAssignment channel request advance)) =
+    slice_index_or request 0 0 ≡ mobile → (place_at station channel.channel.0 ≡ place_of s.serving) × (s.state ≡ WaitEstablish)
+Assigns mobile s station _ = Unit {0}
+
+abbrev pub AssignsBy : ℕ → Connection → ℕ → Option Rsl → Type 0
+AssignsBy mobile s station (Some (ImmediateAssignCommand i)) = Assigns mobile s station (rr_reading i.information)
+AssignsBy mobile s station _ = Unit {0}
+
+abbrev pub AssignsIn : ℕ → Connection → ℕ → OutboxEntry → Type 0
+AssignsIn mobile s station entry = AssignsBy mobile s station (rsl_in entry.out.frame)
+
+-- in what waits for each station
+abbrev pub AreAssigned : Actors → ℕ → Connection → Type 0
+AreAssigned w mobile s = (station : ℕ) → AllByRecursion (AssignsIn mobile s station) (outbox_of w station)
+
+-- ---- the connection
+
+-- The controller has the connection, which this mobile asked for and which hasn't asked the switch; and the mobile comes to it.
+pub record IsComing (m : ℕ) (w : Actors) (mobile : ℕ) (s : Connection) : Type 0 where
+  pub had : IsHad w s
+  pub early : IsEarlyIn s.state
+  pub asked : s.request.access ≡ mobile
+  pub one : Mobile
+  pub found : mobile_of w mobile ≡ Some one
+  pub comes : Comes m w s one
+  pub assigned : AreAssigned w mobile s

@@ -1,0 +1,16 @@
+-- A mobile sends its initial message once.
+use Rattle.std.specs.Prelude.{◌≡◌, ℕ, List}
+use Rattle.world_laws.specs.Prelude.{Connection, Parameters, Event, actors_after, actors_after_all, modulus_in, new_actors}
+use Rattle.world_laws.specs.Lives.{HasOpened, Lives, TargetIsFresh}
+use Rattle.world_laws.specs.OthersFrame.{IsHad}
+use Rattle.world_laws.specs.Seated.{IsAlone}
+use Rattle.world_laws.specs.Staying.{AreLinedUp}
+
+-- Whatever happened before: of a connection that lives, no initial message is on its way on its channels after an event either, where
+-- nothing came of a target that is new.
+abbrev pub OpenedStayOpened : Parameters → List Event → Event → Type 0
+OpenedStayOpened settings events event =
+    (mobile : ℕ) (s next : Connection) → Lives (modulus_in settings) (actors_after_all (new_actors settings) events) mobile s → IsAlone (actors_after_all (new_actors settings) events) mobile s
+    → next.number ≡ s.number → IsHad (actors_after (actors_after_all (new_actors settings) events) event) next → TargetIsFresh (actors_after (actors_after_all (new_actors settings) events) event) next
+    → (lined : AreLinedUp (modulus_in settings) (actors_after (actors_after_all (new_actors settings) events) event) mobile next)
+    → HasOpened (actors_after (actors_after_all (new_actors settings) events) event) lined.one next

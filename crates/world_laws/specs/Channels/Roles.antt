@@ -1,0 +1,40 @@
+-- What is on its way on the channels of an open connection agrees with their roles, whatever events happened.
+use Rattle.std.specs.Prelude.{◌≡◌, ◌≤◌, true, false, List, [], ◌∷◌, length}
+use Rattle.std.specs.List.{AllByRecursion}
+use Rattle.world_laws.specs.Prelude.{Place, Connection, target_in, Free, channel_state, hears, place_of, AreAllowed, Parameters, Event}
+use Rattle.world_laws.specs.Prelude.{actors_after_all, Actors, new_actors}
+use Rattle.world_laws.specs.Acknowledged.{acknowledgements_up}
+use Rattle.world_laws.specs.ComingUp.{coming_up}
+use Rattle.world_laws.specs.LineUps.{is_ended}
+use Rattle.world_laws.specs.Lives.{AcksAgree}
+use Rattle.world_laws.specs.OthersFrame.{CameInOctets, IsHad}
+use Rattle.world_laws.specs.Staying.{EndLast}
+
+-- The acknowledgements on their way agree with the roles of the channels. So it is with settings that are allowed, where what came
+-- was octets.
+abbrev pub AcknowledgementsAgree : Parameters → List Event → Type 0
+AcknowledgementsAgree settings events =
+    (s : Connection) → AreAllowed settings → CameInOctets settings events → IsHad (actors_after_all (new_actors settings) events) s → AcksAgree (actors_after_all (new_actors settings) events) s
+
+-- nothing is on its way up of a channel: no acknowledgement, and nothing that it brings
+pub record IsSilent (w : Actors) (at : Place) : Type 0 where
+  pub acknowledged : acknowledgements_up w at ≡ []
+  pub brings : coming_up w at ≡ []
+
+-- so it is of a channel that the controller has as free, unless it learned that the link of its station broke
+abbrev pub FreeAreSilent : Parameters → List Event → Type 0
+FreeAreSilent settings events =
+    (at : Place) → AreAllowed settings → CameInOctets settings events → 1 ≤ at.station → at.station ≤ length settings.cells
+    → hears (actors_after_all (new_actors settings) events).controller at.station ≡ true → channel_state (actors_after_all (new_actors settings) events).controller at ≡ Free
+    → IsSilent (actors_after_all (new_actors settings) events) at
+
+-- ---- what comes of them
+
+-- An RF CHANNEL RELEASE ACK is the last that comes of an old channel; what comes of the serving channel, and of a target, doesn't end.
+pub record ChannelsEnd (w : Actors) (s : Connection) : Type 0 where
+  pub old : EndLast w s
+  pub others : AllByRecursion (λ c. is_ended (coming_up w (place_of c)) ≡ false) (s.serving ∷ target_in s.state)
+
+abbrev pub OldChannelsEnd : Parameters → List Event → Type 0
+OldChannelsEnd settings events =
+    (s : Connection) → AreAllowed settings → CameInOctets settings events → IsHad (actors_after_all (new_actors settings) events) s → ChannelsEnd (actors_after_all (new_actors settings) events) s

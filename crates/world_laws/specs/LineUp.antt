@@ -1,0 +1,9 @@
+pub mod Places
+pub mod Alive
+pub mod MobileStep
+pub mod RelayStep
+pub mod ChangeStep
+pub mod BreakStep
+pub mod Opening
+pub mod Order
+pub mod Steps

@@ -1,0 +1,50 @@
+-- The serving channel of a connection that is coming stays quiet: nothing is in its air.
+use Rattle.std.specs.Prelude.{◌≡◌, ℕ, ◌==◌, Bool, true, false, List, [], ◌∷◌, ◌++◌, Option, Some, None}
+use Rattle.std.specs.List.{AllByRecursion}
+use Rattle.world_laws.specs.Prelude.{Place, Connection, connection_of, place_of, Rsl, AreAllowed, Parameters, Event, OutboxEntry}
+use Rattle.world_laws.specs.Prelude.{actors_after_all, rsl_in, Actors, is_active_at, new_actors, outbox_of, spot_at}
+use Rattle.rsl_codec.specs.declared.radio_link.Data.{Data as DataMessage}
+use Rattle.rsl_codec.specs.declared.rsl.Rsl.TheVariants.{ChannelActivation, DataRequest}
+use Rattle.world_laws.specs.OthersFrame.{CameInOctets, IsHad}
+use Rattle.world_laws.specs.Access.Arriving.{LetsNoneGo}
+use Rattle.world_laws.specs.References.Taken.{IsEarlyIn}
+
+-- it is no DATA REQUEST for the channel
+abbrev pub NoDataOn : ℕ → Option Rsl → Type 0
+NoDataOn channel o = (d : DataMessage) → o ≡ Some (DataRequest d) → d.channel ≡ channel → ⊥
+
+abbrev pub NoDataEntry : ℕ → OutboxEntry → Type 0
+NoDataEntry channel entry = NoDataOn channel (rsl_in entry.out.frame)
+
+abbrev pub activates : ℕ → Option Rsl → Bool
+activates channel (Some (ChannelActivation a)) = a.channel == channel
+activates channel _ = false
+
+-- an activation of the channel waits, and behind the first one no DATA REQUEST for it
+pub data Waits (channel : ℕ) : List OutboxEntry → Type 0 where
+  here : {entry : OutboxEntry} {entries : List OutboxEntry} → activates channel (rsl_in entry.out.frame) ≡ true → AllByRecursion (NoDataEntry channel) entries → Waits channel (entry ∷ entries)
+  later : {entry : OutboxEntry} {entries : List OutboxEntry} → activates channel (rsl_in entry.out.frame) ≡ false → Waits channel entries → Waits channel (entry ∷ entries)
+
+-- The channel's activation waits, and it isn't active; or nothing is in its air, and no DATA REQUEST for it waits.
+pub data Quiet (w : Actors) (at : Place) : Type 0 where
+  waits : is_active_at w at ≡ false → Waits at.number (outbox_of w at.station) → Quiet w at
+  begun : (spot_at w at).air ≡ [] → AllByRecursion (NoDataEntry at.number) (outbox_of w at.station) → Quiet w at
+
+-- whatever happened before, a connection that hasn't asked the switch before an event and after it
+abbrev pub ChannelsStayQuiet : Parameters → List Event → Event → Type 0
+ChannelsStayQuiet settings events event =
+    (old s : Connection) → AreAllowed settings → CameInOctets settings (events ++ event ∷ []) → IsHad (actors_after_all (new_actors settings) events) old → IsEarlyIn old.state
+    → s.number ≡ old.number → IsHad (actors_after_all (new_actors settings) (events ++ event ∷ [])) s → IsEarlyIn s.state
+    → Quiet (actors_after_all (new_actors settings) events) (place_of old.serving) → Quiet (actors_after_all (new_actors settings) (events ++ event ∷ [])) (place_of s.serving)
+
+-- and one that begins at an event, and hasn't asked the switch then
+abbrev pub ChannelsBeginQuiet : Parameters → List Event → Event → Type 0
+ChannelsBeginQuiet settings events event =
+    (s : Connection) → AreAllowed settings → CameInOctets settings (events ++ event ∷ []) → connection_of (actors_after_all (new_actors settings) events).controller s.number ≡ None
+    → IsHad (actors_after_all (new_actors settings) (events ++ event ∷ [])) s → IsEarlyIn s.state → Quiet (actors_after_all (new_actors settings) (events ++ event ∷ [])) (place_of s.serving)
+
+-- so no CHANNEL RELEASE is in the air there
+abbrev pub QuietLetsNoneGo : Parameters → List Event → Type 0
+QuietLetsNoneGo settings events =
+    (s : Connection) → AreAllowed settings → CameInOctets settings events → IsHad (actors_after_all (new_actors settings) events) s → Quiet (actors_after_all (new_actors settings) events) (place_of s.serving)
+    → AllByRecursion LetsNoneGo (spot_at (actors_after_all (new_actors settings) events) (place_of s.serving)).air

@@ -1,0 +1,77 @@
+-- Each mobile asks for a channel once, and one connection at most is the answer to it.
+use Rattle.std.specs.Prelude.{◌≡◌, ◌≢◌, ℕ, ◌+◌, ◌≤◌, ◌==◌, Bool, false, if◌then◌else◌, List, [], ◌∷◌, ◌++◌, Some}
+use Rattle.std.specs.List.{flat_map}
+use Rattle.world_laws.specs.Prelude.{Connection, connection_of, Item, Rsl, Parameters, Event, actors_after_all, Actors, Mobile, mobile_of}
+use Rattle.world_laws.specs.Prelude.{new_actors}
+use Rattle.rsl_codec.specs.declared.rsl.Rsl.TheVariants.{ChannelRequired}
+use Rattle.world_model.specs.OwnerLines.{said_by}
+use Rattle.world_model.specs.World.{Station}
+
+-- ---- requests that are on their way
+
+-- the CHANNEL REQUIRED of a mobile
+abbrev pub is_request_of : ℕ → Rsl → Bool
+is_request_of mobile (ChannelRequired r) = r.reference.access == mobile
+is_request_of mobile _ = false
+
+abbrev pub requests_in : ℕ → List Rsl → ℕ
+requests_in mobile [] = 0
+requests_in mobile (m ∷ ms) = (if is_request_of mobile m then 1 else 0) + requests_in mobile ms
+
+-- what stands in the inbox, and what stations made
+abbrev pub said_in : List Item → List Rsl
+said_in items = flat_map (λ item. said_by item.what) items
+
+abbrev pub made_by : List Station → List Rsl
+made_by stations = flat_map (λ station. station.base.messages) stations
+
+-- how many requests of a mobile are on their way
+abbrev pub requests_up : Actors → ℕ → ℕ
+requests_up w mobile = requests_in mobile (said_in w.inbox) + requests_in mobile (made_by w.stations)
+
+-- no connection is the answer to it
+abbrev pub IsUnanswered : Actors → ℕ → Type 0
+IsUnanswered w mobile = (number : ℕ) (s : Connection) → connection_of w.controller number ≡ Some s → s.request.access ≢ mobile
+
+-- ---- whatever happened
+
+-- A connection is of a mobile that is there, whose request isn't on its way any more.
+pub record AnswersMobile (w : Actors) (s : Connection) : Type 0 where
+  pub from_one : 1 ≤ s.request.access
+  pub one : Mobile
+  pub found : mobile_of w s.request.access ≡ Some one
+  pub none_up : requests_up w s.request.access ≡ 0
+
+abbrev pub ConnectionsAnswerMobiles : Parameters → List Event → Type 0
+ConnectionsAnswerMobiles settings events =
+    (number : ℕ) (s : Connection) → connection_of (actors_after_all (new_actors settings) events).controller number ≡ Some s → AnswersMobile (actors_after_all (new_actors settings) events) s
+
+-- connections of the same mobile are the same one
+abbrev pub ConnectionsAreOneEach : Parameters → List Event → Type 0
+ConnectionsAreOneEach settings events =
+    (number other : ℕ) (s t : Connection) → connection_of (actors_after_all (new_actors settings) events).controller number ≡ Some s
+    → connection_of (actors_after_all (new_actors settings) events).controller other ≡ Some t → s.request.access ≡ t.request.access → number ≡ other
+
+-- A request that is on its way is of a mobile that is there. It is the only one of it, and no connection is the answer yet.
+pub record AsksOnce (w : Actors) (mobile : ℕ) : Type 0 where
+  pub from_one : 1 ≤ mobile
+  pub one : Mobile
+  pub found : mobile_of w mobile ≡ Some one
+  pub only : requests_up w mobile ≡ 1
+  pub unanswered : IsUnanswered w mobile
+
+abbrev pub RequestsComeOnce : Parameters → List Event → Type 0
+RequestsComeOnce settings events = (mobile : ℕ) → 1 ≤ requests_up (actors_after_all (new_actors settings) events) mobile → AsksOnce (actors_after_all (new_actors settings) events) mobile
+
+-- ---- and what happened before
+
+-- where a request is on its way no connection was ever the answer
+abbrev pub NoneWasAnswered : Parameters → List Event → List Event → Type 0
+NoneWasAnswered settings before after =
+    (mobile : ℕ) → 1 ≤ requests_up (actors_after_all (new_actors settings) (before ++ after)) mobile → IsUnanswered (actors_after_all (new_actors settings) before) mobile
+
+-- a connection of a mobile that had one is that one
+abbrev pub NoneIsAnsweredAgain : Parameters → List Event → List Event → Type 0
+NoneIsAnsweredAgain settings before after =
+    (number other : ℕ) (s t : Connection) → connection_of (actors_after_all (new_actors settings) before).controller number ≡ Some s
+    → connection_of (actors_after_all (new_actors settings) (before ++ after)).controller other ≡ Some t → s.request.access ≡ t.request.access → number ≡ other

@@ -1,0 +1,153 @@
+-- How the switch's connections, what is on its way to the switch and the controller's connections agree by references.
+use Rattle.std.specs.Prelude.{◌≡◌, ◌⊎◌, ℕ, zero, suc, ◌+◌, ◌≤◌, ◌<◌, Bool, true, false, List, [], ◌∷◌, map, find, None}
+use Rattle.std.specs.List.{AllByRecursion}
+use Rattle.world_laws.specs.Prelude.{Sccp, Out, SWITCH_LINK, connection_of, word_by, Word, OnConnection, Item, OutboxEntry, sccp_in, Actors}
+use Rattle.world_laws.specs.Prelude.{outbox_of}
+use Rattle.bssmap_codec.specs.declared.sccp.Sccp.TheVariants.{ConnectionConfirm}
+use Rattle.bssmap_codec.specs.Reference.{IsReference}
+use Rattle.conn_rules.specs.declared.input.Input.TheVariants as inputs
+use Rattle.controller_model.specs.LifeLaws.History.{outs_for}
+use Rattle.msc_end.specs.declared.connection.Connection.{Connection}
+use Rattle.msc_end.specs.declared.connection.Stage.{Stage}
+use Rattle.msc_end.specs.declared.connection.Stage.TheVariants.{Ended}
+use Rattle.msc_end.specs.declared.parameters.TheConstants.{REFERENCE_BASE}
+use Rattle.world_laws.specs.LineUps.{is_of_peer}
+use Rattle.world_laws.specs.Staying.{carried_for}
+use Rattle.world_laws.specs.References.Naming.{Reach, early, waits, due, named, cleared, gone, reach_of}
+use Rattle.world_laws.specs.References.Reads.{AreNothing, Read, asks, carries, clears, tells, nothing, odd, carried, sccp_read}
+
+-- ---- what is on its way to the switch
+
+abbrev pub reads : Out → Read
+reads out = sccp_read (sccp_in out.frame)
+
+-- the entries of a connection, as the switch will read them
+abbrev pub reads_of : ℕ → List OutboxEntry → List Read
+reads_of number entries = map reads (outs_for number (map (λ entry. entry.out) entries))
+
+-- CR of the connection, once
+abbrev pub AsksOnce : ℕ → List Read → Type 0
+AsksOnce number [] = ⊥
+AsksOnce number (asks source initial ∷ rest) = (source ≡ number) × AreNothing rest
+AsksOnce number (nothing ∷ rest) = AsksOnce number rest
+AsksOnce number (_ ∷ rest) = ⊥
+
+-- DT1 to this reference, and none behind CLEAR COMPLETE: whether that was taken before, and whether it was put
+abbrev pub Heeds : ℕ → Bool → Read → Type 0
+Heeds reference over nothing = Unit {0}
+Heeds reference over (carries destination message) = (over ≡ false) × (destination ≡ reference)
+Heeds reference over (tells destination) = (over ≡ false) × (destination ≡ reference)
+Heeds reference over (clears destination) = (over ≡ false) × (destination ≡ reference)
+Heeds reference over _ = ⊥
+
+abbrev pub over_after : Bool → Read → Bool
+over_after over (clears destination) = true
+over_after over _ = over
+
+abbrev pub Runs : ℕ → Bool → List Read → Bool → Type 0
+Runs reference over [] last = over ≡ last
+Runs reference over (r ∷ rest) last = Heeds reference over r × Runs reference (over_after over r) rest last
+
+-- ---- CC on its way
+
+-- where it is the connection's, its reference is one of these
+abbrev pub ConfirmsBy : (ℕ → Type 0) → ℕ → Sccp → Type 0
+ConfirmsBy P number (ConnectionConfirm destination source) = IsReference destination × IsReference source × (destination ≡ number → P source)
+ConfirmsBy P number _ = Unit {0}
+
+abbrev pub ConfirmsIn : (ℕ → Type 0) → ℕ → Word → Type 0
+ConfirmsIn P number (OnConnection destination (inputs.ConnectionConfirm source)) = destination ≡ number → P source
+ConfirmsIn P number _ = Unit {0}
+
+abbrev pub ConfirmsBeing : (ℕ → Type 0) → ℕ → Item → Type 0
+ConfirmsBeing P number item = ConfirmsIn P number (word_by item.source item.what)
+
+pub record Confirms (P : ℕ → Type 0) (w : Actors) (number : ℕ) : Type 0 where
+  pub made : AllByRecursion (ConfirmsBy P number) w.switch_made
+  pub waiting : AllByRecursion (ConfirmsBeing P number) w.inbox
+
+abbrev pub Never : ℕ → Type 0
+Never reference = ⊥
+
+abbrev pub Only : ℕ → ℕ → Type 0
+Only own reference = reference ≡ own
+
+-- ---- the switch's connection
+
+abbrev pub is_over : Stage → Bool
+is_over Ended = true
+is_over _ = false
+
+-- the first connection of this peer stands at this place
+abbrev pub StandsAt : ℕ → ℕ → Connection → List Connection → Type 0
+StandsAt number place c [] = ⊥
+StandsAt number zero c (x ∷ xs) = (x ≡ c) × (x.peer ≡ number)
+StandsAt number (suc place) c (x ∷ xs) = (x.peer ≡ number → ⊥) × StandsAt number place c xs
+
+-- ---- the controller's connection
+
+abbrev pub IsAsked : Reach → Type 0
+IsAsked waits = Unit {0}
+IsAsked due = Unit {0}
+IsAsked gone = Unit {0}
+IsAsked _ = ⊥
+
+-- it knows this reference, or will, and whether it put CLEAR COMPLETE
+abbrev pub Knows : ℕ → Bool → Reach → Type 0
+Knows reference over waits = over ≡ false
+Knows reference over due = over ≡ false
+Knows reference over (named own) = (own ≡ reference) × (over ≡ false)
+Knows reference over cleared = Unit {0}
+Knows reference over gone = Unit {0}
+Knows reference over early = ⊥
+
+-- ---- both
+
+-- the switch doesn't know it, and nothing is on its way
+pub record IsUnknown (w : Actors) (number : ℕ) : Type 0 where
+  pub none : find (is_of_peer number) w.switch.connections ≡ None
+  pub quiet : AreNothing (reads_of number (outbox_of w SWITCH_LINK))
+  pub unconfirmed : Confirms Never w number
+
+pub record IsOnItsWay (w : Actors) (number : ℕ) : Type 0 where
+  pub none : find (is_of_peer number) w.switch.connections ≡ None
+  pub once : AsksOnce number (reads_of number (outbox_of w SWITCH_LINK))
+  pub unconfirmed : Confirms Never w number
+
+-- the switch gave it a reference
+pub record IsKnown (w : Actors) (number : ℕ) : Type 0 where
+  pub place : ℕ
+  pub of : Connection
+  pub last : Bool
+  pub stands : StandsAt number place of w.switch.connections
+  pub fits : IsReference (REFERENCE_BASE + (place + 1))
+  pub runs : Runs (REFERENCE_BASE + (place + 1)) (is_over of.stage) (reads_of number (outbox_of w SWITCH_LINK)) last
+  pub confirmed : Confirms (Only (REFERENCE_BASE + (place + 1))) w number
+  pub knows : Knows (REFERENCE_BASE + (place + 1)) last (reach_of (connection_of w.controller number))
+
+-- it isn't there yet, or didn't ask
+abbrev pub IsUnasked : Actors → ℕ → Type 0
+IsUnasked w number = (w.controller.next_number ≤ number) ⊎ ((number < w.controller.next_number) × (reach_of (connection_of w.controller number) ≡ early))
+
+pub record HasAsked (w : Actors) (number : ℕ) : Type 0 where
+  pub past : number < w.controller.next_number
+  pub asked : IsAsked (reach_of (connection_of w.controller number))
+
+pub data Agrees (w : Actors) (number : ℕ) : Type 0 where
+  is_unasked : IsUnasked w number → IsUnknown w number → Agrees w number
+  is_asking : HasAsked w number → IsOnItsWay w number → Agrees w number
+  is_unheard : HasAsked w number → IsUnknown w number → Agrees w number
+  is_known : number < w.controller.next_number → IsKnown w number → Agrees w number
+
+-- An entry: what it carries is what the switch reads, and it is a connection's or isn't heeded.
+abbrev pub IsHeeded : Read → Type 0
+IsHeeded odd = ⊥
+IsHeeded _ = Unit {0}
+
+pub record IsRight (out : Out) : Type 0 where
+  pub carries_as_read : 1 ≤ out.conn → IsHeeded (reads out) → carried_for out.conn out ≡ carried (reads out)
+  pub beside : out.conn ≡ 0 → reads out ≡ nothing
+
+pub record NamesAgree (w : Actors) : Type 0 where
+  pub each : (number : ℕ) → 1 ≤ number → Agrees w number
+  pub right : AllByRecursion (λ entry. IsRight entry.out) (outbox_of w SWITCH_LINK)

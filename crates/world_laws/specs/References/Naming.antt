@@ -1,0 +1,135 @@
+-- What a connection puts for the switch, by how far it is: before CR, before CC, with the reference that CC told, after CLEAR COMPLETE.
+use Rattle.std.specs.Prelude.{◌≡◌, ℕ, List, [], ◌∷◌, ◌++◌, Option, Some, None}
+use Rattle.std.specs.List.{AllByRecursion}
+use Rattle.world_laws.specs.Prelude.{Management, Input, State, WaitActivation, WaitEstablish, WaitConfirm, Live, Closed, Removed}
+use Rattle.world_laws.specs.Prelude.{Connection, Row}
+use Rattle.bssmap_codec.specs.declared.bssmap.Bssmap.TheVariants.{ClearComplete, CompleteLayer3Information}
+use Rattle.bssmap_codec.specs.declared.values.CellIdentifier.{CellIdentifier}
+use Rattle.conn_messages.specs.declared.message.Message.{Message}
+use Rattle.conn_messages.specs.declared.message.Message.TheVariants.{Station, Request, Data, ReleaseComplete}
+use Rattle.conn_messages.specs.SwitchMessage.{clear_complete}
+use Rattle.conn_rules.specs.declared.input.Input.TheVariants as inputs
+use Rattle.conn_rules.specs.declared.state.Clearing.TheVariants.{Due, Asked as WasAsked, Complete}
+
+-- it goes to a station, or is RLC
+abbrev pub IsQuiet : Message → Type 0
+IsQuiet (Station station message) = Unit {0}
+IsQuiet (ReleaseComplete destination) = Unit {0}
+IsQuiet _ = ⊥
+
+abbrev pub AreQuiet : List Message → Type 0
+AreQuiet put = AllByRecursion IsQuiet put
+
+-- DT1 to this reference, with neither CLEAR COMPLETE nor an initial message; or quiet
+abbrev pub IsPlain : ℕ → Message → Type 0
+IsPlain reference (Data destination (Management ClearComplete)) = ⊥
+IsPlain reference (Data destination (Management (CompleteLayer3Information cell initial))) = ⊥
+IsPlain reference (Data destination message) = destination ≡ reference
+IsPlain reference message = IsQuiet message
+
+abbrev pub ArePlain : ℕ → List Message → Type 0
+ArePlain reference put = AllByRecursion (IsPlain reference) put
+
+-- CR with the initial message alone
+pub record IsAsking (put : List Message) : Type 0 where
+  pub cell : CellIdentifier
+  pub initial : List ℕ
+  pub is : put ≡ Request (Management (CompleteLayer3Information cell initial)) ∷ []
+
+-- CLEAR COMPLETE last, behind what is quiet
+pub record IsClearing (reference : ℕ) (put : List Message) : Type 0 where
+  pub first : List Message
+  pub is : put ≡ first ++ clear_complete reference ∷ []
+  pub quiet : AreQuiet first
+
+-- ---- by the state before
+
+-- not asked for
+abbrev pub FromEarly : List Message → State → Type 0
+FromEarly put WaitActivation = AreQuiet put
+FromEarly put WaitEstablish = AreQuiet put
+FromEarly put Removed = AreQuiet put
+FromEarly put WaitConfirm = IsAsking put
+FromEarly put _ = ⊥
+
+-- asked for, and not confirmed
+abbrev pub FromWaiting : Input → List Message → State → Type 0
+FromWaiting input put WaitConfirm = AreQuiet put
+FromWaiting input put (Closed (Due cause)) = AreQuiet put
+FromWaiting input put Removed = AreQuiet put
+FromWaiting input put (Live reference stage) = (input ≡ inputs.ConnectionConfirm reference) × ArePlain reference put
+FromWaiting input put (Closed (WasAsked reference)) = (input ≡ inputs.ConnectionConfirm reference) × ArePlain reference put
+FromWaiting input put _ = ⊥
+
+-- with the reference of the switch
+abbrev pub FromNamed : ℕ → List Message → State → Type 0
+FromNamed reference put (Live own stage) = (own ≡ reference) × ArePlain reference put
+FromNamed reference put (Closed (WasAsked own)) = (own ≡ reference) × ArePlain reference put
+FromNamed reference put (Closed Complete) = IsClearing reference put
+FromNamed reference put Removed = AreQuiet put
+FromNamed reference put _ = ⊥
+
+-- after CLEAR COMPLETE
+abbrev pub FromCleared : List Message → State → Type 0
+FromCleared put (Closed Complete) = AreQuiet put
+FromCleared put Removed = AreQuiet put
+FromCleared put _ = ⊥
+
+abbrev pub From : Input → List Message → State → State → Type 0
+From input put WaitActivation after = FromEarly put after
+From input put WaitEstablish after = FromEarly put after
+From input put WaitConfirm after = FromWaiting input put after
+From input put (Closed (Due cause)) after = FromWaiting input put after
+From input put (Live reference stage) after = FromNamed reference put after
+From input put (Closed (WasAsked reference)) after = FromNamed reference put after
+From input put (Closed Complete) after = FromCleared put after
+From input put Removed after = ⊥
+
+-- what a row puts, and where it leads
+abbrev pub IsNamedRow : Input → State → Row → Type 0
+IsNamedRow input before r = From input r.outs before r.next.state
+
+-- ---- how far a connection is
+
+pub data Reach : Type 0 where
+  -- the switch isn't asked for its connection
+  early : Reach
+  -- it is asked, and hasn't answered; perhaps it is to be asked to clear
+  waits : Reach
+  due : Reach
+  -- the switch told this reference
+  named : ℕ → Reach
+  -- CLEAR COMPLETE was put
+  cleared : Reach
+  -- it isn't there
+  gone : Reach
+
+abbrev pub reach_in : State → Reach
+reach_in WaitActivation = early
+reach_in WaitEstablish = early
+reach_in WaitConfirm = waits
+reach_in (Live reference stage) = named reference
+reach_in (Closed (Due cause)) = due
+reach_in (Closed (WasAsked reference)) = named reference
+reach_in (Closed Complete) = cleared
+reach_in Removed = gone
+
+abbrev pub reach_of : Option Connection → Reach
+reach_of None = gone
+reach_of (Some s) = reach_in s.state
+
+-- asked for, and not confirmed
+abbrev pub IsUnnamed : Reach → Type 0
+IsUnnamed waits = Unit {0}
+IsUnnamed due = Unit {0}
+IsUnnamed _ = ⊥
+
+-- One step of a connection, with what it puts, where CC with such a reference may have come.
+pub data Goes (came : ℕ → Type 0) (put : List Message) : Reach → Reach → Type 0 where
+  stays : {a : Reach} → AreQuiet put → Goes came put a a
+  leaves : {a : Reach} → AreQuiet put → Goes came put a gone
+  fails : {a b : Reach} → IsUnnamed a → IsUnnamed b → AreQuiet put → Goes came put a b
+  asks : IsAsking put → Goes came put early waits
+  confirmed : {a : Reach} (reference : ℕ) → IsUnnamed a → came reference → ArePlain reference put → Goes came put a (named reference)
+  speaks : {reference : ℕ} → ArePlain reference put → Goes came put (named reference) (named reference)
+  clears : {reference : ℕ} → IsClearing reference put → Goes came put (named reference) cleared

@@ -1,0 +1,24 @@
+-- A connection that isn't open any more puts no more for the switch.
+use Rattle.std.specs.Prelude.{ℕ, ◌≤◌, ◌<◌, List}
+use Rattle.std.specs.List.{AllByRecursion}
+use Rattle.world_laws.specs.Prelude.{IsThere, connection_of, ComesInOctets, AreAllowed, Parameters, Event, actors_after, actors_after_all}
+use Rattle.world_laws.specs.Prelude.{Actors, new_actors}
+use Rattle.world_model.specs.Steps.{step_at}
+use Rattle.world_laws.specs.Ended.{PutsNoMore}
+use Rattle.world_laws.specs.OthersFrame.{CameInOctets}
+
+-- it was there, and is closed or gone
+pub record IsOver (w : Actors) (number : ℕ) : Type 0 where
+  pub past : number < w.controller.next_number
+  pub closed : IsThere (connection_of w.controller number) → ⊥
+
+-- what the controller takes at this event is octets
+abbrev pub TakesOctets : Actors → Event → Type 0
+TakesOctets w event = AllByRecursion ComesInOctets (step_at w event)
+
+-- whatever happened before
+abbrev pub OverPutsNoMore : Parameters → List Event → Event → Type 0
+OverPutsNoMore settings events event =
+    (number : ℕ) → AreAllowed settings → CameInOctets settings events → TakesOctets (actors_after_all (new_actors settings) events) event → 1 ≤ number
+    → IsOver (actors_after_all (new_actors settings) events) number
+    → PutsNoMore (actors_after_all (new_actors settings) events) number event × IsOver (actors_after (actors_after_all (new_actors settings) events) event) number

@@ -1,0 +1,71 @@
+-- What the switch reads in a frame.
+use Rattle.std.specs.Prelude.{◌≡◌, ℕ, List, [], ◌∷◌, Option, Some, None}
+use Rattle.std.specs.List.{AllByRecursion}
+use Rattle.bssmap_codec.specs.declared.bssap.Bssap.{Bssap}
+use Rattle.world_laws.specs.Prelude.{Management, Sccp}
+use Rattle.bssmap_codec.specs.declared.bssap.Bssap.TheVariants.{Transfer}
+use Rattle.bssmap_codec.specs.declared.bssmap.Bssmap.{Bssmap}
+use Rattle.bssmap_codec.specs.declared.bssmap.Bssmap.TheVariants.{ClearComplete, CompleteLayer3Information}
+use Rattle.bssmap_codec.specs.declared.sccp.Sccp.TheVariants.{ConnectionRequest, DataForm1}
+use Rattle.msc_end.specs.Switch.{message_in}
+
+pub data Read : Type 0 where
+  -- CR of this reference, with an initial message
+  asks : ℕ → List ℕ → Read
+  -- DT1 to this reference: DTAP, CLEAR COMPLETE, another message of BSSMAP
+  carries : ℕ → List ℕ → Read
+  clears : ℕ → Read
+  tells : ℕ → Read
+  -- what the switch doesn't heed
+  nothing : Read
+  -- what no connection puts
+  odd : Read
+
+abbrev pub management_read : ℕ → Bssmap → Read
+management_read destination ClearComplete = clears destination
+management_read destination (CompleteLayer3Information cell initial) = odd
+management_read destination _ = tells destination
+
+abbrev pub data_read : ℕ → Option Bssap → Read
+data_read destination None = odd
+data_read destination (Some (Management message)) = management_read destination message
+data_read destination (Some (Transfer dlci message)) = carries destination message
+
+abbrev pub initial_read : ℕ → Option Bssap → Read
+initial_read source (Some (Management (CompleteLayer3Information cell initial))) = asks source initial
+initial_read source _ = odd
+
+abbrev pub request_read : ℕ → Option (List ℕ) → Read
+request_read source None = odd
+request_read source (Some user) = initial_read source (message_in user)
+
+abbrev pub sccp_read : Option Sccp → Read
+sccp_read None = nothing
+sccp_read (Some (ConnectionRequest source user)) = request_read source user
+sccp_read (Some (DataForm1 destination user)) = data_read destination (message_in user)
+sccp_read (Some _) = nothing
+
+-- the messages of the mobile that it carries
+abbrev pub carried : Read → List (List ℕ)
+carried (asks source initial) = initial ∷ []
+carried (carries destination message) = message ∷ []
+carried _ = []
+
+-- ---- what a connection may put
+
+abbrev pub IsNothing : Read → Type 0
+IsNothing nothing = Unit {0}
+IsNothing _ = ⊥
+
+abbrev pub AreNothing : List Read → Type 0
+AreNothing reads = AllByRecursion IsNothing reads
+
+-- to this reference, and no CLEAR COMPLETE
+abbrev pub IsPlainRead : ℕ → Read → Type 0
+IsPlainRead reference (carries destination message) = destination ≡ reference
+IsPlainRead reference (tells destination) = destination ≡ reference
+IsPlainRead reference nothing = Unit {0}
+IsPlainRead reference _ = ⊥
+
+abbrev pub ArePlainReads : ℕ → List Read → Type 0
+ArePlainReads reference reads = AllByRecursion (IsPlainRead reference) reads

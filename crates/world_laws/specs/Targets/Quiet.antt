@@ -1,0 +1,48 @@
+-- Channels that are free are quiet: nothing comes of them, and no command is on its way there.
+use Rattle.std.specs.Prelude.{◌≡◌, ◌⊎◌, ℕ, ◌≤◌, Bool, true, false, List, [], ◌∷◌, length}
+use Rattle.std.specs.List.{list_any}
+use Rattle.world_laws.specs.Prelude.{Place, Free, channel_state, hears, AreAllowed, Parameters, Event, OutboxEntry, actors_after_all}
+use Rattle.world_laws.specs.Prelude.{rsl_in, Actors, is_active_at, new_actors, outbox_of, spot_at}
+use Rattle.world_laws.specs.LineUp.Places.{messages_in}
+use Rattle.world_model.specs.Pipe.{is_active_then}
+use Rattle.world_laws.specs.Acknowledged.{acknowledgements_up, is_release_ack}
+use Rattle.world_laws.specs.ComingUp.{coming_up}
+use Rattle.world_laws.specs.GoingDown.{going_down, leading_from_outbox}
+use Rattle.world_laws.specs.Lives.{initials_up}
+use Rattle.world_laws.specs.OthersFrame.{CameInOctets}
+
+-- nothing is on its way on a channel: no message, no initial message, and no command
+pub record IsQuiet (w : Actors) (at : Place) : Type 0 where
+  pub nothing_comes : messages_in (coming_up w at) ≡ []
+  pub none_opens : initials_up w at ≡ []
+  pub none_commanded : going_down w at ≡ []
+
+-- whatever happened, of a channel that the controller has free, while it hears the channel's station
+abbrev pub FreeChannelsAreQuiet : Parameters → List Event → Type 0
+FreeChannelsAreQuiet settings events =
+    (at : Place) → AreAllowed settings → CameInOctets settings events → 1 ≤ at.station → at.station ≤ length settings.cells → channel_state (actors_after_all (new_actors settings) events).controller at ≡ Free
+    → hears (actors_after_all (new_actors settings) events).controller at.station ≡ true → IsQuiet (actors_after_all (new_actors settings) events) at
+
+-- ---- what keeps it so
+
+-- each command that waits for a station stands where its channel is active
+abbrev pub StandWithin : ℕ → Bool → List OutboxEntry → Type 0
+StandWithin channel active [] = Unit {0}
+StandWithin channel active (entry ∷ entries) = (active ≡ false → leading_from_outbox channel entry ≡ []) × StandWithin channel (is_active_then channel active (rsl_in entry.out.frame)) entries
+
+-- the channel's RF CHANNEL RELEASE ACK is on its way up
+abbrev pub is_ending : Actors → Place → Bool
+is_ending w at = list_any is_release_ack (acknowledgements_up w at)
+
+-- A channel is settled: its commands stand in its tenures; while it isn't active nothing stands in the air; it isn't active where it is
+-- free, nor where its end is on its way; and of a free one nothing comes.
+pub record IsSettled (w : Actors) (at : Place) : Type 0 where
+  pub line : StandWithin at.number (is_active_at w at) (outbox_of w at.station)
+  pub air : is_active_at w at ≡ false → (spot_at w at).air ≡ []
+  pub idle : hears w.controller at.station ≡ true → (channel_state w.controller at ≡ Free) ⊎ (is_ending w at ≡ true) → is_active_at w at ≡ false
+  pub silent : hears w.controller at.station ≡ true → channel_state w.controller at ≡ Free → coming_up w at ≡ []
+
+-- whatever happened, each channel of each station of the settings
+abbrev pub ChannelsAreSettled : Parameters → List Event → Type 0
+ChannelsAreSettled settings events =
+    (at : Place) → AreAllowed settings → CameInOctets settings events → 1 ≤ at.station → at.station ≤ length settings.cells → IsSettled (actors_after_all (new_actors settings) events) at

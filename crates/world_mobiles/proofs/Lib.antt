@@ -1,3 +1,0 @@
-mod Fit
-mod Places
-mod Rows

@@ -1,3 +1,0 @@
-pub mod Placed
-pub mod MobilesState
-pub mod Mobiles

@@ -1,0 +1,65 @@
+-- Mobiles found by their numbers.
+use Rattle.world_model.proofs.Prelude.{◌≡◌, ◌≢◌, ℕ, Bool, true, false, if◌then◌else◌, cond, List, [], ◌∷◌, ◌++◌, find, unwrap_or, Option, Some, None}
+use Rattle.world_model.proofs.Prelude.{refl, sym, ap, ◌∙◌, inl, inr, cases_Bool, eqb-true, ne_eqb, eq-eqb}
+use Rattle.std.proofs.lemmas.Option.{none-some}
+use Rattle.world_model.specs.World.{Mobile, has_number, put_back}
+
+-- one that is found has the number
+pub found-number : (number : ℕ) (xs : List Mobile) (p : Mobile) → find (has_number number) xs ≡ Some p → p.number ≡ number
+found-number number [] p found = absurd cc
+found-number number (x ∷ xs) p found =
+    elim (cases_Bool (has_number number x)) [
+      | inl hit ↦ ap (λ (q : Mobile). q.number) (sym (some-same (sym (ap (λ (b : Bool). cond b (Some x) (find (has_number number) xs)) hit) ∙ found))) ∙ eqb-true x.number number hit
+      | inr miss ↦ found-number number xs p (sym (ap (λ (b : Bool). cond b (Some x) (find (has_number number) xs)) miss) ∙ found)
+    ] where
+      some-same : {a b : Mobile} → Some a ≡ Some b → a ≡ b
+      some-same {a} is = ap (λ (o : Option Mobile). unwrap_or o a) is
+
+-- one that is put back is found
+pub back-found : (q : Mobile) (xs : List Mobile) (p : Mobile) → find (has_number q.number) xs ≡ Some p → find (has_number q.number) (put_back q xs) ≡ Some q
+back-found q [] p found = absurd cc
+back-found q (x ∷ xs) p found =
+    elim (cases_Bool (has_number q.number x)) [
+      | inl hit ↦ ap (λ (b : Bool). find (has_number q.number) (cond b (q ∷ xs) (x ∷ put_back q xs))) hit ∙ ap (λ (b : Bool). cond b (Some q) (find (has_number q.number) xs)) (eq-eqb q.number q.number refl)
+      | inr miss ↦
+          ap (λ (b : Bool). find (has_number q.number) (cond b (q ∷ xs) (x ∷ put_back q xs))) miss
+          ∙ ap (λ (b : Bool). cond b (Some x) (find (has_number q.number) (put_back q xs))) miss
+          ∙ back-found q xs p (sym (ap (λ (b : Bool). cond b (Some x) (find (has_number q.number) xs)) miss) ∙ found)
+    ]
+
+-- and all others stay
+pub back-other : (q : Mobile) (xs : List Mobile) (number : ℕ) → q.number ≢ number → find (has_number number) (put_back q xs) ≡ find (has_number number) xs
+back-other q [] number differs = refl
+back-other q (x ∷ xs) number differs =
+    elim (cases_Bool (has_number q.number x)) [
+      | inl hit ↦
+          ap (λ (b : Bool). find (has_number number) (cond b (q ∷ xs) (x ∷ put_back q xs))) hit
+          ∙ ap (λ (b : Bool). cond b (Some q) (find (has_number number) xs)) (ne_eqb q.number number differs)
+          ∙ sym (ap (λ (b : Bool). cond b (Some x) (find (has_number number) xs)) (ne_eqb x.number number (λ is. differs (sym (eqb-true x.number q.number hit) ∙ is))))
+      | inr miss ↦
+          ap (λ (b : Bool). find (has_number number) (cond b (q ∷ xs) (x ∷ put_back q xs))) miss
+          ∙ ap (λ (o : Option Mobile). if has_number number x then Some x else o) (back-other q xs number differs)
+    ]
+
+-- a new one stands behind all others
+pub new-found : (q : Mobile) (xs : List Mobile) → find (has_number q.number) xs ≡ None → find (has_number q.number) (xs ++ q ∷ []) ≡ Some q
+new-found q [] none = ap (λ (b : Bool). cond b (Some q) None) (eq-eqb q.number q.number refl)
+new-found q (x ∷ xs) none =
+    elim (cases_Bool (has_number q.number x)) [
+      | inl hit ↦ absurd (none-some x (sym none ∙ ap (λ (b : Bool). cond b (Some x) (find (has_number q.number) xs)) hit))
+      | inr miss ↦
+          ap (λ (b : Bool). cond b (Some x) (find (has_number q.number) (xs ++ q ∷ []))) miss
+          ∙ new-found q xs (sym (ap (λ (b : Bool). cond b (Some x) (find (has_number q.number) xs)) miss) ∙ none)
+    ]
+
+pub new-other : (q : Mobile) (xs : List Mobile) (number : ℕ) → q.number ≢ number → find (has_number number) (xs ++ q ∷ []) ≡ find (has_number number) xs
+new-other q [] number differs = ap (λ (b : Bool). cond b (Some q) None) (ne_eqb q.number number differs)
+new-other q (x ∷ xs) number differs = ap (λ (o : Option Mobile). if has_number number x then Some x else o) (new-other q xs number differs)
+
+-- one is found before those that stand behind
+pub found-front : (number : ℕ) (p : Mobile) (xs ys : List Mobile) → find (has_number number) xs ≡ Some p → find (has_number number) (xs ++ ys) ≡ Some p
+found-front number p [] ys found = absurd cc
+found-front number p (x ∷ xs) ys found = by (has_number number x) (found-front number p xs ys) found where
+  by : (b : Bool) → (find (has_number number) xs ≡ Some p → find (has_number number) (xs ++ ys) ≡ Some p) → cond b (Some x) (find (has_number number) xs) ≡ Some p → cond b (Some x) (find (has_number number) (xs ++ ys)) ≡ Some p
+  by true others here = here
+  by false others there = others there

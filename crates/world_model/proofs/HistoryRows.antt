@@ -1,0 +1,137 @@
+-- Histories of queues, stations and the controller.
+use Rattle.world_model.proofs.Prelude.{◌≡◌, ℕ, true, false, List, [], ◌∷◌, length, map, None, refl, Assignment, place_at, usual_settings}
+use Rattle.world_model.proofs.Prelude.{Zero, activation_ack, RfChannelReleaseAck, rsl_text, Item, What}
+use Rattle.world_model.specs.declared.event.Event.TheVariants.{Connect, AirUp, AirAck, BaseTakes, BasePush, Handle, SwitchTakes, SwitchDoes, Tick, BaseDown}
+use Rattle.world_model.specs.declared.event.SwitchAction.TheVariants.{Clear}
+use Rattle.world_model.specs.declared.seat.Seat.TheVariants.{Asking, On, Moving, Gone}
+use Rattle.world_model.proofs.Worlds.{on_literals}
+use Rattle.controller_model.specs.declared.step.Step.TheVariants as taken_steps
+use Rattle.ruled_relay.specs.declared.item.What.TheVariants as whats
+use Rattle.world_model.specs.declared.event.Event.{Event}
+use Rattle.world_model.specs.Honest.{all_given}
+use Rattle.world_model.specs.Pipe.{acknowledgements, due, active_all}
+use Rattle.world_model.specs.Queues.{all_pushed, all_popped, of_source, all_put, all_taken}
+use Rattle.world_model.specs.Steps.{all_steps}
+use Rattle.world_model.specs.World.{Actors, new_actors}
+use Rattle.controller_model.specs.declared.step.Step.{Step}
+use Rattle.mobile_end.specs.declared.mobile_end.Place.TheVariants as mobile_places
+use Rattle.mobile_end.specs.declared.mobile_end.Place.TheVariants.{OnChannel}
+use Rattle.world_model.specs.Lives.{place_in}
+use Rattle.world_model.specs.Reading.{frame_of}
+
+abbrev begin : Actors
+begin = new_actors usual_settings
+
+-- the octets of items, none of the end of a link
+abbrev what_body : What → List ℕ
+what_body (whats.Frame frame) = frame.body
+what_body whats.Down = []
+
+abbrev item_bodies : List Item → List (List ℕ)
+item_bodies items = map (λ item. what_body item.what) items
+
+abbrev step_body : Step → List ℕ
+step_body (taken_steps.Take item) = what_body item.what
+step_body (taken_steps.Tick ms) = ms ∷ []
+
+-- two mobiles ask; what the first station answers is handled, and the link of the second breaks
+abbrev breaks_off : List Event
+breaks_off = Connect 1 1 (0x05 ∷ 0x24 ∷ 0x71 ∷ []) true ∷ Connect 2 2 (0x05 ∷ 0x24 ∷ 0x72 ∷ []) true ∷ Handle ∷ BasePush 2 ∷ BasePush 1 ∷ BasePush 1 ∷ Handle ∷ BaseTakes 2 ∷ BaseTakes 2 ∷ BasePush 2 ∷ Tick 7 ∷ BaseDown 2 ∷ BaseDown 2 ∷ []
+
+pushes : item_bodies (all_pushed begin breaks_off) ≡ (0x0c ∷ 0x13 ∷ 0x01 ∷ 0x88 ∷ 0x13 ∷ 0x02 ∷ 0x00 ∷ 0x00 ∷ 0x11 ∷ 0x00 ∷ []) ∷ (0x0c ∷ 0x13 ∷ 0x01 ∷ 0x88 ∷ 0x13 ∷ 0x01 ∷ 0x00 ∷ 0x00 ∷ 0x11 ∷ 0x00 ∷ []) ∷ (0x08 ∷ 0x22 ∷ 0x01 ∷ 0x41 ∷ 0x08 ∷ 0x00 ∷ 0x00 ∷ []) ∷ [] ∷ []
+unfolding on_literals
+pushes = refl
+
+pushes_of_each : item_bodies (of_source 2 (all_pushed begin breaks_off)) ≡ (0x0c ∷ 0x13 ∷ 0x01 ∷ 0x88 ∷ 0x13 ∷ 0x02 ∷ 0x00 ∷ 0x00 ∷ 0x11 ∷ 0x00 ∷ []) ∷ (0x08 ∷ 0x22 ∷ 0x01 ∷ 0x41 ∷ 0x08 ∷ 0x00 ∷ 0x00 ∷ []) ∷ [] ∷ []
+unfolding on_literals
+pushes_of_each = refl
+
+pushes_of_the_other : item_bodies (of_source 1 (all_pushed begin breaks_off)) ≡ (0x0c ∷ 0x13 ∷ 0x01 ∷ 0x88 ∷ 0x13 ∷ 0x01 ∷ 0x00 ∷ 0x00 ∷ 0x11 ∷ 0x00 ∷ []) ∷ []
+unfolding on_literals
+pushes_of_the_other = refl
+
+pops : item_bodies (all_popped begin breaks_off) ≡ (0x0c ∷ 0x13 ∷ 0x01 ∷ 0x88 ∷ 0x13 ∷ 0x02 ∷ 0x00 ∷ 0x00 ∷ 0x11 ∷ 0x00 ∷ []) ∷ []
+unfolding on_literals
+pops = refl
+
+gives : map rsl_text (all_given 2 begin breaks_off) ≡ (0x0c ∷ 0x13 ∷ 0x01 ∷ 0x88 ∷ 0x13 ∷ 0x02 ∷ 0x00 ∷ 0x00 ∷ 0x11 ∷ 0x00 ∷ []) ∷ (0x08 ∷ 0x22 ∷ 0x01 ∷ 0x41 ∷ 0x08 ∷ 0x00 ∷ 0x00 ∷ []) ∷ []
+unfolding on_literals
+gives = refl
+
+gives_of_the_other : map rsl_text (all_given 1 begin breaks_off) ≡ (0x0c ∷ 0x13 ∷ 0x01 ∷ 0x88 ∷ 0x13 ∷ 0x01 ∷ 0x00 ∷ 0x00 ∷ 0x11 ∷ 0x00 ∷ []) ∷ []
+unfolding on_literals
+gives_of_the_other = refl
+
+controller_took : map step_body (all_steps begin breaks_off) ≡ ((0x0c ∷ 0x13 ∷ 0x01 ∷ 0x88 ∷ 0x13 ∷ 0x02 ∷ 0x00 ∷ 0x00 ∷ 0x11 ∷ 0x00 ∷ []) ∷ (7 ∷ []) ∷ [])
+unfolding on_literals
+controller_took = refl
+
+puts : map (λ entry. entry.out.frame.body) (all_put 2 begin breaks_off) ≡ (0x08 ∷ 0x21 ∷ 0x01 ∷ 0x41 ∷ 0x03 ∷ 0x00 ∷ 0x06 ∷ 0x04 ∷ 0x00 ∷ 0x03 ∷ 0x01 ∷ 0x00 ∷ []) ∷ []
+unfolding on_literals
+puts = refl
+
+puts_nothing_there : map (λ entry. entry.out.frame.body) (all_put 1 begin breaks_off) ≡ []
+unfolding on_literals
+puts_nothing_there = refl
+
+takes_once : map (λ entry. entry.out.frame.body) (all_taken 2 begin breaks_off) ≡ (0x08 ∷ 0x21 ∷ 0x01 ∷ 0x41 ∷ 0x03 ∷ 0x00 ∷ 0x06 ∷ 0x04 ∷ 0x00 ∷ 0x03 ∷ 0x01 ∷ 0x00 ∷ []) ∷ []
+unfolding on_literals
+takes_once = refl
+
+puts_none_where_it_broke : all_put 1 begin (Connect 1 1 (0x05 ∷ 0x24 ∷ 0x71 ∷ []) true ∷ BasePush 1 ∷ BaseDown 1 ∷ Handle ∷ Tick 3000 ∷ []) ≡ []
+unfolding on_literals
+puts_none_where_it_broke = refl
+
+-- a connection opens and is cleared
+abbrev clears : List Event
+clears = Connect 1 1 (0x05 ∷ 0x24 ∷ 0x71 ∷ []) true ∷ BasePush 1 ∷ Handle ∷ BaseTakes 1 ∷ BasePush 1 ∷ Handle ∷ BaseTakes 1 ∷ AirUp 1 Zero ∷ BasePush 1 ∷ Handle ∷ SwitchTakes ∷ AirAck 1 Zero ∷ BasePush 0 ∷ Handle ∷ SwitchTakes ∷ SwitchDoes (Clear 1) ∷ BasePush 0 ∷ Handle ∷ SwitchTakes ∷ SwitchTakes ∷ Tick 1 ∷ []
+
+switch_takes : map (λ entry. entry.out.frame.body) (all_taken 0 begin clears) ≡ (0x01 ∷ 0x00 ∷ 0x00 ∷ 0x01 ∷ 0x02 ∷ 0x02 ∷ 0x04 ∷ 0x02 ∷ 0x42 ∷ 0xfe ∷ 0x0f ∷ 0x12 ∷ 0x00 ∷ 0x10 ∷ 0x57 ∷ 0x05 ∷ 0x08 ∷ 0x00 ∷ 0x00 ∷ 0xf1 ∷ 0x10 ∷ 0x00 ∷ 0x01 ∷ 0x00 ∷ 0x01 ∷ 0x17 ∷ 0x03 ∷ 0x05 ∷ 0x24 ∷ 0x71 ∷ 0x00 ∷ []) ∷ (0x06 ∷ 0x80 ∷ 0x00 ∷ 0x01 ∷ 0x00 ∷ 0x01 ∷ 0x03 ∷ 0x00 ∷ 0x01 ∷ 0x21 ∷ []) ∷ []
+unfolding on_literals
+switch_takes = refl
+
+station_took : length (all_taken 1 begin clears) ≡ 2
+unfolding on_literals
+station_took = refl
+
+station_was_put : map (λ entry. entry.out.frame.body) (all_put 1 begin clears) ≡ (0x08 ∷ 0x21 ∷ 0x01 ∷ 0x41 ∷ 0x03 ∷ 0x00 ∷ 0x06 ∷ 0x04 ∷ 0x00 ∷ 0x03 ∷ 0x01 ∷ 0x00 ∷ []) ∷ (0x0c ∷ 0x16 ∷ 0x01 ∷ 0x90 ∷ 0x2b ∷ 0x17 ∷ 0x2d ∷ 0x06 ∷ 0x3f ∷ 0x00 ∷ 0x41 ∷ 0x20 ∷ 0x14 ∷ 0x01 ∷ 0x00 ∷ 0x00 ∷ 0x00 ∷ 0x00 ∷ 0x2b ∷ 0x2b ∷ 0x2b ∷ 0x2b ∷ 0x2b ∷ 0x2b ∷ 0x2b ∷ 0x2b ∷ 0x2b ∷ 0x2b ∷ 0x2b ∷ []) ∷ (0x03 ∷ 0x01 ∷ 0x01 ∷ 0x41 ∷ 0x02 ∷ 0x00 ∷ 0x0b ∷ 0x00 ∷ 0x03 ∷ 0x06 ∷ 0x0d ∷ 0x00 ∷ []) ∷ (0x08 ∷ 0x2e ∷ 0x01 ∷ 0x41 ∷ []) ∷ []
+unfolding on_literals
+station_was_put = refl
+
+-- acknowledgements that are due
+is_due : due 0x41 false (all_put 1 begin clears) ≡ activation_ack 0x41 ∷ RfChannelReleaseAck 0x41 ∷ []
+unfolding on_literals
+is_due = refl
+
+is_not_due_for_another : due 0x49 false (all_put 1 begin clears) ≡ []
+unfolding on_literals
+is_not_due_for_another = refl
+
+is_due_once : due 0x41 true (all_put 1 begin clears) ≡ RfChannelReleaseAck 0x41 ∷ []
+unfolding on_literals
+is_due_once = refl
+
+was_acknowledged : acknowledgements 0x41 (all_given 1 begin clears) ≡ activation_ack 0x41 ∷ []
+unfolding on_literals
+was_acknowledged = refl
+
+is_active_so_far : active_all 0x41 false (all_taken 1 begin clears) ≡ true
+unfolding on_literals
+is_active_so_far = refl
+
+is_not_active_in_the_end : active_all 0x41 false (all_put 1 begin clears) ≡ false
+unfolding on_literals
+is_not_active_in_the_end = refl
+
+no_other_is_active : active_all 0x49 false (all_taken 1 begin clears) ≡ false
+unfolding on_literals
+no_other_is_active = refl
+
+-- frames of stations, and where a mobile is while it sits or moves
+frame_of_a_message : frame_of (activation_ack 0x41) ≡ record { stream = 0; body = (0x08 ∷ 0x22 ∷ 0x01 ∷ 0x41 ∷ 0x08 ∷ 0x00 ∷ 0x00 ∷ []) }
+unfolding on_literals
+frame_of_a_message = refl
+
+places : map place_in (Asking ∷ On (record { at = place_at 1 0x41; number = 1 }) None ∷ Moving (record { at = place_at 1 0x41; number = 1 }) (record { change = Assignment; target = record { at = place_at 1 0x0a; number = 2 } }) ∷ Gone ∷ []) ≡ OnChannel ∷ OnChannel ∷ (mobile_places.Moving) ∷ OnChannel ∷ []
+unfolding on_literals
+places = refl

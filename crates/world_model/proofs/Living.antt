@@ -1,0 +1,104 @@
+-- The controller of a world is the one after the steps that it took.
+use Rattle.world_model.proofs.Prelude.{◌≡◌, List, [], ◌∷◌, ◌++◌, map, unwrap_or, Option, None, Some, append_assoc, refl, sym, ap, ◌∙◌}
+use Rattle.world_model.proofs.Prelude.{Out, SWITCH_LINK, Controller, Turn, take, tick, Item, Parameters}
+use Rattle.std.proofs.Common.{append-nil}
+use Rattle.controller_model.specs.declared.step.Step.{Step}
+use Rattle.controller_model.specs.Controller.{each, new_controller, turn}
+use Rattle.controller_model.specs.Life.{step, life}
+use Rattle.world_model.specs.declared.event.Event.{Event}
+use Rattle.world_model.specs.declared.event.Event.TheVariants.{BaseTakes, BasePush, Handle, SwitchTakes, SwitchDoes, Tick, BaseDown}
+use Rattle.world_model.specs.declared.seat.Tenure.{Tenure}
+use Rattle.world_model.specs.Life.{event_after, actors_after, actors_after_all}
+use Rattle.world_model.specs.Relay.{with_turn, entry_of, target_in, handled, after_base_push, after_break}
+use Rattle.world_model.specs.Stations.{after_base_takes}
+use Rattle.world_model.specs.Queues.{outputs, outputs_at}
+use Rattle.world_model.specs.Steps.{first_taken, step_at, all_steps, all_outputs, LivesByTable, RunsByTable}
+use Rattle.world_model.specs.SwitchSide.{sccp_in, after_switch_takes, after_switch_does}
+use Rattle.world_model.specs.World.{Actors, new_actors, with_outbox}
+use Rattle.world_model.proofs.Leads.{OfTaken, FromAir, turn-leads, switch_takes-leads, switch_took-leads, push-leads, does-leads, broken-leads, after-taken}
+use Rattle.world_model.proofs.Leads.{aerial-leads, taking-leads}
+
+-- the controller is as it was
+abbrev Stays : Actors → Actors → Type 0
+Stays w v = v.controller ≡ w.controller
+
+-- the controller after steps
+abbrev after_steps : Controller → List Step → Controller
+after_steps c ss = (each step c ss).next
+
+Moves : Actors → Event → Type 0
+Moves w event = (actors_after w event).controller ≡ after_steps w.controller (step_at w event)
+
+still : (w : Actors) (o : Option Actors) → OfTaken (Stays w) o → (unwrap_or o w).controller ≡ w.controller
+still w o leads = after-taken (Stays w) o w leads refl
+
+turn-moves : (target : Option Tenure) (t : Turn) (w : Actors) → (with_turn target t w).controller ≡ t.next
+turn-moves target t w = turn-leads (λ v. v.controller ≡ t.next) target t w (λ links. refl)
+
+handle-moves : (w : Actors) (items : List Item) → (unwrap_or (handled items w) w).controller ≡ after_steps w.controller (first_taken items)
+handle-moves w [] = refl
+handle-moves w (item ∷ items) = turn-moves (target_in w item.source item.what) (take item w.controller) (record w { inbox = items })
+
+moves : (w : Actors) (event : Event) → Moves w event
+unfolding event_after FromAir Moves
+moves w (BaseTakes station) = still w (after_base_takes w station) (taking-leads (Stays w) w station (λ first others _ _ mobiles stations. refl))
+moves w (BasePush source) = still w (after_base_push w source) (push-leads (Stays w) w source (λ first others. refl) (λ message _. refl))
+moves w Handle = handle-moves w w.inbox
+moves w SwitchTakes =
+    still w (after_switch_takes w) (switch_takes-leads (Stays w) w (λ first others _ _. switch_took-leads (Stays w) (with_outbox SWITCH_LINK others w) (sccp_in first.out.frame) refl (λ next made. refl)))
+moves w (SwitchDoes action) = still w (after_switch_does w action) (does-leads (Stays w) w action (λ next made. refl))
+moves w (Tick ms) = turn-moves None (tick ms w.controller) w
+moves w (BaseDown source) = still w (after_break w source) (broken-leads (Stays w) w source (λ _ _. refl) (λ _ _. refl))
+moves w event = still w (event_after w event) (aerial-leads (Stays w) w event refl (λ mobiles stations. refl))
+
+after_steps-append : (c : Controller) (xs ys : List Step) → after_steps c (xs ++ ys) ≡ after_steps (after_steps c xs) ys
+after_steps-append c [] ys = refl
+after_steps-append c (x ∷ xs) ys = after_steps-append (step c x).next xs ys
+
+moves-all : (w : Actors) (events : List Event) → (actors_after_all w events).controller ≡ after_steps w.controller (all_steps w events)
+unfolding Moves
+moves-all w [] = refl
+moves-all w (event ∷ events) =
+    moves-all (actors_after w event) events
+    ∙ ap (λ (c : Controller). after_steps c (all_steps (actors_after w event) events)) (moves w event)
+    ∙ sym (after_steps-append w.controller (step_at w event) (all_steps (actors_after w event) events))
+
+pub LivesByTable-new : (settings : Parameters) (events : List Event) → LivesByTable settings events
+unfolding life
+LivesByTable-new settings events = moves-all (new_actors settings) events
+
+-- ---- what it put
+
+outs_of-entries : (target : Option Tenure) (outs : List Out) → map (λ entry. entry.out) (map (entry_of target) outs) ≡ outs
+outs_of-entries None [] = refl
+outs_of-entries None (out ∷ outs) = ap (λ (xs : List Out). out ∷ xs) (outs_of-entries None outs)
+outs_of-entries (Some target) [] = refl
+outs_of-entries (Some target) (out ∷ outs) = ap (λ (xs : List Out). out ∷ xs) (outs_of-entries (Some target) outs)
+
+items-put : (w : Actors) (items : List Item) → map (λ entry. entry.out) (outputs_at w items) ≡ (each step w.controller (first_taken items)).outs
+items-put w [] = refl
+items-put w (item ∷ items) = outs_of-entries (target_in w item.source item.what) (take item w.controller).outs ∙ sym (append-nil (take item w.controller).outs)
+
+puts : (w : Actors) (event : Event) → map (λ entry. entry.out) (outputs w event) ≡ (each step w.controller (step_at w event)).outs
+puts w Handle = items-put w w.inbox
+puts w (Tick ms) = outs_of-entries None (tick ms w.controller).outs ∙ sym (append-nil (tick ms w.controller).outs)
+puts w _ = refl
+
+outs-append : (c : Controller) (xs ys : List Step) → (each step c (xs ++ ys)).outs ≡ (each step c xs).outs ++ (each step (after_steps c xs) ys).outs
+outs-append c [] ys = refl
+outs-append c (x ∷ xs) ys = ap (λ (outs : List Out). (step c x).outs ++ outs) (outs-append (step c x).next xs ys) ∙ sym (append_assoc (step c x).outs (each step (step c x).next xs).outs (each step (after_steps (step c x).next xs) ys).outs)
+
+puts-all : (w : Actors) (events : List Event) → all_outputs w events ≡ (each step w.controller (all_steps w events)).outs
+unfolding Moves
+puts-all w [] = refl
+puts-all w (event ∷ events) =
+    ap (λ (outs : List Out). outs ++ all_outputs (actors_after w event) events) (puts w event)
+    ∙ ap (λ (outs : List Out). (each step w.controller (step_at w event)).outs ++ outs) (puts-all (actors_after w event) events)
+    ∙ ap (λ (c : Controller). (each step w.controller (step_at w event)).outs ++ (each step c (all_steps (actors_after w event) events)).outs) (moves w event)
+    ∙ sym (outs-append w.controller (step_at w event) (all_steps (actors_after w event) events))
+
+pub RunsByTable-new : (settings : Parameters) (events : List Event) → RunsByTable settings events
+unfolding life
+RunsByTable-new settings events =
+    ap (λ (outs : List Out). turn outs (actors_after_all (new_actors settings) events).controller) (puts-all (new_actors settings) events)
+    ∙ ap (λ (c : Controller). turn (each step (new_controller settings) (all_steps (new_actors settings) events)).outs c) (moves-all (new_actors settings) events)

@@ -1,0 +1,133 @@
+-- Events of a mobile that changes its channel.
+use Rattle.world_model.proofs.Prelude.{◌≡◌, true, false, [], ◌∷◌, map, Some, None, refl, Assignment, place_at, usual_settings, Zero}
+use Rattle.world_model.specs.declared.event.Event.TheVariants.{Upper, Connect, AirUp, AirAck, AirDown, AirDownLost, Move, Touch, Arrive, Return, BaseTakes, BasePush, Handle, SwitchTakes, SwitchDoes, BaseDown, Report}
+use Rattle.world_model.specs.declared.event.SwitchAction.TheVariants.{Assign, Clear}
+use Rattle.world_model.specs.declared.seat.Seat.TheVariants.{On, Moving}
+use Rattle.world_model.specs.World.{World, new_world}
+use Rattle.world_model.proofs.Worlds.{on_literals, after_all, made_bodies, seat_of}
+use Rattle.world_model.proofs.Rows.{opened, opened_eager}
+use Rattle.world_model.specs.World.{Mobile}
+use Rattle.world_model.proofs.Worlds.{takes}
+
+-- an ASSIGNMENT COMMAND is remembered
+abbrev pub commanded : World
+commanded = after_all opened (SwitchDoes (Assign 1) ∷ BasePush 0 ∷ Handle ∷ BaseTakes 1 ∷ BasePush 1 ∷ Handle ∷ BaseTakes 1 ∷ AirDown 1 ∷ [])
+
+remembers_the_target : seat_of commanded 1 ≡ Some (On (record { at = place_at 1 0x41; number = 1 }) (Some (record { change = Assignment; target = record { at = place_at 1 0x0a; number = 1 } })))
+unfolding on_literals
+remembers_the_target = refl
+
+moves_when_told : map (takes commanded) (Move 1 ∷ Touch 1 ∷ Arrive 1 ∷ Return 1 ∷ Upper 1 Zero (0x03 ∷ 0x05 ∷ []) ∷ []) ≡ true ∷ false ∷ false ∷ false ∷ true ∷ []
+unfolding on_literals
+moves_when_told = refl
+
+moves_not_untold : map (takes opened) (Move 1 ∷ Touch 1 ∷ Arrive 1 ∷ Return 1 ∷ []) ≡ false ∷ false ∷ false ∷ false ∷ []
+unfolding on_literals
+moves_not_untold = refl
+
+moves_not_when_it_was_lost : map (takes (after_all opened (SwitchDoes (Assign 1) ∷ BasePush 0 ∷ Handle ∷ BaseTakes 1 ∷ BasePush 1 ∷ Handle ∷ BaseTakes 1 ∷ AirDownLost 1 ∷ []))) (Move 1 ∷ []) ≡ false ∷ []
+unfolding on_literals
+moves_not_when_it_was_lost = refl
+
+abbrev pub moving : World
+moving = after_all commanded (Move 1 ∷ [])
+
+is_moving : seat_of moving 1 ≡ Some (Moving (record { at = place_at 1 0x41; number = 1 }) (record { change = Assignment; target = record { at = place_at 1 0x0a; number = 1 } }))
+unfolding on_literals
+is_moving = refl
+
+between_two_channels : map (takes moving) (Move 1 ∷ Touch 1 ∷ Arrive 1 ∷ Return 1 ∷ Upper 1 Zero (0x03 ∷ 0x05 ∷ []) ∷ AirUp 1 Zero ∷ AirAck 1 Zero ∷ AirDown 1 ∷ AirDownLost 1 ∷ Report 1 (0x14 ∷ 0x14 ∷ 0x00 ∷ 0x57 ∷ 0x02 ∷ 0x40 ∷ 0x00 ∷ 0x00 ∷ 0x00 ∷ 0x00 ∷ 0x00 ∷ 0x00 ∷ 0x00 ∷ 0x00 ∷ 0x00 ∷ 0x00 ∷ []) ∷ []) ≡ false ∷ false ∷ true ∷ true ∷ true ∷ false ∷ false ∷ false ∷ false ∷ false ∷ []
+unfolding on_literals
+between_two_channels = refl
+
+abbrev pub arrived : World
+arrived = after_all moving (Upper 1 Zero (0x03 ∷ 0x05 ∷ []) ∷ Arrive 1 ∷ AirUp 1 Zero ∷ AirAck 1 Zero ∷ AirUp 1 Zero ∷ [])
+
+is_on_target : seat_of arrived 1 ≡ Some (On (record { at = place_at 1 0x0a; number = 1 }) None)
+unfolding on_literals
+is_on_target = refl
+
+complete_comes_first : made_bodies arrived 1 ≡ (0x02 ∷ 0x06 ∷ 0x01 ∷ 0x0a ∷ 0x02 ∷ 0x00 ∷ []) ∷ (0x03 ∷ 0x02 ∷ 0x01 ∷ 0x0a ∷ 0x02 ∷ 0x00 ∷ 0x0b ∷ 0x00 ∷ 0x03 ∷ 0x06 ∷ 0x29 ∷ 0x00 ∷ []) ∷ (0x03 ∷ 0x02 ∷ 0x01 ∷ 0x0a ∷ 0x02 ∷ 0x00 ∷ 0x0b ∷ 0x00 ∷ 0x02 ∷ 0x03 ∷ 0x45 ∷ []) ∷ []
+unfolding on_literals
+complete_comes_first = refl
+
+command_is_used_up : map (takes arrived) (Move 1 ∷ Arrive 1 ∷ Return 1 ∷ []) ≡ false ∷ false ∷ false ∷ []
+unfolding on_literals
+command_is_used_up = refl
+
+abbrev pub back : World
+back = after_all moving (Return 1 ∷ AirUp 1 Zero ∷ [])
+
+is_back : seat_of back 1 ≡ Some (On (record { at = place_at 1 0x41; number = 1 }) None)
+unfolding on_literals
+is_back = refl
+
+failure_comes_first : made_bodies back 1 ≡ (0x02 ∷ 0x06 ∷ 0x01 ∷ 0x41 ∷ 0x02 ∷ 0x00 ∷ []) ∷ (0x03 ∷ 0x02 ∷ 0x01 ∷ 0x41 ∷ 0x02 ∷ 0x00 ∷ 0x0b ∷ 0x00 ∷ 0x03 ∷ 0x06 ∷ 0x2f ∷ 0x03 ∷ []) ∷ []
+unfolding on_literals
+failure_comes_first = refl
+
+command_was_used_up : map (takes back) (Move 1 ∷ Arrive 1 ∷ Return 1 ∷ []) ≡ false ∷ false ∷ false ∷ []
+unfolding on_literals
+command_was_used_up = refl
+
+-- a handover: the mobile is heard, and then arrives
+abbrev pub handed : World
+handed = after_all opened_eager (Report 1 (0x14 ∷ 0x14 ∷ 0x00 ∷ 0x57 ∷ 0x02 ∷ 0x40 ∷ 0x00 ∷ 0x00 ∷ 0x00 ∷ 0x00 ∷ 0x00 ∷ 0x00 ∷ 0x00 ∷ 0x00 ∷ 0x00 ∷ 0x00 ∷ []) ∷ BasePush 1 ∷ Handle ∷ BaseTakes 2 ∷ BasePush 2 ∷ Handle ∷ BaseTakes 1 ∷ AirDown 1 ∷ Move 1 ∷ [])
+
+is_heard_and_arrives : map (takes handed) (Touch 1 ∷ Arrive 1 ∷ Return 1 ∷ []) ≡ true ∷ true ∷ true ∷ []
+unfolding on_literals
+is_heard_and_arrives = refl
+
+is_heard : made_bodies (after_all handed (Touch 1 ∷ [])) 2 ≡ (0x08 ∷ 0x27 ∷ 0x01 ∷ 0x41 ∷ []) ∷ []
+unfolding on_literals
+is_heard = refl
+
+completes_handover : made_bodies (after_all handed (Arrive 1 ∷ AirUp 1 Zero ∷ [])) 2 ≡ (0x02 ∷ 0x06 ∷ 0x01 ∷ 0x41 ∷ 0x02 ∷ 0x00 ∷ []) ∷ (0x03 ∷ 0x02 ∷ 0x01 ∷ 0x41 ∷ 0x02 ∷ 0x00 ∷ 0x0b ∷ 0x00 ∷ 0x03 ∷ 0x06 ∷ 0x2c ∷ 0x00 ∷ []) ∷ []
+unfolding on_literals
+completes_handover = refl
+
+fails_handover : made_bodies (after_all handed (Return 1 ∷ AirUp 1 Zero ∷ [])) 1 ≡ (0x02 ∷ 0x06 ∷ 0x01 ∷ 0x41 ∷ 0x02 ∷ 0x00 ∷ []) ∷ (0x03 ∷ 0x02 ∷ 0x01 ∷ 0x41 ∷ 0x02 ∷ 0x00 ∷ 0x0b ∷ 0x00 ∷ 0x03 ∷ 0x06 ∷ 0x28 ∷ 0x03 ∷ []) ∷ []
+unfolding on_literals
+fails_handover = refl
+
+target_broke : map (takes (after_all handed (BaseDown 2 ∷ []))) (Touch 1 ∷ Arrive 1 ∷ Return 1 ∷ []) ≡ false ∷ false ∷ true ∷ []
+unfolding on_literals
+target_broke = refl
+
+old_station_broke : map (takes (after_all handed (BaseDown 1 ∷ []))) (Touch 1 ∷ Arrive 1 ∷ Return 1 ∷ []) ≡ true ∷ true ∷ false ∷ []
+unfolding on_literals
+old_station_broke = refl
+
+-- its channels are released, and the target is given to another
+abbrev pub both_released : World
+both_released = after_all handed (SwitchDoes (Clear 1) ∷ BasePush 0 ∷ Handle ∷ BaseTakes 2 ∷ BasePush 2 ∷ Handle ∷ Connect 2 2 (0x05 ∷ 0x24 ∷ 0x71 ∷ []) true ∷ BasePush 2 ∷ Handle ∷ [])
+
+target_released : map (takes both_released) (Touch 1 ∷ Arrive 1 ∷ Return 1 ∷ []) ≡ false ∷ false ∷ true ∷ []
+unfolding on_literals
+target_released = refl
+
+target_is_anothers : map (takes (after_all both_released (BaseTakes 2 ∷ []))) (Touch 1 ∷ Arrive 1 ∷ Return 1 ∷ []) ≡ false ∷ false ∷ true ∷ []
+unfolding on_literals
+target_is_anothers = refl
+
+target_has_a_new_tenure : seat_of (after_all both_released (BaseTakes 2 ∷ BasePush 2 ∷ Handle ∷ BaseTakes 2 ∷ [])) 2 ≡ Some (On (record { at = place_at 2 0x41; number = 2 }) None)
+unfolding on_literals
+target_has_a_new_tenure = refl
+
+old_channel_released : map (takes (after_all both_released (BaseTakes 1 ∷ BaseTakes 1 ∷ []))) (Return 1 ∷ []) ≡ false ∷ []
+unfolding on_literals
+old_channel_released = refl
+
+-- an initial message that was not acknowledged comes again as data; a PAGING RESPONSE does not
+initial_message_comes_again : made_bodies (after_all (new_world usual_settings) (Connect 1 1 (0x05 ∷ 0x24 ∷ 0x71 ∷ []) true ∷ BasePush 1 ∷ Handle ∷ BaseTakes 1 ∷ BasePush 1 ∷ Handle ∷ BaseTakes 1 ∷ AirUp 1 Zero ∷ BasePush 1 ∷ Handle ∷ SwitchTakes ∷ BasePush 0 ∷ Handle ∷ SwitchDoes (Assign 1) ∷ BasePush 0 ∷ Handle ∷ BaseTakes 1 ∷ BasePush 1 ∷ Handle ∷ BaseTakes 1 ∷ AirDown 1 ∷ Move 1 ∷ Arrive 1 ∷ AirUp 1 Zero ∷ AirAck 1 Zero ∷ AirUp 1 Zero ∷ [])) 1 ≡ (0x02 ∷ 0x06 ∷ 0x01 ∷ 0x0a ∷ 0x02 ∷ 0x00 ∷ []) ∷ (0x03 ∷ 0x02 ∷ 0x01 ∷ 0x0a ∷ 0x02 ∷ 0x00 ∷ 0x0b ∷ 0x00 ∷ 0x03 ∷ 0x06 ∷ 0x29 ∷ 0x00 ∷ []) ∷ (0x03 ∷ 0x02 ∷ 0x01 ∷ 0x0a ∷ 0x02 ∷ 0x00 ∷ 0x0b ∷ 0x00 ∷ 0x03 ∷ 0x05 ∷ 0x24 ∷ 0x71 ∷ []) ∷ []
+unfolding on_literals
+initial_message_comes_again = refl
+
+paging_response_is_dropped : map (takes (after_all (new_world usual_settings) (Connect 1 1 (0x06 ∷ 0x27 ∷ 0x71 ∷ []) true ∷ BasePush 1 ∷ Handle ∷ BaseTakes 1 ∷ BasePush 1 ∷ Handle ∷ BaseTakes 1 ∷ AirUp 1 Zero ∷ BasePush 1 ∷ Handle ∷ SwitchTakes ∷ BasePush 0 ∷ Handle ∷ SwitchDoes (Assign 1) ∷ BasePush 0 ∷ Handle ∷ BaseTakes 1 ∷ BasePush 1 ∷ Handle ∷ BaseTakes 1 ∷ AirDown 1 ∷ Move 1 ∷ Arrive 1 ∷ AirUp 1 Zero ∷ AirAck 1 Zero ∷ []))) (AirUp 1 Zero ∷ []) ≡ false ∷ []
+unfolding on_literals
+paging_response_is_dropped = refl
+
+-- once it moved, no message is the initial one
+after_a_move_nothing_is_initial : made_bodies (after_all (record commanded { actors = record (commanded).actors { mobiles = map (λ (p : Mobile). record p { opens = true }) (commanded).actors.mobiles } }) (Move 1 ∷ Arrive 1 ∷ AirUp 1 Zero ∷ [])) 1 ≡ (0x02 ∷ 0x06 ∷ 0x01 ∷ 0x0a ∷ 0x02 ∷ 0x00 ∷ []) ∷ (0x03 ∷ 0x02 ∷ 0x01 ∷ 0x0a ∷ 0x02 ∷ 0x00 ∷ 0x0b ∷ 0x00 ∷ 0x03 ∷ 0x06 ∷ 0x29 ∷ 0x00 ∷ []) ∷ []
+unfolding on_literals
+after_a_move_nothing_is_initial = refl

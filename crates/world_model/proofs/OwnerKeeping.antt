@@ -1,0 +1,169 @@
+-- A channel still agrees with an ownership where its station takes entries, and where its link breaks.
+use Rattle.world_model.proofs.Prelude.{◌≡◌, ◌≢◌, ℕ, ◌==◌, Bool, true, false, if◌then◌else◌, List, [], ◌∷◌, ◌++◌, map, Some, option_to_list}
+use Rattle.world_model.proofs.Prelude.{refl, sym, ap, ◌∙◌, subst, append_assoc, eq-eqb, eqb-true, ne_eqb, AllByRecursion, flat_map}
+use Rattle.world_model.proofs.Prelude.{result_ok, Sccp, Place, SWITCH_LINK, Controller, channel_state, ChannelState, Free, InUse, Releasing}
+use Rattle.world_model.proofs.Prelude.{first_message, first_of_messages, Item, Rsl}
+use Rattle.controller_model.specs.Controller.{is_up as hears}
+use Rattle.ruled_relay.specs.declared.item.What.TheVariants as whats
+use Rattle.world_model.specs.declared.event.Event.{Event}
+use Rattle.world_model.specs.declared.event.Event.TheVariants.{BasePush, BaseDown}
+use Rattle.world_model.specs.declared.line.OutboxEntry.{OutboxEntry}
+use Rattle.world_model.specs.declared.seat.Tenure.{Tenure}
+use Rattle.world_model.specs.Honest.{given}
+use Rattle.world_model.specs.OwnerLines.{Agrees, AreFitting, Comes, IsOnItsWay, active_behind, asker, said, said_by, tenure_all, tenure_behind, to_come}
+use Rattle.world_model.specs.OwnerLines.Comes.{began, begins}
+use Rattle.world_model.specs.Pipe.{active_all, due}
+use Rattle.world_model.specs.Queues.{first_of, pushed}
+use Rattle.world_model.specs.Relay.{station_item, switch_item}
+use Rattle.world_model.specs.World.{Actors, base_of, is_active_at, is_up, outbox_of, spot_at}
+use Rattle.world_model.proofs.Heard.{Good, end-of}
+use Rattle.world_model.proofs.OwnerLines.{fitting-behind, none-due, tenure-append}
+use Rattle.world_model.proofs.Outboxes.{Both-empty}
+use Rattle.world_model.proofs.Piping.{active-append}
+use Rattle.world_model.proofs.Soundness.{IsSound, sound-read}
+
+-- ---- its station took entries; the controller did nothing
+
+pub record TakesOn (at : Place) (w : Actors) (took : List OutboxEntry) (v : Actors) : Type 0 where
+  pub outbox : outbox_of w at.station ≡ took ++ outbox_of v at.station
+  pub active : is_active_at v at ≡ active_all at.number (is_active_at w at) took
+  pub tenure : (spot_at v at).tenure ≡ tenure_all at.number (is_active_at w at) (spot_at w at).tenure took
+  pub comes : to_come v at ≡ to_come w at
+  pub controller : v.controller ≡ w.controller
+  pub up : is_up v at.station ≡ is_up w at.station
+
+still-active : (at : Place) (w v : Actors) (took : List OutboxEntry) → TakesOn at w took v → active_behind v at ≡ active_behind w at
+still-active at w v took takes =
+    ap (λ (b : Bool). active_all at.number b (outbox_of v at.station)) takes.active
+    ∙ sym (active-append at.number (is_active_at w at) took (outbox_of v at.station))
+    ∙ ap (active_all at.number (is_active_at w at)) (sym takes.outbox)
+
+still-tenure : (at : Place) (w v : Actors) (took : List OutboxEntry) → TakesOn at w took v → tenure_behind v at ≡ tenure_behind w at
+still-tenure at w v took takes = ap (λ (n : ℕ). record { at = at; number = n })
+    (ap (λ (b : Bool). tenure_all at.number b (spot_at v at).tenure (outbox_of v at.station)) takes.active
+    ∙ ap (λ (n : ℕ). tenure_all at.number (active_all at.number (is_active_at w at) took) n (outbox_of v at.station)) takes.tenure
+    ∙ sym (tenure-append at.number (is_active_at w at) (spot_at w at).tenure took (outbox_of v at.station))
+    ∙ ap (tenure_all at.number (is_active_at w at) (spot_at w at).tenure) (sym takes.outbox))
+
+abbrev OwnIn : (Tenure → ℕ) → Actors → Place → Controller → Type 0
+OwnIn owner v at c = (number mobile : ℕ) → hears c at.station ≡ true → channel_state c at ≡ InUse number → asker c number ≡ Some mobile
+    → (is_up v at.station ≡ false → to_come v at ≡ [] → ⊥) → owner (tenure_behind v at) ≡ mobile
+
+pub agrees-takes : (owner : Tenure → ℕ) (at : Place) (w v : Actors) (took : List OutboxEntry) → TakesOn at w took v → Agrees owner w at → Agrees owner v at
+agrees-takes owner at w v took takes agrees = record {
+  line = subst (λ (b : Bool). AreFitting owner at b (spot_at v at).tenure (outbox_of v at.station)) (sym takes.active)
+      (subst (λ (n : ℕ). AreFitting owner at (active_all at.number (is_active_at w at) took) n (outbox_of v at.station)) (sym takes.tenure)
+      (fitting-behind owner at (is_active_at w at) (spot_at w at).tenure took (outbox_of v at.station) (subst (AreFitting owner at (is_active_at w at) (spot_at w at).tenure) takes.outbox agrees.line)));
+  way = subst (λ (c : Controller). hears c at.station ≡ true → IsOnItsWay v at (channel_state c at)) (sym takes.controller) (λ heard.
+      let way = agrees.way heard in
+      record {
+        lost = way.lost;
+        comes = subst (λ (xs : List Rsl). Comes at.number (channel_state w.controller at) (xs ++ way.lost)) (sym takes.comes) way.comes;
+        all = λ up. way.all (sym takes.up ∙ up);
+        active = λ up. still-active at w v took takes ∙ way.active (sym takes.up ∙ up);
+      });
+  own = subst (OwnIn owner v at) (sym takes.controller) (λ number mobile heard used asks reaches.
+      ap owner (still-tenure at w v took takes) ∙ agrees.own number mobile heard used asks (λ down silent. reaches (takes.up ∙ down) (takes.comes ∙ silent)));
+}
+
+-- ---- its link breaks: of what was to come what stands in the inbox is left
+
+pub record Loses (at : Place) (w v : Actors) : Type 0 where
+  pub outbox : outbox_of v at.station ≡ []
+  pub down : is_up v at.station ≡ false
+  pub made : List Rsl
+  pub comes : to_come w at ≡ to_come v at ++ (made ++ due at.number (is_active_at w at) (outbox_of w at.station))
+  pub tenure : (spot_at v at).tenure ≡ (spot_at w at).tenure
+  pub controller : v.controller ≡ w.controller
+
+-- of a channel in use one acknowledgement comes at most
+pub one-at-most : (channel number : ℕ) (state : ChannelState) (all xs ys : List Rsl) → Comes channel state all → state ≡ InUse number → all ≡ xs ++ ys → xs ≢ [] → ys ≡ []
+one-at-most channel number state all [] ys comes used is some = absurd (some refl)
+one-at-most channel number (InUse n) [] (x ∷ xs) ys comes used is some = absurd cc
+one-at-most channel number (InUse n) (one ∷ []) (x ∷ xs) ys comes used is some = (Both-empty xs ys (tail-same is)).1 where
+  tail-same : {a b : Rsl} {others more : List Rsl} → a ∷ others ≡ b ∷ more → others ≡ more
+  tail-same same = cc
+one-at-most channel number (InUse n) (one ∷ two ∷ rest) (x ∷ xs) ys comes used is some = absurd (never comes refl) where
+  never : {l : List Rsl} → Comes channel (InUse n) l → l ≡ one ∷ two ∷ rest → ⊥
+  never began same = absurd cc
+  never begins same = absurd cc
+one-at-most channel number Free all (x ∷ xs) ys comes used is some = absurd cc
+one-at-most channel number (Releasing n) all (x ∷ xs) ys comes used is some = absurd cc
+
+pub agrees-lost : (owner : Tenure → ℕ) (at : Place) (w v : Actors) → Loses at w v → Agrees owner w at → Agrees owner v at
+agrees-lost owner at w v loses agrees = record {
+  line = subst (AreFitting owner at (is_active_at v at) (spot_at v at).tenure) (sym loses.outbox) tt;
+  way = subst (λ (c : Controller). hears c at.station ≡ true → IsOnItsWay v at (channel_state c at)) (sym loses.controller) (λ heard.
+      let way = agrees.way heard in
+      record {
+        lost = rest ++ way.lost;
+        comes = subst (Comes at.number (channel_state w.controller at)) (whole way.lost) way.comes;
+        all = λ up. absurd (false_true (sym loses.down ∙ up));
+        active = λ up. absurd (false_true (sym loses.down ∙ up));
+      });
+  own = subst (OwnIn owner v at) (sym loses.controller) (λ number mobile heard used asks reaches.
+      let way = agrees.way heard in
+      let gone : rest ++ way.lost ≡ [] = one-at-most at.number number (channel_state w.controller at) (to_come w at ++ way.lost) (to_come v at) (rest ++ way.lost) way.comes used (whole way.lost) (reaches loses.down) in
+      let none : due at.number (is_active_at w at) (outbox_of w at.station) ≡ [] = (Both-empty loses.made (due at.number (is_active_at w at) (outbox_of w at.station)) (sym (Both-empty rest way.lost (sym gone)).0)).1 in
+      ap (λ (n : ℕ). owner (record { at = at; number = n }))
+      (ap (tenure_all at.number (is_active_at v at) (spot_at v at).tenure) loses.outbox ∙ loses.tenure ∙ sym (none-due at.number (is_active_at w at) (spot_at w at).tenure (outbox_of w at.station) none))
+      ∙ agrees.own number mobile heard used asks (λ down silent. reaches loses.down (Both-empty (to_come v at) rest (sym silent ∙ loses.comes)).0));
+} where
+  rest : List Rsl
+  rest = loses.made ++ due at.number (is_active_at w at) (outbox_of w at.station)
+
+  whole : (lost : List Rsl) → to_come w at ++ lost ≡ to_come v at ++ (rest ++ lost)
+  whole lost = ap (λ (xs : List Rsl). xs ++ lost) loses.comes ∙ append_assoc (to_come v at) rest lost
+
+  false_true : false ≡ true → ⊥
+  false_true is = absurd cc
+
+-- ---- what a station gives to the inbox is what is said there
+
+read-item : (n : ℕ) (message : Rsl) → IsSound message → said n (station_item n message) ≡ message ∷ []
+read-item n message sound = by (n == n) (eqb-refl n) where
+  eqb-refl : (n : ℕ) → (n == n) ≡ true
+  eqb-refl n = eq-eqb n n refl
+
+  by : (b : Bool) → b ≡ true → (if b then said_by (station_item n message).what else []) ≡ message ∷ []
+  by true is = ap (λ (r : _). option_to_list (result_ok r)) (sound-read message sound)
+  by false is = absurd cc
+
+other-item : (n : ℕ) (item : Item) → (item.source == n) ≡ false → said n item ≡ []
+other-item n item other = ap (λ (b : Bool). if b then said_by item.what else []) other
+
+pub said-pushed : (n : ℕ) (w : Actors) (event : Event) → n ≢ SWITCH_LINK → Good w → flat_map (said n) (pushed w event) ≡ given n w event
+said-pushed n w (BasePush source) n_is good = by_source (source == SWITCH_LINK) refl where
+  none_given : (source == n) ≡ false → given n w (BasePush source) ≡ []
+  none_given other = ap (λ (b : Bool). if b then option_to_list (first_message (base_of w n)) else []) other
+
+  of_switch : (made : List Sccp) → flat_map (said n) (map switch_item (first_of made)) ≡ []
+  of_switch [] = refl
+  of_switch (first ∷ others) = ap (λ (xs : List Rsl). xs ++ []) (other-item n (switch_item first) (ne_eqb SWITCH_LINK n (λ same. n_is (sym same))))
+
+  own : (messages : List Rsl) → AllByRecursion IsSound messages → flat_map (said n) (map (station_item n) (option_to_list (first_of_messages messages))) ≡ option_to_list (first_of_messages messages)
+  own [] all = refl
+  own (first ∷ others) all = ap (λ (xs : List Rsl). xs ++ []) (read-item n first all.0)
+
+  elsewhere : (source == n) ≡ false → (messages : List Rsl) → flat_map (said n) (map (station_item source) (option_to_list (first_of_messages messages))) ≡ []
+  elsewhere other [] = refl
+  elsewhere other (first ∷ others) = ap (λ (xs : List Rsl). xs ++ []) (other-item n (station_item source first) other)
+
+  of_station : (b : Bool) → (source == n) ≡ b → flat_map (said n) (map (station_item source) (option_to_list (first_message (base_of w source)))) ≡ given n w (BasePush source)
+  of_station true same =
+      subst (λ (k : ℕ). flat_map (said n) (map (station_item k) (option_to_list (first_message (base_of w k)))) ≡ option_to_list (first_message (base_of w n))) (sym (eqb-true source n same)) (own (base_of w n).messages (end-of w n good).made)
+      ∙ sym (ap (λ (b : Bool). if b then option_to_list (first_message (base_of w n)) else []) same)
+  of_station false other = elsewhere other (base_of w source).messages ∙ sym (none_given other)
+
+  by_source : (b : Bool) → (source == SWITCH_LINK) ≡ b → flat_map (said n) (if b then map switch_item (first_of w.switch_made) else map (station_item source) (option_to_list (first_message (base_of w source)))) ≡ given n w (BasePush source)
+  by_source true is = of_switch w.switch_made ∙ sym (none_given (ne_eqb source n (λ same. n_is (sym same ∙ eqb-true source SWITCH_LINK is))))
+  by_source false is = of_station (source == n) refl
+said-pushed n w (BaseDown source) n_is good = by_link (is_up w source) where
+  by_source : (b : Bool) → (if b then said_by whats.Down else []) ≡ []
+  by_source true = refl
+  by_source false = refl
+
+  by_link : (b : Bool) → flat_map (said n) (if b then record { source = source; what = whats.Down } ∷ [] else []) ≡ []
+  by_link true = ap (λ (xs : List Rsl). xs ++ []) (by_source (source == n))
+  by_link false = refl
+said-pushed n w _ n_is good = refl

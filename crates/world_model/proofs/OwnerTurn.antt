@@ -1,0 +1,210 @@
+-- A channel still agrees with an ownership after a turn of the controller that serves it.
+use Rattle.world_model.proofs.Prelude.{◌≡◌, ◌⊎◌, inl, inr, ℕ, ◌+◌, Bool, true, false, List, [], ◌∷◌, ◌++◌, Option, Some, refl, sym, ap, ◌∙◌}
+use Rattle.world_model.proofs.Prelude.{subst, append_assoc, append-nil, Place, Controller, Turn, channel_state, ChannelState, Free, InUse}
+use Rattle.world_model.proofs.Prelude.{Releasing, BaseState, is_active, activation_ack, Rsl, RfChannelReleaseAck}
+use Rattle.controller_model.specs.Controller.{is_up as hears}
+use Rattle.world_model.specs.declared.line.OutboxEntry.{OutboxEntry}
+use Rattle.world_model.specs.declared.seat.Tenure.{Tenure}
+use Rattle.world_model.specs.OwnerLines.{Agrees, AreFitting, Comes, IsOnItsWay, acknowledged_in, active_behind, asker, is_in_use, tenure_all, tenure_behind, to_come}
+use Rattle.world_model.specs.OwnerLines.Comes.{nothing, began, begins, ends, begins_and_ends}
+use Rattle.world_model.specs.Pipe.{acknowledgements, active_all, due}
+use Rattle.world_model.specs.World.{Actors, base_of, is_active_at, is_up, outbox_of, spot_at}
+use Rattle.world_model.proofs.OwnerLines.{fitting-append, tenure-append}
+use Rattle.world_model.proofs.OwnerPuts.{FitAll, Goes, Puts, entries_to, goes-lost, goes-put}
+use Rattle.world_model.proofs.Outboxes.{Both-empty}
+use Rattle.world_model.proofs.Piping.{active-append, due-append}
+
+-- ---- an acknowledgement that the controller takes
+
+-- RF CHANNEL RELEASE ACK frees a channel that is releasing
+abbrev pub hear : List Rsl → ChannelState → ChannelState
+hear (RfChannelReleaseAck channel ∷ rest) (Releasing number) = Free
+hear heard state = state
+
+-- one at most
+abbrev pub IsOne : List Rsl → Type 0
+IsOne heard = (heard ≡ []) ⊎ ((m : Rsl) × (heard ≡ m ∷ []))
+
+hear-use : (heard : List Rsl) (state : ChannelState) → is_in_use (hear heard state) ≡ is_in_use state
+hear-use [] state = refl
+hear-use (RfChannelReleaseAck channel ∷ rest) (Releasing number) = refl
+hear-use (RfChannelReleaseAck channel ∷ rest) Free = refl
+hear-use (RfChannelReleaseAck channel ∷ rest) (InUse number) = refl
+hear-use (_ ∷ rest) state = refl
+
+hear-in_use : (heard : List Rsl) (state : ChannelState) (number : ℕ) → hear heard state ≡ InUse number → state ≡ InUse number
+hear-in_use [] state number is = is
+hear-in_use (RfChannelReleaseAck channel ∷ rest) (Releasing m) number is = absurd cc
+hear-in_use (RfChannelReleaseAck channel ∷ rest) Free number is = is
+hear-in_use (RfChannelReleaseAck channel ∷ rest) (InUse m) number is = is
+hear-in_use (_ ∷ rest) state number is = is
+
+comes-one : (k : ℕ) (m : Rsl) (state : ChannelState) (all rest : List Rsl) → Comes k state all → all ≡ m ∷ rest → Comes k (hear (m ∷ []) state) rest
+comes-one k m Free all rest nothing is = absurd cc
+comes-one k m (InUse number) all rest began is = absurd cc
+comes-one k m (InUse number) all rest begins is =
+    let first : activation_ack k ≡ m = cc in
+    let others : [] ≡ rest = cc in
+    subst (λ (x : Rsl). Comes k (hear (x ∷ []) (InUse number)) rest) first (subst (Comes k (InUse number)) others began)
+comes-one k m (Releasing number) all rest ends is =
+    let first : RfChannelReleaseAck k ≡ m = cc in
+    let others : [] ≡ rest = cc in
+    subst (λ (x : Rsl). Comes k (hear (x ∷ []) (Releasing number)) rest) first (subst (Comes k Free) others nothing)
+comes-one k m (Releasing number) all rest begins_and_ends is =
+    let first : activation_ack k ≡ m = cc in
+    let others : RfChannelReleaseAck k ∷ [] ≡ rest = cc in
+    subst (λ (x : Rsl). Comes k (hear (x ∷ []) (Releasing number)) rest) first (subst (Comes k (Releasing number)) others ends)
+
+comes-heard : (k : ℕ) (heard : List Rsl) (state : ChannelState) (rest : List Rsl) → IsOne heard → Comes k state (heard ++ rest) → Comes k (hear heard state) rest
+comes-heard k heard state rest (inl none) comes = subst (λ (h : List Rsl). Comes k (hear h state) rest) (sym none) (subst (λ (h : List Rsl). Comes k state (h ++ rest)) none comes)
+comes-heard k heard state rest (inr (m, one)) comes =
+    subst (λ (h : List Rsl). Comes k (hear h state) rest) (sym one) (comes-one k m state (heard ++ rest) rest comes (ap (λ (h : List Rsl). h ++ rest) one))
+
+-- ---- a turn, in the world
+
+-- what it leaves as it was, and what joins the outbox of the channel's station
+pub record Turned (w v : Actors) (at : Place) (target : Option Tenure) (t : Turn) (heard : List Rsl) : Type 0 where
+  pub entries : List OutboxEntry
+  pub outbox : outbox_of v at.station ≡ outbox_of w at.station ++ entries
+  pub joins : is_up w at.station ≡ true → entries ≡ entries_to at target t.outs
+  pub down : is_up w at.station ≡ false → entries ≡ []
+  pub up : is_up v at.station ≡ is_up w at.station
+  pub base : base_of v at.station ≡ base_of w at.station
+  pub tenure : (spot_at v at).tenure ≡ (spot_at w at).tenure
+  pub controller : v.controller ≡ t.next
+  pub inbox : acknowledged_in at w.inbox ≡ heard ++ acknowledged_in at v.inbox
+  pub one : IsOne heard
+
+-- what it is to a channel: the outputs go from its state to its next one, and fit the tenures
+pub record Serves (owner : Tenure → ℕ) (w : Actors) (at : Place) (target : Option Tenure) (t : Turn) (heard : List Rsl) : Type 0 where
+  pub hearing : hears t.next at.station ≡ true → hears w.controller at.station ≡ true
+  pub silent : hears t.next at.station ≡ false → entries_to at target t.outs ≡ []
+  pub goes : hears t.next at.station ≡ true → Goes at (hear heard (channel_state w.controller at)) t.outs (channel_state t.next at)
+  pub fits : hears t.next at.station ≡ true → is_up w at.station ≡ true → FitAll owner at target (tenure_behind w at).number (hear heard (channel_state w.controller at)) t.outs
+  pub users : (number mobile : ℕ) → asker t.next number ≡ Some mobile → channel_state w.controller at ≡ InUse number → asker w.controller number ≡ Some mobile
+
+-- a tenure that it begins is of the mobile of the connection that uses the channel then
+abbrev pub BeginsBy : (Tenure → ℕ) → Actors → Actors → Place → Controller → Type 0
+BeginsBy owner w v at c =
+    (number mobile : ℕ) → is_up w at.station ≡ true → channel_state c at ≡ InUse number → asker c number ≡ Some mobile → (tenure_behind v at).number ≡ (tenure_behind w at).number + 1 → owner (tenure_behind v at) ≡ mobile
+
+false_true : false ≡ true → ⊥
+false_true is = absurd cc
+
+module _ (owner : Tenure → ℕ) (w v : Actors) (at : Place) (target : Option Tenure) (t : Turn) (heard : List Rsl) (turned : Turned w v at target t heard) (serves : Serves owner w at target t heard) (begun : BeginsBy owner w v at t.next) (agrees : Agrees owner w at) where
+  abbrev n : ℕ
+  n = at.station
+
+  abbrev k : ℕ
+  k = at.number
+
+  -- what comes once this was heard, but for what is put now
+  abbrev rest : List Rsl
+  rest = acknowledged_in at v.inbox ++ (acknowledgements k (base_of w n).messages ++ due k (is_active_at w at) (outbox_of w n))
+
+  abbrev state : ChannelState
+  state = channel_state w.controller at
+
+  active-same : is_active_at v at ≡ is_active_at w at
+  active-same = ap (λ (b : BaseState). is_active b.active k) turned.base
+
+  came : to_come w at ≡ heard ++ rest
+  came = ap (λ (xs : List Rsl). xs ++ (acknowledgements k (base_of w n).messages ++ due k (is_active_at w at) (outbox_of w n))) turned.inbox
+      ∙ append_assoc heard (acknowledged_in at v.inbox) (acknowledgements k (base_of w n).messages ++ due k (is_active_at w at) (outbox_of w n))
+
+  comes-then : to_come v at ≡ rest ++ due k (active_behind w at) turned.entries
+  comes-then =
+      ap (λ (b : BaseState). acknowledged_in at v.inbox ++ (acknowledgements k b.messages ++ due k (is_active b.active k) (outbox_of v n))) turned.base
+      ∙ ap (λ (es : List OutboxEntry). acknowledged_in at v.inbox ++ (acknowledgements k (base_of w n).messages ++ due k (is_active_at w at) es)) turned.outbox
+      ∙ ap (λ (xs : List Rsl). acknowledged_in at v.inbox ++ (acknowledgements k (base_of w n).messages ++ xs)) (due-append k (is_active_at w at) (outbox_of w n) turned.entries)
+      ∙ ap (λ (xs : List Rsl). acknowledged_in at v.inbox ++ xs) (sym (append_assoc (acknowledgements k (base_of w n).messages) (due k (is_active_at w at) (outbox_of w n)) (due k (active_behind w at) turned.entries)))
+      ∙ sym (append_assoc (acknowledged_in at v.inbox) (acknowledgements k (base_of w n).messages ++ due k (is_active_at w at) (outbox_of w n)) (due k (active_behind w at) turned.entries))
+
+  active-then : active_behind v at ≡ active_all k (active_behind w at) turned.entries
+  active-then = ap (λ (b : Bool). active_all k b (outbox_of v n)) active-same ∙ ap (active_all k (is_active_at w at)) turned.outbox ∙ active-append k (is_active_at w at) (outbox_of w n) turned.entries
+
+  tenure-then : (tenure_behind v at).number ≡ tenure_all k (active_behind w at) (tenure_behind w at).number turned.entries
+  tenure-then =
+      ap (λ (b : Bool). tenure_all k b (spot_at v at).tenure (outbox_of v n)) active-same
+      ∙ ap (λ (m : ℕ). tenure_all k (is_active_at w at) m (outbox_of v n)) turned.tenure
+      ∙ ap (tenure_all k (is_active_at w at) (spot_at w at).tenure) turned.outbox
+      ∙ tenure-append k (is_active_at w at) (spot_at w at).tenure (outbox_of w n) turned.entries
+
+  -- what comes after the acknowledgement was taken
+  heard-comes : (way : IsOnItsWay w at state) → Comes k (hear heard state) (rest ++ way.lost)
+  heard-comes way = comes-heard k heard state (rest ++ way.lost) turned.one (subst (Comes k state) (ap (λ (xs : List Rsl). xs ++ way.lost) came ∙ append_assoc heard rest way.lost) way.comes)
+
+  -- ---- the link is up, and the controller hears it
+
+  put-up : hears t.next n ≡ true → is_up w n ≡ true → Puts owner at (active_behind w at) (tenure_behind w at).number (entries_to at target t.outs) (hear heard state) (channel_state t.next at)
+  put-up hearing up =
+      goes-put owner at target (tenure_behind w at).number (serves.goes hearing) (serves.fits hearing up) (active_behind w at)
+      ((agrees.way (serves.hearing hearing)).active up ∙ sym (hear-use heard state))
+
+  line-of : (es : List OutboxEntry) → turned.entries ≡ es → AreFitting owner at (active_behind w at) (tenure_behind w at).number es → AreFitting owner at (is_active_at v at) (spot_at v at).tenure (outbox_of v n)
+  line-of es is fits =
+      subst (λ (b : Bool). AreFitting owner at b (spot_at v at).tenure (outbox_of v n)) (sym active-same)
+      (subst (λ (m : ℕ). AreFitting owner at (is_active_at w at) m (outbox_of v n)) (sym turned.tenure)
+      (subst (AreFitting owner at (is_active_at w at) (spot_at w at).tenure) (sym (turned.outbox ∙ ap (λ (xs : List OutboxEntry). outbox_of w n ++ xs) is))
+      (fitting-append owner at (is_active_at w at) (spot_at w at).tenure (outbox_of w n) es agrees.line fits)))
+
+  line-by : (up hearing : Bool) → is_up w n ≡ up → hears t.next n ≡ hearing → AreFitting owner at (is_active_at v at) (spot_at v at).tenure (outbox_of v n)
+  line-by false hearing down h = line-of [] (turned.down down) tt
+  line-by true false up deaf = line-of [] (turned.joins up ∙ serves.silent deaf) tt
+  line-by true true up hearing = line-of (entries_to at target t.outs) (turned.joins up) (put-up hearing up).works.fits
+
+  way-by : hears t.next n ≡ true → (up : Bool) → is_up w n ≡ up → IsOnItsWay v at (channel_state t.next at)
+  way-by hearing true up =
+      let way = agrees.way (serves.hearing hearing) in
+      let puts = put-up hearing up in
+      let before : Comes k (hear heard state) rest = subst (Comes k (hear heard state)) (ap (λ (xs : List Rsl). rest ++ xs) (way.all up) ∙ append-nil rest) (heard-comes way) in
+      record {
+        lost = [];
+        comes = subst (Comes k (channel_state t.next at)) (sym (append-nil (to_come v at) ∙ comes-then ∙ ap (λ (es : List OutboxEntry). rest ++ due k (active_behind w at) es) (turned.joins up))) (puts.works.comes rest before);
+        all = λ _. refl;
+        active = λ _. active-then ∙ ap (active_all k (active_behind w at)) (turned.joins up) ∙ puts.works.active_then;
+      }
+  way-by hearing false down =
+      let way = agrees.way (serves.hearing hearing) in
+      let lost = (goes-lost (serves.goes hearing) rest way.lost (heard-comes way)).0 in
+      let same : to_come v at ≡ rest = comes-then ∙ ap (λ (es : List OutboxEntry). rest ++ due k (active_behind w at) es) (turned.down down) ∙ append-nil rest in
+      record {
+        lost = lost.0;
+        comes = subst (λ (xs : List Rsl). Comes k (channel_state t.next at) (xs ++ lost.0)) (sym same) lost.1;
+        all = λ up. absurd (false_true (sym down ∙ sym turned.up ∙ up));
+        active = λ up. absurd (false_true (sym down ∙ sym turned.up ∙ up));
+      }
+
+  own-kept : (number mobile : ℕ) → hears t.next n ≡ true → asker t.next number ≡ Some mobile → hear heard state ≡ InUse number → (tenure_behind v at).number ≡ (tenure_behind w at).number → (is_up w n ≡ false → to_come w at ≡ [] → ⊥) → owner (tenure_behind v at) ≡ mobile
+  own-kept number mobile hearing asks used same reaches =
+      let was : state ≡ InUse number = hear-in_use heard state number used in
+      ap (λ (m : ℕ). owner (record { at = at; number = m })) same ∙ agrees.own number mobile (serves.hearing hearing) was (serves.users number mobile asks was) reaches
+
+  own-by : (number mobile : ℕ) → hears t.next n ≡ true → channel_state t.next at ≡ InUse number → asker t.next number ≡ Some mobile → (is_up v n ≡ false → to_come v at ≡ [] → ⊥) → (up : Bool) → is_up w n ≡ up → owner (tenure_behind v at) ≡ mobile
+  own-by number mobile hearing used asks reaches true up =
+      let puts = put-up hearing up in
+      let last : (tenure_behind v at).number ≡ puts.last = tenure-then ∙ ap (tenure_all k (active_behind w at) (tenure_behind w at).number) (turned.joins up) ∙ puts.works.tenure_then in
+      elim puts.counts [
+        | inl kept ↦ own-kept number mobile hearing asks (kept.1 number used) (last ∙ kept.0) (λ down silent. absurd (false_true (sym down ∙ up)))
+        | inr next ↦ begun number mobile up used asks (last ∙ next.0)
+      ]
+  own-by number mobile hearing used asks reaches false down =
+      let way = agrees.way (serves.hearing hearing) in
+      let same : to_come v at ≡ rest = comes-then ∙ ap (λ (es : List OutboxEntry). rest ++ due k (active_behind w at) es) (turned.down down) ∙ append-nil rest in
+      elim (goes-lost (serves.goes hearing) rest way.lost (heard-comes way)).1 [
+        | inl kept ↦ own-kept number mobile hearing asks (kept number used) (tenure-then ∙ ap (tenure_all k (active_behind w at) (tenure_behind w at).number) (turned.down down))
+            (λ gone silent. reaches (turned.up ∙ gone) (same ∙ (Both-empty heard rest (sym silent ∙ came)).1))
+        | inr free ↦ absurd (reaches (turned.up ∙ down) (same ∙ (Both-empty rest way.lost (sym (none-free (rest ++ way.lost) (hear heard state) free (heard-comes way)))).0))
+      ] where
+        none-free : (xs : List Rsl) (now : ChannelState) → now ≡ Free → Comes k now xs → xs ≡ []
+        none-free xs Free is nothing = refl
+        none-free xs (InUse m) is comes = absurd cc
+        none-free xs (Releasing m) is comes = absurd cc
+
+  pub turn-agrees : Agrees owner v at
+  turn-agrees = record {
+    line = line-by (is_up w n) (hears t.next n) refl refl;
+    way = subst (λ (c : Controller). hears c n ≡ true → IsOnItsWay v at (channel_state c at)) (sym turned.controller) (λ hearing. way-by hearing (is_up w n) refl);
+    own = subst (λ (c : Controller). (number mobile : ℕ) → hears c n ≡ true → channel_state c at ≡ InUse number → asker c number ≡ Some mobile → (is_up v n ≡ false → to_come v at ≡ [] → ⊥) → owner (tenure_behind v at) ≡ mobile) (sym turned.controller)
+        (λ number mobile hearing used asks reaches. own-by number mobile hearing used asks reaches (is_up w n) refl);
+  }

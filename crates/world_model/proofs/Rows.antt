@@ -1,0 +1,102 @@
+-- A mobile opens a connection.
+use Rattle.world_model.proofs.Prelude.{◌≡◌, ℕ, true, [], ◌∷◌, map, Some, None, refl, usual_settings, Zero}
+use Rattle.conn_rules.specs.declared.state.Stage.TheVariants.{Active}
+use Rattle.conn_rules.specs.declared.state.State.TheVariants.{Live}
+use Rattle.controller_model.proofs.Lives.{eager_settings, state_of}
+use Rattle.world_model.specs.declared.event.Event.TheVariants.{Upper, Connect, AirUp, AirAck, BaseTakes, BasePush, Handle, SwitchTakes}
+use Rattle.world_model.specs.Lists.{behind_first, first_in}
+use Rattle.world_model.specs.Views.{sent, received, taken, accepted, unnumbered}
+use Rattle.world_model.specs.World.{World, new_world}
+use Rattle.world_model.proofs.Worlds.{on_literals, after_all, bodies}
+
+-- what the opening makes of two cells
+abbrev pub opened : World
+opened = after_all (new_world usual_settings) (Connect 1 1 (0x05 ∷ 0x24 ∷ 0x71 ∷ []) true ∷ BasePush 1 ∷ Handle ∷ BaseTakes 1 ∷ BasePush 1 ∷ Handle ∷ BaseTakes 1 ∷ AirUp 1 Zero ∷ BasePush 1 ∷ Handle ∷ SwitchTakes ∷ AirAck 1 Zero ∷ BasePush 0 ∷ Handle ∷ [])
+
+opening_sent : sent (opened).actors 1 ≡ Some ((0x05 ∷ 0x24 ∷ 0x71 ∷ []) ∷ [])
+unfolding on_literals
+opening_sent = refl
+
+opening_received : received (opened).actors 1 ≡ Some ([])
+unfolding on_literals
+opening_received = refl
+
+opening_taken : taken (opened).actors 1 ≡ Some ((0x05 ∷ 0x24 ∷ 0x71 ∷ []) ∷ [])
+unfolding on_literals
+opening_taken = refl
+
+opening_accepted : accepted (opened).actors 1 ≡ Some ((0x05 ∷ 0x24 ∷ 0x71 ∷ []) ∷ [])
+unfolding on_literals
+opening_accepted = refl
+
+opening_unnumbered : unnumbered (opened).actors 1 ≡ Some ([])
+unfolding on_literals
+opening_unnumbered = refl
+
+opening_not_taken : (opened).not_taken ≡ 0
+unfolding on_literals
+opening_not_taken = refl
+
+opening_serves : state_of (opened).actors.controller 1 ≡ Some (Live 0x800001 Active)
+unfolding on_literals
+opening_serves = refl
+
+no_other_mobile : sent (opened).actors 2 ≡ None
+unfolding on_literals
+no_other_mobile = refl
+
+no_other_connection : taken (opened).actors 2 ≡ None
+unfolding on_literals
+no_other_connection = refl
+
+no_connection_before_it : taken (opened).actors 0 ≡ None
+unfolding on_literals
+no_connection_before_it = refl
+
+-- where each report decides
+abbrev pub opened_eager : World
+opened_eager = after_all (new_world eager_settings) (Connect 1 1 (0x05 ∷ 0x24 ∷ 0x71 ∷ []) true ∷ BasePush 1 ∷ Handle ∷ BaseTakes 1 ∷ BasePush 1 ∷ Handle ∷ BaseTakes 1 ∷ AirUp 1 Zero ∷ BasePush 1 ∷ Handle ∷ SwitchTakes ∷ AirAck 1 Zero ∷ BasePush 0 ∷ Handle ∷ [])
+
+-- a PAGING RESPONSE begins, which carries no number
+abbrev pub answered_paging : World
+answered_paging = after_all (new_world usual_settings) (Connect 1 1 (0x06 ∷ 0x27 ∷ 0x71 ∷ []) true ∷ BasePush 1 ∷ Handle ∷ BaseTakes 1 ∷ BasePush 1 ∷ Handle ∷ BaseTakes 1 ∷ AirUp 1 Zero ∷ BasePush 1 ∷ Handle ∷ SwitchTakes ∷ AirAck 1 Zero ∷ BasePush 0 ∷ Handle ∷ Upper 1 Zero (0x03 ∷ 0x05 ∷ []) ∷ AirUp 1 Zero ∷ BasePush 1 ∷ Handle ∷ SwitchTakes ∷ [])
+
+paging_sent : sent (answered_paging).actors 1 ≡ Some ((0x03 ∷ 0x05 ∷ []) ∷ [])
+unfolding on_literals
+paging_sent = refl
+
+paging_taken : taken (answered_paging).actors 1 ≡ Some ((0x06 ∷ 0x27 ∷ 0x71 ∷ []) ∷ (0x03 ∷ 0x05 ∷ []) ∷ [])
+unfolding on_literals
+paging_taken = refl
+
+paging_accepted : accepted (answered_paging).actors 1 ≡ Some ((0x03 ∷ 0x05 ∷ []) ∷ [])
+unfolding on_literals
+paging_accepted = refl
+
+paging_unnumbered : unnumbered (answered_paging).actors 1 ≡ Some ((0x06 ∷ 0x27 ∷ 0x71 ∷ []) ∷ [])
+unfolding on_literals
+paging_unnumbered = refl
+
+paging_not_taken : (answered_paging).not_taken ≡ 0
+unfolding on_literals
+paging_not_taken = refl
+
+activation_waits : bodies (after_all (new_world usual_settings) (Connect 1 1 (0x05 ∷ 0x24 ∷ 0x71 ∷ []) true ∷ BasePush 1 ∷ Handle ∷ [])) 1 ≡ (0x08 ∷ 0x21 ∷ 0x01 ∷ 0x41 ∷ 0x03 ∷ 0x00 ∷ 0x06 ∷ 0x04 ∷ 0x00 ∷ 0x03 ∷ 0x01 ∷ 0x00 ∷ []) ∷ []
+unfolding on_literals
+activation_waits = refl
+
+assignment_waits : bodies (after_all (new_world usual_settings) (Connect 1 1 (0x05 ∷ 0x24 ∷ 0x71 ∷ []) true ∷ BasePush 1 ∷ Handle ∷ BaseTakes 1 ∷ BasePush 1 ∷ Handle ∷ [])) 1 ≡ (0x0c ∷ 0x16 ∷ 0x01 ∷ 0x90 ∷ 0x2b ∷ 0x17 ∷ 0x2d ∷ 0x06 ∷ 0x3f ∷ 0x00 ∷ 0x41 ∷ 0x20 ∷ 0x14 ∷ 0x01 ∷ 0x00 ∷ 0x00 ∷ 0x00 ∷ 0x00 ∷ 0x2b ∷ 0x2b ∷ 0x2b ∷ 0x2b ∷ 0x2b ∷ 0x2b ∷ 0x2b ∷ 0x2b ∷ 0x2b ∷ 0x2b ∷ 0x2b ∷ []) ∷ []
+unfolding on_literals
+assignment_waits = refl
+
+request_waits : bodies (after_all (new_world usual_settings) (Connect 1 1 (0x05 ∷ 0x24 ∷ 0x71 ∷ []) true ∷ BasePush 1 ∷ Handle ∷ BaseTakes 1 ∷ BasePush 1 ∷ Handle ∷ BaseTakes 1 ∷ AirUp 1 Zero ∷ BasePush 1 ∷ Handle ∷ [])) 0 ≡ (0x01 ∷ 0x00 ∷ 0x00 ∷ 0x01 ∷ 0x02 ∷ 0x02 ∷ 0x04 ∷ 0x02 ∷ 0x42 ∷ 0xfe ∷ 0x0f ∷ 0x12 ∷ 0x00 ∷ 0x10 ∷ 0x57 ∷ 0x05 ∷ 0x08 ∷ 0x00 ∷ 0x00 ∷ 0xf1 ∷ 0x10 ∷ 0x00 ∷ 0x01 ∷ 0x00 ∷ 0x01 ∷ 0x17 ∷ 0x03 ∷ 0x05 ∷ 0x24 ∷ 0x71 ∷ 0x00 ∷ []) ∷ []
+unfolding on_literals
+request_waits = refl
+
+-- ---- the first of a list, and what stands behind it
+
+first_is : map (first_in {X = ℕ}) ([] ∷ (7 ∷ []) ∷ (7 ∷ 8 ∷ 9 ∷ []) ∷ []) ≡ None ∷ Some 7 ∷ Some 7 ∷ []
+first_is = refl
+
+behind_is : map (behind_first {X = ℕ}) ([] ∷ (7 ∷ []) ∷ (7 ∷ 8 ∷ 9 ∷ []) ∷ []) ≡ [] ∷ [] ∷ (8 ∷ 9 ∷ []) ∷ []
+behind_is = refl

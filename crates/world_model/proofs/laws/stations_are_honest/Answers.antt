@@ -1,0 +1,5 @@
+use Rattle.world_model.proofs.Honesty.{AreHonest-new}
+use Rattle.world_model.proofs.laws.stations_are_honest.Goals as goal
+
+pub returns : goal.returns
+returns c = AreHonest-new

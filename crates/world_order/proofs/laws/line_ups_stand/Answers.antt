@@ -1,8 +1,0 @@
-use Rattle.world_order.proofs.LineUps.{AllNumbersStand-new, AllPlacesRise-new}
-use Rattle.world_order.proofs.laws.line_ups_stand.Goals as goal
-
-pub returns-clause-stands : goal.returns-clause-stands
-returns-clause-stands c = AllNumbersStand-new
-
-pub returns-clause-rise : goal.returns-clause-rise
-returns-clause-rise c = AllPlacesRise-new

@@ -1,8 +1,0 @@
-use Rattle.world_owners.proofs.Alone.{ChannelsAreMobiles-new, ConnectionsAreAlone-new}
-use Rattle.world_owners.proofs.laws.connections_are_alone.Goals as goal
-
-pub returns-clause-channels : goal.returns-clause-channels
-returns-clause-channels c = ChannelsAreMobiles-new
-
-pub returns-clause-mobiles : goal.returns-clause-mobiles
-returns-clause-mobiles c = ConnectionsAreAlone-new

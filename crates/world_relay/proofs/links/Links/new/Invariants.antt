@@ -1,6 +1,0 @@
-use Rattle.std.proofs.Common.{◌≡◌, replicate}
-use Rattle.world_table.specs.World.{new_link}
-use Rattle.world_relay.proofs.links.Links.new.Given as goal
-
-abbrev pub invariant-loop : goal.invariant-loop
-invariant-loop l = l.links.items ≡ replicate l.counter new_link

@@ -1,3 +1,0 @@
-pub mod RelayState
-pub mod Links
-pub mod Relay

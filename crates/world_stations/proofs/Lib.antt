@@ -1,5 +1,0 @@
-mod Activating
-mod ActivationRows
-mod Numbering
-mod Rows
-pub mod Written

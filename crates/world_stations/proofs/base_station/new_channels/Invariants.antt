@@ -1,6 +1,0 @@
-use Rattle.std.proofs.Common.{◌≡◌, replicate}
-use Rattle.world_table.specs.World.{new_spot}
-use Rattle.world_stations.proofs.base_station.new_channels.Given as goal
-
-abbrev pub invariant-loop : goal.invariant-loop
-invariant-loop l = l.channels.items ≡ replicate l.counter new_spot

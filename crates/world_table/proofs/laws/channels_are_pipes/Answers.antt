@@ -1,5 +1,0 @@
-use Rattle.world_table.proofs.Piping.{ArePipes-new}
-use Rattle.world_table.proofs.laws.channels_are_pipes.Goals as goal
-
-pub returns : goal.returns
-returns c = ArePipes-new

@@ -1,5 +1,0 @@
-use Rattle.world_table.proofs.Mobility.{MobilesLive-new}
-use Rattle.world_table.proofs.laws.mobiles_live_by_their_ends.Goals as goal
-
-pub returns : goal.returns
-returns c = MobilesLive-new

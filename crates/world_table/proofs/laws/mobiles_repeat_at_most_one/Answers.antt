@@ -1,5 +1,0 @@
-use Rattle.world_table.proofs.Repeating.{MobilesRepeatAtMostOne-new}
-use Rattle.world_table.proofs.laws.mobiles_repeat_at_most_one.Goals as goal
-
-pub returns : goal.returns
-returns c = MobilesRepeatAtMostOne-new

@@ -1,5 +1,0 @@
-use Rattle.world_table.proofs.Outboxes.{KeepsQueues-new}
-use Rattle.world_table.proofs.laws.queues_keep_order.Goals as goal
-
-pub returns : goal.returns
-returns c = KeepsQueues-new

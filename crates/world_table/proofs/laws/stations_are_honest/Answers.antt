@@ -1,5 +1,0 @@
-use Rattle.world_table.proofs.Honesty.{AreHonest-new}
-use Rattle.world_table.proofs.laws.stations_are_honest.Goals as goal
-
-pub returns : goal.returns
-returns c = AreHonest-new

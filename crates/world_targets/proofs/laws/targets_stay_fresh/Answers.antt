@@ -1,8 +1,0 @@
-use Rattle.world_targets.proofs.StaysFresh.{FreshTells-new, TargetsStayFresh-new}
-use Rattle.world_targets.proofs.laws.targets_stay_fresh.Goals as goal
-
-pub returns-clause-stays : goal.returns-clause-stays
-returns-clause-stays c = TargetsStayFresh-new
-
-pub returns-clause-tells : goal.returns-clause-tells
-returns-clause-tells c = FreshTells-new
