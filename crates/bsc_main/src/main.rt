@@ -1,4 +1,5 @@
-//! The program `bsc`: a relay of the signalling between the stations and the switch of a GSM network.
+//! The program `bsc`: a relay of the signalling between the stations and the switch of a GSM
+//! network.
 #![tactic(auto)]
 
 use bsc_program::{Failure, ProgramFault, decode, replay};
@@ -46,8 +47,8 @@ fn main(rt: HostRuntime) -> ExitCode {
     ExitCode::from(status)
 }
 
-/// Replays the script on standard input, with the settings in this file, if there is one, and gives the status that the
-/// program ends with. What it prints is buffered.
+/// Replays the script on standard input, with the settings in this file, if there is one, and gives
+/// the status that the program ends with. What it prints is buffered.
 fn replayed(
     rt: &HostRuntime,
     file: Option<String>,
@@ -70,7 +71,8 @@ fn replayed(
     ))
 }
 
-/// Names the frames on standard input, and gives the status that the program ends with. What it prints is buffered.
+/// Names the frames on standard input, and gives the status that the program ends with. What it
+/// prints is buffered.
 fn decoded(rt: &HostRuntime) -> Result<u8, ProgramFault> {
     let Ok(mut output) = BufWriter::new(rt.alloc(), rt.stdout()) else {
         return Err(ProgramFault::Failed(Failure::Memory));

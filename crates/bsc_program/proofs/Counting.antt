@@ -55,7 +55,8 @@ below_all list next count some last =
 
 -- ---- up to a number
 
--- so many messages are in the lists of the numbers from 1 on that are below the next one, whether each has one or not
+-- so many messages are in the lists of the numbers from 1 on that are below the next one, whether
+-- each has one or not
 pub record CountsUpTo (list : ℕ → Option (List (List ℕ))) (next count : ℕ) : Type 0 where
   pub below : ℕ
   pub up_to : next ≡ suc below

@@ -6,7 +6,8 @@ use Rattle.program_base.specs.declared.fault.ProgramFault.{ProgramFault}
 use Rattle.program_base.specs.declared.fault.ProgramFault.TheVariants.{BadBreak}
 use Rattle.program_base.specs.SettingsText.{settings_of}
 
--- the report of the fixed world, that of the world of settings, or a line for each place at which the link of a source breaks
+-- the report of the fixed world, that of the world of settings, or a line for each place at which
+-- the link of a source breaks
 pub data Asked : Type 0 where
   fixed : Asked
   controlled : Parameters → Asked
@@ -22,8 +23,8 @@ asked_with (Err fault) breaks = Err fault
 asked_with (Ok settings) None = Ok (controlled settings)
 asked_with (Ok settings) (Some word) = asked_of_source settings (source_in (length settings.cells) word)
 
--- What the settings' text and the word behind `--break` ask for, or why it is nothing. Settings come first, and `--break`
--- wants some.
+-- What the settings' text and the word behind `--break` ask for, or why it is nothing. Settings
+-- come first, and `--break` wants some.
 abbrev pub asked : Option (List ℕ) → Option (List ℕ) → Result Asked ProgramFault
 asked (Some text) breaks = asked_with (settings_of text) breaks
 asked None None = Ok fixed

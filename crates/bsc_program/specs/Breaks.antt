@@ -21,7 +21,8 @@ unfoldable pub count_to : (ℕ → Option (List (List ℕ))) → ℕ → ℕ
 count_to list zero = 0
 count_to list (suc n) = count_to list n + length (unwrap_or (list (suc n)) [])
 
--- how many messages the switch accepted on all its connections, which are those from 1 up to the first number that has none
+-- how many messages the switch accepted on all its connections, which are those from 1 up to the
+-- first number that has none
 abbrev pub accepted_by_all : Scene → ℕ
 accepted_by_all scene = count_from (accepted_list scene) 1 (2 ^ 32 - 1)
 

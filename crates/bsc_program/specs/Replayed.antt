@@ -11,8 +11,9 @@ use Rattle.program_base.specs.declared.fault.ProgramFault.{ProgramFault}
 use Rattle.program_base.specs.declared.fault.ProgramFault.TheVariants.{Failed}
 use Rattle.program_base.specs.declared.failure.Failure.TheVariants.{BadEvent, Memory, Device}
 
--- The text is what these events give: the report of what they make of the fixed world, whose mobile numbers modulo 4, or of
--- the world of the settings; or the lines of all places at which the link of the source breaks in that world.
+-- The text is what these events give: the report of what they make of the fixed world, whose mobile
+-- numbers modulo 4, or of the world of the settings; or the lines of all places at which the link
+-- of the source breaks in that world.
 abbrev pub IsPrinted : Asked → List Event → List ℕ → Type 0
 IsPrinted fixed events text = IsReport (after_all (fixed_world 4) events) text
 IsPrinted (controlled settings) events text = IsReport (after_all (controlled_world settings) events) text
@@ -27,8 +28,8 @@ Replays asked start old new =
 abbrev pub HasBadLine : Asked → Option (List ℕ) → Type 0
 HasBadLine asked start = IfSome start (λ octets. (number : ℕ) × IsBadScript (cells_of asked) octets number)
 
--- Why not all is printed: what is asked for is at fault, where memory isn't wanted before that is known; or a known script has
--- a bad line, with this number; or memory or a device failed.
+-- Why not all is printed: what is asked for is at fault, where memory isn't wanted before that is
+-- known; or a known script has a bad line, with this number; or memory or a device failed.
 abbrev pub Fails : Result Asked ProgramFault → Option (List ℕ) → ProgramFault → Type 0
 Fails (Err found) start fault = (fault ≡ found) ⊎ (fault ≡ Failed Memory)
 Fails (Ok asked) start (Failed (BadEvent number)) = IfSome start (λ octets. IsBadScript (cells_of asked) octets number)

@@ -57,8 +57,8 @@ pub record AreConnections (scene : Scene) (text : List ℕ) : Type 0 where
 abbrev pub not_taken_line : ℕ → List ℕ
 not_taken_line n = codes "events not taken " ++ decimal n ++ codes "\n"
 
--- The text is the report: the lists of the mobiles from 1 to 255, those of the connections, and how many events were not
--- taken.
+-- The text is the report: the lists of the mobiles from 1 to 255, those of the connections, and how
+-- many events were not taken.
 abbrev pub IsReport : WorldState → List ℕ → Type 0
 IsReport world text =
     (connections : List ℕ) × AreConnections world.scene connections

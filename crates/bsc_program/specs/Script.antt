@@ -19,7 +19,8 @@ AreTexts cells [] [] = Unit {0}
 AreTexts cells (event ∷ events) (line ∷ lines) = IsLine cells event line × AreTexts cells events lines
 AreTexts cells _ _ = ⊥
 
--- The octets are the lines of these events, where there are so many cells. The last may lack its line feed.
+-- The octets are the lines of these events, where there are so many cells. The last may lack its
+-- line feed.
 pub record IsScript (cells : ℕ) (octets : List ℕ) (events : List Event) : Type 0 where
   pub lines : List (List ℕ)
   pub texts : AreTexts cells events lines
@@ -34,8 +35,8 @@ IsBadLine cells line = (¬ (IsUtf8 line)) ⊎ ((event : Event) → ¬ (IsLine ce
 abbrev pub line_count : ℕ → ℕ
 line_count lines = min lines (2 ^ 64 - 1)
 
--- The octets are lines of events and behind them one that is none's, with this number. The last may lack its line feed, and
--- then it has octets.
+-- The octets are lines of events and behind them one that is none's, with this number. The last may
+-- lack its line feed, and then it has octets.
 pub record IsBadScript (cells : ℕ) (octets : List ℕ) (number : ℕ) : Type 0 where
   pub lines : List (List ℕ)
   pub events : List Event
@@ -84,7 +85,8 @@ pub record RefusesAt (old : Script) (octets : List ℕ) (number : ℕ) : Type 0 
   pub bad : IsBadLine old.cells line
   pub is : (n : ℕ) → old.lines ≡ line_count n → number ≡ line_count (n + length lines + 1)
 
--- The events are those that were read, and that of a line without a line feed, where one was started.
+-- The events are those that were read, and that of a line without a line feed, where one was
+-- started.
 abbrev pub Finishes : Script → List Event → Type 0
 Finishes script events = ((script.started.items ≡ []) × (events ≡ script.events.items))
     ⊎ ((event : Event) × IsLine script.cells event script.started.items × (events ≡ script.events.items ++ event ∷ []))

@@ -11,8 +11,9 @@ use std::alloc::Global;
 use std::io::Write;
 use world::{Event, World};
 
-/// Writes a line for each place of these events at which the link of a source breaks, in the world of the settings in the
-/// text. For each the world begins anew, and the settings are read again, since a world keeps its own.
+/// Writes a line for each place of these events at which the link of a source breaks, in the world
+/// of the settings in the text. For each the world begins anew, and the settings are read again,
+/// since a world keeps its own.
 pub(crate) fn write_breaks<W: Write>(
     alloc: Global,
     text: &str,
@@ -31,7 +32,8 @@ pub(crate) fn write_breaks<W: Write>(
     Ok(())
 }
 
-/// Writes the line of one place. The settings in the text were read before, so that they want nothing but memory.
+/// Writes the line of one place. The settings in the text were read before, so that they want
+/// nothing but memory.
 fn write_broken<W: Write>(
     alloc: Global,
     text: &str,
@@ -51,8 +53,8 @@ fn write_broken<W: Write>(
     write_break(&world, place, output)
 }
 
-/// Writes the line of a world in which a link broke at this place of the script: how many messages of the flow the switch
-/// accepted on all connections, and how many all mobiles sent.
+/// Writes the line of a world in which a link broke at this place of the script: how many messages
+/// of the flow the switch accepted on all connections, and how many all mobiles sent.
 fn write_break<W: Write>(world: &World, place: usize, output: &mut W) -> Result<(), Failure>
     ensures ok { OnOk result (Appends (W.contents output.old) (W.contents output.new) (break_line place world.now.scene)) }
     ensures err { IfErr result (λ failure. status_of failure ≡ 3) }
@@ -88,7 +90,8 @@ fn sent_by_all(world: &World) -> u128
     count
 }
 
-/// How many messages of the flow the upper layers of a mobile sent, if there is one with this number.
+/// How many messages of the flow the upper layers of a mobile sent, if there is one with this
+/// number.
 fn sent_by(world: &World, mobile: u8) -> usize
     ensures { result ≡ length (unwrap_or (sent_list world.now.scene mobile) []) }
 {

@@ -7,14 +7,15 @@ ghost use Rattle.world_laws.specs.Order.OctetEvents.{IsOctetEvent};
 ghost use Rattle.program_base.specs.Script.{IsLine};
 ghost use Rattle.bsc_program.specs.ScriptOrder.{ScriptsRunInOrder};
 
-/// Law: whatever script `replay` reads, with settings that are allowed, the world that its events make is in order:
-/// what the switch accepts in a connection is the beginning of what its mobile sent, no gap is ever judged, and each
-/// queue gives what was put there.
+/// Law: whatever script `replay` reads, with settings that are allowed, the world that its events
+/// make is in order: what the switch accepts in a connection is the beginning of what its mobile
+/// sent, no gap is ever judged, and each queue gives what was put there.
 pub fn scripts_run_in_order()
     ensures { (settings : Parameters) (octets : List ℕ) (events : List Event) → ScriptsRunInOrder settings octets events }
 {}
 
-/// Law: the event of a script line is of octets, as the order of messages asks of events in a world with a controller.
+/// Law: the event of a script line is of octets, as the order of messages asks of events in a world
+/// with a controller.
 pub fn lines_are_of_octets()
     ensures { (cells : ℕ) (event : Event) (line : List ℕ) → IsLine cells event line → IsOctetEvent event }
 {}

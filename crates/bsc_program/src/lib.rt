@@ -1,4 +1,5 @@
-//! What the program `bsc` does, over any reader and writers: a script is replayed, and the frames of a link are named.
+//! What the program `bsc` does, over any reader and writers: a script is replayed, and the frames
+//! of a link are named.
 #![tactic(auto)]
 
 pub use laws::{lines_are_of_octets, scripts_run_in_order};

@@ -24,11 +24,13 @@ use world::{Event, World};
 /// The number of cells that a script of the fixed world counts with.
 const FIXED_CELLS: u16 = 1;
 
-/// Replays the script on `input`, in the world of these settings or else in the fixed one, and writes the report to `output`;
-/// with `breaks`, the number of a source, a line for each place of the script at which its link breaks. It gives the status
-/// that the program ends with: 0, 1 for a fault of the settings, 2 for `breaks` that is no source's number or comes without
-/// settings, or for a bad line, 3 where memory ran out or a device failed. The causes are looked for in this order, and
-/// the whole script is read before any event is run. The text of a status above 0 goes to `errors`.
+/// Replays the script on `input`, in the world of these settings or else in the fixed one, and
+/// writes the report to `output`; with `breaks`, the number of a source, a line for each place of
+/// the script at which its link breaks. It gives the status that the program ends with: 0, 1 for a
+/// fault of the settings, 2 for `breaks` that is no source's number or comes without settings, or
+/// for a bad line, 3 where memory ran out or a device failed. The causes are looked for in this
+/// order, and the whole script is read before any event is run. The text of a status above 0 goes
+/// to `errors`.
 pub fn replay<R: Read, W: Write, E: Write>(
     alloc: Global,
     settings: Option<&str>,
@@ -46,8 +48,8 @@ pub fn replay<R: Read, W: Write, E: Write>(
         (λ fault. status_of_fault fault ≡ 1) }
     // It ends with 0 only where the whole script was read, if its octets are known.
     ensures read { result ≡ 0 → IsAtEnd (R.remaining input.new) }
-    // What is printed then is the report of what the script's events make of the world, or the lines of all breaks, if it is
-    // known what an output holds.
+    // What is printed then is the report of what the script's events make of the world, or the
+    // lines of all breaks, if it is known what an output holds.
     ensures printed { result ≡ 0 → IsOkAnd (asked (option_map (λ text. text.now) settings.entry) (option_map (λ word. word.now) breaks.entry))
         (λ asked. Replays asked (R.remaining input.old) (W.contents output.old) (W.contents output.new)) }
     // It ends with 2 only where `breaks` names no source, or where a line of the script is bad.
@@ -174,8 +176,8 @@ fn report_events<W: Write>(
     write_report(alloc, &world, output)
 }
 
-/// Writes a line for each place of the script at which the link of the source breaks, in the world of the settings in the
-/// text, which have so many cells.
+/// Writes a line for each place of the script at which the link of the source breaks, in the world
+/// of the settings in the text, which have so many cells.
 fn replay_breaks<R: Read, W: Write>(
     alloc: Global,
     text: &str,

@@ -10,8 +10,8 @@ use std::alloc::Global;
 use std::io::Write;
 use world::World;
 
-/// Writes the report of a world: for each mobile what it sent and received, for each connection of the switch what was
-/// taken, accepted and without number, and how many events were not taken.
+/// Writes the report of a world: for each mobile what it sent and received, for each connection of
+/// the switch what was taken, accepted and without number, and how many events were not taken.
 pub(crate) fn write_report<W: Write>(
     alloc: Global,
     world: &World,
@@ -99,7 +99,8 @@ fn write_list<W: Write>(
     write_messages(alloc, messages, output)
 }
 
-/// Ends a line with the count of the messages, and writes each as a line of lower-case hexadecimal digits.
+/// Ends a line with the count of the messages, and writes each as a line of lower-case hexadecimal
+/// digits.
 fn write_messages<W: Write>(
     alloc: Global,
     messages: &[Octets],

@@ -1,4 +1,5 @@
--- The options of a message: steps enough are enough, so the walk goes on behind the option at the front.
+-- The options of a message: steps enough are enough, so the walk goes on behind the option at the
+-- front.
 use Rattle.std.proofs.Common.{◌≡◌, ◌≢◌, ℕ, zero, suc, ◌<◌, ◌≤◌, Bool, true, false, cond, eqb, List, [], ◌∷◌, length, Option, Some, None, Result, Ok, Err, refl, sym, ap, ◌∙◌, arith, eq-eqb}
 use Rattle.std.proofs.lemmas.Bool.{ne_eqb}
 use Rattle.octets.proofs.Steps.{bind_ok}

@@ -41,7 +41,8 @@ abbrev pub HasLayer3 : Bssmap → Type 0
 HasLayer3 (CompleteLayer3Information cell layer3) = IsLayer3 layer3
 HasLayer3 _ = Unit {0}
 
--- The octets are a text of the message: its type, and elements in any order of which it carries the first ones.
+-- The octets are a text of the message: its type, and elements in any order of which it carries the
+-- first ones.
 pub record IsBssmap (octets : List ℕ) (message : Bssmap) : Type 0 where
   pub elements : List ℕ
   pub is : octets ≡ bssmap_octet (type_of message) ∷ elements

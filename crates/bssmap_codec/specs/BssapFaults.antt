@@ -1,4 +1,5 @@
--- Which fault octets have that are no text of a message of BSSAP, by its elements (TS 48.006 clause 9.3, TS 48.008 clause 3.2).
+-- Which fault octets have that are no text of a message of BSSAP, by its elements (TS 48.006 clause
+-- 9.3, TS 48.008 clause 3.2).
 use Rattle.std.specs.Prelude.{◌≡◌, ◌≢◌, ℕ, ◌<◌, Bool, not, ◌==◌, nat_lt, List, [], ◌∷◌, ◌++◌, map, length, take, Option, Some, None, is_none, Result}
 use Rattle.octets.specs.Causes.{first_that_holds}
 use Rattle.octets.specs.Element.{Element, AreElements}
@@ -47,8 +48,8 @@ layer3_in _ es = None
 abbrev pub element_causes : BssmapType → List Element → List (Bool × InterfaceFault)
 element_causes kind es = map (λ id. (lacks es id, MissingElement id)) (needed kind) ++ layer3_causes (layer3_in kind es)
 
--- The first fault of octets. BSSMAP is a length, and so many octets, of which the first is the type and the others are
--- elements. DTAP is a DLCI, a length, and so many octets.
+-- The first fault of octets. BSSMAP is a length, and so many octets, of which the first is the type
+-- and the others are elements. DTAP is a DLCI, a length, and so many octets.
 pub data FirstFault : List ℕ → Option InterfaceFault → Type 0 where
   nothing : FirstFault [] (Some Short)
   other : (first : ℕ) (rest : List ℕ) → first ≢ MANAGEMENT → first ≢ TRANSFER → FirstFault (first ∷ rest) (Some UnknownType)
@@ -60,7 +61,8 @@ pub data FirstFault : List ℕ → Option InterfaceFault → Type 0 where
   no_header : (rest : List ℕ) → length rest < 2 → FirstFault (TRANSFER ∷ rest) (Some Short)
   transfer : (dlci size : ℕ) (rest : List ℕ) → FirstFault (TRANSFER ∷ dlci ∷ size ∷ rest) (first_that_holds ((not (is_dlci dlci), UnknownType) ∷ (nat_lt (length rest) size, Short) ∷ layer3_causes (Some (take size rest))))
 
--- The result refuses octets with their first fault, and runs out of memory only where they have none.
+-- The result refuses octets with their first fault, and runs out of memory only where they have
+-- none.
 pub record RefusesBssap (octets : List ℕ) (result : Result Bssap InterfaceFault) : Type 0 where
   pub first : Option InterfaceFault
   pub is_first : FirstFault octets first

@@ -9,7 +9,8 @@ use Rattle.bssmap_codec.specs.declared.sccp_parameters.TheConstants.{NO_PART, UN
 use Rattle.bssmap_codec.specs.Reference.{IsReference, reference_text, references_text}
 use Rattle.bssmap_codec.specs.SccpType.{sccp_octet, type_of}
 
--- The octets begin with a pointer, which leads to that part of them: it counts from its own octet (clause 2.3).
+-- The octets begin with a pointer, which leads to that part of them: it counts from its own octet
+-- (clause 2.3).
 pub record Points (octets part : List ℕ) : Type 0 where
   pub pointer : ℕ
   pub rest : List ℕ
@@ -24,14 +25,16 @@ pub record IsCounted (octets value : List ℕ) : Type 0 where
   pub is : octets ≡ counted_text value ++ more
   pub short : length value ≤ LENGTH_LIMIT
 
--- Options up to the first that carries user data, to the end-of-options octet, or to the end of the octets (clause 3.1).
+-- Options up to the first that carries user data, to the end-of-options octet, or to the end of the
+-- octets (clause 3.1).
 pub data Options : List ℕ → Option (List ℕ) → Type 0 where
   over : Options [] None
   ended : (more : List ℕ) → Options (END_OF_OPTIONS ∷ more) None
   carried : (value more : List ℕ) → length value ≤ LENGTH_LIMIT → Options (USER_DATA ∷ (counted_text value ++ more)) (Some value)
   other : (id : ℕ) (value rest : List ℕ) (user : Option (List ℕ)) → id ≢ END_OF_OPTIONS → id ≢ USER_DATA → length value ≤ LENGTH_LIMIT → Options rest user → Options (id ∷ (counted_text value ++ rest)) user
 
--- The octets begin with a pointer to options with this user data; a pointer 0 says that there are none.
+-- The octets begin with a pointer to options with this user data; a pointer 0 says that there are
+-- none.
 pub record NoOptions (octets : List ℕ) : Type 0 where
   pub rest : List ℕ
   pub is : octets ≡ NO_PART ∷ rest

@@ -1,4 +1,5 @@
--- Which fault octets have that are no text of a message of SCCP, by its pointers (Q.713 clauses 2.3 and 4).
+-- Which fault octets have that are no text of a message of SCCP, by its pointers (Q.713 clauses 2.3
+-- and 4).
 use Rattle.std.specs.Prelude.{◌≡◌, ℕ, ◌<◌, ◌≤◌, Bool, true, false, MatchBool, not, ◌&&◌, ◌||◌, ◌==◌, nat_le, nat_lt, List, [], ◌∷◌, ◌++◌, length, drop, Option, Some, None, Result}
 use Rattle.octets.specs.Causes.{first_that_holds}
 use Rattle.octets.specs.Refusal.{RefusesBy}
@@ -35,7 +36,8 @@ is_cut_value (size ∷ rest) = nat_lt (length rest) size
 abbrev pub part_causes : ℕ → List ℕ → List (Bool × InterfaceFault)
 part_causes pointer octets = ((pointer == NO_PART) || nat_le (length octets) pointer, BadPointer) ∷ (is_cut_value (drop pointer octets), Short) ∷ []
 
--- what is wrong with a pointer, the first of these octets, to options; a pointer 0 says that there are none
+-- what is wrong with a pointer, the first of these octets, to options; a pointer 0 says that there
+-- are none
 abbrev pub option_causes : ℕ → List ℕ → Bool → List (Bool × InterfaceFault)
 option_causes pointer octets are_cut = (not (pointer == NO_PART) && nat_le (length octets) pointer, BadPointer) ∷ (not (pointer == NO_PART) && are_cut, Short) ∷ []
 
@@ -43,9 +45,9 @@ option_causes pointer octets are_cut = (not (pointer == NO_PART) && nat_le (leng
 abbrev pub AreOptions : List ℕ → Bool → Type 0
 AreOptions octets are_cut = MatchBool are_cut ((user : Option (List ℕ)) → Options octets user → ⊥) ((user : Option (List ℕ)) × Options octets user)
 
--- The first fault of octets, where they have one. A request has three octets of its reference, its class, and pointers to
--- the called address and to the options; a data form has three of its reference, one that says whether it is segmented, and
--- a pointer to its data.
+-- The first fault of octets, where they have one. A request has three octets of its reference, its
+-- class, and pointers to the called address and to the options; a data form has three of its
+-- reference, one that says whether it is segmented, and a pointer to its data.
 pub data FirstFault : List ℕ → Option InterfaceFault → Type 0 where
   nothing : FirstFault [] (Some Short)
   unknown : (octet : ℕ) (rest : List ℕ) → sccp_type octet ≡ None → FirstFault (octet ∷ rest) (Some UnknownType)
@@ -56,7 +58,8 @@ pub data FirstFault : List ℕ → Option InterfaceFault → Type 0 where
   form : (octet a b c segmenting pointer : ℕ) (more : List ℕ) → sccp_type octet ≡ Some DataForm1
       → FirstFault (octet ∷ a ∷ b ∷ c ∷ segmenting ∷ pointer ∷ more) (first_that_holds ((not (segmenting == UNSEGMENTED), UnknownType) ∷ part_causes pointer (pointer ∷ more)))
 
--- The result refuses octets with their first fault, and runs out of memory only where they have none.
+-- The result refuses octets with their first fault, and runs out of memory only where they have
+-- none.
 pub record RefusesSccp (octets : List ℕ) (result : Result Sccp InterfaceFault) : Type 0 where
   pub first : Option InterfaceFault
   pub is_first : FirstFault octets first

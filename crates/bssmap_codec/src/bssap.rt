@@ -7,7 +7,8 @@ pub const MANAGEMENT: u8 = 0x00;
 /// The first octet of a message of DTAP (TS 48.006 clause 9.3.1).
 pub const TRANSFER: u8 = 0x01;
 
-/// A message of BSSAP: for the base station system itself, or passed on between the switch and a mobile (TS 48.006 clause 9.3).
+/// A message of BSSAP: for the base station system itself, or passed on between the switch and a
+/// mobile (TS 48.006 clause 9.3).
 #[derive(Drop)]
 pub enum Bssap {
     /// A message of BSSMAP.

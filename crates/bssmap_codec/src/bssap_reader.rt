@@ -22,13 +22,15 @@ use octets::element::{first_value, is_cut};
 use octets::front::{octet, split};
 use std::alloc::Global;
 
-/// Reads a message of BSSAP. What follows its length isn't looked at, nor are elements but the first of each identifier
-/// that the message has, nor what follows the first identifier outside the table of elements.
+/// Reads a message of BSSAP. What follows its length isn't looked at, nor are elements but the
+/// first of each identifier that the message has, nor what follows the first identifier outside the
+/// table of elements.
 ///
-/// The faults, in the order in which they are looked for: `Short` without the header, which is `00`, a length and a type,
-/// or `01`, a DLCI and a length; `UnknownType` for another first octet, for a type or a SAPI that isn't known; `Short` where
-/// fewer octets follow than the length says or an element is cut; `MissingElement`, in the order in which the elements are
-/// written; for a layer 3 message `Short` without an octet, and `TooLong` over 251. `Memory` comes last.
+/// The faults, in the order in which they are looked for: `Short` without the header, which is
+/// `00`, a length and a type, or `01`, a DLCI and a length; `UnknownType` for another first octet,
+/// for a type or a SAPI that isn't known; `Short` where fewer octets follow than the length says or
+/// an element is cut; `MissingElement`, in the order in which the elements are written; for a layer
+/// 3 message `Short` without an octet, and `TooLong` over 251. `Memory` comes last.
 pub fn read_bssap(alloc: Global, octets: &[u8]) -> Result<Bssap, InterfaceFault>
     // What is answered is what the octets are read as.
     ensures reads { Gives OutOfMemory (λ v. v) result (reading.bssap_reading octets.now) }

@@ -20,8 +20,9 @@ use octets::text::{TEXT_ROOM, hand_over};
 use octets::{LENGTH_LIMIT, Memory, Octets};
 use std::alloc::Global;
 
-/// Appends the text of a message of BSSAP. An `Err` changes nothing: `Short` for a layer 3 message of no octets, then
-/// `TooLong` for one over 251 octets, or for what a length octet can't count, else `Memory`.
+/// Appends the text of a message of BSSAP. An `Err` changes nothing: `Short` for a layer 3 message
+/// of no octets, then `TooLong` for one over 251 octets, or for what a length octet can't count,
+/// else `Memory`.
 pub fn write_bssap(alloc: Global, message: &Bssap, text: &mut Vec<u8>) -> Result<(), InterfaceFault>
     ensures ok { OnOk result (text.new.items ≡ text.old.items ++ bssap_text message.now) }
     ensures err { OnErr result (text.new.items ≡ text.old.items) }

@@ -65,7 +65,8 @@ pub const ELEMENTS: [Entry; 10] = [
     },
 ];
 
-/// Identifiers of the options of SCCP (Q.713 clause 3): the one that ends them, and the one that carries user data.
+/// Identifiers of the options of SCCP (Q.713 clause 3): the one that ends them, and the one that
+/// carries user data.
 pub const END_OF_OPTIONS: u8 = 0x00;
 
 pub const USER_DATA: u8 = 0x0f;

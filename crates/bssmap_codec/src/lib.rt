@@ -1,4 +1,5 @@
-//! Messages of the A interface: SCCP of class 2 (Q.713), BSSAP (TS 48.006) and BSSMAP (TS 48.008), read and written.
+//! Messages of the A interface: SCCP of class 2 (Q.713), BSSAP (TS 48.006) and BSSMAP (TS 48.008),
+//! read and written.
 #![tactic(auto)]
 
 pub use bssap::Bssap;

@@ -65,7 +65,8 @@ fn data(options: &[u8]) -> Result<Option<&[u8]>, InterfaceFault>
     }
 }
 
-/// The user data among the options that a pointer leads to; a pointer 0 says that there are no options.
+/// The user data among the options that a pointer leads to; a pointer 0 says that there are no
+/// options.
 #[tactic(auto, unfolding(crate::specs::SccpReading::user_data_at))]
 pub fn user_data(octets: &[u8], pointer: u8) -> Result<Option<&[u8]>, InterfaceFault>
     ensures { result_map (option_map (λ d. d.now)) result ≡ user_data_at pointer octets.now }

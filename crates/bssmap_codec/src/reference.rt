@@ -7,7 +7,8 @@ use octets::Memory;
 use octets::front::octet;
 use std::marker::Model;
 
-/// The local reference of an SCCP connection, three octets, the high one first (Q.713 clause 3.2). Contracts see its number.
+/// The local reference of an SCCP connection, three octets, the high one first (Q.713 clause 3.2).
+/// Contracts see its number.
 #[derive(Clone, Copy)]
 pub struct Reference {
     number: u32,
@@ -52,7 +53,8 @@ impl Reference {
     }
 }
 
-/// The number of the reference at the front, and the octets behind it; `Short` where there are fewer than three octets.
+/// The number of the reference at the front, and the octets behind it; `Short` where there are
+/// fewer than three octets.
 #[tactic(auto, unfolding(crate::specs::Reference::reference_at))]
 pub fn number(octets: &[u8]) -> Result<(u32, &[u8]), InterfaceFault>
     ensures read { result_map (λ p. (p.0, p.1.now)) result ≡ reference_at octets.now }

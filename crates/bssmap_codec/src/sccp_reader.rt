@@ -16,13 +16,14 @@ use octets::Octets;
 use octets::front::{counted, octet};
 use std::alloc::Global;
 
-/// Reads a message of SCCP. What follows its parts isn't looked at, nor are the class of CR and CC, the cause of CREF and
-/// RLSD, the called address and options but the first with user data.
+/// Reads a message of SCCP. What follows its parts isn't looked at, nor are the class of CR and CC,
+/// the cause of CREF and RLSD, the called address and options but the first with user data.
 ///
-/// The faults, in the order in which they are looked for: `Short` without any octet; `UnknownType`; `Short` where the fixed
-/// octets with the pointers aren't all there; `UnknownType` for data that are segmented; then, for each pointer that is
-/// looked at, `BadPointer` where it leads out of the octets, or is 0 and leads to no options, and `Short` where what it
-/// leads to is cut. `Memory` comes last.
+/// The faults, in the order in which they are looked for: `Short` without any octet; `UnknownType`;
+/// `Short` where the fixed octets with the pointers aren't all there; `UnknownType` for data that
+/// are segmented; then, for each pointer that is looked at, `BadPointer` where it leads out of the
+/// octets, or is 0 and leads to no options, and `Short` where what it leads to is cut. `Memory`
+/// comes last.
 pub fn read_sccp(alloc: Global, octets: &[u8]) -> Result<Sccp, InterfaceFault>
     // What is answered is what the octets are read as.
     ensures reads { Gives OutOfMemory (λ v. v) result (reading.sccp_reading octets.now) }
@@ -116,7 +117,8 @@ fn references(octets: &[u8]) -> Result<(Reference, Reference), InterfaceFault>
     Ok((Reference::new(destination), Reference::new(source)))
 }
 
-// The references of both ends, with the class or cause and a pointer behind them, neither of which is looked at.
+// The references of both ends, with the class or cause and a pointer behind them, neither of which
+// is looked at.
 #[tactic(auto, unfolding(crate::specs::SccpReading::fixed_references_at))]
 fn fixed_references(octets: &[u8]) -> Result<(Reference, Reference), InterfaceFault>
     ensures { result ≡ reading.fixed_references_at octets.now }

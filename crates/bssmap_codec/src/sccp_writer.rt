@@ -17,8 +17,8 @@ use octets::text::{TEXT_ROOM, hand_over};
 use octets::{LENGTH_LIMIT, Memory, Octets};
 use std::alloc::Global;
 
-/// Appends the text of a message of SCCP. An `Err` changes nothing: `TooLong` where its data are more than 255 octets,
-/// which a length octet can't count, else `Memory`.
+/// Appends the text of a message of SCCP. An `Err` changes nothing: `TooLong` where its data are
+/// more than 255 octets, which a length octet can't count, else `Memory`.
 pub fn write_sccp(alloc: Global, message: &Sccp, text: &mut Vec<u8>) -> Result<(), InterfaceFault>
     ensures ok { OnOk result (text.new.items ≡ text.old.items ++ sccp_text message.now) }
     ensures err { OnErr result (text.new.items ≡ text.old.items) }

@@ -13,8 +13,9 @@ const SHORT_MESSAGE_SAPI: u8 = 3;
 /// Speech, bits 4 to 1 of the first octet of a channel type (TS 48.008 clause 3.2.2.11).
 const SPEECH: u8 = 1;
 
-/// The data link connection identifier of a DTAP message (TS 48.006 clause 9.3.2): bits 3 to 1 are the SAPI, 0 or 3;
-/// bits 8 and 7 name the channel, and are kept as they are, as are the others. Contracts see its octet.
+/// The data link connection identifier of a DTAP message (TS 48.006 clause 9.3.2): bits 3 to 1 are
+/// the SAPI, 0 or 3; bits 8 and 7 name the channel, and are kept as they are, as are the others.
+/// Contracts see its octet.
 #[derive(Clone, Copy)]
 pub struct Dlci {
     octet: u8,
@@ -62,7 +63,8 @@ impl Dlci {
     }
 }
 
-/// The data link connection identifier that a SAPI N REJECT names (TS 48.008 clause 3.2.2.25), which may have any SAPI.
+/// The data link connection identifier that a SAPI N REJECT names (TS 48.008 clause 3.2.2.25),
+/// which may have any SAPI.
 #[derive(Clone, Copy)]
 pub struct RejectedDlci(pub u8);
 

@@ -34,7 +34,8 @@ use octets::{Memory, Octets};
 impl Machine {
     // ---- a change begins
 
-    /// Whether a change may begin: in Active, and in Draining while there is room for one more old channel.
+    /// Whether a change may begin: in Active, and in Draining while there is room for one more old
+    /// channel.
     pub(crate) fn may_begin(&self, stage: Stage) -> bool
         ensures { result ≡ may_begin stage self.now.draining }
     {
@@ -182,8 +183,8 @@ impl Machine {
 
     // ---- after a change what was held goes on
 
-    // The held messages of SAPI 0 are handed on a channel, SAPI 3 is asked for where messages are held for it, and the
-    // request that waits comes last.
+    // The held messages of SAPI 0 are handed on a channel, SAPI 3 is asked for where messages are
+    // held for it, and the request that waits comes last.
     fn put_resuming(
         &self,
         channel: &Channel,
@@ -201,8 +202,8 @@ impl Machine {
         self.put_waiting(begins, reference, offer, put)
     }
 
-    // No message is held for SAPI 0, the link of SAPI 3 was asked for where messages are held for it, and the request
-    // that waited begins.
+    // No message is held for SAPI 0, the link of SAPI 3 was asked for where messages are held for
+    // it, and the request that waited begins.
     fn resume(&mut self, begins: bool, reference: Reference, offer: Option<Channel>)
         ensures { self.new ≡ after_waiting begins reference offer (ask_for_held (hand_held Zero self.old).next).next }
     {

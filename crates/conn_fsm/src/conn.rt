@@ -17,8 +17,8 @@ use rsl_codec::{AccessDelay, RequestReference};
 use std::alloc::Global;
 use std::marker::Model;
 
-/// A connection of the base station controller: a mobile's way from its access to the clear (TS 48.008 clause 3.1,
-/// TS 44.018 clause 3). Each step is a row of the table.
+/// A connection of the base station controller: a mobile's way from its access to the clear (TS
+/// 48.008 clause 3.1, TS 44.018 clause 3). Each step is a row of the table.
 #[derive(Drop)]
 pub struct Conn {
     machine: Machine,
@@ -36,8 +36,9 @@ impl Model for Conn {
 }
 
 impl Conn {
-    /// A connection with this number, whose access channel was activated for the request of a CHANNEL REQUIRED and its access
-    /// delay. It makes the room for all old channels and keeps the allocator.
+    /// A connection with this number, whose access channel was activated for the request of a
+    /// CHANNEL REQUIRED and its access delay. It makes the room for all old channels and keeps the
+    /// allocator.
     #[tactic(auto, using(crate::proofs::Keeping::new_stands))]
     pub fn new(
         alloc: Global,
@@ -53,9 +54,10 @@ impl Conn {
         Ok(Conn { machine })
     }
 
-    /// Does the one row of the table that fits the input, with the channel that is offered to a change which begins in it:
-    /// its frames are appended, and it answers true; where no row fits it answers false, and nothing changes. Layer 3
-    /// messages have 1 to 251 octets. A refusal, for lack of memory, changes nothing.
+    /// Does the one row of the table that fits the input, with the channel that is offered to a
+    /// change which begins in it: its frames are appended, and it answers true; where no row fits
+    /// it answers false, and nothing changes. Layer 3 messages have 1 to 251 octets. A refusal, for
+    /// lack of memory, changes nothing.
     #[tactic(auto, unfolding(conn_rules::specs::Table::row_of), using(crate::proofs::Keeping::step_stands))]
     pub fn step(
         &mut self,
@@ -70,8 +72,8 @@ impl Conn {
         self.machine.step(input, offer, outputs)
     }
 
-    /// What an expiry or a broken link will make of the connection: with `commit` it is that step. A refusal is for want of
-    /// memory.
+    /// What an expiry or a broken link will make of the connection: with `commit` it is that step.
+    /// A refusal is for want of memory.
     pub fn plan(&self, input: Input) -> Result<Plan, Memory>
         requires { IsPlanned input }
         ensures was { IfOk result (λ plan. plan.was ≡ self.now) }
@@ -81,8 +83,8 @@ impl Conn {
         self.machine.plan(input)
     }
 
-    /// Does the step that was planned and gives its frames. The connection is as it was then, but time may have passed for
-    /// it. It takes no memory.
+    /// Does the step that was planned and gives its frames. The connection is as it was then, but
+    /// time may have passed for it. It takes no memory.
     #[tactic(auto, using(crate::proofs::Keeping::commit_stands))]
     pub fn commit(&mut self, plan: Plan) -> Outputs
         requires { IsAsPlanned plan.was self.old }
@@ -91,7 +93,8 @@ impl Conn {
         self.machine.commit(plan)
     }
 
-    /// So many milliseconds pass: for the state's timer, and for the drain time where a channel drains.
+    /// So many milliseconds pass: for the state's timer, and for the drain time where a channel
+    /// drains.
     #[tactic(auto, using(crate::proofs::Keeping::pass_stands))]
     pub fn pass(&mut self, ms: u32)
         ensures { self.new ≡ after_pass ms self.old }
@@ -120,8 +123,8 @@ impl Conn {
         self.machine.serving
     }
 
-    /// The channel that serves once the connection has done the row that fits this input: the target, where a change
-    /// completes.
+    /// The channel that serves once the connection has done the row that fits this input: the
+    /// target, where a change completes.
     pub fn serving_after(&self, input: &Input) -> Channel
         ensures { result ≡ serving_after self.now (row_of self.now input.now None) }
     {
@@ -135,7 +138,8 @@ impl Conn {
         self.machine.waited
     }
 
-    /// Milliseconds for which the oldest draining channel drained, as far as 64 bits say them; 0 where none drains.
+    /// Milliseconds for which the oldest draining channel drained, as far as 64 bits say them; 0
+    /// where none drains.
     pub fn drained(&self) -> u64
         ensures { result ≡ self.now.drained }
     {
@@ -163,7 +167,8 @@ impl Conn {
         self.machine.held(sapi)
     }
 
-    /// A copy of the mobile's messages of a SAPI that are held, those of the oldest tenure first, in order.
+    /// A copy of the mobile's messages of a SAPI that are held, those of the oldest tenure first,
+    /// in order.
     pub fn held_up(&self, sapi: Sapi) -> Result<Vec<Octets>, Memory>
         ensures { IfOk result (λ list. list.items ≡ joined sapi self.now.up.tenures) }
     {

@@ -18,8 +18,8 @@ use hold_queue::HoldFault;
 use octets::{Memory, Octets};
 
 impl Machine {
-    /// A layer 3 message for the mobile: while the channel changes it is held, and so is one of SAPI 3 while its link isn't
-    /// up; else it is handed.
+    /// A layer 3 message for the mobile: while the channel changes it is held, and so is one of
+    /// SAPI 3 while its link isn't up; else it is handed.
     pub(crate) fn on_downlink(
         &mut self,
         sapi: Sapi,
@@ -83,7 +83,8 @@ impl Machine {
         }
     }
 
-    // It waits for its link, which is asked for where it is down. Room for the request is there before the message is held.
+    // It waits for its link, which is asked for where it is down. Room for the request is there
+    // before the message is held.
     fn hold_short_message(&mut self, message: Octets, outputs: &mut Outputs) -> Result<(), Memory>
         ensures done { OnOk result (Does (hold_short_message self.old.state message self.old) self.old self.new outputs.old.outs outputs.new.outs) }
         ensures err { OnErr result (Stays self.old self.new outputs.old.outs outputs.new.outs) }

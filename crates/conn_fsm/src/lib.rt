@@ -1,5 +1,5 @@
-//! The connection: a mobile's way through the base station controller, from its access to the clear. Each step is a row of
-//! the table in `conn_rules`.
+//! The connection: a mobile's way through the base station controller, from its access to the
+//! clear. Each step is a row of the table in `conn_rules`.
 #![tactic(auto)]
 
 pub use conn::Conn;

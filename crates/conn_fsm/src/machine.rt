@@ -13,8 +13,9 @@ use rsl_codec::{AccessDelay, RequestReference};
 use std::alloc::Global;
 use std::marker::Model;
 
-/// The parts of a connection, and the rows of its table. A row is done in this order: its messages are made, their frames
-/// are appended, and then the parts change, which takes no memory; so a refusal changes nothing.
+/// The parts of a connection, and the rows of its table. A row is done in this order: its messages
+/// are made, their frames are appended, and then the parts change, which takes no memory; so a
+/// refusal changes nothing.
 #[derive(Drop)]
 pub(crate) struct Machine {
     pub(crate) alloc: Global,

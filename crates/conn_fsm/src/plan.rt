@@ -4,7 +4,8 @@ use conn_rules::{Input, State};
 use std::marker::Model;
 use std::snapshot::Snapshot;
 
-/// What an expiry or a broken link will make of a connection. All memory that the step wants is in it already.
+/// What an expiry or a broken link will make of a connection. All memory that the step wants is in
+/// it already.
 #[derive(Drop)]
 pub struct Plan {
     pub(crate) outputs: Outputs,

@@ -15,8 +15,8 @@ use conn_messages::{Messages, Outputs};
 use conn_rules::{Stage, State};
 use octets::Memory;
 
-/// What an expiry, or a link that broke, makes of a connection: the frames that it puts, and the state that it ends in; none
-/// where no row fits.
+/// What an expiry, or a link that broke, makes of a connection: the frames that it puts, and the
+/// state that it ends in; none where no row fits.
 #[derive(Drop)]
 pub(crate) struct Ending {
     pub(crate) outputs: Outputs,

@@ -35,7 +35,8 @@ impl Machine {
         Ok(true)
     }
 
-    // The channel at the place is done. While the oldest is, it leaves, and what is held in the next tenure is relayed.
+    // The channel at the place is done. While the oldest is, it leaves, and what is held in the
+    // next tenure is relayed.
     #[tactic(auto, using(crate::proofs::Leaving::length_done))]
     fn release(
         &mut self,
@@ -115,7 +116,8 @@ impl Machine {
         }
     }
 
-    // The oldest leaves, and its tenure with it. What the next held was relayed, and its drain time begins.
+    // The oldest leaves, and its tenure with it. What the next held was relayed, and its drain time
+    // begins.
     #[tactic(auto, using(crate::proofs::Leaving::first_of))]
     fn leave_oldest(&mut self)
         requires drains { 1 ≤ length self.old.draining }

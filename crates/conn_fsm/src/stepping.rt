@@ -136,7 +136,8 @@ impl Machine {
         outputs
     }
 
-    /// So many milliseconds pass: for the state's timer, and for the drain time where a channel drains.
+    /// So many milliseconds pass: for the state's timer, and for the drain time where a channel
+    /// drains.
     pub(crate) fn pass(&mut self, ms: u32)
         ensures { self.new ≡ after_pass ms self.old }
     {

@@ -16,7 +16,8 @@ use conn_rules::{Clearing, Stage, State};
 use octets::Memory;
 
 impl Machine {
-    /// CC: what the mobile sent meanwhile is relayed; of a connection that ended meanwhile the clearing is asked for.
+    /// CC: what the mobile sent meanwhile is relayed; of a connection that ended meanwhile the
+    /// clearing is asked for.
     pub(crate) fn on_confirm(
         &mut self,
         source: Reference,
@@ -59,7 +60,8 @@ impl Machine {
         Ok(true)
     }
 
-    /// RLSD: the mobile is dismissed where it wasn't, and RLC goes to the reference that the switch names.
+    /// RLSD: the mobile is dismissed where it wasn't, and RLC goes to the reference that the switch
+    /// names.
     pub(crate) fn on_released(
         &mut self,
         source: Reference,

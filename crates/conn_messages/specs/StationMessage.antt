@@ -1,4 +1,5 @@
--- The messages to a base station (TS 48.058 clause 8), and those to the mobile that they carry (TS 44.018 clause 9.1).
+-- The messages to a base station (TS 48.058 clause 8), and those to the mobile that they carry (TS
+-- 44.018 clause 9.1).
 use Rattle.std.specs.Prelude.{ℕ, min, nat_le, if◌then◌else◌, List, Option, Some, None}
 use Rattle.conn_messages.specs.declared.channel.Change.{Change}
 use Rattle.conn_messages.specs.declared.channel.Change.TheVariants.{Assignment, Handover}

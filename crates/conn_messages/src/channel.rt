@@ -10,8 +10,8 @@ pub struct Channel {
     /// The number of the base station, from 1.
     pub station: u16,
     pub number: ChanNo,
-    /// The value of the cell's identifier (TS 48.008 clause 3.2.2.17): an octet 00, mobile country and network codes,
-    /// location area code, cell identity.
+    /// The value of the cell's identifier (TS 48.008 clause 3.2.2.17): an octet 00, mobile country
+    /// and network codes, location area code, cell identity.
     pub cell: [u8; CELL_IDENTIFIER_LENGTH],
     /// The cell's ARFCN and BSIC. Its BCC is the training sequence code of its channels.
     pub description: CellDescription,
@@ -19,7 +19,8 @@ pub struct Channel {
     pub reference: HandoverReference,
 }
 
-/// Where a message of a base station came from: the station, by its number from 1, and the channel that the message names.
+/// Where a message of a base station came from: the station, by its number from 1, and the channel
+/// that the message names.
 #[derive(Clone, Copy)]
 pub struct Place {
     pub station: u16,

@@ -1,5 +1,5 @@
-//! The messages that a connection of the base station controller puts: their values, their builders, and the frames that
-//! carry them.
+//! The messages that a connection of the base station controller puts: their values, their
+//! builders, and the frames that carry them.
 #![tactic(auto)]
 
 pub use channel::{CELL_IDENTIFIER_LENGTH, Change, Channel, Place};

@@ -7,8 +7,8 @@ use octets::Memory;
 use std::alloc::Global;
 use std::marker::Model;
 
-/// Messages that a connection puts, in order. Each can be written, and what is written is read as it. Contracts see their
-/// list.
+/// Messages that a connection puts, in order. Each can be written, and what is written is read as
+/// it. Contracts see their list.
 #[derive(Drop)]
 pub struct Messages {
     messages: Vec<Message>,

@@ -9,8 +9,8 @@ use octets::Memory;
 use std::alloc::Global;
 use std::marker::Model;
 
-/// Frames that go out, in order. A link carries each: its body has 2048 octets at most. Contracts see their list, and for
-/// how many more there is room.
+/// Frames that go out, in order. A link carries each: its body has 2048 octets at most. Contracts
+/// see their list, and for how many more there is room.
 #[derive(Drop)]
 pub struct Outputs {
     outs: Vec<Out>,
@@ -63,8 +63,8 @@ impl Outputs {
         Ok(())
     }
 
-    /// Puts the frames of all messages of the connection with this number behind the others, in order. An `Err` changes
-    /// nothing.
+    /// Puts the frames of all messages of the connection with this number behind the others, in
+    /// order. An `Err` changes nothing.
     pub fn put_all(&mut self, alloc: Global, number: u32, messages: &Messages) -> Result<(), Memory>
         requires { number < 2 ^ 24 }
         ensures ok { OnOk result (self.new.outs ≡ self.old.outs ++ outs_of number messages.now) }

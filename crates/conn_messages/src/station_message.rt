@@ -1,4 +1,5 @@
-//! The messages to a base station (TS 48.058 clause 8), and those to the mobile that they carry (TS 44.018 clause 9.1).
+//! The messages to a base station (TS 48.058 clause 8), and those to the mobile that they carry (TS
+//! 44.018 clause 9.1).
 //!
 //! A call is refused only where memory runs out.
 ghost use Rattle.std.specs.Prelude.{◌≡◌, IfOk};
@@ -53,7 +54,8 @@ pub fn channel_release(alloc: Global, channel: &Channel, cause: u8) -> Result<Me
     rr_to_mobile(alloc, channel, &release)
 }
 
-/// ASSIGNMENT COMMAND or HANDOVER COMMAND for the mobile on the serving channel: it is to change to the target.
+/// ASSIGNMENT COMMAND or HANDOVER COMMAND for the mobile on the serving channel: it is to change to
+/// the target.
 pub fn change_command(
     alloc: Global,
     serving: &Channel,
@@ -127,8 +129,8 @@ pub fn change_activation(alloc: Global, change: Change, target: &Channel) -> Res
     }
 }
 
-/// IMMEDIATE ASSIGN COMMAND with an IMMEDIATE ASSIGNMENT of the channel, for the mobile that asked with this request. Its
-/// timing advance is the delay of the access burst in symbols, 63 at most.
+/// IMMEDIATE ASSIGN COMMAND with an IMMEDIATE ASSIGNMENT of the channel, for the mobile that asked
+/// with this request. Its timing advance is the delay of the access burst in symbols, 63 at most.
 #[tactic(auto, unfolding(rsl_codec::specs::RslText::rsl_write_fault))]
 pub fn immediate_assign_command(
     alloc: Global,

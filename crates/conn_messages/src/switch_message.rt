@@ -1,5 +1,5 @@
-//! The messages to the switch on a connection (TS 48.006 clause 9.3, TS 48.008 clause 3.2.1). The switch's reference names
-//! the connection.
+//! The messages to the switch on a connection (TS 48.006 clause 9.3, TS 48.008 clause 3.2.1). The
+//! switch's reference names the connection.
 //!
 //! A call is refused only where memory runs out.
 ghost use Rattle.std.specs.Prelude.{◌≡◌, ◌≤◌, length, IfOk};
@@ -31,8 +31,8 @@ pub fn relaying(reference: Reference, channel: &Channel, sapi: Sapi, message: Oc
     }
 }
 
-/// COMPLETE LAYER 3 INFORMATION in a connection request: the mobile's initial message, 1 to 113 octets, opens the
-/// connection in the cell of this channel.
+/// COMPLETE LAYER 3 INFORMATION in a connection request: the mobile's initial message, 1 to 113
+/// octets, opens the connection in the cell of this channel.
 pub fn complete_layer3(alloc: Global, channel: &Channel, initial: &[u8]) -> Result<Message, Memory>
     requires some { 1 ≤ length initial.now }
     requires short { length initial.now ≤ INITIAL_LIMIT }
@@ -91,8 +91,8 @@ pub fn assignment_failure(
     Ok(management(reference, Bssmap::AssignmentFailure { cause, rr_cause }))
 }
 
-/// A change to this channel was completed: ASSIGNMENT COMPLETE with the mobile's cause, or HANDOVER PERFORMED with the
-/// cause better cell and the channel's cell.
+/// A change to this channel was completed: ASSIGNMENT COMPLETE with the mobile's cause, or HANDOVER
+/// PERFORMED with the cause better cell and the channel's cell.
 pub fn change_complete(
     alloc: Global,
     reference: Reference,

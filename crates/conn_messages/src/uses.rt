@@ -21,8 +21,8 @@ pub enum ChannelUse {
     Unchanged,
 }
 
-/// What the message of a frame makes of a channel. It takes no memory: it looks at the discriminator, the message type and the
-/// elements that these messages begin with.
+/// What the message of a frame makes of a channel. It takes no memory: it looks at the
+/// discriminator, the message type and the elements that these messages begin with.
 pub fn channel_use(out: &Out) -> ChannelUse
     ensures octets { result ≡ words.use_of out.now }
     ensures message { (number : ℕ) (message : Message) → IsLawfulMessage message → out.now ≡ out_of number message → result ≡ use_by message }

@@ -1,5 +1,5 @@
--- A row keeps the number of its connection; the channel that serves after it is the serving one or the target, and the target after it
--- is the target or the offer.
+-- A row keeps the number of its connection; the channel that serves after it is the serving one or
+-- the target, and the target after it is the target or the offer.
 use Rattle.conn_rules.proofs.Prelude.{◌≡◌, ℕ, zero, suc, ◌&&◌, Bool, true, false, if◌then◌else◌, List, [], ◌∷◌, ◌++◌, Option, Some, None}
 use Rattle.conn_rules.proofs.Prelude.{Contains, refl, sym, subst, append_assoc, Contains-push, Contains-append_left, Contains-append_right}
 use Rattle.conn_rules.proofs.Prelude.{AllByRecursion, EQUIPMENT_FAILURE, Change, Assignment, Handover, Channel, Place, Sapi, Zero, Three}

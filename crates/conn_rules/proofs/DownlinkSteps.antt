@@ -30,7 +30,8 @@ received_by-nothing Three (inputs.Downlink sapi message) nothing = absurd nothin
 received_by-nothing Zero _ nothing = refl
 received_by-nothing Three _ nothing = refl
 
--- What a row does to the messages of the switch: it ends the connection, lets them be, or moves them.
+-- What a row does to the messages of the switch: it ends the connection, lets them be, or moves
+-- them.
 pub data Does (state : State) (s : Connection) (input : Input) (r : Row) : Type 0 where
   ends : (IsOpen r.next.state → ⊥) → AreParting r.outs → OnlyReleases state r.outs → Does state s input r
   passes : IsOpen state → IsOpen r.next.state → AreQuiet r.outs → r.next.down ≡ s.down → BringsNothing input → Does state s input r

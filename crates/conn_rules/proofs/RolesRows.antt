@@ -1,4 +1,5 @@
--- The words on roles, against literal roles: a connection on 41 of station 1, whose target is 0A of station 2.
+-- The words on roles, against literal roles: a connection on 41 of station 1, whose target is 0A of
+-- station 2.
 use Rattle.conn_rules.proofs.Prelude.{◌≡◌, ℕ, Bool, true, false, [], ◌∷◌, Option, Some, None, refl, Assignment, Handover, Channel, Place, hex}
 use Rattle.conn_rules.proofs.Prelude.{channel_release, rf_channel_release}
 use Rattle.conn_rules.specs.declared.input.Input.TheVariants as inputs

@@ -1,4 +1,5 @@
--- What holds of each message that the table's lists have, and of each state that its rows enter, holds of every row.
+-- What holds of each message that the table's lists have, and of each state that its rows enter,
+-- holds of every row.
 use Rattle.conn_rules.proofs.Prelude.{ℕ, zero, suc, ◌≡◌, refl, ◌≤◌, ◌==◌, ◌&&◌, nat_le, Bool, true, false, not, if◌then◌else◌, List, []}
 use Rattle.conn_rules.proofs.Prelude.{◌∷◌, ◌++◌, length, map, Option, Some, None, AllByRecursion, ABNORMAL_RELEASE, EQUIPMENT_FAILURE}
 use Rattle.conn_rules.proofs.Prelude.{NORMAL_EVENT, RADIO_INTERFACE_FAILURE, RADIO_INTERFACE_MESSAGE_FAILURE, Change, Assignment, Handover}
@@ -45,7 +46,8 @@ where_fits P false r holds = tt
 
 -- ---- of what messages are made
 
--- what is known of the channels, of the switch's references, of causes and of layer 3 messages; and whether CLEAR COMPLETE may be put
+-- what is known of the channels, of the switch's references, of causes and of layer 3 messages; and
+-- whether CLEAR COMPLETE may be put
 pub record Kinds : Type 1 where
   pub channel : Channel → Type 0
   pub reference : ℕ → Type 0

@@ -107,7 +107,8 @@ drain_at-drains at (d ∷ ds) place is =
           subst (λ (n : ℕ). DrainsAt at n (d ∷ ds)) (sym later.2) (drain_at-drains at ds later.0 later.1)
     ]
 
--- what is apart from an old channel isn't at its place, and neither are the channels behind that one
+-- what is apart from an old channel isn't at its place, and neither are the channels behind that
+-- one
 pub drain-away : (at : Place) (c : Channel) (place : ℕ) (ds : List Drain) (rest : List Channel) → DrainsAt at place ds → AllByRecursion (IsApart c) (undone ds ++ rest) → is_at at c ≡ false
 drain-away at c place [] rest drains apart = absurd drains
 drain-away at c zero (d ∷ ds) rest drains apart =

@@ -1,4 +1,5 @@
--- The whole table: what a row relays, then what is still to be relayed, is what was still to be relayed.
+-- The whole table: what a row relays, then what is still to be relayed, is what was still to be
+-- relayed.
 use Rattle.conn_rules.proofs.Prelude.{◌≡◌, Option, refl, sym, subst, Channel, Sapi, Zero, Three}
 use Rattle.conn_rules.specs.declared.input.Input.{Input}
 use Rattle.conn_rules.specs.declared.input.Input.TheVariants as inputs

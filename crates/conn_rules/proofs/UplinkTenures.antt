@@ -1,4 +1,5 @@
--- What is still to be relayed, where a message is held, an old channel is done, or the target serves.
+-- What is still to be relayed, where a message is held, an old channel is done, or the target
+-- serves.
 use Rattle.conn_rules.proofs.Prelude.{◌≡◌, ℕ, zero, suc, ◌+◌, true, false, List, [], ◌∷◌, ◌++◌, length, Some, refl, sym, ap, ◌∙◌, arith}
 use Rattle.conn_rules.proofs.Prelude.{append_assoc, inl, inr, cases_Bool, cond-true, cond-false, Channel, Place, Sapi, Zero, Three, Tenure}
 use Rattle.conn_rules.proofs.Prelude.{empty_tenure, tenure_messages, put_in}

@@ -44,6 +44,7 @@ abbrev pub ArePutOn : Using → List Message → Type 0
 ArePutOn uses [] = Unit {0}
 ArePutOn uses (m ∷ ms) = IsPutOn uses m × ArePutOn (used_after uses m) ms
 
--- on the channels of a connection, of which the serving one and the target are in use before the row
+-- on the channels of a connection, of which the serving one and the target are in use before the
+-- row
 abbrev pub PutsOnOwn : Connection → List Message → Type 0
 PutsOnOwn s outs = ArePutOn (uses_of (channels_in_use s)) outs

@@ -1,4 +1,5 @@
--- The roles of channels in a connection, and what rows do to them: the serving channel, the target of a change, old channels.
+-- The roles of channels in a connection, and what rows do to them: the serving channel, the target
+-- of a change, old channels.
 use Rattle.std.specs.Prelude.{◌≡◌, ◌⊎◌, ℕ, Bool, true, false, not, ◌&&◌, if◌then◌else◌, List, [], ◌∷◌, ◌++◌, filter, Option, Some, None, Contains}
 use Rattle.std.specs.List.{AllByRecursion}
 use Rattle.std.specs.Option.{option_to_list}
@@ -219,7 +220,8 @@ pub record Ends (before : Roles) (input : Input) (r : Row) : Type 0 where
 
 -- ---- the law
 
--- What a row does to the roles: it goes on by the step that its input brings, it ends the connection, or the connection had ended.
+-- What a row does to the roles: it goes on by the step that its input brings, it ends the
+-- connection, or the connection had ended.
 pub data ChangesRoles (s : Connection) (input : Input) (offer : Option Channel) (r : Row) : Type 0 where
   goes_on : IsOpen s.state → IsOpen r.next.state → GoesOn (step_by input (roles_of s)) (roles_of s) s.down input offer r → ChangesRoles s input offer r
   ends : IsOpen s.state → (IsOpen r.next.state → ⊥) → Ends (roles_of s) input r → ChangesRoles s input offer r
@@ -232,7 +234,8 @@ ChangesRolesBy s input offer None = step_by input (roles_of s) ≡ stays
 
 -- ---- the channels in use
 
--- of an open connection the serving one and the target: those that were to be activated, and not yet to be released
+-- of an open connection the serving one and the target: those that were to be activated, and not
+-- yet to be released
 abbrev pub target_channels : Option TargetRole → List Channel
 target_channels (Some t) = t.target.channel ∷ []
 target_channels None = []
@@ -261,7 +264,8 @@ pub record IsAcknowledged (c : Channel) (input : Input) : Type 0 where
   pub comes : input ≡ inputs.ReleaseAck at
   pub there : is_at at c ≡ true
 
--- The account of a connection's channels: what a row gives up and takes, and which old channels come and go.
+-- The account of a connection's channels: what a row gives up and takes, and which old channels
+-- come and go.
 pub record KeepsAccount (s : Connection) (input : Input) (offer : Option Channel) (r : Row) : Type 0 where
   pub gives_up : (c : Channel) → Contains (channels_in_use s) c → Contains (channels_in_use r.next) c ⊎ IsGivenUp c input r.outs
   pub takes : (c : Channel) → Contains (channels_in_use r.next) c → Contains (channels_in_use s) c ⊎ IsTaken c input offer r.outs
@@ -280,7 +284,8 @@ StaysApart r = IsOpen r.next.state → AreApart (used_channels r.next)
 
 -- ---- which channels a row knows
 
--- The number stays; the channel that serves next is the serving one or the target, and the next target is the target or the offer.
+-- The number stays; the channel that serves next is the serving one or the target, and the next
+-- target is the target or the offer.
 pub record KeepsChannels (s : Connection) (offer : Option Channel) (r : Row) : Type 0 where
   pub number : r.next.number ≡ s.number
   pub serving : Contains (s.serving ∷ target_in s.state) r.next.serving

@@ -1,4 +1,5 @@
--- What rows do to the streams of messages: to those of the mobile that are relayed, and to those of the switch that are handed.
+-- What rows do to the streams of messages: to those of the mobile that are relayed, and to those of
+-- the switch that are handed.
 use Rattle.std.specs.Prelude.{◌≡◌, ℕ, ◌%◌, ◌==◌, ◌&&◌, ◌||◌, not, Bool, true, false, if◌then◌else◌, List, [], ◌∷◌, ◌++◌, filter, Option, Some, None}
 use Rattle.std.specs.List.{flat_map, AllByRecursion}
 use Rattle.bssmap_codec.specs.declared.bssap.Bssap.TheVariants.{Management, Transfer}
@@ -76,7 +77,8 @@ Future = Place → List (List ℕ)
 abbrev pub on_channel : Future → Channel → List (List ℕ)
 on_channel future c = future (record { station = c.station; number = c.number })
 
--- tenure by tenure, in the order in which they served: what is held of it, then what may still come on its channel
+-- tenure by tenure, in the order in which they served: what is held of it, then what may still come
+-- on its channel
 abbrev pub still_of : Sapi → Future → Channel → List Drain → List Tenure → List (List ℕ)
 still_of sapi future serving draining [] = []
 still_of sapi future serving [] (t ∷ ts) = tenure_messages t sapi ++ on_channel future serving
@@ -103,7 +105,8 @@ from_input Three (inputs.Dtap at Three message) future = first_at at message fut
 from_input Zero (inputs.EstablishIndication at Zero (Some initial)) future = first_at at initial future
 from_input sapi _ future = future
 
--- nothing comes any more on a channel that an input ends; nothing comes on a target before the COMMAND
+-- nothing comes any more on a channel that an input ends; nothing comes on a target before the
+-- COMMAND
 abbrev pub of_prepared : Future → State → List (List ℕ)
 of_prepared future (Live reference (Preparing target)) = on_channel future target.channel
 of_prepared future _ = []
@@ -135,7 +138,8 @@ abbrev pub AreApart : List Channel → Type 0
 AreApart [] = Unit {0}
 AreApart (c ∷ cs) = AllByRecursion (IsApart c) cs × AreApart cs
 
--- What a row relays, then what is still to be relayed, is what was still to be relayed, this input's message among it.
+-- What a row relays, then what is still to be relayed, is what was still to be relayed, this
+-- input's message among it.
 abbrev pub KeepsUplink : Sapi → Future → Connection → Input → Row → Type 0
 KeepsUplink sapi future s input r =
     IsOpen r.next.state → relayed sapi r.outs ++ still_to_relay sapi future r.next ≡ still_to_relay sapi (from_input sapi input future) s

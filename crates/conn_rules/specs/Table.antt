@@ -1,4 +1,5 @@
--- The table of a connection: for each input, by the state, the one row that fits; None where none does.
+-- The table of a connection: for each input, by the state, the one row that fits; None where none
+-- does.
 use Rattle.std.specs.Prelude.{ℕ, zero, suc, ◌==◌, ◌||◌, ◌&&◌, nat_le, Bool, true, false, not, if◌then◌else◌, List, [], ◌∷◌, ◌++◌, length, Option, Some, None}
 use Rattle.conn_messages.specs.declared.causes.TheConstants.{ABNORMAL_RELEASE, BSS_NOT_EQUIPPED, EQUIPMENT_FAILURE, NORMAL_EVENT, PROTOCOL_ERROR, RADIO_INTERFACE_FAILURE, RADIO_INTERFACE_MESSAGE_FAILURE, REVERSION_TO_OLD_CHANNEL}
 use Rattle.conn_messages.specs.declared.channel.Change.{Change}
@@ -135,7 +136,8 @@ same_change Assignment Assignment = true
 same_change Handover Handover = true
 same_change _ _ = false
 
--- COMPLETE of the target: it serves, the channel that served is released, and what was held is handed
+-- COMPLETE of the target: it serves, the channel that served is released, and what was held is
+-- handed
 abbrev pub complete : ℕ → Change → Channel → ℕ → Option Channel → Connection → Row
 complete reference change channel cause offer s =
     row (change_complete reference change channel cause ∷ rf_channel_release s.serving ∷ []) (moved reference channel s)
@@ -248,7 +250,8 @@ abbrev pub on_drain_expiry : State → Connection → Option Row
 on_drain_expiry (Live reference stage) s = row_if (is_some_draining s.draining) (failing (Live reference stage) s EQUIPMENT_FAILURE)
 on_drain_expiry _ s = None
 
--- a station whose break the connection notices: that of the serving channel, of the target, or of an old channel that isn't done
+-- a station whose break the connection notices: that of the serving channel, of the target, or of
+-- an old channel that isn't done
 abbrev pub drains_at : ℕ → List Drain → Bool
 drains_at station [] = false
 drains_at station (d ∷ ds) = (d.channel.station == station && not d.is_done) || drains_at station ds

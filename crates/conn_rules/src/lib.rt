@@ -1,4 +1,5 @@
-//! The table of a connection: its states and inputs, and what each input makes of it. The table stands in `specs`.
+//! The table of a connection: its states and inputs, and what each input makes of it. The table
+//! stands in `specs`.
 #![tactic(auto)]
 
 pub use input::Input;

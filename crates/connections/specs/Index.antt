@@ -1,4 +1,5 @@
--- Entries in slots, and an index of them: their numbers, each with the key of its slot, in order. No public clause cites it.
+-- Entries in slots, and an index of them: their numbers, each with the key of its slot, in order.
+-- No public clause cites it.
 use Rattle.std.specs.Prelude.{◌≡◌, ◌≢◌, ℕ, ◌==◌, ◌||◌, Bool, true, false, List, [], ◌∷◌, ◌++◌, slice_index_or, Option, Some, None}
 use Rattle.std.specs.Option.{option_to_list}
 use Rattle.std.specs.Map.{remove_entry}

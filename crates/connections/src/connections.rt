@@ -19,7 +19,8 @@ use settings::Settings;
 use std::alloc::Global;
 use std::marker::Model;
 
-/// The connections of a controller with these settings, by rising number. A connection that is removed isn't there any more.
+/// The connections of a controller with these settings, by rising number. A connection that is
+/// removed isn't there any more.
 #[derive(Drop)]
 pub struct Connections {
     alloc: Global,
@@ -49,8 +50,9 @@ impl Connections {
         })
     }
 
-    /// One more, whose access channel was activated for the request of a CHANNEL REQUIRED and its access delay. Its number is
-    /// above all others. A refusal, for lack of memory, changes nothing.
+    /// One more, whose access channel was activated for the request of a CHANNEL REQUIRED and its
+    /// access delay. Its number is above all others. A refusal, for lack of memory, changes
+    /// nothing.
     pub fn open(
         &mut self,
         number: u32,
@@ -98,11 +100,12 @@ impl Connections {
         self.table.at(place)
     }
 
-    /// The connection with this number does the one row of the table that fits the input, with the channel that is offered to
-    /// a change which begins in it: the row's frames are appended, and the answer is true. Averages begin anew where another
-    /// channel serves then, and a connection that is removed goes. Where no row fits, or there is no such connection, the
-    /// answer is false and nothing changes. Layer 3 messages have 1 to 251 octets. A refusal, for lack of memory, changes
-    /// nothing.
+    /// The connection with this number does the one row of the table that fits the input, with the
+    /// channel that is offered to a change which begins in it: the row's frames are appended, and
+    /// the answer is true. Averages begin anew where another channel serves then, and a connection
+    /// that is removed goes. Where no row fits, or there is no such connection, the answer is false
+    /// and nothing changes. Layer 3 messages have 1 to 251 octets. A refusal, for lack of memory,
+    /// changes nothing.
     pub fn step(
         &mut self,
         number: u32,
@@ -119,8 +122,8 @@ impl Connections {
         self.table.step(number, input, offer, &self.cells, outputs)
     }
 
-    /// The connection with this number does the step that was planned for it, and this gives its frames. It is as it was then,
-    /// but time may have passed for it. It takes no memory.
+    /// The connection with this number does the step that was planned for it, and this gives its
+    /// frames. It is as it was then, but time may have passed for it. It takes no memory.
     pub fn commit(&mut self, number: u32, plan: Plan) -> Outputs
         requires { IsPlanFor plan (find (has_number number) self.old.entries) }
         ensures done { CommitsFor self.old.settings (find (has_number number) self.old.entries) plan.input self.old.entries self.new.entries result.outs }
@@ -136,15 +139,17 @@ impl Connections {
         self.table.age(ms);
     }
 
-    /// The connection with this number gets a report of its serving channel, with the report's number.
+    /// The connection with this number gets a report of its serving channel, with the report's
+    /// number.
     pub fn add(&mut self, number: u32, report: &Report, report_number: u8)
         ensures { self.new ≡ record self.old { entries = all_with_report report_number report.now (find (has_number number) self.old.entries) self.old.entries } }
     {
         self.table.add(number, report, report_number);
     }
 
-    /// What is decided over the reports of the connection with this number once it has this one of its serving channel too,
-    /// with the report's number. Where it isn't there, it stays. Nothing changes; a refusal is for lack of memory.
+    /// What is decided over the reports of the connection with this number once it has this one of
+    /// its serving channel too, with the report's number. Where it isn't there, it stays. Nothing
+    /// changes; a refusal is for lack of memory.
     pub fn decide_with(
         &self,
         number: u32,

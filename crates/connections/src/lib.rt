@@ -1,4 +1,5 @@
-//! The connections of a controller: in a slab, by rising number, each with the averages of its serving channel.
+//! The connections of a controller: in a slab, by rising number, each with the averages of its
+//! serving channel.
 #![tactic(auto)]
 
 pub use conn_fsm::{Channel, Conn, Input, Outputs, Plan};

@@ -17,8 +17,8 @@ use slab::Slab;
 use std::alloc::Global;
 use std::marker::Model;
 
-/// Entries in a slab, in the order in which they came, each found by its number. The index has their numbers in that order,
-/// each with the key of its slot.
+/// Entries in a slab, in the order in which they came, each found by its number. The index has
+/// their numbers in that order, each with the key of its slot.
 #[derive(Drop)]
 pub(crate) struct Table {
     slots: Slab<Entry>,

@@ -1,4 +1,5 @@
--- What comes to all connections, step by step: each step is that of the connection as it is then, since the others left it.
+-- What comes to all connections, step by step: each step is that of the connection as it is then,
+-- since the others left it.
 use Rattle.controller.proofs.Prelude.{◌≡◌, ◌≢◌, ℕ, cond, List, [], ◌∷◌, ◌++◌, find, map, Option, Some, None, refl, sym, subst, ap, ◌∙◌}
 use Rattle.controller.proofs.Prelude.{arith, eq-eqb, AllByRecursion, Input, Connection, Row, AreRising, Controller, Entry, Turn, turn, each}
 use Rattle.controller.proofs.Prelude.{has_number, entry_of, aged, all_aged, by_fitting, concerning_too, Parameters}

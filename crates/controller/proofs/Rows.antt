@@ -1,4 +1,5 @@
--- What a call makes of the controller and of the outputs, and what comes to its connections, against literal values.
+-- What a call makes of the controller and of the outputs, and what comes to its connections,
+-- against literal values.
 use Rattle.controller.proofs.Prelude.{◌≡◌, ℕ, Bool, true, false, List, [], ◌∷◌, map, Some, None, refl, sym, ap, arith, Channel, Out}
 use Rattle.controller.proofs.Prelude.{WaitActivation, WaitEstablish, WaitConfirm, Live, Connection, ConnectionsState, Controller, Entry}
 use Rattle.controller.proofs.Prelude.{turn}

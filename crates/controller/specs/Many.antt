@@ -1,4 +1,5 @@
--- What comes to all connections: which of them do a step, and what their steps make of the controller.
+-- What comes to all connections: which of them do a step, and what their steps make of the
+-- controller.
 use Rattle.std.specs.Prelude.{◌≡◌, ◌≢◌, ℕ, List, [], ◌∷◌, find, length, Option, Some, None}
 use Rattle.std.specs.List.{AllByRecursion, flat_map}
 use Rattle.conn_fsm.specs.Doing.{IsAsPlanned, IsPlanned, outs_in}
@@ -19,7 +20,8 @@ pub record Due : Type 0 where
   pub was : Connection
   pub input : Input
 
--- what comes to a connection: after the time that passes its timer may expire; a link that breaks comes to each
+-- what comes to a connection: after the time that passes its timer may expire; a link that breaks
+-- comes to each
 abbrev pub due : Cause → Timers → Connection → Option Input
 due (Time ms) timers s = expiry timers (after_pass ms s)
 due (Break source) timers s = Some (break_of source)

@@ -15,8 +15,8 @@ use rsl_codec::RequestReference;
 use std::alloc::Global;
 
 impl Controller {
-    /// CHANNEL REQUIRED of a station: the next connection gets the first free SDCCH of the cell. Without one, without a link to
-    /// the switch, or where no number is left, it is ignored.
+    /// CHANNEL REQUIRED of a station: the next connection gets the first free SDCCH of the cell.
+    /// Without one, without a link to the switch, or where no number is left, it is ignored.
     pub(crate) fn on_request(
         &mut self,
         station: u16,

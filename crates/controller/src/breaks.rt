@@ -11,7 +11,8 @@ use conn_rules::Input;
 use octets::Memory;
 
 impl Controller {
-    /// The link of this number broke: the connections learn of it by rising number, and the channels of a station are free.
+    /// The link of this number broke: the connections learn of it by rising number, and the
+    /// channels of a station are free.
     pub(crate) fn on_break(&mut self, source: u16, outputs: &mut Outputs) -> Result<(), Memory>
         ensures ok { OnOk result (Turns (words.on_break source self.old) self.old self.new outputs.old.outs outputs.new.outs) }
         ensures err { OnErr result (Stays self.old self.new outputs.old.outs outputs.new.outs) }

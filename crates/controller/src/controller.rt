@@ -44,7 +44,8 @@ impl Model for Controller {
 }
 
 impl Controller {
-    /// A controller with no connections, all of whose links are up. It keeps the allocator. An `Err` says that memory ran out.
+    /// A controller with no connections, all of whose links are up. It keeps the allocator. An
+    /// `Err` says that memory ran out.
     pub fn new(alloc: Global, settings: Settings) -> Result<Controller, Memory>
         ensures { IfOk result (λ c. c ≡ new_controller settings) }
     {

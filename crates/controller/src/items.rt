@@ -15,9 +15,9 @@ use ruled_relay::{Item, What};
 use std::alloc::Global;
 
 impl Controller {
-    /// Takes an item: a frame of a link, or that the link gives nothing more. What it puts is appended to the outputs. After
-    /// the break of its link, and where there is no such link, an item is ignored. A refusal, for lack of memory, changes
-    /// nothing and hands the item back.
+    /// Takes an item: a frame of a link, or that the link gives nothing more. What it puts is
+    /// appended to the outputs. After the break of its link, and where there is no such link, an
+    /// item is ignored. A refusal, for lack of memory, changes nothing and hands the item back.
     pub fn step(&mut self, item: Item, outputs: &mut Outputs) -> Result<(), Item>
         ensures ok { OnOk result (Turns (words.take item self.old) self.old self.new outputs.old.outs outputs.new.outs) }
         ensures err { OnErr result (Stays self.old self.new outputs.old.outs outputs.new.outs) }

@@ -40,8 +40,8 @@ impl Model for Planned {
 }
 
 impl Controller {
-    /// Plans the steps of all connections that do one, by rising number. It takes all memory that they want but that of the
-    /// outputs.
+    /// Plans the steps of all connections that do one, by rising number. It takes all memory that
+    /// they want but that of the outputs.
     fn plan_all(&self, cause: &Cause) -> Result<Vec<Planned>, Memory>
         ensures planned { IfOk result (λ planned. map planned_for planned.items ≡ all_due cause.now self.now.settings.timers self.now.entries) }
         ensures rising { AreRising self.now.entries }

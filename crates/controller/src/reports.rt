@@ -16,8 +16,8 @@ use ho_decision::Decision;
 use octets::Memory;
 
 impl Controller {
-    /// A valid report on a channel: on the serving channel of a connection that asked the switch for one it is added to the
-    /// averages, and may decide for a handover; else it is ignored.
+    /// A valid report on a channel: on the serving channel of a connection that asked the switch
+    /// for one it is added to the averages, and may decide for a handover; else it is ignored.
     pub(crate) fn on_report(
         &mut self,
         at: &Place,
@@ -68,7 +68,8 @@ impl Controller {
         }
     }
 
-    // The report is added behind the handover that it decides for, since that alone may be refused memory.
+    // The report is added behind the handover that it decides for, since that alone may be refused
+    // memory.
     fn measure(
         &mut self,
         connection: u32,

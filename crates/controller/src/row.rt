@@ -16,7 +16,8 @@ use controller_parts::handovers_begun;
 use octets::Memory;
 
 impl Controller {
-    /// What concerns the connection of this number; where it has no row that fits, or isn't there, it is ignored.
+    /// What concerns the connection of this number; where it has no row that fits, or isn't there,
+    /// it is ignored.
     pub(crate) fn concern(
         &mut self,
         number: u32,
@@ -33,7 +34,8 @@ impl Controller {
         Ok(())
     }
 
-    /// Has the connection of this number do the row that fits, with the channel that would be offered; whether one fits.
+    /// Has the connection of this number do the row that fits, with the channel that would be
+    /// offered; whether one fits.
     pub(crate) fn do_row(
         &mut self,
         number: u32,
@@ -71,8 +73,8 @@ impl Controller {
         Ok(fits)
     }
 
-    /// Follows the frames that a connection put: which channels they take into use or release, and how many handovers they
-    /// begin.
+    /// Follows the frames that a connection put: which channels they take into use or release, and
+    /// how many handovers they begin.
     pub(crate) fn follow(&mut self, number: u32, outs: &[Out])
         ensures { (messages : List Message) → AllByRecursion IsSound messages → outs.now ≡ outs_of number messages
             → self.new ≡ following number messages self.old }

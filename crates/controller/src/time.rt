@@ -12,8 +12,8 @@ use octets::Memory;
 use settings::Settings;
 
 impl Controller {
-    /// So many milliseconds pass: for all connections; then what expires does, by rising number of the connections. A refusal,
-    /// for lack of memory, changes nothing.
+    /// So many milliseconds pass: for all connections; then what expires does, by rising number of
+    /// the connections. A refusal, for lack of memory, changes nothing.
     pub fn tick(&mut self, ms: u32, outputs: &mut Outputs) -> Result<(), Memory>
         ensures ok { OnOk result (Turns (words.tick ms self.old) self.old self.new outputs.old.outs outputs.new.outs) }
         ensures err { OnErr result (Stays self.old self.new outputs.old.outs outputs.new.outs) }
@@ -25,8 +25,8 @@ impl Controller {
     }
 }
 
-/// What expires for a connection once so many milliseconds more have passed: the state's timer, which comes first, or the
-/// drain time.
+/// What expires for a connection once so many milliseconds more have passed: the state's timer,
+/// which comes first, or the drain time.
 pub(crate) fn expiry_after(settings: &Settings, conn: &Conn, ms: u32) -> Option<Input>
     ensures { result ≡ words.expiry settings.now.timers (after_pass ms conn.now) }
 {
@@ -48,7 +48,8 @@ fn is_over(time: Option<u32>, waited: u64) -> bool
     }
 }
 
-// The time of a state's timer: T3101 until the mobile is there, T3107 and T3103 while an assignment or a handover goes on.
+// The time of a state's timer: T3101 until the mobile is there, T3107 and T3103 while an assignment
+// or a handover goes on.
 fn time_of(settings: &Settings, state: State) -> Option<u32>
     ensures { result ≡ words.time_of settings.now.timers state }
 {

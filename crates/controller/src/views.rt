@@ -8,7 +8,8 @@ use dtap_codec::Sapi;
 use octets::{Memory, Octets};
 
 impl Controller {
-    /// How much was ignored: what changes nothing and is no row of the connections' table, as far as 64 bits say it.
+    /// How much was ignored: what changes nothing and is no row of the connections' table, as far
+    /// as 64 bits say it.
     pub fn ignored(&self) -> u64
         ensures { result ≡ self.now.ignored }
     {
@@ -22,7 +23,8 @@ impl Controller {
         self.links.len()
     }
 
-    /// The average RXQUAL-FULL of a connection's serving channel; none without a report, or without such a connection.
+    /// The average RXQUAL-FULL of a connection's serving channel; none without a report, or without
+    /// such a connection.
     pub fn rxqual(&self, conn: u32) -> Option<u8>
         ensures { result ≡ words.rxqual self.now conn }
     {
@@ -32,8 +34,8 @@ impl Controller {
         }
     }
 
-    /// A copy of the switch's messages of a SAPI that are held for a connection, in order, without those of radio resource
-    /// management; none where it isn't there.
+    /// A copy of the switch's messages of a SAPI that are held for a connection, in order, without
+    /// those of radio resource management; none where it isn't there.
     pub fn held(&self, conn: u32, sapi: Sapi) -> Result<Vec<Octets>, Memory>
         ensures { IfOk result (λ list. list.items ≡ words.held self.now conn sapi) }
     {
@@ -43,8 +45,8 @@ impl Controller {
         }
     }
 
-    /// A copy of the mobile's messages of a SAPI that are held, those of the oldest tenure first, in order; none where the
-    /// connection isn't there.
+    /// A copy of the mobile's messages of a SAPI that are held, those of the oldest tenure first,
+    /// in order; none where the connection isn't there.
     #[tactic(auto, using(crate::proofs::Held::joined_is))]
     pub fn held_up(&self, conn: u32, sapi: Sapi) -> Result<Vec<Octets>, Memory>
         ensures { IfOk result (λ list. list.items ≡ words.held_up self.now conn sapi) }

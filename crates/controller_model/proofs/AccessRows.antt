@@ -63,7 +63,8 @@ is_releasing : channel_state releasing (place_at 1 0x41) ≡ Releasing 1
 unfolding on_literals
 is_releasing = refl
 
--- a channel that is releasing is free after RF CHANNEL RELEASE ACK alone; before ACTIVATION ACK nothing on it counts
+-- a channel that is releasing is free after RF CHANNEL RELEASE ACK alone; before ACTIVATION ACK
+-- nothing on it counts
 waits_for_the_release : played releasing (from_station 1 (hex "0c 13 01 88 13 7f 01 02 11 05")
     ∷ from_station 1 (hex "08 23 01 41")
     ∷ from_station 1 (hex "08 33 01 41")

@@ -379,7 +379,8 @@ comes_back_from_a_handover : played handing_over (from_station 1 (hex "03 02 01 
 unfolding on_literals
 comes_back_from_a_handover = refl
 
--- COMPLETE of the other kind, FAILURE of the other kind, COMPLETE on SAPI 3, DTAP in front of COMPLETE
+-- COMPLETE of the other kind, FAILURE of the other kind, COMPLETE on SAPI 3, DTAP in front of
+-- COMPLETE
 takes_no_other_complete : played handing_over (from_station 2 (hex "03 02 01 41 02 00 0b 00 03 06 29 00")
     ∷ from_station 1 (hex "03 02 01 41 02 00 0b 00 03 06 2f 00")
     ∷ from_station 2 (hex "03 02 01 41 02 03 0b 00 03 06 2c 00")

@@ -80,7 +80,8 @@ holds_up_short_messages = refl
 abbrev put_out : ℕ → ℕ → ℕ → List ℕ → Out
 put_out conn link stream body = record { to = link; conn = conn; frame = record { stream = stream; body = body } }
 
--- DTAP of SAPI 3 and of SAPI 0 to the switch by connections 1 and 2, two that are cut, and one that goes to a station
+-- DTAP of SAPI 3 and of SAPI 0 to the switch by connections 1 and 2, two that are cut, and one that
+-- goes to a station
 abbrev up : List Out
 up = put_out 1 0 0xfd (hex "06 80 00 01 00 01 05 01 83 02 09 01")
     ∷ put_out 2 0 0xfd (hex "06 80 00 02 00 01 05 01 00 02 03 45")
@@ -96,7 +97,8 @@ forwards_of_the_other : forwarded up 2 ≡ record { sapi = Zero; message = hex "
 unfolding on_literals
 forwards_of_the_other = refl
 
--- DATA REQUEST on SAPI 0 by connections 1 and 2, on SAPI 3, of radio resource management, cut, and to the switch
+-- DATA REQUEST on SAPI 0 by connections 1 and 2, on SAPI 3, of radio resource management, cut, and
+-- to the switch
 abbrev down : List Out
 down = put_out 1 1 0x00 (hex "02 01 01 41 02 00 0b 00 02 83 02")
     ∷ put_out 2 1 0x00 (hex "02 01 01 49 02 00 0b 00 02 05 18")

@@ -1,4 +1,5 @@
--- The controller over what it takes: what each item and each tick puts, and what it makes of the controller.
+-- The controller over what it takes: what each item and each tick puts, and what it makes of the
+-- controller.
 use Rattle.std.specs.Prelude.{ℕ, ◌+◌, ◌%◌, ◌==◌, ◌&&◌, nat_le, Bool, true, false, if◌then◌else◌, List, [], ◌∷◌, ◌++◌, count_by, fold, map, Option, Some, None}
 use Rattle.std.specs.Option.{is_some, option_and_then}
 use Rattle.conn_messages.specs.declared.channel.Change.{Change}

@@ -31,7 +31,8 @@ use Rattle.rsl_codec.specs.RslReading.{rsl_reading}
 
 -- ---- a station's
 
--- SAPI 0 is the main link alone; SAPI 3 is on the main link or on the SACCH, whatever bits 6 to 4 are
+-- SAPI 0 is the main link alone; SAPI 3 is on the main link or on the SACCH, whatever bits 6 to 4
+-- are
 abbrev pub sapi_of : ℕ → Option Sapi
 sapi_of link =
     if link == MAIN_LINK_SAPI_0 then Some Zero

@@ -4,7 +4,7 @@ pub enum ChannelState {
     Free,
     /// By the connection with this number.
     InUse(u32),
-    /// From RF CHANNEL RELEASE to its acknowledgement (TS 48.058 clause 4.7): by the connection with this number, whose
-    /// messages may still come on it.
+    /// From RF CHANNEL RELEASE to its acknowledgement (TS 48.058 clause 4.7): by the connection
+    /// with this number, whose messages may still come on it.
     Releasing(u32),
 }

@@ -33,8 +33,8 @@ pub fn row_keeps_number()
     ensures { (s : Connection) (input : Input) (offer : Option Channel) → OfRow (λ r. r.next.number ≡ s.number) (row_of s input offer) }
 {}
 
-/// A frame concerns one connection at most, and leaves all others. So does the break of a link, and the passing of time, in
-/// what it does to each connection.
+/// A frame concerns one connection at most, and leaves all others. So does the break of a link, and
+/// the passing of time, in what it does to each connection.
 pub fn others_are_left()
     ensures frames { (m source : ℕ) (word : Word) (c : Controller) → concerned c word ≢ Some m → Leaves m c (on_word source word c).next }
     ensures breaks { (m : ℕ) (input : Input) (c : Controller) (e : Entry) → m ≢ e.connection.number → Leaves m c (told input c e).next }

@@ -1,5 +1,6 @@
-//! What the controller of base stations makes of what comes: its connections, channels and links, item by item and tick by
-//! tick; and the laws of its whole life, whatever comes. The definitions stand in `specs`.
+//! What the controller of base stations makes of what comes: its connections, channels and links,
+//! item by item and tick by tick; and the laws of its whole life, whatever comes. The definitions
+//! stand in `specs`.
 #![tactic(auto)]
 
 pub use channel_kind::ChannelKind;

@@ -23,54 +23,60 @@ ghost use Rattle.controller_model.specs.Life.{life};
 ghost use Rattle.ipa_framing.specs.declared.frame.Frame.{Frame as FrameValue};
 ghost use Rattle.settings.specs.Parameters.{AreAllowed, Parameters};
 
-/// Whatever comes, the numbers of the connections rise from 1 and are below that of the next one. It is a law on the
-/// definitions.
+/// Whatever comes, the numbers of the connections rise from 1 and are below that of the next one.
+/// It is a law on the definitions.
 pub fn numbers_rise()
     ensures { (p : Parameters) (steps : List Step) → IsNumbered (life p steps).next }
 {}
 
-/// A step does one row of the table to a connection at most: by what a frame brings to it, by a report on its channel, by
-/// a link that breaks, or by a timer. Else it begins, or stays as it is, its timers aside.
+/// A step does one row of the table to a connection at most: by what a frame brings to it, by a
+/// report on its channel, by a link that breaks, or by a timer. Else it begins, or stays as it is,
+/// its timers aside.
 pub fn steps_are_rows()
     ensures { (p : Parameters) (steps : List Step) (s : Step) (number : ℕ) → 1 ≤ number → ActsOn number (life p steps).next s }
 {}
 
-/// While the mobile of a connection changes its channel nothing is handed to it, and nothing by the step that commands it
-/// to; what a step hands goes to the channel that serves after it. From the step that closes a connection on nothing is
-/// handed or relayed; after CLEAR COMPLETE only RLC is put, and nothing once the connection is gone. What a step relays and
-/// hands is what is read from its frames, with settings that are allowed and where what came was octets.
+/// While the mobile of a connection changes its channel nothing is handed to it, and nothing by the
+/// step that commands it to; what a step hands goes to the channel that serves after it. From the
+/// step that closes a connection on nothing is handed or relayed; after CLEAR COMPLETE only RLC is
+/// put, and nothing once the connection is gone. What a step relays and hands is what is read from
+/// its frames, with settings that are allowed and where what came was octets.
 pub fn silence_is_kept()
     ensures steps { (p : Parameters) (steps : List Step) (number : ℕ) → 1 ≤ number → SilenceIsKept number p steps (life p steps) }
     ensures end { (p : Parameters) (steps rest : List Step) (number : ℕ) → 1 ≤ number → number < (life p steps).next.next_number
         → (IsThere (connection_of (life p steps).next number) → ⊥) → StaysSilent number (life p steps).next rest }
 {}
 
-/// The same told by what came and what was put, step by step. From the step that puts ASSIGNMENT COMMAND or HANDOVER COMMAND
-/// on nothing is handed, until the step that takes the mobile's COMPLETE or FAILURE or that clears; what a step hands goes to
-/// the channel that serves after it, the first of the service list; once CLEAR COMPLETE was put only RLC is put. What a step
-/// hands is what is read from its frames, with settings that are allowed and where what came was octets.
+/// The same told by what came and what was put, step by step. From the step that puts ASSIGNMENT
+/// COMMAND or HANDOVER COMMAND on nothing is handed, until the step that takes the mobile's
+/// COMPLETE or FAILURE or that clears; what a step hands goes to the channel that serves after it,
+/// the first of the service list; once CLEAR COMPLETE was put only RLC is put. What a step hands is
+/// what is read from its frames, with settings that are allowed and where what came was octets.
 pub fn messages_are_handed_in_place()
     ensures { (p : Parameters) (steps : List Step) (number : ℕ) → 1 ≤ number → HandsInPlace number p steps (life p steps) }
 {}
 
-/// Of each SAPI, what was handed to the mobile of a connection, then what is held for it, is what the switch sent from CC on,
-/// without what was rejected and without messages of radio resource management, as long as the connection is open. Always, what
-/// was handed is some of what came, each message at most once and in its order. What was handed is what is read from the frames
-/// to stations, with settings that are allowed and where what came was octets.
+/// Of each SAPI, what was handed to the mobile of a connection, then what is held for it, is what
+/// the switch sent from CC on, without what was rejected and without messages of radio resource
+/// management, as long as the connection is open. Always, what was handed is some of what came,
+/// each message at most once and in its order. What was handed is what is read from the frames to
+/// stations, with settings that are allowed and where what came was octets.
 pub fn downlink_is_conserved()
     ensures { (p : Parameters) (steps : List Step) (number : ℕ) → 1 ≤ number → DownlinkIsConserved number p steps (life p steps) }
 {}
 
-/// Of each SAPI, what was relayed of a connection to the switch, the initial message first, then what is held of it, is what
-/// came on its channels: of the first channel from the initial message on, of each next one from its COMPLETE on, until its
-/// release is acknowledged, channel after channel in the order in which they came to serve; as long as the connection is open.
-/// What was relayed is what is read from the frames to the switch, where what came was octets.
+/// Of each SAPI, what was relayed of a connection to the switch, the initial message first, then
+/// what is held of it, is what came on its channels: of the first channel from the initial message
+/// on, of each next one from its COMPLETE on, until its release is acknowledged, channel after
+/// channel in the order in which they came to serve; as long as the connection is open. What was
+/// relayed is what is read from the frames to the switch, where what came was octets.
 pub fn uplink_is_conserved()
     ensures { (p : Parameters) (steps : List Step) (number : ℕ) → AreAllowed p → 1 ≤ number → UplinkIsConserved number p steps (life p steps) }
 {}
 
-/// A connection that is open has its serving channel and its target in use, its old channels releasing, all different, and
-/// the links of their stations and of the switch up: so a channel is one connection's at most.
+/// A connection that is open has its serving channel and its target in use, its old channels
+/// releasing, all different, and the links of their stations and of the switch up: so a channel is
+/// one connection's at most.
 pub fn channels_are_owned()
     ensures channels { (p : Parameters) (steps : List Step) (number : ℕ) → AreAllowed p
         → OwnsOpen (life p steps).next.channels (life p steps).next.links number (connection_of (life p steps).next number) }
@@ -78,40 +84,43 @@ pub fn channels_are_owned()
         → LinkedOf (is_up (life p steps).next SWITCH_LINK) (connection_of (life p steps).next number) }
 {}
 
-/// A channel is in use by a connection exactly where it is the serving channel or the target of the connection, which is open:
-/// so by one at most. One that is releasing was a connection's, which may be gone. Of a link that is down, or isn't there, and
-/// of the switch's, all channels are free.
+/// A channel is in use by a connection exactly where it is the serving channel or the target of the
+/// connection, which is open: so by one at most. One that is releasing was a connection's, which
+/// may be gone. Of a link that is down, or isn't there, and of the switch's, all channels are free.
 pub fn channels_are_used()
     ensures { (p : Parameters) (steps : List Step) → AreAllowed p → AreUsed (life p steps).next }
 {}
 
-/// Each frame that a step puts goes to a link that is there and is up after the step: none to the link that it breaks.
+/// Each frame that a step puts goes to a link that is there and is up after the step: none to the
+/// link that it breaks.
 pub fn frames_go_to_links_that_are_up()
     ensures { (p : Parameters) (steps : List Step) (s : Step) → AreAllowed p → GoesToUp (life p steps).next s }
 {}
 
-/// Each frame that a step puts has 2,048 octets at most, so none is refused; and whoever gets it reads the message that was
-/// put, or it is PONG. The octets of a frame that came are below 256.
+/// Each frame that a step puts has 2,048 octets at most, so none is refused; and whoever gets it
+/// reads the message that was put, or it is PONG. The octets of a frame that came are below 256.
 pub fn frames_are_read_as_put()
     ensures { (p : Parameters) (steps : List Step) (s : Step) → AreAllowed p → AllByRecursion ComesInOctets steps → ComesInOctets s
         → SendsMessages (life p steps).next s }
 {}
 
-/// A frame concerns one connection at most: that of its channel or its reference, or the next one. Of any other the connection
-/// and its averages stay as they were, no frame is put for it, and its channels stay as they were, in use or releasing.
+/// A frame concerns one connection at most: that of its channel or its reference, or the next one.
+/// Of any other the connection and its averages stay as they were, no frame is put for it, and its
+/// channels stay as they were, in use or releasing.
 pub fn others_are_left_alone()
     ensures { (p : Parameters) (steps : List Step) (number source : ℕ) (frame : FrameValue) → AreAllowed p → 1 ≤ number
         → FrameLeaves number (life p steps).next source frame }
 {}
 
-/// What a step puts for a connection on a dedicated channel goes to one that is in use by it at that moment: one that it used
-/// before the step, or activated in it, and didn't release since. So it isn't another connection's.
+/// What a step puts for a connection on a dedicated channel goes to one that is in use by it at
+/// that moment: one that it used before the step, or activated in it, and didn't release since. So
+/// it isn't another connection's.
 pub fn messages_keep_to_channels()
     ensures { (p : Parameters) (steps : List Step) (s : Step) (number : ℕ) → AreAllowed p → 1 ≤ number → KeepsToChannels number (life p steps).next s }
 {}
 
-/// An IMMEDIATE ASSIGNMENT that a step puts for a connection assigns its serving channel to the mobile of its request; and the
-/// request of a connection stays the same.
+/// An IMMEDIATE ASSIGNMENT that a step puts for a connection assigns its serving channel to the
+/// mobile of its request; and the request of a connection stays the same.
 pub fn assignments_name_their_mobile()
     ensures { (p : Parameters) (steps : List Step) (s : Step) (number : ℕ) → 1 ≤ number → NamesItsMobile number (life p steps).next s }
 {}

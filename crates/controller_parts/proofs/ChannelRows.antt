@@ -1,4 +1,5 @@
--- What frames make of the channels, against literal octets: two links of stations behind the switch's, which has no channels.
+-- What frames make of the channels, against literal octets: two links of stations behind the
+-- switch's, which has no channels.
 use Rattle.std.proofs.Common.{◌≡◌, ℕ, List, [], ◌∷◌, map, refl}
 use Rattle.conn_messages.specs.declared.out.Out.{Out}
 use Rattle.controller_model.specs.declared.channel_state.ChannelState.{ChannelState}

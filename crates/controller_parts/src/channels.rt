@@ -53,7 +53,8 @@ impl LinkChannels {
     }
 }
 
-/// The channels of all cells, by link, the switch's first, which has none, and then by channel number.
+/// The channels of all cells, by link, the switch's first, which has none, and then by channel
+/// number.
 #[derive(Drop)]
 pub struct Channels {
     links: Vec<LinkChannels>,

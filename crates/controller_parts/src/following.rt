@@ -14,8 +14,8 @@ use controller_model::ChannelState;
 use rsl_codec::ASYNCHRONOUS_HANDOVER;
 
 impl Channels {
-    /// Follows the frames that a connection put: a channel that they activate is in use by it; one that they release is
-    /// releasing.
+    /// Follows the frames that a connection put: a channel that they activate is in use by it; one
+    /// that they release is releasing.
     #[tactic(auto, using(crate::proofs::Follows::channels_follow))]
     pub fn follow(&mut self, number: u32, outs: &[Out])
         ensures { (messages : List Message) → AllByRecursion IsLawfulMessage messages → outs.now ≡ outs_of number messages
@@ -43,7 +43,8 @@ impl Channels {
     }
 }
 
-/// How many handovers the frames begin that a connection put: the channels that they activate for one.
+/// How many handovers the frames begin that a connection put: the channels that they activate for
+/// one.
 #[tactic(auto, using(crate::proofs::Follows::handovers_follow))]
 pub fn handovers_begun(outs: &[Out]) -> usize
     ensures { (number : ℕ) (messages : List Message) → AllByRecursion IsLawfulMessage messages → outs.now ≡ outs_of number messages

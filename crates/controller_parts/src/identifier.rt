@@ -5,9 +5,10 @@ ghost use Rattle.settings.specs.Parameters.{IsDigit};
 use conn_messages::CELL_IDENTIFIER_LENGTH;
 use settings::{Cell, Settings};
 
-/// The value of a cell's identifier (TS 48.008 clause 3.2.2.17): the octet 00; the digits of the mobile country and network
-/// codes, two an octet, with F in the place of a third digit of the network that isn't there; location area code and cell
-/// identity, two octets each, the high one first.
+/// The value of a cell's identifier (TS 48.008 clause 3.2.2.17): the octet 00; the digits of the
+/// mobile country and network codes, two an octet, with F in the place of a third digit of the
+/// network that isn't there; location area code and cell identity, two octets each, the high one
+/// first.
 pub(crate) fn cell_identifier(settings: &Settings, cell: &Cell) -> [u8; CELL_IDENTIFIER_LENGTH]
     ensures { result ≡ words.cell_identifier settings.now.network cell.now }
 {

@@ -70,8 +70,8 @@ fn channel_in(
     }
 }
 
-/// The first free channel of a kind in the cell of a station, which are numbered from 1, in the order of the settings, with
-/// the handover reference that it is offered with.
+/// The first free channel of a kind in the cell of a station, which are numbered from 1, in the
+/// order of the settings, with the handover reference that it is offered with.
 pub fn free_channel(
     settings: &Settings,
     channels: &Channels,

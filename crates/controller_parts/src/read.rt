@@ -10,10 +10,11 @@ use ipa_framing::{CCM_STREAM, Frame, PING, RSL_STREAM, SCCP_STREAM};
 use octets::Memory;
 use std::alloc::Global;
 
-/// What a frame says that came on the link `source`, 0 the switch's, i that of the i-th cell's station.
+/// What a frame says that came on the link `source`, 0 the switch's, i that of the i-th cell's
+/// station.
 ///
-/// Every link has CCM, the switch's SCCP, and a station's RSL. A body that its codec refuses says nothing. It is refused
-/// where memory runs out.
+/// Every link has CCM, the switch's SCCP, and a station's RSL. A body that its codec refuses says
+/// nothing. It is refused where memory runs out.
 #[tactic(auto, unfolding(controller_model::specs::Reading::word_of))]
 pub fn read_word(alloc: Global, source: u16, frame: &Frame) -> Result<Word, Memory>
     // What is answered is what the frame says.

@@ -18,8 +18,8 @@ use octets::{Memory, Octets};
 use rsl_codec::{Data, LinkId, Rsl, RslFault};
 use std::alloc::Global;
 
-/// The messages of the mobile that the connection with this number passed on to the switch by these outputs, in order, the
-/// initial one first.
+/// The messages of the mobile that the connection with this number passed on to the switch by these
+/// outputs, in order, the initial one first.
 pub fn forwarded(alloc: Global, outputs: &Outputs, conn: u32) -> Result<Vec<Forwarded>, Memory>
     ensures { IfOk result (λ list. list.items ≡ views.forwarded outputs.now.outs conn) }
 {
@@ -30,8 +30,8 @@ pub fn forwarded(alloc: Global, outputs: &Outputs, conn: u32) -> Result<Vec<Forw
     Ok(list)
 }
 
-/// The messages of the switch that the connection with this number handed to the mobile on this SAPI by these outputs, in
-/// order. A message of radio resource management isn't one.
+/// The messages of the switch that the connection with this number handed to the mobile on this
+/// SAPI by these outputs, in order. A message of radio resource management isn't one.
 pub fn handed(
     alloc: Global,
     outputs: &Outputs,

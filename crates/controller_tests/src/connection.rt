@@ -169,7 +169,8 @@ fn offer_of(event: Event) -> Option<Channel> {
     }
 }
 
-/// Asserts that a row of the table fits each of these events, one after the other, and what it puts.
+/// Asserts that a row of the table fits each of these events, one after the other, and what it
+/// puts.
 fn plays(
     rt: &(impl Abort + AllocGlobal),
     conn: &mut Conn,

@@ -50,7 +50,8 @@ fn outcome(
 #[test]
 fn one_report_moves_or_stays(rt: HostRuntime) -> Result<(), Fail> {
     let settings = settings(rt.alloc(), &CELLS)?;
-    // Serving level 20, and a neighbour of level 23, 22 or none; then the quality 5, and a report that isn't valid.
+    // Serving level 20, and a neighbour of level 23, 22 or none; then the quality 5, and a report
+    // that isn't valid.
     let rows = [
         (
             [0x14, 0x14, 0x00, 0x57, 0x02, 0x40],

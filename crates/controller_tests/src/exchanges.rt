@@ -5,7 +5,8 @@ use std::alloc::Global;
 use std::process::Abort;
 use std::test::Fail;
 
-/// A frame: its link, 0 the switch's, 1 and 2 those of the stations, and its body in hexadecimal digits.
+/// A frame: its link, 0 the switch's, 1 and 2 those of the stations, and its body in hexadecimal
+/// digits.
 pub(crate) type Line<'a> = (u16, &'a str);
 
 /// What comes to the controller.
@@ -98,7 +99,8 @@ pub(crate) fn lives(
     Ok(())
 }
 
-/// Asserts what a new controller puts over these parts of a life, and how often it ignored something.
+/// Asserts what a new controller puts over these parts of a life, and how often it ignored
+/// something.
 pub(crate) fn lives_ignoring(
     rt: &(impl Abort + AllocGlobal),
     parts: &[&[Exchange]],

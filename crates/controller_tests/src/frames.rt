@@ -5,7 +5,8 @@ use std::alloc::Global;
 use std::process::Abort;
 use std::test::Fail;
 
-/// A frame: its link, 0 the switch's, 1 and 2 those of the stations, and its body in hexadecimal digits.
+/// A frame: its link, 0 the switch's, 1 and 2 those of the stations, and its body in hexadecimal
+/// digits.
 pub(crate) type Line<'a> = (u16, &'a str);
 
 /// What the switch sends is SCCP, and what a station sends is RSL.

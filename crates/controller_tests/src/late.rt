@@ -3,7 +3,8 @@ use crate::exchanges::{Exchange, lives_ignoring};
 use crate::parts::{ACCESS, COMMANDED};
 use std::test::Fail;
 
-/// A handover that completes. Before each step comes a late message of each SAPI on the old channel, and at last on both.
+/// A handover that completes. Before each step comes a late message of each SAPI on the old
+/// channel, and at last on both.
 const COMPLETES: &[Exchange] = &[
     (
         Comes(
@@ -100,7 +101,8 @@ const COMPLETES: &[Exchange] = &[
     ),
 ];
 
-/// A handover that fails: the mobile comes back to the channel that it left, and the other one is released.
+/// A handover that fails: the mobile comes back to the channel that it left, and the other one is
+/// released.
 const FAILS: &[Exchange] = &[
     (
         Comes(
@@ -231,7 +233,8 @@ const IS_RELEASED: &[Exchange] = &[
     (Comes(1, "0302014102030b00020907"), &[]),
 ];
 
-/// A second handover, to 49 of cell 1, while 41 of cell 1 still drains: three channels, and each waits for the one before it.
+/// A second handover, to 49 of cell 1, while 41 of cell 1 still drains: three channels, and each
+/// waits for the one before it.
 const CHAIN: &[Exchange] = &[
     (
         Comes(

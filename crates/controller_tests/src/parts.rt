@@ -35,7 +35,8 @@ pub(crate) const REJECTED: &[Exchange] = &[
         Comes(0, "06000001000103000153"),
         &[(0, "06800001000106000459040140")],
     ),
-    // A short message: ESTABLISH REQUEST. RELEASE INDICATION: SAPI N REJECT, and the message is dropped.
+    // A short message: ESTABLISH REQUEST. RELEASE INDICATION: SAPI N REJECT, and the message is
+    // dropped.
     (Comes(0, "060000010001050103020907"), &[(1, "020401410203")]),
     (
         Comes(1, "020901410203"),
@@ -99,7 +100,8 @@ pub(crate) const COMMANDED: &[Exchange] = &[
     ),
 ];
 
-/// It completes: what the switch sent meanwhile is handed on the new channel, and what comes there waits for the old one.
+/// It completes: what the switch sent meanwhile is handed on the new channel, and what comes there
+/// waits for the old one.
 pub(crate) const HANDED_OVER: &[Exchange] = &[
     (Comes(0, "060000010001050103020903"), &[]),
     (Comes(0, "060000010001050100028306"), &[]),
@@ -175,7 +177,8 @@ pub(crate) const LIFE: &[&[Exchange]] = &[
     CLEARED,
 ];
 
-/// An old channel drains for two seconds at most, and a mobile that asks is dropped as the link of the switch breaks.
+/// An old channel drains for two seconds at most, and a mobile that asks is dropped as the link of
+/// the switch breaks.
 pub(crate) const EXPIRES_AND_BREAKS: &[Exchange] = &[
     (
         Comes(2, "0302014102000b0003062c00"),

@@ -14,8 +14,8 @@ fn word(alloc: Global, line: Line) -> Result<Word, Fail> {
     Ok(read_word(alloc, line.0, &frame)?)
 }
 
-/// The station, or 0, the number of the channel or of the connection, and the message that a word brings from the mobile or
-/// for it.
+/// The station, or 0, the number of the channel or of the connection, and the message that a word
+/// brings from the mobile or for it.
 fn message_of(word: &Word) -> Option<(u16, u32, &[u8])> {
     match word {
         Word::OnChannel(at, Input::Dtap { message, .. }) => {

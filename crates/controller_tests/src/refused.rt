@@ -28,7 +28,8 @@ fn begun(rt: &(impl Abort + AllocGlobal)) -> Result<Life, Fail> {
 }
 
 impl Life {
-    /// Takes an item. Where memory is refused nothing has changed, and the item that came back is taken then.
+    /// Takes an item. Where memory is refused nothing has changed, and the item that came back is
+    /// taken then.
     fn takes(&mut self, rt: &(impl Abort + AllocGlobal), item: Item) {
         let (put, ignored) = (self.outputs.len(), self.controller.ignored());
         if let Err(item) = self.controller.step(item, &mut self.outputs) {
@@ -73,8 +74,8 @@ impl Life {
         Ok(())
     }
 
-    /// Plays these parts of a life, and asserts what the controller has put. Where memory ran out on the way, that is told;
-    /// with ample memory it doesn't come.
+    /// Plays these parts of a life, and asserts what the controller has put. Where memory ran out
+    /// on the way, that is told; with ample memory it doesn't come.
     fn ends(&mut self, rt: &(impl Abort + AllocGlobal), parts: &[&[Exchange]]) -> Result<(), Fail> {
         self.plays_all(rt, parts)?;
         let lines = lines_of(rt.alloc(), parts)?;

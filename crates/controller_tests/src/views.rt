@@ -16,8 +16,8 @@ const WAIT_DOWN: &[Exchange] = &[
     (Comes(0, "060000010001050100028306"), &[]),
 ];
 
-/// After HANDOVER COMPLETE the short message waits until its link is established, and what comes on the new channel for the
-/// old one.
+/// After HANDOVER COMPLETE the short message waits until its link is established, and what comes on
+/// the new channel for the old one.
 const WAIT_UP: &[Exchange] = &[
     (
         Comes(2, "0302014102000b0003062c00"),
@@ -82,7 +82,8 @@ fn held_are(
 /// Messages that are held of a SAPI, for the mobile and of it.
 type Held<'a> = (Sapi, &'a [&'a str], &'a [&'a str]);
 
-/// Asserts what a controller puts over these parts of a life, and then the average quality and what is held of connection 1.
+/// Asserts what a controller puts over these parts of a life, and then the average quality and what
+/// is held of connection 1.
 fn are_seen(
     rt: &(impl Abort + AllocGlobal),
     controller: &mut Controller,

@@ -29,9 +29,10 @@ AreNew putters = EachAt putters (λ link p. IsNew p)
 abbrev pub AreUnmarked : ℕ → Marks → Type 0
 AreUnmarked links marks = marks.of_links.items ≡ replicate links unmarked
 
--- One link over these steps and these items taken. What goes to it was put, then End; where its outbox was given up, the
--- first of that, then End. Its items in the steps are what was taken of it, with one more Down where that was added: only
--- where its outbox was given up, and without a fault just there. Without a fault a Down of it was taken.
+-- One link over these steps and these items taken. What goes to it was put, then End; where its
+-- outbox was given up, the first of that, then End. Its items in the steps are what was taken of
+-- it, with one more Down where that was added: only where its outbox was given up, and without a
+-- fault just there. Without a fault a Down of it was taken.
 pub record Serves (fault : Option IoFault) (steps : List Step) (frames : List Frame) (items : List Item) (link : ℕ) (old new : PutterView) : Type 0 where
   pub queue : new.queue ≡ old.queue
   pub sent : List Frame
@@ -51,9 +52,9 @@ pub record Parts : Type 0 where
   -- what the clock has answered, in milliseconds
   pub told : ℕ
 
--- A run of the call worker, which ended with this fault or with none. The items of the steps are those that were taken,
--- but for one at most, the last, whose step ran out of memory. The ticks are what the clock answered; less than a tick is left
--- without a fault.
+-- A run of the call worker, which ended with this fault or with none. The items of the steps are
+-- those that were taken, but for one at most, the last, whose step ran out of memory. The ticks are
+-- what the clock answered; less than a tick is left without a fault.
 pub record Runs (fault : Option IoFault) (old new : Parts) : Type 0 where
   pub steps : List Step
   pub controller : new.controller ≡ (over old.controller steps).next

@@ -15,12 +15,13 @@ use std::alloc::Global;
 use std::sync::Wait;
 use std::time::Duration;
 
-/// Relays until each link has ended: takes the items of all links, and the time that the clock tells, and puts what the
-/// controller puts into the links' outboxes, the switch's first. It ends when a `Down` of each link was taken, or with
-/// `Memory`, the only fault; then it puts `End` into each outbox.
+/// Relays until each link has ended: takes the items of all links, and the time that the clock
+/// tells, and puts what the controller puts into the links' outboxes, the switch's first. It ends
+/// when a `Down` of each link was taken, or with `Memory`, the only fault; then it puts `End` into
+/// each outbox.
 ///
-/// An outbox that refused a frame 1,000 times in a row is given up: nothing more but `End` is put there, and its link's
-/// `Down` is the next step, once for each link.
+/// An outbox that refused a frame 1,000 times in a row is given up: nothing more but `End` is put
+/// there, and its link's `Down` is the next step, once for each link.
 pub fn call_worker<R: Wait, K: Clock + Drop>(
     rt: &R,
     alloc: Global,

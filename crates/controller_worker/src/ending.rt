@@ -11,8 +11,8 @@ use ruled_relay::{Line, Putter};
 use std::sync::Wait;
 
 impl<K: Clock> Worker<K> {
-    /// Puts the mark into each outbox. While one refuses it time is passed on and items are taken, as long as nothing can
-    /// come of them.
+    /// Puts the mark into each outbox. While one refuses it time is passed on and items are taken,
+    /// as long as nothing can come of them.
     pub(crate) fn end_meanwhile<R: Wait>(&mut self, rt: &R) -> Result<(), Memory>
         requires stands { Stands (seen K.told self.old) }
         requires finishes { Finishes (seen K.told self.old) }

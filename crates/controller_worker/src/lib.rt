@@ -1,5 +1,5 @@
-//! The call worker of the running relay: it takes what the links gave, one item at a time, and the passing of time, does the
-//! controller's steps, and puts their outputs into the outboxes.
+//! The call worker of the running relay: it takes what the links gave, one item at a time, and the
+//! passing of time, does the controller's steps, and puts their outputs into the outboxes.
 #![tactic(auto)]
 
 pub use call::call_worker;

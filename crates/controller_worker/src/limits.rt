@@ -4,5 +4,6 @@ pub const MAX_REFUSALS: u32 = 1_000;
 /// The time that gathers before it is passed on to the controller, in milliseconds.
 pub const TICK_MS: u64 = 100;
 
-/// The bells of the outboxes are rung at the latest after so many outputs, and steps that put nothing.
+/// The bells of the outboxes are rung at the latest after so many outputs, and steps that put
+/// nothing.
 pub(crate) const STEPS_A_RING: usize = 32;

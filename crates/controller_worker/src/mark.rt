@@ -14,7 +14,8 @@ pub(crate) struct Mark {
     pub(crate) down: bool,
 }
 
-/// What the call worker remembers of each link. It is made before the worker begins, so that it isn't refused later.
+/// What the call worker remembers of each link. It is made before the worker begins, so that it
+/// isn't refused later.
 #[derive(Drop)]
 pub struct Marks {
     pub(crate) of_links: Vec<Mark>,

@@ -1,4 +1,5 @@
-//! Steps of the controller: an item that was taken, time that has gathered, or the `Down` of a link that was given up.
+//! Steps of the controller: an item that was taken, time that has gathered, or the `Down` of a link
+//! that was given up.
 ghost use Rattle.std.specs.Prelude.{◌≡◌, ◌+◌, ◌<◌, ◌^◌, ◌↔◌, [], min, length, IsTrue, MatchOption, MatchResult, OnOk, OnErr, vec_len};
 ghost use Rattle.controller_worker.specs.Going.{DoesStep, Goes, GoesPart, IsPending, IsSettled, SendsAll, Stands, not_ended, noted, pends, with_added};
 ghost use Rattle.controller_worker.specs.Seen.{seen};
@@ -16,8 +17,8 @@ use ruled_relay::{Item, Putter, What};
 use std::sync::Wait;
 
 impl<K: Clock> Worker<K> {
-    /// Asks the clock, passes on what has gathered once that is a tick, and takes an item, if there is one. Says whether
-    /// there was.
+    /// Asks the clock, passes on what has gathered once that is a tick, and takes an item, if there
+    /// is one. Says whether there was.
     pub(crate) fn turn<R: Wait>(&mut self, rt: &R) -> Result<bool, Memory>
         requires stands { Stands (seen K.told self.old) }
         requires settled { IsSettled (seen K.told self.old) }
@@ -94,8 +95,8 @@ impl<K: Clock> Worker<K> {
         Ok(true)
     }
 
-    // Of each link whose outbox was given up and whose `Down` wasn't added yet, the `Down` is the next step. Its writer is
-    // told, so that it shuts the link once it has written what waits.
+    // Of each link whose outbox was given up and whose `Down` wasn't added yet, the `Down` is the
+    // next step. Its writer is told, so that it shuts the link once it has written what waits.
     fn add_downs<R: Wait>(&mut self, rt: &R) -> Result<(), Memory>
         requires stands { Stands (seen K.told self.old) }
         ensures stands { Stands (seen K.told self.new) }
@@ -147,7 +148,8 @@ impl<K: Clock> Worker<K> {
         Ok(())
     }
 
-    // A step that puts nothing counts too while something that was put waits for a bell: so it never waits for many steps.
+    // A step that puts nothing counts too while something that was put waits for a bell: so it
+    // never waits for many steps.
     fn put_none(&mut self)
         ensures { seen K.told self.new ≡ seen K.told self.old }
     {

@@ -20,6 +20,7 @@ pub(crate) struct Worker<K> {
     pub(crate) clock: K,
     /// The milliseconds that the clock answered and that no tick has passed on yet.
     pub(crate) gathered: u64,
-    /// How many outputs were put since the bells were rung, and how many steps since then put nothing.
+    /// How many outputs were put since the bells were rung, and how many steps since then put
+    /// nothing.
     pub(crate) unrung: usize,
 }

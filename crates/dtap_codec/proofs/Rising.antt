@@ -45,8 +45,8 @@ Rise-cut (x ∷ xs) ys (other flow rise) = let cut = Rise-cut xs ys rise in (cut
 Rise-cut (x ∷ xs) ys (next c rise) = let cut = Rise-cut xs ys rise in (cut.0, next c cut.1, cut.2)
 Rise-cut (x ∷ xs) ys (again e c rise) = let cut = Rise-cut xs ys rise in (cut.0, again e c cut.1, cut.2)
 
--- Where the messages of the flow in xs are those sent after the first ones, each with its number, their places rise to
--- the end of the sent list.
+-- Where the messages of the flow in xs are those sent after the first ones, each with its number,
+-- their places rise to the end of the sent list.
 pub Rise-with_numbers_from : (m : ℕ) (sent : List (List ℕ)) (xs before after : List (List ℕ)) (n : ℕ) → before ++ after ≡ sent → length before ≡ n → AreClear after → filter is_flow_message xs ≡ with_numbers_from m n after → Rise m sent n xs (length sent)
 Rise-with_numbers_from m sent [] before [] n split place clear is =
     let end : n ≡ length sent = omega (arith, ap length split, length-append before []) in

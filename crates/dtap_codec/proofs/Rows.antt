@@ -141,7 +141,8 @@ types_of_octets = refl
 abbrev the_cell : CellDescription
 the_cell = record { arfcn = 0x31e; ncc = 2; bcc = 5 }
 
--- SDCCH/8 of subchannel 0 on timeslot 1; 110 of the TSC, the high bits 10 and the low octet 14 of the ARFCN
+-- SDCCH/8 of subchannel 0 on timeslot 1; 110 of the TSC, the high bits 10 and the low octet 14 of
+-- the ARFCN
 abbrev the_channel : ChannelDescription
 the_channel = record { channel = record { 0 = 0x41 }; tsc = 6; arfcn = 0x214 }
 
@@ -238,7 +239,8 @@ other_discriminators : map rr_reading (hex "03" ∷ hex "16 29 00" ∷ hex "2d 0
 unfolding rr_reading typed_at pseudo_at octet_at
 other_discriminators = refl
 
--- a type that isn't known comes before octets that are missing, and so does another discriminator before its type
+-- a type that isn't known comes before octets that are missing, and so does another discriminator
+-- before its type
 unknown_alone : map rr_reading (hex "06 99" ∷ hex "06 3f" ∷ hex "2d 06 15" ∷ hex "05" ∷ [])
     ≡ refused UnknownRr ∷ refused UnknownRr ∷ refused UnknownRr ∷ refused UnknownRr ∷ []
 unfolding rr_reading typed_at rr_type pseudo_at octet_at

@@ -24,7 +24,8 @@ abbrev pub Fit : List Field → Type 0
 Fit [] = Unit {0}
 Fit (f ∷ fs) = (f.value < 2 ^ f.width) × Fit fs
 
--- The bits of a number, of which there are so many, begin with these fields; behind them so many bits are left, of this number.
+-- The bits of a number, of which there are so many, begin with these fields; behind them so many
+-- bits are left, of this number.
 pub record Begin (fs : List Field) (many number left rest : ℕ) : Type 0 where
   pub bits : left + width_of fs ≡ many
   pub writes : number ≡ number_of fs * 2 ^ left + rest

@@ -1,4 +1,5 @@
--- The send sequence number N(SD) of a message of the flow, for any number m of numbers (TS 24.007 clause 11.2.3.2.3).
+-- The send sequence number N(SD) of a message of the flow, for any number m of numbers (TS 24.007
+-- clause 11.2.3.2.3).
 use Rattle.std.specs.Prelude.{ℕ, ◌+◌, ◌*◌, ◌/◌, ◌%◌, Option, Some, None, List, ◌∷◌, if◌then◌else◌}
 use Rattle.dtap_codec.specs.Message.{is_flow_protocol}
 use Rattle.dtap_codec.specs.declared.number.Modulus.{Modulus}
@@ -9,7 +10,8 @@ abbrev pub count_of : Modulus → ℕ
 count_of Four = 4
 count_of Two = 2
 
--- bits 8 and 7 of the second octet, modulo m (bit 7 where m is 2); none where the message isn't of the flow
+-- bits 8 and 7 of the second octet, modulo m (bit 7 where m is 2); none where the message isn't of
+-- the flow
 abbrev pub number_in : ℕ → List ℕ → Option ℕ
 number_in m (first ∷ second ∷ rest) = if is_flow_protocol (first % 16) then Some ((second / 64) % m) else None
 number_in m _ = None

@@ -1,5 +1,6 @@
--- Places: the messages of the flow that a mobile sent are at places 0, 1, 2 and so on of its sent list, and the one
--- at place k carries the number k modulo m (TS 24.007 clause 11.2.3.2.3). Here sent is that list, numbers cleared.
+-- Places: the messages of the flow that a mobile sent are at places 0, 1, 2 and so on of its sent
+-- list, and the one at place k carries the number k modulo m (TS 24.007 clause 11.2.3.2.3). Here
+-- sent is that list, numbers cleared.
 use Rattle.std.specs.Prelude.{◌≡◌, ℕ, ◌+◌, ◌%◌, true, false, Some, List, [], ◌∷◌, slice_get}
 use Rattle.dtap_codec.specs.Message.{is_flow_message}
 use Rattle.dtap_codec.specs.Number.{with_number, without_number}
@@ -26,8 +27,9 @@ pub record Carries (m : ℕ) (sent : List (List ℕ)) (k : ℕ) (x : List ℕ) :
   pub is_clear : IsClear message
   pub carries : x ≡ with_number (k % m) message
 
--- The messages of the flow in xs carry places that rise by steps of 0 or 1, from n or the one before it up to k,
--- which it doesn't reach: one that is not of the flow may stand anywhere, then the next place comes, or the last one again.
+-- The messages of the flow in xs carry places that rise by steps of 0 or 1, from n or the one
+-- before it up to k, which it doesn't reach: one that is not of the flow may stand anywhere, then
+-- the next place comes, or the last one again.
 pub data Rise (m : ℕ) (sent : List (List ℕ)) : ℕ → List (List ℕ) → ℕ → Type 0 where
   over : (n : ℕ) → Rise m sent n [] n
   other : {n k : ℕ} {x : List ℕ} {xs : List (List ℕ)} → is_flow_message x ≡ false → Rise m sent n xs k → Rise m sent n (x ∷ xs) k

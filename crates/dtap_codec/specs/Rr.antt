@@ -10,11 +10,13 @@ use Rattle.dtap_codec.specs.declared.rr.RrMessage.TheVariants.{HandoverCommand, 
 use Rattle.dtap_codec.specs.declared.rr.TheConstants.{IMMEDIATE_END_LENGTH}
 use Rattle.dtap_codec.specs.declared.rr_type.TheConstants.{PSEUDO_LENGTH, HANDOVER_COMMAND, ASSIGNMENT_COMMAND, HANDOVER_COMPLETE, HANDOVER_FAILURE, ASSIGNMENT_COMPLETE, ASSIGNMENT_FAILURE, CHANNEL_RELEASE, IMMEDIATE_ASSIGNMENT, MEASUREMENT_REPORT, PAGING_RESPONSE}
 
--- two high bits of the ARFCN, three of the NCC, three of the BCC; the low eight bits of the ARFCN (clause 10.5.2.2)
+-- two high bits of the ARFCN, three of the NCC, three of the BCC; the low eight bits of the ARFCN
+-- (clause 10.5.2.2)
 abbrev pub cell_text : CellDescription → List ℕ
 cell_text c = (c.arfcn / 256 * 64 + c.ncc * 8 + c.bcc) ∷ (c.arfcn % 256) ∷ []
 
--- the channel; three bits of the TSC, three more, which are 0 where it is written, two high bits of the ARFCN; its low eight (clause 10.5.2.5)
+-- the channel; three bits of the TSC, three more, which are 0 where it is written, two high bits of
+-- the ARFCN; its low eight (clause 10.5.2.5)
 abbrev pub channel_text : ℕ → ChannelDescription → List ℕ
 channel_text more c = c.channel.0 ∷ (c.tsc * 32 + more * 4 + c.arfcn / 256) ∷ (c.arfcn % 256) ∷ []
 

@@ -17,8 +17,8 @@ pub record BeginsText (octets : List ℕ) : Type 0 where
   pub are : AreOctets behind
   pub whole : IsText (octets ++ behind)
 
--- Short: they aren't a text, and octets behind them would make one of them. UnknownRr: no octets behind would.
--- Memory is wanted for a text alone.
+-- Short: they aren't a text, and octets behind them would make one of them. UnknownRr: no octets
+-- behind would. Memory is wanted for a text alone.
 abbrev pub HasFault : List ℕ → RrFault → Type 0
 HasFault octets Memory = IsText octets
 HasFault octets Short = (IsText octets → ⊥) × BeginsText octets

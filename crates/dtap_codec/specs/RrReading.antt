@@ -1,4 +1,5 @@
--- What octets are read as, as a function of them: each step in the order in which faults are looked for.
+-- What octets are read as, as a function of them: each step in the order in which faults are looked
+-- for.
 use Rattle.std.specs.Prelude.{ℕ, ◌+◌, ◌*◌, ◌/◌, ◌%◌, ◌==◌, if◌then◌else◌, List, [], ◌∷◌, Option, Some, None, Result, Ok, Err}
 use Rattle.octets.specs.Answer.{◌>>=◌}
 use Rattle.octets.specs.Front.{octet_at, split_at}
@@ -35,7 +36,8 @@ channel_octet octet = record { 0 = octet }
 abbrev pub cell_of : ℕ → ℕ → CellDescription
 cell_of first second = record { arfcn = 256 * (first / 64) + second; ncc = first / 8 % 8; bcc = first % 8 }
 
--- the channel's octet; three bits of the TSC, three that aren't looked at, two of the ARFCN; its low eight bits
+-- the channel's octet; three bits of the TSC, three that aren't looked at, two of the ARFCN; its
+-- low eight bits
 abbrev pub channel_of : ℕ → ℕ → ℕ → ChannelDescription
 channel_of first second third = record { channel = channel_octet first; tsc = second / 32; arfcn = 256 * (second % 4) + third }
 
@@ -59,7 +61,8 @@ cause_at octets = do
   cause ← octet_at Short octets
   Ok (cause_of cause.0)
 
--- an IMMEDIATE ASSIGNMENT behind its type; page mode, and what follows the timing advance, aren't looked at
+-- an IMMEDIATE ASSIGNMENT behind its type; page mode, and what follows the timing advance, aren't
+-- looked at
 unfoldable pub immediate_assignment_at : List ℕ → Result RrMessage RrFault
 immediate_assignment_at octets = do
   page_mode ← octet_at Short octets

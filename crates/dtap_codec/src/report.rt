@@ -18,7 +18,8 @@ pub const REPORT_ENTRIES: usize = 6;
 pub struct Neighbour {
     /// RXLEV-NCELL: the level received from the cell, 0 to 63, in steps of 1 dB from -110 dBm.
     pub rxlev: u8,
-    /// BCCH-FREQ-NCELL: the place of the cell's ARFCN, from 0, among those of the neighbour cells in rising order; 0 to 31.
+    /// BCCH-FREQ-NCELL: the place of the cell's ARFCN, from 0, among those of the neighbour cells
+    /// in rising order; 0 to 31.
     pub bcch_freq: u8,
     /// BSIC-NCELL: the base station identity code, NCC times 8 plus BCC; 0 to 63.
     pub bsic: u8,
@@ -31,7 +32,8 @@ pub struct Report {
     pub ba_used: u8,
     /// DTX-USED: whether the mobile sent discontinuously.
     pub dtx_used: bool,
-    /// RXLEV-FULL of the serving cell: its level over the whole channel, 0 to 63, in steps of 1 dB from -110 dBm.
+    /// RXLEV-FULL of the serving cell: its level over the whole channel, 0 to 63, in steps of 1 dB
+    /// from -110 dBm.
     pub rxlev_full: u8,
     /// MEAS-VALID, whose bit is 0 where the results are valid.
     pub valid: bool,
@@ -41,18 +43,21 @@ pub struct Report {
     pub rxqual_full: u8,
     /// RXQUAL-SUB of the serving cell: its quality over the part that is always sent, 0 to 7.
     pub rxqual_sub: u8,
-    /// NO-NCELL: how many entries count, from the first on; 7 says that there is no result of any neighbour.
+    /// NO-NCELL: how many entries count, from the first on; 7 says that there is no result of any
+    /// neighbour.
     pub no_ncell: u8,
     /// The six entries of neighbour cells, those that don't count too.
     pub entries: [Neighbour; REPORT_ENTRIES],
 }
 
 impl Report {
-    /// Reads the 16 octets of a report; what follows them isn't looked at. With fewer it is `Short`, and that is the
-    /// one fault that comes. A report that says of itself that it isn't valid is read too.
+    /// Reads the 16 octets of a report; what follows them isn't looked at. With fewer it is
+    /// `Short`, and that is the one fault that comes. A report that says of itself that it isn't
+    /// valid is read too.
     ///
-    /// Octets and bits, the high bit first: BA-USED 1, DTX-USED 1, RXLEV-FULL 6; one bit, MEAS-VALID 1 (0 is valid),
-    /// RXLEV-SUB 6; one bit, RXQUAL-FULL 3, RXQUAL-SUB 3, NO-NCELL 3; six times RXLEV 6, BCCH-FREQ 5, BSIC 6.
+    /// Octets and bits, the high bit first: BA-USED 1, DTX-USED 1, RXLEV-FULL 6; one bit,
+    /// MEAS-VALID 1 (0 is valid), RXLEV-SUB 6; one bit, RXQUAL-FULL 3, RXQUAL-SUB 3, NO-NCELL 3;
+    /// six times RXLEV 6, BCCH-FREQ 5, BSIC 6.
     pub fn read(octets: &[u8]) -> Result<Report, RrFault>
         // What is read is what the octets are the text of.
         ensures found { IfOk result (λ report. IsReport octets.now report) }

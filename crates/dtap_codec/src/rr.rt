@@ -41,8 +41,8 @@ impl Arfcn {
     }
 }
 
-/// A code of three bits: a training sequence code, TSC, a network colour code, NCC, or a base station colour code, BCC.
-/// Contracts see the number.
+/// A code of three bits: a training sequence code, TSC, a network colour code, NCC, or a base
+/// station colour code, BCC. Contracts see the number.
 #[derive(Clone, Copy)]
 pub struct ColourCode {
     code: u8,
@@ -130,7 +130,8 @@ pub struct ChannelDescription {
     pub arfcn: Arfcn,
 }
 
-/// A cell, by the channel that carries its broadcast and its base station identity code (TS 44.018 clause 10.5.2.2).
+/// A cell, by the channel that carries its broadcast and its base station identity code (TS 44.018
+/// clause 10.5.2.2).
 #[derive(Clone, Copy)]
 pub struct CellDescription {
     pub arfcn: Arfcn,
@@ -138,7 +139,8 @@ pub struct CellDescription {
     pub bcc: ColourCode,
 }
 
-/// Power command at which the mobile sends with the highest power of its class (TS 44.018 clause 10.5.2.28).
+/// Power command at which the mobile sends with the highest power of its class (TS 44.018 clause
+/// 10.5.2.28).
 pub const HIGHEST_POWER: u8 = 0x00;
 
 /// Page mode of normal paging (TS 44.018 clause 10.5.2.26).

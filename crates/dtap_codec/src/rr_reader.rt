@@ -20,12 +20,14 @@ use octets::front::{octet, split};
 use std::alloc::Global;
 
 impl RrMessage {
-    /// Reads a message of radio resource management. What follows its parts isn't looked at, nor are the power command,
-    /// hopping and spare bits, and in an IMMEDIATE ASSIGNMENT the page mode and what follows the timing advance.
+    /// Reads a message of radio resource management. What follows its parts isn't looked at, nor
+    /// are the power command, hopping and spare bits, and in an IMMEDIATE ASSIGNMENT the page mode
+    /// and what follows the timing advance.
     ///
-    /// The faults, in the order in which they are looked for: `Short` without an octet, or with a pseudo length alone;
-    /// `UnknownRr` where the octet then isn't 06; `Short` without a type; `UnknownRr` for a type that isn't known there;
-    /// `Short` where octets are missing. `Memory` comes last.
+    /// The faults, in the order in which they are looked for: `Short` without an octet, or with a
+    /// pseudo length alone; `UnknownRr` where the octet then isn't 06; `Short` without a type;
+    /// `UnknownRr` for a type that isn't known there; `Short` where octets are missing. `Memory`
+    /// comes last.
     pub fn read(alloc: Global, octets: &[u8]) -> Result<RrMessage, RrFault>
         // What is answered is what the octets are read as.
         ensures reads { Gives RrFault.Memory (λ v. v) result (reading.rr_reading octets.now) }
@@ -35,8 +37,8 @@ impl RrMessage {
         ensures only { (message : RrValue) → IsRr octets.now message → (result ≡ Ok message) ⊎ (result ≡ Err RrFault.Memory) }
         // A refusal is the first fault, and memory runs out only where there is none.
         ensures refused { RefusesBy RrFault.Memory result (result_err (reading.rr_reading octets.now)) }
-        // Short are octets that are no text, but octets behind them would make one of them; where no octets behind them
-        // would, the fault is UnknownRr; memory is needed for a text alone.
+        // Short are octets that are no text, but octets behind them would make one of them; where
+        // no octets behind them would, the fault is UnknownRr; memory is needed for a text alone.
         ensures fault { IfErr result (λ fault. HasFault octets.now fault) }
     {
         read_message(alloc, octets)

@@ -15,7 +15,8 @@ use octets::text::{TEXT_ROOM, hand_over};
 use std::alloc::Global;
 
 impl RrMessage {
-    /// Appends the text of the message: no optional element, power command and page mode 00. An `Err` changes nothing.
+    /// Appends the text of the message: no optional element, power command and page mode 00. An
+    /// `Err` changes nothing.
     pub fn write(&self, alloc: Global, text: &mut Vec<u8>) -> Result<(), Memory>
         ensures ok { OnOk result (text.new.items ≡ text.old.items ++ rr_text self.now) }
         ensures err { OnErr result (text.new.items ≡ text.old.items) }
@@ -35,7 +36,8 @@ fn text_of(alloc: Global, message: &RrMessage) -> Result<Vec<u8>, Memory>
     Ok(text)
 }
 
-// Appends a message up to its type: a pseudo length before an IMMEDIATE ASSIGNMENT, the discriminator and the type.
+// Appends a message up to its type: a pseudo length before an IMMEDIATE ASSIGNMENT, the
+// discriminator and the type.
 fn put_front(text: &mut Vec<u8>, kind: RrType) -> Result<(), Memory>
     ensures { OnOk result (text.new.items ≡ text.old.items ++ front_text (rr_octet kind)) }
 {
@@ -105,7 +107,8 @@ fn put_channel(text: &mut Vec<u8>, channel: ChannelDescription) -> Result<(), Me
     Ok(())
 }
 
-/// Law: what is written of a message of radio resource management is a text of it, and is read as that message.
+/// Law: what is written of a message of radio resource management is a text of it, and is read as
+/// that message.
 pub fn rr_text_is_read()
     ensures text { (message : RrValue) → RrFits message → IsRr (rr_text message) message }
     ensures read { (message : RrValue) → RrFits message → rr_reading (rr_text message) ≡ Ok message }

@@ -12,8 +12,8 @@ use Rattle.ho_decision.specs.Average.{last, serving_average, neighbour_average}
 abbrev pub is_bad : Report → Bool
 is_bad r = nat_le BAD_QUALITY r.rxqual_full
 
--- The levels are compared: the quality was bad in three of the last four reports, or nothing of the serving cell is
--- received, or it is the last report of an interval.
+-- The levels are compared: the quality was bad in three of the last four reports, or nothing of the
+-- serving cell is received, or it is the last report of an interval.
 abbrev pub is_due : Settings → List Report → ℕ → Bool
 is_due s reports number =
     nat_le BAD_REPORTS (count_by is_bad (last QUALITY_WINDOW reports)) || (serving_average s reports == 0) || (number % s.parameters.interval == s.parameters.interval - 1)
@@ -35,7 +35,8 @@ pub record IsOther (s : Settings) (many place : ℕ) : Type 0 where
 abbrev pub NoneReaches : Settings → List Report → ℕ → Type 0
 NoneReaches s reports many = (place : ℕ) → IsOther s many place → average_at s reports place < bound s reports
 
--- Among the first so many cells this one is chosen: its average reaches the bound, no other's is greater, none before it is equal.
+-- Among the first so many cells this one is chosen: its average reaches the bound, no other's is
+-- greater, none before it is equal.
 pub record IsChosen (s : Settings) (reports : List Report) (many place : ℕ) : Type 0 where
   pub cell : IsOther s many place
   pub reaches : bound s reports ≤ average_at s reports place

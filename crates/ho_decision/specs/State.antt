@@ -5,7 +5,8 @@ use Rattle.ho_decision.specs.declared.settings.TheConstants.{MAX_WINDOW}
 use Rattle.ho_decision.specs.Settings.{Settings}
 use Rattle.ho_decision.specs.Average.{last}
 
--- the settings, the last valid reports, as many as the widest window has, the oldest first, and the number of the last one, 0 before the first
+-- the settings, the last valid reports, as many as the widest window has, the oldest first, and the
+-- number of the last one, 0 before the first
 pub record State : Type 0 where
   pub settings : Settings
   pub reports : List Report

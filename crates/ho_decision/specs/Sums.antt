@@ -33,8 +33,8 @@ averaged measure window = record { measure = measure; window = window }
 abbrev pub level_in_window : Settings → Cell → Averaged
 level_in_window s cell = averaged (level_of s cell) s.parameters.neighbour_window
 
--- What the sums are of: for these settings the serving cell's level and quality, how often the quality was bad, and
--- the level of each cell.
+-- What the sums are of: for these settings the serving cell's level and quality, how often the
+-- quality was bad, and the level of each cell.
 pub record AreOf (s : Settings) (sums : Sums) : Type 0 where
   pub serving_level : sums.serving_level.of ≡ averaged ServingLevel s.parameters.rxlev_window
   pub serving_quality : sums.serving_quality.of ≡ averaged ServingQuality s.parameters.rxqual_window

@@ -16,8 +16,8 @@ use std::alloc::Global;
 use std::marker::Model;
 use std::snapshot::Snapshot;
 
-/// The measurement reports of one connection on one channel: the last valid ones, as many as the widest window has, with
-/// the number of the last.
+/// The measurement reports of one connection on one channel: the last valid ones, as many as the
+/// widest window has, with the number of the last.
 #[derive(Drop)]
 pub struct Averages {
     settings: Snapshot<HoSettings>,
@@ -43,7 +43,8 @@ impl Model for Averages {
 impl Averages {
     ghost use Rattle.ho_decision.specs.State.{new_state, after_report};
 
-    /// No reports yet, for a connection in the serving cell of these settings. It makes all the room.
+    /// No reports yet, for a connection in the serving cell of these settings. It makes all the
+    /// room.
     pub fn new(alloc: Global, settings: &HoSettings) -> Result<Averages, Memory>
         ensures { IfOk result (λ averages. averages ≡ new_state settings.now) }
     {
@@ -55,8 +56,8 @@ impl Averages {
         })
     }
 
-    /// Begins anew, as `new` does, for settings with as many cells, such as those of another serving cell. It takes no
-    /// memory.
+    /// Begins anew, as `new` does, for settings with as many cells, such as those of another
+    /// serving cell. It takes no memory.
     pub fn restart(&mut self, settings: &HoSettings)
         requires { length settings.now.cells ≡ length self.old.settings.cells }
         ensures { self.new ≡ new_state settings.now }
@@ -101,12 +102,14 @@ impl Averages {
         Some(self.sums.serving_quality.average(&self.reports))
     }
 
-    /// The handover decision, which takes no memory. The settings are those that the averages were made for.
+    /// The handover decision, which takes no memory. The settings are those that the averages were
+    /// made for.
     ///
-    /// It stays without a report, and where the levels aren't compared. They are where the quality was 5 or worse in
-    /// three of the last four reports, where the serving cell's average level is 0, and at the last report of each
-    /// interval. Then it moves to the cell of the greatest average level among the other cells whose average is at
-    /// least the serving cell's plus the hysteresis, the first in the settings on a tie; without such a cell it stays.
+    /// It stays without a report, and where the levels aren't compared. They are where the quality
+    /// was 5 or worse in three of the last four reports, where the serving cell's average level is
+    /// 0, and at the last report of each interval. Then it moves to the cell of the greatest
+    /// average level among the other cells whose average is at least the serving cell's plus the
+    /// hysteresis, the first in the settings on a tie; without such a cell it stays.
     pub fn decide(&self, settings: &HoSettings) -> Decision
         requires { settings.now ≡ self.now.settings }
         ensures kept { Decides self.now.settings self.now.reports self.now.number result }

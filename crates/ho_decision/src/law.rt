@@ -9,8 +9,8 @@ ghost use Rattle.ho_decision.specs.Average.{last, serving_average, neighbour_ave
 ghost use Rattle.ho_decision.specs.Decision.{Decides};
 ghost use Rattle.ho_decision.specs.declared.settings.TheConstants.{MAX_WINDOW};
 
-/// Ten reports are enough: with settings that are allowed, each average and the decision over all reports that ever came
-/// are those over the last ten of them.
+/// Ten reports are enough: with settings that are allowed, each average and the decision over all
+/// reports that ever came are those over the last ten of them.
 pub fn ten_reports_are_enough()
     ensures serving { (s : Settings) (all : List Report) → IsAllowed s
         → serving_average s all ≡ serving_average s (last MAX_WINDOW all) }
@@ -30,7 +30,8 @@ pub fn one_decision()
         → Decides s reports number e → d ≡ e }
 {}
 
-/// BCCH-FREQ counts in a rising list without repeats, of the ARFCNs of the other cells and no others.
+/// BCCH-FREQ counts in a rising list without repeats, of the ARFCNs of the other cells and no
+/// others.
 pub fn arfcns_are_rising()
     ensures rising { (s : Settings) → IsStrictlyIncreasing (other_arfcns s) }
     ensures members { (s : Settings) (arfcn : ℕ)

@@ -1,4 +1,5 @@
-//! When a connection is handed over, and to which cell: averages of measurement reports, and the decision over them.
+//! When a connection is handed over, and to which cell: averages of measurement reports, and the
+//! decision over them.
 #![tactic(auto)]
 
 pub use averages::Averages;

@@ -16,8 +16,8 @@ pub(crate) enum Measure {
     ServingQuality,
     /// 1 where RXQUAL-FULL is `BAD_QUALITY` or more, else 0.
     BadQuality,
-    /// The level of the neighbour cell whose ARFCN has this place among those that BCCH-FREQ counts, with this BSIC; 0
-    /// where the report doesn't name the cell.
+    /// The level of the neighbour cell whose ARFCN has this place among those that BCCH-FREQ
+    /// counts, with this BSIC; 0 where the report doesn't name the cell.
     NeighbourLevel { place: Option<usize>, bsic: u8 },
 }
 

@@ -41,8 +41,8 @@ pub struct HoParameters {
     pub hysteresis: u8,
 }
 
-/// What the handover decision of one serving cell needs: the numbers, the cells in the order of the settings, and which
-/// of them serves.
+/// What the handover decision of one serving cell needs: the numbers, the cells in the order of the
+/// settings, and which of them serves.
 #[derive(Drop)]
 pub struct HoSettings {
     pub(crate) parameters: HoParameters,
@@ -66,7 +66,8 @@ impl Model for HoSettings {
 impl HoSettings {
     ghost use Rattle.ho_decision.specs.Settings.{settings_of, IsAllowed};
 
-    /// The settings of a serving cell, the number, from 1, of one of the cells. They are as `IsAllowed` says.
+    /// The settings of a serving cell, the number, from 1, of one of the cells. They are as
+    /// `IsAllowed` says.
     pub fn new(
         alloc: Global,
         parameters: HoParameters,

@@ -22,7 +22,8 @@ pub(crate) struct Sums {
     pub serving_quality: RunningSum,
     /// How many reports have bad quality.
     pub bad_quality: RunningSum,
-    /// The levels of each cell, in the order of the settings. That of the serving cell isn't asked for.
+    /// The levels of each cell, in the order of the settings. That of the serving cell isn't asked
+    /// for.
     pub levels: Vec<RunningSum>,
 }
 

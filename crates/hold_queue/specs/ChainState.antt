@@ -1,4 +1,5 @@
--- What a connection holds of each of its channels, where the channel changed more than once: a list of tenures.
+-- What a connection holds of each of its channels, where the channel changed more than once: a list
+-- of tenures.
 use Rattle.std.specs.Prelude.{ℕ, zero, suc, ◌+◌, List, [], ◌∷◌, ◌++◌, length, drop}
 use Rattle.dtap_codec.specs.declared.sapi.Sapi.{Sapi}
 use Rattle.dtap_codec.specs.declared.sapi.Sapi.TheVariants.{Zero, Three}

@@ -1,4 +1,5 @@
--- What a connection holds while its channel changes: one list of messages for each SAPI, with one limit over both.
+-- What a connection holds while its channel changes: one list of messages for each SAPI, with one
+-- limit over both.
 use Rattle.std.specs.Prelude.{ℕ, ◌+◌, List, [], length}
 use Rattle.dtap_codec.specs.declared.sapi.Sapi.{Sapi}
 use Rattle.dtap_codec.specs.declared.sapi.Sapi.TheVariants.{Zero, Three}

@@ -10,7 +10,8 @@ abbrev pub IsMemory : List ℕ → HoldFault → Type 0
 IsMemory message (Full back) = ⊥
 IsMemory message (Memory back) = back.items ≡ message
 
--- A refusal hands the message back: as full where as many are held as the limit, for lack of memory only below it.
+-- A refusal hands the message back: as full where as many are held as the limit, for lack of memory
+-- only below it.
 abbrev pub RefusesAt : ℕ → ℕ → List ℕ → HoldFault → Type 0
 RefusesAt held limit message (Full back) = (back.items ≡ message) × (held ≡ limit)
 RefusesAt held limit message (Memory back) = (back.items ≡ message) × (held < limit)

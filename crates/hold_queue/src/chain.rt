@@ -13,8 +13,9 @@ use std::marker::Model;
 /// The tenures that a chain has at most: those of the channels that a connection has at one time.
 pub const TENURE_LIMIT: usize = 4;
 
-/// The messages that a connection holds where its channel changed more than once: a list of tenures, the oldest first.
-/// A tenure has one queue for each SAPI. One limit stands over all tenures and both SAPIs.
+/// The messages that a connection holds where its channel changed more than once: a list of
+/// tenures, the oldest first. A tenure has one queue for each SAPI. One limit stands over all
+/// tenures and both SAPIs.
 #[derive(Drop)]
 pub struct Chain {
     limit: usize,
@@ -31,8 +32,8 @@ impl Model for Chain {
 
     ghost view = { λ chain. record { limit = chain.limit; tenures = chain.tenures.items } };
 
-    // The room for all tenures is there, so that another one takes no memory. The last part says that the limit is a
-    // `usize`: then so is the sum of the lengths.
+    // The room for all tenures is there, so that another one takes no memory. The last part says
+    // that the limit is a `usize`: then so is the sum of the lengths.
     ghost invariant = { λ chain. (0 < length chain.tenures.items)
         × (length chain.tenures.items ≤ TENURE_LIMIT)
         × (TENURE_LIMIT ≤ deque_capacity chain.tenures)
@@ -41,8 +42,8 @@ impl Model for Chain {
 }
 
 impl Chain {
-    /// One tenure without messages, for up to `limit` of them over all tenures that come. It makes the room for as many
-    /// tenures as a chain has at most, and keeps the allocator.
+    /// One tenure without messages, for up to `limit` of them over all tenures that come. It makes
+    /// the room for as many tenures as a chain has at most, and keeps the allocator.
     pub fn new(alloc: Global, limit: usize) -> Result<Chain, Memory>
         ensures { IfOk result (λ chain. chain ≡ new_chain limit) }
     {
@@ -85,9 +86,9 @@ impl Chain {
         self.tenures.push_back_reserved(Queues::new(alloc));
     }
 
-    /// Puts a message behind those of its SAPI in the tenure at this place, from 0, the oldest. It refuses with `Full`
-    /// where as many as the limit are held over all tenures, then with `Memory`; either hands the message back and leaves
-    /// the chain as it was.
+    /// Puts a message behind those of its SAPI in the tenure at this place, from 0, the oldest. It
+    /// refuses with `Full` where as many as the limit are held over all tenures, then with
+    /// `Memory`; either hands the message back and leaves the chain as it was.
     #[tactic(auto, using(crate::proofs::Chains::put_in_at))]
     pub fn put(&mut self, tenure: usize, sapi: Sapi, message: Vec<u8>) -> Result<(), HoldFault>
         requires { tenure < length self.old.tenures }
@@ -102,7 +103,8 @@ impl Chain {
         self.tenures[tenure].put(sapi, message)
     }
 
-    /// Takes the first message of a SAPI out of the first tenure, which takes no memory; none where that has none.
+    /// Takes the first message of a SAPI out of the first tenure, which takes no memory; none where
+    /// that has none.
     pub fn next(&mut self, sapi: Sapi) -> Option<Vec<u8>>
         ensures first { option_map (λ message. message.items) result ≡ slice_get (messages_in 0 sapi self.old.tenures) 0 }
         ensures rest { self.new ≡ record self.old { tenures = first_taken sapi self.old.tenures } }
@@ -110,8 +112,8 @@ impl Chain {
         self.tenures[0].next(sapi)
     }
 
-    /// Lends the message of a SAPI at this place in this tenure, both from 0; none where the tenure has no more than so
-    /// many, and where there is no such tenure.
+    /// Lends the message of a SAPI at this place in this tenure, both from 0; none where the tenure
+    /// has no more than so many, and where there is no such tenure.
     #[tactic(auto, using(crate::proofs::Chains::messages_in_at, crate::proofs::Chains::messages_in_none))]
     pub fn get(&self, tenure: usize, sapi: Sapi, place: usize) -> Option<&[u8]>
         ensures { option_map (λ message. message.now) result ≡ slice_get (messages_in tenure sapi self.now.tenures) place }

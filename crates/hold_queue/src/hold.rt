@@ -9,7 +9,8 @@ use dtap_codec::Sapi;
 use std::alloc::Global;
 use std::marker::Model;
 
-/// The messages that a connection holds while its channel changes: one queue for each SAPI, with one limit over both.
+/// The messages that a connection holds while its channel changes: one queue for each SAPI, with
+/// one limit over both.
 #[derive(Drop)]
 pub struct Hold {
     limit: usize,
@@ -25,7 +26,8 @@ impl Model for Hold {
 }
 
 impl Hold {
-    /// A hold without messages, for up to `limit` of them, over both SAPIs. It takes no memory; it keeps the allocator.
+    /// A hold without messages, for up to `limit` of them, over both SAPIs. It takes no memory; it
+    /// keeps the allocator.
     pub fn new(alloc: Global, limit: usize) -> Hold
         ensures { result ≡ new_hold limit }
     {
@@ -57,8 +59,9 @@ impl Hold {
         self.len() == self.limit
     }
 
-    /// Puts a message behind those of its SAPI. It refuses with `Full` where as many as the limit are held over both
-    /// SAPIs, then with `Memory`; either hands the message back and leaves the hold as it was.
+    /// Puts a message behind those of its SAPI. It refuses with `Full` where as many as the limit
+    /// are held over both SAPIs, then with `Memory`; either hands the message back and leaves the
+    /// hold as it was.
     pub fn put(&mut self, sapi: Sapi, message: Vec<u8>) -> Result<(), HoldFault>
         ensures put { OnOk result (self.new ≡ with_messages self.old sapi (messages self.old sapi ++ message.items ∷ [])) }
         ensures room { OnOk result (count self.old < self.old.limit) }
@@ -71,7 +74,8 @@ impl Hold {
         self.queues.put(sapi, message)
     }
 
-    /// Takes the first message of a SAPI out of the hold, which takes no memory; none where the SAPI has none.
+    /// Takes the first message of a SAPI out of the hold, which takes no memory; none where the
+    /// SAPI has none.
     pub fn next(&mut self, sapi: Sapi) -> Option<Vec<u8>>
         ensures first { option_map (λ message. message.items) result ≡ slice_get (messages self.old sapi) 0 }
         ensures rest { self.new ≡ with_messages self.old sapi (dropped 1 (messages self.old sapi)) }
@@ -79,7 +83,8 @@ impl Hold {
         self.queues.next(sapi)
     }
 
-    /// Lends the message of a SAPI at this place, from 0; none where there are no more than so many.
+    /// Lends the message of a SAPI at this place, from 0; none where there are no more than so
+    /// many.
     pub fn get(&self, sapi: Sapi, place: usize) -> Option<&[u8]>
         ensures { option_map (λ message. message.now) result ≡ slice_get (messages self.now sapi) place }
     {

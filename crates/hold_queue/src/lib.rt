@@ -1,5 +1,5 @@
-//! The holds of a connection: the messages that wait while its channel changes, in order, for each SAPI; and, where it
-//! changes more than once, for each channel that it had.
+//! The holds of a connection: the messages that wait while its channel changes, in order, for each
+//! SAPI; and, where it changes more than once, for each channel that it had.
 #![tactic(auto)]
 
 pub use chain::{Chain, TENURE_LIMIT};

@@ -18,7 +18,8 @@ IsFrame f = length f.body ≤ MAX_BODY
 abbrev pub write_fault : Frame → Option FrameFault
 write_fault f = if nat_lt MAX_BODY (length f.body) then Some TooLong else None
 
--- a frame that was started and isn't whole yet: fewer than two octets of length, or fewer octets than they say
+-- a frame that was started and isn't whole yet: fewer than two octets of length, or fewer octets
+-- than they say
 abbrev pub IsPartial : List ℕ → Type 0
 IsPartial (high ∷ low ∷ octets) = (256 * high + low ≤ MAX_BODY) × (length octets < 1 + (256 * high + low))
 IsPartial octets = Unit {0}
@@ -28,7 +29,8 @@ abbrev pub IsTooLong : List ℕ → Type 0
 IsTooLong (high ∷ low ∷ octets) = MAX_BODY < 256 * high + low
 IsTooLong octets = ⊥
 
--- The stream is these frames, and behind them a frame that was only started, or one that is too long.
+-- The stream is these frames, and behind them a frame that was only started, or one that is too
+-- long.
 pub record Splits (stream : List ℕ) (frames : List Frame) (rest : List ℕ) : Type 0 where
   pub whole : stream ≡ flat_map frame_text frames ++ rest
   pub each : AllByRecursion IsFrame frames

@@ -5,7 +5,8 @@ use Rattle.ipa_framing.specs.declared.fault.FrameFault.{FrameFault}
 use Rattle.ipa_framing.specs.declared.fault.FrameFault.TheVariants.{TooLong, Memory}
 use Rattle.ipa_framing.specs.Frame.{frame_text, IsFrame, IsPartial, IsTooLong}
 
--- the octets that were fed and belong to no frame taken so far, and whether one of them was met as too long
+-- the octets that were fed and belong to no frame taken so far, and whether one of them was met as
+-- too long
 pub record FramerState : Type 0 where
   pub octets : List ℕ
   pub failed : Bool
@@ -24,8 +25,8 @@ Feeds old piece (Err Memory) new = (old.failed ≡ false) × (new ≡ old)
 abbrev pub BeginsWith : List ℕ → Frame → List ℕ → Type 0
 BeginsWith octets f rest = IsFrame f × (octets ≡ frame_text f ++ rest)
 
--- The next frame is taken where it stands whole at the front, nothing where it was only started, and a length that
--- is too long is refused. Memory is wanted for a whole frame alone.
+-- The next frame is taken where it stands whole at the front, nothing where it was only started,
+-- and a length that is too long is refused. Memory is wanted for a whole frame alone.
 abbrev pub Takes : FramerState → Result (Option Frame) FrameFault → FramerState → Type 0
 Takes old (Ok (Some f)) new = BeginsWith old.octets f new.octets × (new.failed ≡ old.failed)
 Takes old (Ok None) new = IsPartial old.octets × (new ≡ old)

@@ -18,8 +18,8 @@ pub struct Frame {
     pub body: Octets,
 }
 
-/// Appends the octets of a frame: two octets of length, the stream, the body. A frame that is too long is refused
-/// before memory is asked for; a refusal appends nothing.
+/// Appends the octets of a frame: two octets of length, the stream, the body. A frame that is too
+/// long is refused before memory is asked for; a refusal appends nothing.
 pub fn write_frame(frame: &Frame, out: &mut Vec<u8>) -> Result<(), FrameFault>
     ensures ok { OnOk result (out.new.items ≡ out.old.items ++ frame_text frame.now) }
     ensures refused { RefusesBy FrameFault.Memory result (write_fault frame.now) }

@@ -15,8 +15,8 @@ use std::marker::Model;
 
 /// Takes the frames of a link from its octets, in whatever pieces they come.
 ///
-/// A body of more than `MAX_BODY` octets ends the stream: from the call of `next` that meets its length on, `feed` and
-/// `next` refuse as too long.
+/// A body of more than `MAX_BODY` octets ends the stream: from the call of `next` that meets its
+/// length on, `feed` and `next` refuse as too long.
 #[derive(Drop)]
 pub struct Framer {
     alloc: Global,
@@ -77,8 +77,8 @@ impl Framer {
         }
     }
 
-    /// Takes the next octets of the link in. After `next` has refused a frame as too long it is refused so too; a
-    /// refusal changes nothing.
+    /// Takes the next octets of the link in. After `next` has refused a frame as too long it is
+    /// refused so too; a refusal changes nothing.
     pub fn feed(&mut self, piece: &[u8]) -> Result<(), FrameFault>
         ensures { Feeds self.old piece.now result self.new }
     {
@@ -89,8 +89,8 @@ impl Framer {
         Ok(())
     }
 
-    /// Takes the next frame out, where it is whole. A body of more than `MAX_BODY` octets is refused as soon as its two
-    /// octets of length are there, and from then on.
+    /// Takes the next frame out, where it is whole. A body of more than `MAX_BODY` octets is
+    /// refused as soon as its two octets of length are there, and from then on.
     pub fn next(&mut self) -> Result<Option<Frame>, FrameFault>
         ensures { Takes self.old result self.new }
     {
@@ -106,8 +106,8 @@ impl Framer {
         Ok(Some(Frame { stream, body }))
     }
 
-    /// How many octets are held of a frame that has only been started: those behind the whole frames that wait
-    /// to be taken.
+    /// How many octets are held of a frame that has only been started: those behind the whole
+    /// frames that wait to be taken.
     pub fn rest(&self) -> usize
         ensures { (frames : List FrameValue) (rest : List ℕ) → Splits self.now.octets frames rest → result ≡ length rest }
     {
@@ -122,9 +122,9 @@ impl Framer {
     }
 }
 
-/// Law: a stream is one list of frames and one rest, and however its octets were cut into pieces, the frames given,
-/// those still to be given and the rest are those of the octets fed; where a frame was refused as too long, one
-/// stands next.
+/// Law: a stream is one list of frames and one rest, and however its octets were cut into pieces,
+/// the frames given, those still to be given and the rest are those of the octets fed; where a
+/// frame was refused as too long, one stands next.
 pub fn stream_is_its_frames()
     ensures split { (stream : List ℕ) → AreOctets stream →
         (frames : List FrameValue) × (rest : List ℕ) × Splits stream frames rest }

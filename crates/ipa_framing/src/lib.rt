@@ -1,6 +1,7 @@
 //! IPA framing of station and switch links: frames of a stream link, however its octets were cut.
 //!
-//! A frame is the length of its body in two octets, the high one first, an octet that names the stream, and the body.
+//! A frame is the length of its body in two octets, the high one first, an octet that names the
+//! stream, and the body.
 #![tactic(auto)]
 
 pub use fault::FrameFault;

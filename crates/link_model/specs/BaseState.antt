@@ -1,5 +1,5 @@
--- What a base station end keeps: its number, the channels that are active, and the messages that it made and that weren't
--- given out yet.
+-- What a base station end keeps: its number, the channels that are active, and the messages that it
+-- made and that weren't given out yet.
 use Rattle.std.specs.Prelude.{ℕ, List}
 use Rattle.rsl_codec.specs.declared.rsl.Rsl.{Rsl}
 

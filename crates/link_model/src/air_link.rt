@@ -8,8 +8,8 @@ use octets::Octets;
 use std::marker::Model;
 use std::mem;
 
-/// What stands in the air on one acknowledged link: at most one message, which the station takes once and then
-/// acknowledges.
+/// What stands in the air on one acknowledged link: at most one message, which the station takes
+/// once and then acknowledges.
 #[derive(Drop)]
 pub enum Air {
     Empty,
@@ -19,8 +19,8 @@ pub enum Air {
     Reached(Octets),
 }
 
-/// One acknowledged link (TS 44.006): the mobile gives it a message, the station takes the message once, and its
-/// acknowledgement frees the link. No call takes memory.
+/// One acknowledged link (TS 44.006): the mobile gives it a message, the station takes the message
+/// once, and its acknowledgement frees the link. No call takes memory.
 #[derive(Drop)]
 pub struct AirLink {
     air: Air,
@@ -49,7 +49,8 @@ impl AirLink {
         matches!(&self.air, Air::Empty)
     }
 
-    /// Gives a message to the link. It is handed back, and nothing changes, where one stands in the air already.
+    /// Gives a message to the link. It is handed back, and nothing changes, where one stands in the
+    /// air already.
     pub fn give(&mut self, message: Vec<u8>) -> Result<(), Vec<u8>>
         ensures answer { result_map_both (λ _. tt) (λ message. message.items) result ≡ give_answer self.old message.items }
         ensures after { self.new ≡ after_give self.old message.items }
@@ -61,7 +62,8 @@ impl AirLink {
         Ok(())
     }
 
-    /// The message in the air, for the station to take, which it does once; none where it took it already.
+    /// The message in the air, for the station to take, which it does once; none where it took it
+    /// already.
     pub fn reach(&mut self) -> Option<&[u8]>
         ensures* after { sem 𝓛 (RestsAfterReach self.entry) }
         ensures message { option_map (λ message. message.now) result ≡ offered_message self.old }
@@ -69,7 +71,8 @@ impl AirLink {
         if self.take() { self.message() } else { None }
     }
 
-    /// Marks the message as taken by the station, and says whether there was one that it had not taken.
+    /// Marks the message as taken by the station, and says whether there was one that it had not
+    /// taken.
     fn take(&mut self) -> bool
         ensures taken { result ≡ is_some (offered_message self.old) }
         ensures after { self.new ≡ after_reach self.old }
@@ -97,8 +100,8 @@ impl AirLink {
         }
     }
 
-    /// The station's acknowledgement, which counts where it took the message: the link is then empty. False where there
-    /// is none that it took.
+    /// The station's acknowledgement, which counts where it took the message: the link is then
+    /// empty. False where there is none that it took.
     pub fn ack(&mut self) -> bool
         ensures acknowledged { result ≡ is_reached self.old }
         ensures after { self.new ≡ after_ack self.old }
@@ -112,7 +115,8 @@ impl AirLink {
         }
     }
 
-    /// Breaks the link, and hands back the message in the air, which the station didn't take or didn't acknowledge.
+    /// Breaks the link, and hands back the message in the air, which the station didn't take or
+    /// didn't acknowledge.
     pub fn cut(&mut self) -> Option<Vec<u8>>
         ensures message { option_map (λ message. message.items) result ≡ message_in self.old }
         ensures after { self.new ≡ Air.Empty }

@@ -11,8 +11,8 @@ use std::alloc::Global;
 use std::collections::VecDeque;
 use std::marker::Model;
 
-/// A base station's end of its link to the controller: which channels are active, and the messages that it made and that
-/// weren't given out yet, in order.
+/// A base station's end of its link to the controller: which channels are active, and the messages
+/// that it made and that weren't given out yet, in order.
 #[derive(Drop)]
 pub struct BaseEnd {
     alloc: Global,
@@ -56,7 +56,8 @@ impl BaseEnd {
         self.active.contains(&channel)
     }
 
-    /// Activates a channel: a CHANNEL ACTIVATION ACKNOWLEDGE with frame number 0 is made. `Busy` where it is active already.
+    /// Activates a channel: a CHANNEL ACTIVATION ACKNOWLEDGE with frame number 0 is made. `Busy`
+    /// where it is active already.
     pub fn activate(&mut self, channel: ChanNo) -> Result<(), LinkFault>
         ensures ok { OnOk result (self.new ≡ after_activate self.old channel) }
         ensures refused { RefusesBy LinkFault.Memory result (refusal_of_activate self.old channel) }
@@ -77,8 +78,8 @@ impl BaseEnd {
         Ok(())
     }
 
-    /// A mobile established the link of this SAPI: an ESTABLISH INDICATION is made, with its message if it brought one.
-    /// `NotActive` where the channel isn't active.
+    /// A mobile established the link of this SAPI: an ESTABLISH INDICATION is made, with its
+    /// message if it brought one. `NotActive` where the channel isn't active.
     pub fn establish(
         &mut self,
         channel: ChanNo,
@@ -101,7 +102,8 @@ impl BaseEnd {
         Ok(())
     }
 
-    /// A mobile's message came on this SAPI: a DATA INDICATION is made with it. `NotActive` where the channel isn't active.
+    /// A mobile's message came on this SAPI: a DATA INDICATION is made with it. `NotActive` where
+    /// the channel isn't active.
     pub fn up(&mut self, channel: ChanNo, sapi: Sapi, message: &[u8]) -> Result<(), LinkFault>
         ensures ok { OnOk result (self.new ≡ after_up self.old channel sapi message.now) }
         ensures refused { RefusesBy LinkFault.Memory result (refusal_unless_active self.old channel) }
@@ -130,8 +132,8 @@ impl BaseEnd {
         Ok(())
     }
 
-    /// Makes this message, which is a CHANNEL REQUIRED, HANDOVER DETECTION, MEASUREMENT RESULT, ESTABLISH CONFIRM or RELEASE
-    /// INDICATION, as it is.
+    /// Makes this message, which is a CHANNEL REQUIRED, HANDOVER DETECTION, MEASUREMENT RESULT,
+    /// ESTABLISH CONFIRM or RELEASE INDICATION, as it is.
     pub fn tell(&mut self, message: Rsl) -> Result<(), LinkFault>
         requires { is_told message ≡ true }
         ensures ok { OnOk result (self.new ≡ after_tell self.old message) }
@@ -172,8 +174,8 @@ fn deactivate(active: &mut Vec<ChanNo>, channel: ChanNo)
     active.retain(|number| *number != channel);
 }
 
-/// The link identifier of a SAPI on a channel (TS 48.058 clause 9.3.2): the main signalling link, or for SAPI 3 on a TCH the
-/// SACCH.
+/// The link identifier of a SAPI on a channel (TS 48.058 clause 9.3.2): the main signalling link,
+/// or for SAPI 3 on a TCH the SACCH.
 fn link_on(channel: ChanNo, sapi: Sapi) -> LinkId
     ensures { result ≡ link_on channel sapi }
 {

@@ -1,5 +1,5 @@
-//! The radio side of the model: the acknowledged link between a mobile and its station (TS 44.006), and the station's end
-//! towards its controller (TS 48.058).
+//! The radio side of the model: the acknowledged link between a mobile and its station (TS 44.006),
+//! and the station's end towards its controller (TS 48.058).
 #![tactic(auto)]
 
 pub use air_link::AirLink;

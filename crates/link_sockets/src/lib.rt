@@ -1,5 +1,5 @@
-//! The program's relay over TCP: its links, the clock that ticks for it, and its run; and `bsc run`, the
-//! relay between the links that a file of settings names.
+//! The program's relay over TCP: its links, the clock that ticks for it, and its run; and `bsc
+//! run`, the relay between the links that a file of settings names.
 #![tactic(auto)]
 
 pub use fault::RunFault;

@@ -16,8 +16,8 @@ use std::net::{Net, TcpListener, TcpStream};
 /// A link over TCP, whose gate is never shut.
 pub type SocketLink<R> = Link<ReadingEnd<R>, WritingEnd<R>, OpenGate>;
 
-/// Opens the links of these settings, the switch's first, then one for each cell, in their order. All cells listen
-/// before the switch is asked, so that stations may come in any order.
+/// Opens the links of these settings, the switch's first, then one for each cell, in their order.
+/// All cells listen before the switch is asked, so that stations may come in any order.
 pub fn open_links<R>(
     rt: &R,
     alloc: Global,

@@ -12,8 +12,8 @@ use std::thread::Threads;
 /// The variable that says from which level on links are logged.
 const LEVEL: &str = "BSC_LOG";
 
-/// Relays between the links of the settings in this file until all have ended, and gives the status that the program ends
-/// with.
+/// Relays between the links of the settings in this file until all have ended, and gives the status
+/// that the program ends with.
 pub fn relay<R>(rt: &R, file: &str) -> Result<u8, ProgramFault>
 where
     R: Runtime

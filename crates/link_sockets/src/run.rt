@@ -16,8 +16,9 @@ use std::time::Clock;
 /// A gate is never shut here, so it refuses no item, however few it may.
 const REFUSALS: u32 = 1;
 
-/// Opens the links of these settings and relays between them until all have ended. How each link ends is logged.
-/// `Device`: a link couldn't be opened. `Memory`: there was none, or a thread couldn't be had.
+/// Opens the links of these settings and relays between them until all have ended. How each link
+/// ends is logged. `Device`: a link couldn't be opened. `Memory`: there was none, or a thread
+/// couldn't be had.
 pub fn run_links<R>(rt: R, alloc: Global, settings: Settings) -> Result<(), RunFault>
 where
     R: Net<Listener = TcpListener, Stream = TcpStream>

@@ -15,8 +15,9 @@ use std::time::Duration;
 /// For how many seconds a write may wait for a peer that takes nothing.
 const WRITE_TIMEOUT: u64 = 10;
 
-/// The end of a link's socket that is read. It logs when nothing more comes. Where it is told that nothing more is read, it
-/// logs why and shuts the socket both ways, so that the peer sees it, and the writer of the same link ends too.
+/// The end of a link's socket that is read. It logs when nothing more comes. Where it is told that
+/// nothing more is read, it logs why and shuts the socket both ways, so that the peer sees it, and
+/// the writer of the same link ends too.
 #[derive(Drop)]
 pub struct ReadingEnd<R> {
     rt: R,
@@ -27,9 +28,9 @@ pub struct ReadingEnd<R> {
     at_end: Arc<AtomicBool, Global>,
 }
 
-/// The end of a link's socket that is written. A write that fails is logged and shuts the socket both ways, so that the
-/// reader of the same link ends too. So does `flush`, since whoever flushes it has written the last frame; it warns where
-/// more could have come from the peer.
+/// The end of a link's socket that is written. A write that fails is logged and shuts the socket
+/// both ways, so that the reader of the same link ends too. So does `flush`, since whoever flushes
+/// it has written the last frame; it warns where more could have come from the peer.
 #[derive(Drop)]
 pub struct WritingEnd<R> {
     rt: R,
@@ -136,7 +137,8 @@ impl<R: Log> LinkReader for ReadingEnd<R> {
 }
 
 impl<R> WritingEnd<R> {
-    /// Shuts the socket both ways. One whose peer has already closed it can't be shut, and needn't be.
+    /// Shuts the socket both ways. One whose peer has already closed it can't be shut, and needn't
+    /// be.
     fn shut(&mut self) {
         self.shut = true;
         let _ = self.stream.shutdown(Shutdown::Both);

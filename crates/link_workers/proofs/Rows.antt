@@ -1,4 +1,5 @@
--- Definitions against literal values: what a reader puts and a writer writes of the frame PING, and what the switch replies.
+-- Definitions against literal values: what a reader puts and a writer writes of the frame PING, and
+-- what the switch replies.
 use Rattle.std.proofs.Common.{◌≡◌, ℕ, ◌^◌, List, [], ◌∷◌, ◌++◌, replicate, true, false, Some, None, Ok, refl, arith}
 use Rattle.std.specs.Prelude.{◌≢◌}
 use Rattle.ipa_framing.specs.declared.frame.Frame.{Frame}
@@ -41,7 +42,8 @@ given_of_two = refl
 a_frame_and_a_rest : Parts (0x00 ∷ 0x01 ∷ 0xfe ∷ 0x00 ∷ 0x00 ∷ []) (ping ∷ []) (0x00 ∷ [])
 a_frame_and_a_rest = record { whole = refl; each = (omega arith, tt) }
 
--- a device learns of every fault but a gate that stayed shut; of a link that came to its end it learns nothing that is said here
+-- a device learns of every fault but a gate that stayed shut; of a link that came to its end it
+-- learns nothing that is said here
 told_of_a_fault : IsTold (Some FrameFault) (Some FrameFault)
 told_of_a_fault = refl
 

@@ -31,7 +31,8 @@ given frames = map GivenFrame frames
 abbrev pub having_put : PassView → List What → PassView
 having_put p whats = record { queue = p.queue; capacity = p.capacity; source = p.source; put = p.put ++ whats }
 
--- how often in a row a gate has refused when it has let these frames through, each at once or after refusals
+-- how often in a row a gate has refused when it has let these frames through, each at once or after
+-- refusals
 abbrev pub after_letting : ℕ → List Frame → ℕ
 after_letting refused [] = refused
 after_letting refused (f ∷ fs) = 0
@@ -41,7 +42,8 @@ abbrev pub shutting : ℕ → IoFault → ℕ
 shutting limit GateShut = limit
 shutting limit _ = 0
 
--- What stands behind the frames that were put, by why no more were: nothing whole, a frame that is too long, or anything.
+-- What stands behind the frames that were put, by why no more were: nothing whole, a frame that is
+-- too long, or anything.
 abbrev pub StopsBefore : IoFault → List ℕ → Type 0
 StopsBefore ReadFailed rest = IsPartial rest
 StopsBefore FrameFault rest = IsTooLong rest
@@ -54,14 +56,14 @@ abbrev pub Ends : Option IoFault → List ℕ → Option (List ℕ) → Type 0
 Ends None rest now = IsPartial rest × IsAtEnd now
 Ends (Some fault) rest now = StopsBefore fault rest
 
--- The gate let the last item through, which is `Down`; or it refused an item so often in a row, after it let these frames
--- through.
+-- The gate let the last item through, which is `Down`; or it refused an item so often in a row,
+-- after it let these frames through.
 abbrev pub AsksGate : Option IoFault → ℕ → List Frame → ℕ → ℕ → Type 0
 AsksGate (Some GateShut) limit frames refused now = now ≡ after_letting refused frames + limit
 AsksGate _ limit frames refused now = now ≡ 0
 
--- Octets were read that are frames and a rest, these frames were put, and `Down` behind them. `refused` and `now` are how
--- often in a row the gate had refused before, and has now.
+-- Octets were read that are frames and a rest, these frames were put, and `Down` behind them.
+-- `refused` and `now` are how often in a row the gate had refused before, and has now.
 pub record Serves (start end : Option (List ℕ)) (limit refused now : ℕ) (old new : PassView) (fault : Option IoFault) : Type 0 where
   pub octets : List ℕ
   pub frames : List Frame
@@ -72,7 +74,8 @@ pub record Serves (start end : Option (List ℕ)) (limit refused now : ℕ) (old
   pub put : new ≡ having_put old (given frames ++ Down ∷ [])
   pub asks : AsksGate fault limit frames refused now
 
--- The device was told of the fault; not where the gate stayed shut, since it may have refused `Down` alone.
+-- The device was told of the fault; not where the gate stayed shut, since it may have refused
+-- `Down` alone.
 abbrev pub IsTold : Option IoFault → Option IoFault → Type 0
 IsTold None told = Unit {0}
 IsTold (Some GateShut) told = Unit {0}
@@ -80,7 +83,8 @@ IsTold (Some fault) told = told ≡ Some fault
 
 -- ---- what the parts of a reader do
 
--- The item was put last, and the gate let it through; or the gate refused it so often, and nothing was put.
+-- The item was put last, and the gate let it through; or the gate refused it so often, and nothing
+-- was put.
 abbrev pub PutsGated : {X : Type 0} → ℕ → ℕ → ℕ → PassView → What → PassView → Result X IoFault → Type 0
 PutsGated limit refused now old what new (Ok _) = (new ≡ having_put old (what ∷ [])) × (now ≡ 0)
 PutsGated limit refused now old what new (Err fault) = (new ≡ old) × (now ≡ refused + limit) × (fault ≡ GateShut)
@@ -119,8 +123,8 @@ PutsAll start end limit refused now old new (Ok _) =
 PutsAll start end limit refused now old new (Err unread) =
     (octets : List ℕ) × Consumes start end octets × BreaksOff octets limit refused now old new (fault_for unread)
 
--- Octets were read, and the framer holds them behind what it held; or nothing is left to be read. A read that fails gives
--- none.
+-- Octets were read, and the framer holds them behind what it held; or nothing is left to be read. A
+-- read that fails gives none.
 abbrev pub ReadsOn : Option (List ℕ) → Option (List ℕ) → FramerState → FramerState → Result Bool Unread → Type 0
 ReadsOn start now held new (Ok true) = (octets : List ℕ) × Consumes start now octets × (new ≡ record { octets = held.octets ++ octets; failed = held.failed })
 ReadsOn start now held new (Ok false) = Consumes start now [] × (new ≡ held) × IsAtEnd now

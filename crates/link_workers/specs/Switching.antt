@@ -41,8 +41,8 @@ reply_frame reply = record { stream = SCCP_STREAM; body = sccp_text reply }
 abbrev pub replies_text : List Sccp → List ℕ
 replies_text replies = frames_text (map reply_frame replies)
 
--- What stands behind the frames that were answered, by why no more were. Without a fault nothing whole does, and no octet is
--- left to be read.
+-- What stands behind the frames that were answered, by why no more were. Without a fault nothing
+-- whole does, and no octet is left to be read.
 abbrev pub Stops : Option IoFault → List ℕ → Option (List ℕ) → Type 0
 Stops None rest now = IsPartial rest × IsAtEnd now
 Stops (Some ReadFailed) rest now = IsPartial rest
@@ -51,7 +51,8 @@ Stops (Some FrameFault) rest now = Unit {0}
 Stops (Some Memory) rest now = Unit {0}
 Stops (Some _) rest now = ⊥
 
--- The octets of the replies were written; where it isn't the reader that failed, a beginning of them.
+-- The octets of the replies were written; where it isn't the reader that failed, a beginning of
+-- them.
 abbrev pub WritesReplies : Option IoFault → List Sccp → Option (List ℕ) → Option (List ℕ) → Type 0
 WritesReplies None replies old new = Appends old new (replies_text replies)
 WritesReplies (Some ReadFailed) replies old new = Appends old new (replies_text replies)
@@ -77,7 +78,8 @@ IsAnswerFault FrameFault = Unit {0}
 IsAnswerFault Memory = Unit {0}
 IsAnswerFault _ = ⊥
 
--- The frame was answered. With a fault it wasn't looked at, or a beginning of the replies was written.
+-- The frame was answered. With a fault it wasn't looked at, or a beginning of the replies was
+-- written.
 abbrev pub AnswersFrame : {X : Type 0} → Option (List ℕ) → Option (List ℕ) → SwitchState → SwitchState → Frame → Result X IoFault → Type 0
 AnswersFrame old new switch now f (Ok _) =
     (now ≡ after_all switch (messages (f ∷ []))) × Appends old new (replies_text (all_replies switch (messages (f ∷ []))))

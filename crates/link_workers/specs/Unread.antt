@@ -8,7 +8,8 @@ use Rattle.link_workers.specs.declared.read_count.TheConstants.{MOST_READS}
 use Rattle.link_workers.specs.declared.unread.Unread.{Unread}
 use Rattle.link_workers.specs.declared.unread.Unread.TheVariants.{Endless, Device, Refused}
 
--- As many reads were made as a reader makes; or a read failed, which an interrupted one hasn't; or what was read wasn't taken.
+-- As many reads were made as a reader makes; or a read failed, which an interrupted one hasn't; or
+-- what was read wasn't taken.
 abbrev pub IsUnread : Unread → Type 0
 IsUnread (Endless reads) = reads.made ≡ MOST_READS
 IsUnread (Device error) = error_kind error ≢ Interrupted

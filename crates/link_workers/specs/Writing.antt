@@ -40,7 +40,8 @@ abbrev pub WritesFrames : Option IoFault → List Frame → Option (List ℕ) �
 WritesFrames None frames old new = AllByRecursion IsFrame frames × Appends old new (frames_text frames)
 WritesFrames (Some fault) frames old new = IsWriterFault fault frames × AppendsBeginning old new (frames_text frames)
 
--- Frames were taken and behind them the mark, which is the last that was taken, and the frames were written.
+-- Frames were taken and behind them the mark, which is the last that was taken, and the frames were
+-- written.
 pub record Delivers (old new : Option (List ℕ)) (taker taken : TakerView) (fault : Option IoFault) : Type 0 where
   pub frames : List Frame
   pub takes : taken ≡ having_taken taker (lines frames ++ End ∷ [])
@@ -48,7 +49,8 @@ pub record Delivers (old new : Option (List ℕ)) (taker taken : TakerView) (fau
 
 -- ---- what the parts of a writer do
 
--- The first octets were written, at least one; or the write was interrupted, or it failed, and none were.
+-- The first octets were written, at least one; or the write was interrupted, or it failed, and none
+-- were.
 abbrev pub WritesOnce : Option (List ℕ) → Option (List ℕ) → List ℕ → Result Wrote IoFault → Type 0
 WritesOnce old new octets (Ok (Octets count)) = (0 < count) × (count ≤ length octets) × Appends old new (take count octets)
 WritesOnce old new octets (Ok (Interrupted error)) = (error_kind error ≡ WasInterrupted) × Keeps old new
@@ -64,14 +66,15 @@ abbrev pub end_if : Bool → List Line
 end_if true = End ∷ []
 end_if false = []
 
--- Frames were taken and their octets appended, and the mark was taken where it stood behind them. A frame that is refused was
--- taken all the same.
+-- Frames were taken and their octets appended, and the mark was taken where it stood behind them. A
+-- frame that is refused was taken all the same.
 abbrev pub Gathers : TakerView → TakerView → List ℕ → List ℕ → Result Bool IoFault → Type 0
 Gathers old new text now (Ok ended) =
     (frames : List Frame) × (new ≡ having_taken old (lines frames ++ end_if ended)) × (now ≡ text ++ frames_text frames) × AllByRecursion IsFrame frames
 Gathers old new text now (Err fault) = (frames : List Frame) × (new ≡ having_taken old (lines frames)) × IsWriterFault fault frames
 
--- All frames up to the mark were taken and written. Where that broke off, it is told whether the mark was taken.
+-- All frames up to the mark were taken and written. Where that broke off, it is told whether the
+-- mark was taken.
 abbrev pub WritesLines : {X : Type 0} → Option (List ℕ) → Option (List ℕ) → TakerView → TakerView → Result X Broken → Type 0
 WritesLines old new taker taken (Ok _) =
     (frames : List Frame) × (taken ≡ having_taken taker (lines frames ++ End ∷ [])) × Appends old new (frames_text frames) × AllByRecursion IsFrame frames

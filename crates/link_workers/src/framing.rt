@@ -12,8 +12,8 @@ use std::io::{ErrorKind, Read};
 /// The octets that one read asks for.
 pub(crate) const BLOCK: usize = 8192;
 
-/// Reads once, to the front of the block, and feeds the framer what was read. False at the end. An interrupted read is
-/// one of no octets. Where so many reads were made already it makes none.
+/// Reads once, to the front of the block, and feeds the framer what was read. False at the end. An
+/// interrupted read is one of no octets. Where so many reads were made already it makes none.
 pub(crate) fn read_on<I: Read>(
     reader: &mut I,
     reads: &mut ReadCount,

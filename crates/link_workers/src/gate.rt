@@ -1,4 +1,5 @@
-/// What decides whether a reader may put what it has read. Where all is to be put, it lets each item through.
+/// What decides whether a reader may put what it has read. Where all is to be put, it lets each
+/// item through.
 pub trait Gate {
     ghost use Rattle.std.specs.Prelude.{◌≡◌, ℕ, ◌+◌, MatchBool};
 

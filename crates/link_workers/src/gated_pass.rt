@@ -10,7 +10,8 @@ use std::sync::Wait;
 /// A frame with a body of more octets than this is long: no message that is relayed has one.
 const LONG_BODY: usize = 320;
 
-/// A long frame is put once fewer items than these wait. So what waits is less than a megabyte, whatever a link gives.
+/// A long frame is put once fewer items than these wait. So what waits is less than a megabyte,
+/// whatever a link gives.
 const FEW_WAIT: usize = 128;
 
 /// A pass behind a gate, which is asked before each item.
@@ -23,8 +24,8 @@ pub(crate) struct GatedPass<G> {
 }
 
 impl<G: Gate> GatedPass<G> {
-    /// Puts what the link gave, once the gate lets it through and there is room for it. Where the gate stays shut it isn't
-    /// put.
+    /// Puts what the link gave, once the gate lets it through and there is room for it. Where the
+    /// gate stays shut it isn't put.
     pub fn put<R: Wait>(&mut self, rt: &R, what: What) -> Result<(), IoFault>
         ensures puts { PutsGated self.old.limit (G.refused self.old.gate) (G.refused self.new.gate) self.old.pass what self.new.pass result }
         ensures same { self.new.limit ≡ self.old.limit }

@@ -1,5 +1,5 @@
-//! The workers at a link's device: what a reader puts into the inbox, and what a writer writes of its outbox. And the switch
-//! that tests use, at its end of a link.
+//! The workers at a link's device: what a reader puts into the inbox, and what a writer writes of
+//! its outbox. And the switch that tests use, at its end of a link.
 #![tactic(auto)]
 
 pub use fault::IoFault;

@@ -9,8 +9,8 @@ pub trait LinkReader: Read {
     /// Why nothing more is read, where that was told last.
     ghost told: { Self → Option Fault };
 
-    /// Tells the device that nothing more is read from it, and why, before its end was read. A device that has a peer lets
-    /// it know.
+    /// Tells the device that nothing more is read from it, and why, before its end was read. A
+    /// device that has a peer lets it know.
     fn break_off(&mut self, fault: IoFault)
         ensures told { told self.new ≡ Some fault }
         ensures same { Self.remaining self.new ≡ Self.remaining self.old };

@@ -8,7 +8,8 @@ const YIELDS: u32 = 16;
 /// How many milliseconds a thread sleeps before each later try.
 const NAP: u64 = 1;
 
-/// The pauses between the tries of a thread that wants something done: a few short ones, then naps of a millisecond.
+/// The pauses between the tries of a thread that wants something done: a few short ones, then naps
+/// of a millisecond.
 #[derive(Drop)]
 pub struct Pauses {
     parker: Parker,

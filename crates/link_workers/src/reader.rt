@@ -16,14 +16,15 @@ use std::alloc::Global;
 use std::io::Read;
 use std::sync::Wait;
 
-/// Reads the octets of a link to their end and puts the frames that they are cut into, as items of the pass's source;
-/// then puts `Down`. An item that there is no room for is put once there is. Gives all back, and why it ended before the
-/// end of the octets.
+/// Reads the octets of a link to their end and puts the frames that they are cut into, as items of
+/// the pass's source; then puts `Down`. An item that there is no room for is put once there is.
+/// Gives all back, and why it ended before the end of the octets.
 ///
-/// `ReadFailed`: a read failed, other than by an interruption, or there were 2^40 reads. `FrameFault`: a frame has a body of
-/// more than 2,048 octets. `Memory`: there was none for a frame. `GateShut`: the gate refused an item `limit` times in a
-/// row; where that item was `Down`, it stands in place of an earlier fault. `Down` is put all the same, and the gate isn't
-/// asked again. The reader is told of the fault at once, before `Down` is put.
+/// `ReadFailed`: a read failed, other than by an interruption, or there were 2^40 reads.
+/// `FrameFault`: a frame has a body of more than 2,048 octets. `Memory`: there was none for a
+/// frame. `GateShut`: the gate refused an item `limit` times in a row; where that item was `Down`,
+/// it stands in place of an earlier fault. `Down` is put all the same, and the gate isn't asked
+/// again. The reader is told of the fault at once, before `Down` is put.
 pub fn serve_reader<I: LinkReader, G: Gate, R: Wait>(
     rt: &R,
     alloc: Global,
@@ -110,9 +111,10 @@ fn put_frames<G: Gate, R: Wait>(
     Ok(())
 }
 
-/// Law: frames that stand at the front of octets are the first of the frames that the octets are, and all of them where
-/// only the beginning of a frame stands behind them, or one that is too long.  So what a reader puts are the first
-/// frames of the octets that it read, and all of them unless memory ran out or its gate stayed shut.
+/// Law: frames that stand at the front of octets are the first of the frames that the octets are,
+/// and all of them where only the beginning of a frame stands behind them, or one that is too long.
+/// So what a reader puts are the first frames of the octets that it read, and all of them unless
+/// memory ran out or its gate stayed shut.
 pub fn frames_put_are_the_first()
     ensures first { (octets : List ℕ) (frames : List FrameValue) (rest : List ℕ) (all : List FrameValue) (end : List ℕ) →
         Parts octets frames rest → Splits octets all end → (more : List FrameValue) × (all ≡ frames ++ more) }

@@ -15,13 +15,14 @@ use octets::{Memory, Octets};
 use std::alloc::Global;
 use std::io::{Read, Write};
 
-/// Plays the switch at its end of a link: answers the messages of SCCP that are read, in order, and writes the replies. A
-/// frame of another stream, or that is no message of SCCP, gets no reply. Gives all back, and why it ended before the end of
-/// the octets.
+/// Plays the switch at its end of a link: answers the messages of SCCP that are read, in order, and
+/// writes the replies. A frame of another stream, or that is no message of SCCP, gets no reply.
+/// Gives all back, and why it ended before the end of the octets.
 ///
-/// `ReadFailed`: a read failed, other than by an interruption, or there were 2^40 reads. `WriteFailed`: a write failed,
-/// other than by an interruption, or took no octet. `FrameFault`: a frame has a body of more than 2,048 octets, or a reply
-/// can't be written. `Memory`: there was none.
+/// `ReadFailed`: a read failed, other than by an interruption, or there were 2^40 reads.
+/// `WriteFailed`: a write failed, other than by an interruption, or took no octet. `FrameFault`: a
+/// frame has a body of more than 2,048 octets, or a reply can't be written. `Memory`: there was
+/// none.
 pub fn switch_worker<I: Read, O: Write>(
     alloc: Global,
     mut reader: I,

@@ -25,13 +25,15 @@ struct Broken {
     at_end: bool,
 }
 
-/// Takes the lines of an outbox up to the mark `End`, and writes the octets of their frames. What waits there goes into one
-/// write, up to some 8 KiB. Then it flushes the writer. Gives all back, and why not all was written.
+/// Takes the lines of an outbox up to the mark `End`, and writes the octets of their frames. What
+/// waits there goes into one write, up to some 8 KiB. Then it flushes the writer. Gives all back,
+/// and why not all was written.
 ///
-/// `WriteFailed`: a write failed, other than by an interruption, or took no octet, or the flush failed. `FrameFault`: a
-/// frame has a body of more than 2,048 octets. `Memory`: there was none. The writer is flushed as soon as there is a fault,
-/// and the lines up to `End` are taken all the same, and dropped. It is flushed too where the other end of the outbox gives
-/// it up, once nothing waits there any more.
+/// `WriteFailed`: a write failed, other than by an interruption, or took no octet, or the flush
+/// failed. `FrameFault`: a frame has a body of more than 2,048 octets. `Memory`: there was none.
+/// The writer is flushed as soon as there is a fault, and the lines up to `End` are taken all the
+/// same, and dropped. It is flushed too where the other end of the outbox gives it up, once nothing
+/// waits there any more.
 pub fn serve_writer<O: Write, R: Wait>(
     rt: &R,
     alloc: Global,
@@ -88,8 +90,8 @@ fn write_lines<O: Write, R: Wait>(
     unreachable!()
 }
 
-/// Takes what waits in the outbox and appends the octets of its frames; where nothing does, rests until something is put.
-/// True where the mark was taken.
+/// Takes what waits in the outbox and appends the octets of its frames; where nothing does, rests
+/// until something is put. True where the mark was taken.
 fn gather<O: Write, R: Wait>(
     rt: &R,
     writer: &mut O,
@@ -113,7 +115,8 @@ fn gather<O: Write, R: Wait>(
     unreachable!()
 }
 
-/// Sleeps until something is put. Where nothing more is to be put but the mark, flushes the writer first.
+/// Sleeps until something is put. Where nothing more is to be put but the mark, flushes the writer
+/// first.
 fn rest<O: Write, R: Wait>(rt: &R, writer: &mut O, taker: &Taker)
     ensures { Keeps (O.contents writer.old) (O.contents writer.new) }
 {

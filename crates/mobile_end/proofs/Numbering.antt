@@ -68,8 +68,8 @@ numbers-other front numbers message apart is =
     filter-append is_flow_message front (message ∷ []) ∙ ap (λ (ys : List (List ℕ)). filter is_flow_message front ++ ys) left_out
     ∙ append-nil (filter is_flow_message front) ∙ is
 
--- The messages of the flow among those that a station took since those before, and those that it can still take, are the
--- sent list from there, each once, with the number of its place.
+-- The messages of the flow among those that a station took since those before, and those that it
+-- can still take, are the sent list from there, each once, with the number of its place.
 pub record IsNumbered (before : List (List ℕ)) (mobile : MobileState) (taken : List (List ℕ)) : Type 0 where
   pub after : List (List ℕ)
   pub parts : before ++ after ≡ mobile.sent

@@ -1,4 +1,5 @@
--- What a change of channel keeps of the numbers: the next slice begins where the last ended, or at its last message.
+-- What a change of channel keeps of the numbers: the next slice begins where the last ended, or at
+-- its last message.
 use Rattle.std.proofs.Common.{◌≡◌, ℕ, ◌+◌, ◌%◌, ◌≤◌, ◌⊎◌, true, false, not, List, [], ◌∷◌, ◌++◌, length, refl, sym, ap, ◌∙◌, subst, arith, append_assoc, inl, inr, filter, option_to_list, length-append}
 use Rattle.std.proofs.lemmas.Bool.{cases_Bool, cond-true, cond-false, eqb-true}
 use Rattle.std.proofs.lemmas.List.Elements.{filter-append}
@@ -106,7 +107,8 @@ one_number m k x [] is = absurd cc
 one_number m k x (z ∷ []) is = refl
 one_number m k x (z ∷ y ∷ zs) is = absurd cc
 
--- where the last one that was taken is of the flow and wasn't acknowledged, the next slice begins at it
+-- where the last one that was taken is of the flow and wasn't acknowledged, the next slice begins
+-- at it
 cut-at_last : (m : ℕ) (before after sent others waiting : List (List ℕ)) (x : List ℕ) → is_flow_message x ≡ true → before ++ after ≡ sent → filter is_flow_message ((others ++ x ∷ []) ++ waiting) ≡ with_numbers_from m (length before) after → IsCut m before sent (others ++ x ∷ []) (x ∷ waiting)
 cut-at_last m before after sent others waiting x flow parts numbers =
     let alone : filter is_flow_message (x ∷ []) ≡ x ∷ [] = cond-true (is_flow_message x) (x ∷ []) [] flow in

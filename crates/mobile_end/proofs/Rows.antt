@@ -1,4 +1,5 @@
--- Definitions against literal messages: which may be sent, what each call does, and a short life of a mobile.
+-- Definitions against literal messages: which may be sent, what each call does, and a short life of
+-- a mobile.
 use Rattle.std.proofs.Common.{◌≡◌, ℕ, true, false, List, [], ◌∷◌, replicate, Some, None, Ok, Err, refl, arith}
 use Rattle.octets.proofs.Hex.{hex}
 use Rattle.dtap_codec.specs.Number.{count_of}

@@ -77,7 +77,8 @@ begins mobile (arrives complete) = may_arrive mobile complete
 begins mobile (gives_up failure) = may_arrive mobile failure
 begins mobile _ = false
 
--- What stations take on SAPI 0 in each establishment, in order; so_far was taken in the first of them.
+-- What stations take on SAPI 0 in each establishment, in order; so_far was taken in the first of
+-- them.
 abbrev pub establishments : MobileState → List (List ℕ) → List Call → List (List (List ℕ))
 establishments mobile so_far [] = so_far ∷ []
 establishments mobile so_far (call ∷ calls) =

@@ -39,8 +39,8 @@ to_be_taken link = option_to_list (offered_message link.air) ++ link.waiting
 abbrev pub outstanding_messages : DataLinkState → List (List ℕ)
 outstanding_messages link = option_to_list (message_in link.air) ++ link.waiting
 
--- The link on another channel: the control message stands in the air, and behind it waits what wasn't acknowledged, without
--- control messages of an earlier channel.
+-- The link on another channel: the control message stands in the air, and behind it waits what
+-- wasn't acknowledged, without control messages of an earlier channel.
 abbrev pub after_resume : DataLinkState → List ℕ → DataLinkState
 after_resume link control = record { waiting = without_control (outstanding_messages link); air = Given control }
 

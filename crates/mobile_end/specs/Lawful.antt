@@ -8,7 +8,8 @@ use Rattle.dtap_codec.specs.declared.sapi.Sapi.TheVariants.{Zero, Three}
 use Rattle.mobile_end.specs.declared.lawful.TheConstants.{NUMBER_BIT}
 use Rattle.octets.specs.declared.limits.TheConstants.{INITIAL_LIMIT}
 
--- of a protocol that numbers its messages, one has both octets of its header, and bits 8 and 7 of the second are clear
+-- of a protocol that numbers its messages, one has both octets of its header, and bits 8 and 7 of
+-- the second are clear
 abbrev pub has_clear_number : List ℕ → Bool
 has_clear_number [] = true
 has_clear_number (first ∷ []) = not (is_flow_protocol (first % 16))
@@ -24,7 +25,8 @@ is_sendable sapi [] = false
 is_sendable sapi (first ∷ rest) =
     nat_le (length (first ∷ rest)) MESSAGE_LIMIT && takes_sapi sapi (first % 16) && has_clear_number (first ∷ rest)
 
--- a connection begins with a message of mobility management, or with a paging response of radio resource management
+-- a connection begins with a message of mobility management, or with a paging response of radio
+-- resource management
 abbrev pub is_initial : List ℕ → Bool
 is_initial [] = false
 is_initial (first ∷ rest) =

@@ -1,6 +1,7 @@
--- What the calls of a mobile do. Messages of the flow are numbered when the upper layers send them: the one at place k of
--- the sent list carries k modulo m (TS 24.007 clause 11.2.3.2.3). At a change of channel the message that wasn't acknowledged
--- is sent again, with its number, behind the control message of the new channel (TS 44.006 clause 5.4.3).
+-- What the calls of a mobile do. Messages of the flow are numbered when the upper layers send them:
+-- the one at place k of the sent list carries k modulo m (TS 24.007 clause 11.2.3.2.3). At a change
+-- of channel the message that wasn't acknowledged is sent again, with its number, behind the
+-- control message of the new channel (TS 44.006 clause 5.4.3).
 use Rattle.std.specs.Prelude.{ℕ, ◌%◌, Bool, true, false, ◌&&◌, Option, Some, None, Result, Ok, Err, List, [], ◌∷◌, ◌++◌, length, if◌then◌else◌}
 use Rattle.octets.specs.Refusal.{first_refusal}
 use Rattle.dtap_codec.specs.Message.{is_flow_message}
@@ -106,6 +107,7 @@ after_acked mobile sapi = after_acked_at mobile.place mobile sapi
 abbrev pub after_leave : MobileState → MobileState
 after_leave mobile = record mobile { place = Moving }
 
--- The mobile after `arrive` or `give_up`: on the channel its control message comes first, and then what wasn't acknowledged.
+-- The mobile after `arrive` or `give_up`: on the channel its control message comes first, and then
+-- what wasn't acknowledged.
 abbrev pub after_arrival : MobileState → List ℕ → MobileState
 after_arrival mobile control = record mobile { place = OnChannel; zero = after_resume mobile.zero control; three = after_repeat mobile.three }

@@ -4,8 +4,9 @@ use Rattle.mobile_end.specs.declared.mobile_end.Place.{Place}
 use Rattle.mobile_end.specs.declared.mobile_end.Stage.{Stage}
 use Rattle.mobile_end.specs.DataLinkState.{DataLinkState}
 
--- The modulus of its numbers; whether it is connected; whether it is on a channel; the sent list, which are the messages
--- of the flow that the upper layers sent, without numbers; and the data links of SAPI 0 and SAPI 3.
+-- The modulus of its numbers; whether it is connected; whether it is on a channel; the sent list,
+-- which are the messages of the flow that the upper layers sent, without numbers; and the data
+-- links of SAPI 0 and SAPI 3.
 pub record MobileState : Type 0 where
   pub modulus : ℕ
   pub stage : Stage

@@ -49,7 +49,8 @@ impl DataLink {
         Ok(())
     }
 
-    /// The message in the air, once, for the station to take. An empty air first takes the next message that waits.
+    /// The message in the air, once, for the station to take. An empty air first takes the next
+    /// message that waits.
     pub(crate) fn lend(&mut self) -> Option<&[u8]>
         ensures* after { sem 𝓛 (RestsLent self.entry) }
         ensures message { option_map (λ message. message.now) result ≡ lent_message self.old }
@@ -77,8 +78,8 @@ impl DataLink {
         self.air.ack()
     }
 
-    /// Takes the link to another channel: the control message stands in the air, and behind it what wasn't acknowledged
-    /// waits again, without control messages of an earlier channel.
+    /// Takes the link to another channel: the control message stands in the air, and behind it what
+    /// wasn't acknowledged waits again, without control messages of an earlier channel.
     pub(crate) fn resume(&mut self, control: Vec<u8>) -> Result<(), Memory>
         ensures ok { OnOk result (self.new ≡ after_resume self.old control.items) }
         ensures err { OnErr result (self.new ≡ self.old) }
@@ -94,7 +95,8 @@ impl DataLink {
         Ok(())
     }
 
-    /// Takes the link to another channel, where the message that wasn't acknowledged stands in the air again.
+    /// Takes the link to another channel, where the message that wasn't acknowledged stands in the
+    /// air again.
     pub(crate) fn repeat(&mut self)
         ensures { self.new ≡ after_repeat self.old }
     {

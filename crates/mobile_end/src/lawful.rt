@@ -7,11 +7,13 @@ use dtap_codec::{
 };
 use octets::{INITIAL_LIMIT, MESSAGE_LIMIT};
 
-/// Bit 7 of the second octet, the lower one of the two of the send sequence number: below it both are clear.
+/// Bit 7 of the second octet, the lower one of the two of the send sequence number: below it both
+/// are clear.
 const NUMBER_BIT: u8 = 0x40;
 
-/// Whether the upper layers may send this message on this SAPI: it has 1 to `MESSAGE_LIMIT` octets, it isn't of radio resource
-/// management, a message of the flow has a whole header with no number in it, and short messages alone take SAPI 3.
+/// Whether the upper layers may send this message on this SAPI: it has 1 to `MESSAGE_LIMIT` octets,
+/// it isn't of radio resource management, a message of the flow has a whole header with no number
+/// in it, and short messages alone take SAPI 3.
 pub(crate) fn is_sendable(sapi: Sapi, message: &[u8]) -> bool
     ensures { result ≡ is_sendable sapi message.now }
 {
@@ -25,8 +27,8 @@ pub(crate) fn is_sendable(sapi: Sapi, message: &[u8]) -> bool
     message.len() <= MESSAGE_LIMIT && on_its_sapi && has_clear_number(message)
 }
 
-/// Whether a connection may begin with this message: it has 1 to `INITIAL_LIMIT` octets and is of mobility management, with no
-/// number in it, or of radio resource management.
+/// Whether a connection may begin with this message: it has 1 to `INITIAL_LIMIT` octets and is of
+/// mobility management, with no number in it, or of radio resource management.
 pub fn is_initial(message: &[u8]) -> bool
     ensures { result ≡ is_initial message.now }
 {
@@ -38,7 +40,8 @@ pub fn is_initial(message: &[u8]) -> bool
         && has_clear_number(message)
 }
 
-/// Whether the message is of no protocol of the flow, or has the two octets of its header with the number's bits clear.
+/// Whether the message is of no protocol of the flow, or has the two octets of its header with the
+/// number's bits clear.
 fn has_clear_number(message: &[u8]) -> bool
     ensures { result ≡ has_clear_number message.now }
 {

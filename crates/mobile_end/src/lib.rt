@@ -1,5 +1,5 @@
-//! The mobile end of the radio link: what the upper layers send, numbered by N(SD), one message in the air per SAPI, and
-//! what is sent again after a change of channel.
+//! The mobile end of the radio link: what the upper layers send, numbered by N(SD), one message in
+//! the air per SAPI, and what is sent again after a change of channel.
 #![tactic(auto)]
 
 pub use fault::MobileFault;

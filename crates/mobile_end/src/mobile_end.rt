@@ -32,9 +32,9 @@ pub enum Place {
     Moving,
 }
 
-/// A mobile: what its upper layers send goes into the air with the send sequence number of its place
-/// (TS 24.007 clause 11.2.3.2.3), one message at a time per SAPI (TS 44.006). On another channel it sends again the one that
-/// wasn't acknowledged, with the same number, and no other.
+/// A mobile: what its upper layers send goes into the air with the send sequence number of its
+/// place (TS 24.007 clause 11.2.3.2.3), one message at a time per SAPI (TS 44.006). On another
+/// channel it sends again the one that wasn't acknowledged, with the same number, and no other.
 #[derive(Drop)]
 pub struct MobileEnd {
     alloc: Global,
@@ -84,9 +84,9 @@ impl MobileEnd {
         }
     }
 
-    /// Connects the mobile, which comes once. An initial message goes first; it has 1 to 113 octets and is of mobility
-    /// management, and then the first of the flow, or of radio resource management. Any other is `BadMessage`. Without one
-    /// it takes no memory.
+    /// Connects the mobile, which comes once. An initial message goes first; it has 1 to 113 octets
+    /// and is of mobility management, and then the first of the flow, or of radio resource
+    /// management. Any other is `BadMessage`. Without one it takes no memory.
     pub fn connect(&mut self, initial: Option<Vec<u8>>) -> Result<(), MobileFault>
         requires { self.old.stage ≡ Stage.New }
         ensures ok { OnOk result (self.new ≡ after_connect self.old (option_map (λ message. message.items) initial)) }
@@ -104,9 +104,10 @@ impl MobileEnd {
         Ok(())
     }
 
-    /// Sends a message of the upper layers, which waits until the air is free. It is refused as `NotConnected` before
-    /// `connect`, and then as `BadMessage` where it hasn't 1 to 251 octets, is of radio resource management, is of the
-    /// flow with less than its header or with a number in it, or isn't on its SAPI, which is 3 for short messages alone.
+    /// Sends a message of the upper layers, which waits until the air is free. It is refused as
+    /// `NotConnected` before `connect`, and then as `BadMessage` where it hasn't 1 to 251 octets,
+    /// is of radio resource management, is of the flow with less than its header or with a number
+    /// in it, or isn't on its SAPI, which is 3 for short messages alone.
     pub fn send(&mut self, sapi: Sapi, message: Vec<u8>) -> Result<(), MobileFault>
         ensures ok { OnOk result (self.new ≡ after_queue self.old sapi message.items) }
         ensures refused { RefusesBy MobileFault.Memory result (refusal_of_send self.old sapi message.items) }
@@ -119,7 +120,8 @@ impl MobileEnd {
         Ok(())
     }
 
-    /// Why `send` refuses this message, where it doesn't for lack of memory; none where it takes it.
+    /// Why `send` refuses this message, where it doesn't for lack of memory; none where it takes
+    /// it.
     pub fn refusal(&self, sapi: Sapi, message: &[u8]) -> Option<MobileFault>
         ensures { result ≡ refusal_of_send self.now sapi message.now }
     {
@@ -132,7 +134,8 @@ impl MobileEnd {
         None
     }
 
-    /// Lets a message wait on the data link of this SAPI, one of the flow with its number on that of SAPI 0.
+    /// Lets a message wait on the data link of this SAPI, one of the flow with its number on that
+    /// of SAPI 0.
     fn queue(&mut self, sapi: Sapi, message: Vec<u8>) -> Result<(), Memory>
         ensures ok { OnOk result (self.new ≡ after_queue self.old sapi message.items) }
         ensures err { OnErr result (self.new ≡ self.old) }
@@ -160,8 +163,9 @@ impl MobileEnd {
         Ok(())
     }
 
-    /// What stands in the air on this SAPI, once, for the station to take; an empty air first takes the next message
-    /// that waits. Before `connect` it is refused as `NotConnected`; between two channels there is none. It takes no memory.
+    /// What stands in the air on this SAPI, once, for the station to take; an empty air first takes
+    /// the next message that waits. Before `connect` it is refused as `NotConnected`; between two
+    /// channels there is none. It takes no memory.
     pub fn frame(&mut self, sapi: Sapi) -> Result<Option<&[u8]>, MobileFault>
         ensures* after { sem 𝓛 (RestsFramed self.entry sapi) }
         ensures frame { result_map_both (option_map (λ frame. frame.now)) (λ fault. fault) result ≡ frame_answer self.old sapi }
@@ -178,8 +182,8 @@ impl MobileEnd {
         }
     }
 
-    /// The station's acknowledgement of the frame that it took; the air on this SAPI is then free. False where it took
-    /// none that wasn't acknowledged yet, and between two channels.
+    /// The station's acknowledgement of the frame that it took; the air on this SAPI is then free.
+    /// False where it took none that wasn't acknowledged yet, and between two channels.
     pub fn acked(&mut self, sapi: Sapi) -> bool
         ensures acknowledged { result ≡ is_acknowledged self.old sapi }
         ensures after { self.new ≡ after_acked self.old sapi }
@@ -193,17 +197,18 @@ impl MobileEnd {
         }
     }
 
-    /// Leaves the channel, as a command told the mobile: its data links are suspended (TS 44.006 clause 5.4.3), and nothing
-    /// is taken or acknowledged until it is on a channel again.
+    /// Leaves the channel, as a command told the mobile: its data links are suspended (TS 44.006
+    /// clause 5.4.3), and nothing is taken or acknowledged until it is on a channel again.
     pub fn leave(&mut self)
         ensures { self.new ≡ after_leave self.old }
     {
         self.place = Place::Moving;
     }
 
-    /// Arrives on another channel, after a `leave` of its own: its data links are resumed there with the COMPLETE, which
-    /// comes first (TS 44.006 clause 5.4.3). Then comes the message that wasn't acknowledged, with the number that it has;
-    /// one of radio resource management that belongs to an earlier channel is dropped.
+    /// Arrives on another channel, after a `leave` of its own: its data links are resumed there
+    /// with the COMPLETE, which comes first (TS 44.006 clause 5.4.3). Then comes the message that
+    /// wasn't acknowledged, with the number that it has; one of radio resource management that
+    /// belongs to an earlier channel is dropped.
     pub fn arrive(&mut self, complete: Vec<u8>) -> Result<(), MobileFault>
         requires moving { self.old.place ≡ Place.Moving }
         requires control { is_control complete.items ≡ true }
@@ -214,8 +219,8 @@ impl MobileEnd {
         self.resume(complete)
     }
 
-    /// Gives the other channel up and returns to the one that it left, after a `leave` of its own: as `arrive`, with the
-    /// FAILURE (TS 44.006 clause 5.4.3).
+    /// Gives the other channel up and returns to the one that it left, after a `leave` of its own:
+    /// as `arrive`, with the FAILURE (TS 44.006 clause 5.4.3).
     pub fn give_up(&mut self, failure: Vec<u8>) -> Result<(), MobileFault>
         requires moving { self.old.place ≡ Place.Moving }
         requires control { is_control failure.items ≡ true }
@@ -238,7 +243,8 @@ impl MobileEnd {
         Ok(())
     }
 
-    /// The sent list: the messages of the flow that the upper layers sent, in order, without numbers.
+    /// The sent list: the messages of the flow that the upper layers sent, in order, without
+    /// numbers.
     pub fn sent(&self) -> &[Octets]
         ensures { result.now ≡ self.now.sent }
     {

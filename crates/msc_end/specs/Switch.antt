@@ -1,4 +1,5 @@
--- What the switch end does with a message, as functions of the connections that it has, the first one first.
+-- What the switch end does with a message, as functions of the connections that it has, the first
+-- one first.
 use Rattle.std.specs.Prelude.{ℕ, ◌+◌, ◌-◌, nat_le, ◌==◌, if◌then◌else◌, List, [], ◌∷◌, ◌++◌, length, slice_get, slice_set, Option, Some, None, option_to_list}
 use Rattle.std.specs.Result.{result_ok}
 use Rattle.bssmap_codec.specs.declared.bssap.Bssap.{Bssap}
@@ -35,7 +36,8 @@ with_stage c stage = record { peer = c.peer; stage = stage; reception = c.recept
 abbrev pub with_message : Connection → List ℕ → Connection
 with_message c message = record { peer = c.peer; stage = c.stage; reception = record { modulus = c.reception.modulus; taken = c.reception.taken ++ message ∷ [] }; number = c.number }
 
--- a connection that hasn't ended, after a message: DTAP is taken, CLEAR REQUEST clears, CLEAR COMPLETE ends
+-- a connection that hasn't ended, after a message: DTAP is taken, CLEAR REQUEST clears, CLEAR
+-- COMPLETE ends
 abbrev pub live_connection_after : Connection → Bssap → Connection
 live_connection_after c (Transfer dlci message) = with_message c message
 live_connection_after c (Management (ClearRequest cause)) = with_stage c Clearing

@@ -1,5 +1,5 @@
-//! The switch end: what tests use as the mobile switching centre. It accepts of each connection what the duplicate
-//! detection of TS 24.007 lets through.
+//! The switch end: what tests use as the mobile switching centre. It accepts of each connection
+//! what the duplicate detection of TS 24.007 lets through.
 #![tactic(auto)]
 
 pub use connection::{Connection, Stage};

@@ -20,7 +20,8 @@ use octets::{Memory, Octets};
 use std::alloc::Global;
 use std::marker::Model;
 
-/// The switch end. The n-th connection request gets connection n and the reference 800000 hexadecimal plus n.
+/// The switch end. The n-th connection request gets connection n and the reference 800000
+/// hexadecimal plus n.
 #[derive(Drop)]
 pub struct MscEnd {
     alloc: Global,
@@ -49,7 +50,8 @@ impl MscEnd {
         }
     }
 
-    /// Takes a message from the base station controller, and appends what is replied. An `Err` changes nothing.
+    /// Takes a message from the base station controller, and appends what is replied. An `Err`
+    /// changes nothing.
     pub fn on_message(&mut self, message: &Sccp, out: &mut Vec<Sccp>) -> Result<(), Memory>
         ensures state { OnOk result (self.new ≡ after self.old message.now) }
         ensures replies { OnOk result (out.new.items ≡ out.old.items ++ replies self.old.connections message.now) }
@@ -128,7 +130,8 @@ impl MscEnd {
         Ok(())
     }
 
-    /// Sends a layer 3 message to the mobile of a connection. An `Err` changes nothing: `NoConnection`, then `Closed`, then `Memory`.
+    /// Sends a layer 3 message to the mobile of a connection. An `Err` changes nothing:
+    /// `NoConnection`, then `Closed`, then `Memory`.
     pub fn send_dtap(
         &self,
         conn: u32,
@@ -152,7 +155,8 @@ impl MscEnd {
         Ok(())
     }
 
-    /// Asks for a speech channel for a connection. An `Err` changes nothing: `NoConnection`, then `Closed`, then `Memory`.
+    /// Asks for a speech channel for a connection. An `Err` changes nothing: `NoConnection`, then
+    /// `Closed`, then `Memory`.
     pub fn assign(&self, conn: u32, out: &mut Vec<Sccp>) -> Result<(), MscFault>
         ensures ok { OnOk result (out.new.items ≡ out.old.items ++ data_forms_on (connection_of self.now.connections conn) assignment_request) }
         ensures sent { OnOk result (length out.new.items ≡ length out.old.items + 1) }
@@ -166,7 +170,8 @@ impl MscEnd {
         Ok(())
     }
 
-    /// Sends CLEAR COMMAND, cause call control, on a connection. An `Err` changes nothing: `NoConnection`, then `Closed`, then `Memory`.
+    /// Sends CLEAR COMMAND, cause call control, on a connection. An `Err` changes nothing:
+    /// `NoConnection`, then `Closed`, then `Memory`.
     pub fn clear(&mut self, conn: u32, out: &mut Vec<Sccp>) -> Result<(), MscFault>
         ensures ok { OnOk result (out.new.items ≡ out.old.items ++ data_forms_on (connection_of self.old.connections conn) clear_command) }
         ensures sent { OnOk result (length out.new.items ≡ length out.old.items + 1) }
@@ -219,8 +224,8 @@ impl MscEnd {
         self.connections.get(conn as usize - 1)
     }
 
-    /// All messages of the mobile that were taken on a connection up to the CLEAR COMPLETE, in order, the initial message
-    /// first; none where there is no connection of that number.
+    /// All messages of the mobile that were taken on a connection up to the CLEAR COMPLETE, in
+    /// order, the initial message first; none where there is no connection of that number.
     pub fn taken(&self, conn: u32) -> Option<&[Octets]>
         ensures { option_map (λ v. v.now) result ≡ option_map (λ c. c.reception.taken) (connection_of self.now.connections conn) }
     {
@@ -230,7 +235,8 @@ impl MscEnd {
         }
     }
 
-    /// What was given up to the upper layers of the flow on a connection: the judgement over the messages taken, numbers cleared.
+    /// What was given up to the upper layers of the flow on a connection: the judgement over the
+    /// messages taken, numbers cleared.
     pub fn accepted(&self, conn: u32) -> Option<&[Octets]>
         ensures { option_map (λ v. v.now) result ≡ option_map (λ c. accepted_list c.reception.modulus c.reception.taken) (connection_of self.now.connections conn) }
     {

@@ -61,7 +61,8 @@ progress_from-by m n x xs v is = ap (λ (v : Option Verdict). progress_from m (p
 carried : {m k : ℕ} {sent : List (List ℕ)} {x : List ℕ} (c : Carries m sent k x) → without_number x ≡ c.message
 carried {m} {k} c = ap without_number c.carries ∙ without_number-with_number (k % m) c.message ∙ c.is_clear.cleared
 
--- Of messages whose places rise from n to k, what is accepted is what was sent between these places.
+-- Of messages whose places rise from n to k, what is accepted is what was sent between these
+-- places.
 pub accepted_list_from-rise : {m : ℕ} {sent : List (List ℕ)} {n k : ℕ} {xs : List (List ℕ)} → 2 ≤ m → Rise m sent n xs k → take n sent ++ accepted_list_from m (Some n) xs ≡ take k sent
 accepted_list_from-rise {sent} two (over n) = append-nil (take n sent)
 accepted_list_from-rise {m} {sent} {n} two (other {x} {xs} flow rise) =

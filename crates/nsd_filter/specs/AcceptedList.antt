@@ -1,4 +1,5 @@
--- What the network gives up to its upper layers of the messages of a connection, in the order in which they came.
+-- What the network gives up to its upper layers of the messages of a connection, in the order in
+-- which they came.
 use Rattle.std.specs.Prelude.{ℕ, Option, Some, None, option_map, List, [], ◌∷◌, ◌++◌, filter, not}
 use Rattle.dtap_codec.specs.Message.{is_flow_message}
 use Rattle.dtap_codec.specs.Number.{number_in, without_number}

@@ -1,10 +1,12 @@
--- How the network judges a send sequence number, for any number m of numbers (TS 24.007 clause 11.2.3.2.3).
+-- How the network judges a send sequence number, for any number m of numbers (TS 24.007 clause
+-- 11.2.3.2.3).
 use Rattle.std.specs.Prelude.{ℕ, ◌+◌, ◌-◌, ◌%◌, ◌==◌, Option, Some, None, if◌then◌else◌}
 use Rattle.nsd_filter.specs.declared.verdict.Verdict.{Verdict}
 use Rattle.nsd_filter.specs.declared.verdict.Verdict.TheVariants.{Accept, Duplicate, Gap}
 
--- How far a flow has come is so many accepted messages, or None after a gap. Of the message after these, the number of
--- the next place is accepted, that of the place before it is a duplicate, and any other shows a gap, as all after it do.
+-- How far a flow has come is so many accepted messages, or None after a gap. Of the message after
+-- these, the number of the next place is accepted, that of the place before it is a duplicate, and
+-- any other shows a gap, as all after it do.
 abbrev pub judgement : ℕ → Option ℕ → ℕ → Verdict
 judgement m None number = Gap
 judgement m (Some accepted) number =

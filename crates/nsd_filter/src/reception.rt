@@ -8,8 +8,8 @@ use octets::{Memory, Octets};
 use std::alloc::Global;
 use std::marker::Model;
 
-/// What the network's end of a connection took from its mobile: all messages, those of the flow that it gave up to its
-/// upper layers, and those that carry no number.
+/// What the network's end of a connection took from its mobile: all messages, those of the flow
+/// that it gave up to its upper layers, and those that carry no number.
 #[derive(Drop)]
 pub struct Reception {
     alloc: Global,
@@ -93,7 +93,8 @@ impl Reception {
         self.taken.as_slice()
     }
 
-    /// The accepted list: what was given up to the upper layers of the flow, in order, with numbers cleared.
+    /// The accepted list: what was given up to the upper layers of the flow, in order, with numbers
+    /// cleared.
     pub fn accepted(&self) -> &[Octets]
         ensures { result.now ≡ accepted_list self.now.modulus self.now.taken }
     {

@@ -1,8 +1,10 @@
--- Octets as text, as the standards write them in examples: two hexadecimal digits an octet, and spaces between octets.
+-- Octets as text, as the standards write them in examples: two hexadecimal digits an octet, and
+-- spaces between octets.
 use Prim.Native.String.{String}
 use Rattle.std.proofs.Common.{ℕ, ◌+◌, ◌-◌, ◌*◌, ◌&&◌, nat_le, ◌==◌, List, [], ◌∷◌, codes, Option, Some, None, if◌then◌else◌, option_map, option_and_then}
 
--- the value of a digit, in either case: `0` to `9` are 48 to 57, `a` to `f` are 97 to 102, and `A` to `F` are 65 to 70
+-- the value of a digit, in either case: `0` to `9` are 48 to 57, `a` to `f` are 97 to 102, and `A`
+-- to `F` are 65 to 70
 abbrev digit_of : ℕ → Option ℕ
 digit_of c =
     if nat_le 48 c && nat_le c 57 then Some (c - 48)
@@ -10,7 +12,8 @@ digit_of c =
     else if nat_le 65 c && nat_le c 70 then Some (c - 55)
     else None
 
--- the octets of the characters, where a high digit may have been read; a space (32) stands before an octet or behind it
+-- the octets of the characters, where a high digit may have been read; a space (32) stands before
+-- an octet or behind it
 abbrev octets_after : Option ℕ → List ℕ → Option (List ℕ)
 octets_after None [] = Some []
 octets_after (Some high) [] = None
@@ -31,6 +34,7 @@ abbrev spelled : (octets : Option (List ℕ)) → Spelled octets
 spelled None = tt
 spelled (Some octets) = octets
 
--- the list of the octets; of a text that spells none it isn't a list, so that a row that has such a text is refused
+-- the list of the octets; of a text that spells none it isn't a list, so that a row that has such a
+-- text is refused
 abbrev pub hex : (text : String) → Spelled (octets_in text)
 hex text = spelled (octets_in text)

@@ -1,5 +1,5 @@
--- Definitions against literal octets. The table has an identifier of each format: 01 with one octet, 0B with two octets of
--- length, 1A with one.
+-- Definitions against literal octets. The table has an identifier of each format: 01 with one
+-- octet, 0B with two octets of length, 1A with one.
 use Rattle.std.proofs.Common.{◌≡◌, ℕ, List, [], ◌∷◌, map, replicate, true, false, Some, None, Result, Ok, Err, refl}
 use Rattle.octets.proofs.Hex.{hex, octets_in}
 use Rattle.octets.specs.declared.element.Entry.{Entry}

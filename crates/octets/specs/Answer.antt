@@ -12,7 +12,8 @@ abbrev pub result_map : {A B F : Type 0} → (A → B) → Result A F → Result
 result_map view (Ok x) = Ok (view x)
 result_map view (Err fault) = Err fault
 
--- What a call returned, result_map by view, is what the octets are read as; or memory ran out, where they are read.
+-- What a call returned, result_map by view, is what the octets are read as; or memory ran out,
+-- where they are read.
 abbrev pub Gives : {X Y F : Type 0} → F → (X → Y) → Result X F → Result Y F → Type 0
 Gives memory view (Ok x) read = read ≡ Ok (view x)
 Gives memory view (Err fault) read = (read ≡ Err fault) ⊎ ((fault ≡ memory) × IsOk read)

@@ -1,4 +1,5 @@
--- Information elements one behind the other, over a table of the known identifiers (TS 24.007 clause 11.2.1.1).
+-- Information elements one behind the other, over a table of the known identifiers (TS 24.007
+-- clause 11.2.1.1).
 use Rattle.std.specs.Prelude.{◌≡◌, ◌≢◌, ℕ, ◌/◌, ◌%◌, ◌<◌, Bool, MatchBool, ◌==◌, List, [], ◌∷◌, ◌++◌, length, slice_index, Option, Some, None, option_map}
 use Rattle.std.specs.List.{find}
 use Rattle.octets.specs.declared.element.Entry.{Entry}
@@ -21,7 +22,8 @@ AreOctets octets = (i : ℕ) → slice_index octets i < 256
 abbrev pub format_in : List Entry → ℕ → Option Format
 format_in table id = option_map (λ e. e.format) (find (λ e. e.id == id) table)
 
--- the octets between the identifier and a value of this size: none, or its length in one octet or in two
+-- the octets between the identifier and a value of this size: none, or its length in one octet or
+-- in two
 abbrev pub length_octets : Format → ℕ → List ℕ
 length_octets (Tv n) size = []
 length_octets Tlv size = size ∷ []
@@ -63,7 +65,8 @@ pub record BreaksOff (table : List Entry) (octets : List ℕ) : Type 0 where
   pub begun : octets ≢ []
   pub lacks : more ≢ []
 
--- The octets are these elements one behind the other, and behind them none begins; or, where they are cut, one breaks off.
+-- The octets are these elements one behind the other, and behind them none begins; or, where they
+-- are cut, one breaks off.
 abbrev pub AreElements : List Entry → List ℕ → List Element → Bool → Type 0
 AreElements table octets [] is_cut = MatchBool is_cut (BreaksOff table octets) (Stops table octets)
 AreElements table octets (e ∷ es) is_cut =

@@ -15,7 +15,8 @@ pub record Field : Type 0 where
 abbrev pub field : ℕ → Option (List ℕ) → Field
 field id value = record { id = id; value = value }
 
--- the first element with each identifier has the field's value, and where there is none, there is no such element
+-- the first element with each identifier has the field's value, and where there is none, there is
+-- no such element
 abbrev pub Carries : List Element → List Field → Type 0
 Carries es [] = Unit {0}
 Carries es (f ∷ fs) = (first_of f.id es ≡ f.value) × Carries es fs

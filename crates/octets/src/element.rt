@@ -72,7 +72,8 @@ pub fn format_of(table: &[Entry], id: u8) -> Option<Format>
         .map(|entry| entry.format)
 }
 
-/// The element at the front of the octets; none at their end, or at an identifier outside the table.
+/// The element at the front of the octets; none at their end, or at an identifier outside the
+/// table.
 fn front<'a>(table: &[Entry], octets: &'a [u8]) -> Result<Option<Found<'a>>, Cut>
     ensures { result_map (option_map (λ f. (element f.id f.value.now, f.rest.now))) result ≡ front_of table.now octets.now }
 {
@@ -124,8 +125,8 @@ pub fn first_value<'a>(table: &[Entry], octets: &'a [u8], id: u8) -> Option<&'a 
     }
 }
 
-/// Appends an element of this format; an `Err` changes nothing. In the format TV the value stands as it is, whatever
-/// its size.
+/// Appends an element of this format; an `Err` changes nothing. In the format TV the value stands
+/// as it is, whatever its size.
 pub fn append(text: &mut Vec<u8>, format: Format, id: u8, value: &[u8]) -> Result<(), Memory>
     requires { HasLength format (length value.now) }
     ensures ok { OnOk result (text.new.items ≡ text.old.items ++ element_text format (element id value.now)) }
@@ -147,8 +148,8 @@ pub fn append(text: &mut Vec<u8>, format: Format, id: u8, value: &[u8]) -> Resul
     Ok(())
 }
 
-/// Law: the walk finds the elements that the octets are, octets are elements in one way alone, and a value that
-/// is found has a size of its format.
+/// Law: the walk finds the elements that the octets are, octets are elements in one way alone, and
+/// a value that is found has a size of its format.
 pub fn elements_are_one()
     ensures found { (table : List Entry) (octets : List ℕ) → AreOctets octets →
         AreElements table octets (walk table octets).elements (walk table octets).is_cut }
@@ -158,8 +159,8 @@ pub fn elements_are_one()
         AreOctets octets → AreElements table octets es is_cut → first_of id es ≡ Some value → IsSized table id value }
 {}
 
-/// Law: the elements of fields, written one behind the other, are elements that carry these fields, whatever
-/// follows that begins with no identifier of the table.
+/// Law: the elements of fields, written one behind the other, are elements that carry these fields,
+/// whatever follows that begins with no identifier of the table.
 pub fn written_fields_are_carried()
     ensures { (table : List Entry) (fields : List Field) (more : List ℕ) →
         AllFit table fields → are_distinct fields ≡ true → Stops table more →

@@ -25,7 +25,8 @@ pub fn split<F: Copy>(octets: &[u8], size: usize, fault: F) -> Result<(&[u8], &[
     Ok((&octets[..size], &octets[size..]))
 }
 
-/// The value at the front that a length octet before it counts, and the octets behind it; `fault` where it is cut.
+/// The value at the front that a length octet before it counts, and the octets behind it; `fault`
+/// where it is cut.
 #[tactic(auto, unfolding(crate::specs::Front::counted_at))]
 pub fn counted<F: Copy>(octets: &[u8], fault: F) -> Result<(&[u8], &[u8]), F>
     ensures { result_map (λ p. (p.0.now, p.1.now)) result ≡ counted_at fault octets.now }

@@ -1,4 +1,5 @@
-//! What every crate of the relay stands on: the octets of a message, and the fault of calls that can only run out of memory.
+//! What every crate of the relay stands on: the octets of a message, and the fault of calls that
+//! can only run out of memory.
 #![tactic(auto)]
 
 pub use limits::{INITIAL_LIMIT, LENGTH_LIMIT, MESSAGE_LIMIT};

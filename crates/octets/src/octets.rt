@@ -4,7 +4,8 @@ use crate::Memory;
 use std::alloc::Global;
 use std::marker::Model;
 
-/// The octets of a message. Contracts see the list of octets, so two messages are equal where their octets are.
+/// The octets of a message. Contracts see the list of octets, so two messages are equal where their
+/// octets are.
 #[derive(Debug, Drop)]
 pub struct Octets {
     octets: Vec<u8>,

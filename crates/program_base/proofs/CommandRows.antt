@@ -1,5 +1,5 @@
--- Definitions against literal values. Words of the command line are tried on the built program, by tests/statuses: the model
--- that `clap` brings with it doesn't compute.
+-- Definitions against literal values. Words of the command line are tried on the built program, by
+-- tests/statuses: the model that `clap` brings with it doesn't compute.
 use Rattle.std.specs.Prelude.{◌≡◌, None, Some, [], codes}
 use Rattle.std.proofs.Common.{refl}
 use Rattle.program_base.specs.declared.words.Task.TheVariants.{Decode, Replay}

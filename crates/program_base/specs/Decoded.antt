@@ -34,7 +34,8 @@ pub record IsDecoded (stream text : List ℕ) : Type 0 where
   pub started : IsPartial rest
   pub is : text ≡ frame_lines frames ++ rest_line rest
 
--- The stream is frames and behind them one that is too long, and the text is the lines of the frames.
+-- The stream is frames and behind them one that is too long, and the text is the lines of the
+-- frames.
 pub record IsRefused (stream text : List ℕ) : Type 0 where
   pub frames : List Frame
   pub rest : List ℕ
@@ -46,12 +47,13 @@ pub record IsRefused (stream text : List ℕ) : Type 0 where
 abbrev pub Decodes : Option (List ℕ) → Option (List ℕ) → Option (List ℕ) → Type 0
 Decodes start old new = IfSome start (λ stream. (text : List ℕ) × IsDecoded stream text × Appends old new text)
 
--- Known contents grew by the lines of a known stream before a frame that is too long, and by a last line.
+-- Known contents grew by the lines of a known stream before a frame that is too long, and by a last
+-- line.
 abbrev pub RefusesWith : List ℕ → Option (List ℕ) → Option (List ℕ) → Option (List ℕ) → Type 0
 RefusesWith last start old new = IfSome start (λ stream. (text : List ℕ) × IsRefused stream text × Appends old new (text ++ last))
 
--- The text is the lines of the stream's frames, and behind them that of the rest, or where a frame is too long these last
--- octets.
+-- The text is the lines of the stream's frames, and behind them that of the rest, or where a frame
+-- is too long these last octets.
 abbrev pub IsOutput : List ℕ → List ℕ → List ℕ → Type 0
 IsOutput last stream text = IsDecoded stream text ⊎ ((lines : List ℕ) × IsRefused stream lines × (text ≡ lines ++ last))
 
@@ -61,15 +63,17 @@ Begins last start old new = IfSome start (λ stream. (text : List ℕ) → IsOut
 
 -- ---- what the parts of the program do
 
--- What a framer held were frames and behind them what it holds now. Known contents grew by the lines of the frames.
+-- What a framer held were frames and behind them what it holds now. Known contents grew by the
+-- lines of the frames.
 pub record PrintsFrames (held left : FramerState) (old new : Option (List ℕ)) : Type 0 where
   pub frames : List Frame
   pub each : AllByRecursion IsFrame frames
   pub whole : held.octets ≡ flat_map frame_text frames ++ left.octets
   pub printed : Appends old new (frame_lines frames)
 
--- The octets begin with frames, and known contents grew by a beginning of their lines. Where a frame that is too long was the
--- reason to stop, it stands behind them, and their lines are written.
+-- The octets begin with frames, and known contents grew by a beginning of their lines. Where a
+-- frame that is too long was the reason to stop, it stands behind them, and their lines are
+-- written.
 pub record StopsAmong (octets : List ℕ) (stop : Stop) (old new : Option (List ℕ)) : Type 0 where
   pub frames : List Frame
   pub rest : List ℕ

@@ -35,7 +35,8 @@ rsl_message_name (messages.MeasurementResult _) = codes "MEASUREMENT RESULT"
 rsl_message_name (messages.RfChannelRelease _) = codes "RF CHANNEL RELEASE"
 rsl_message_name (messages.RfChannelReleaseAck _) = codes "RF CHANNEL RELEASE ACK"
 
--- octets that are no such message, by the fault that stands first; no reading runs out of memory, so S5 and A6 are never printed
+-- octets that are no such message, by the fault that stands first; no reading runs out of memory,
+-- so S5 and A6 are never printed
 abbrev pub rsl_fault_name : RslFault → List ℕ
 rsl_fault_name faults.Short = codes "fault S1"
 rsl_fault_name faults.UnknownType = codes "fault S2"

@@ -69,7 +69,8 @@ impl From<Unread<Stop>> for Stop {
     }
 }
 
-/// Prints a frame's line. It is put together of octets, since a formatter took over a quarter of the program's time.
+/// Prints a frame's line. It is put together of octets, since a formatter took over a quarter of
+/// the program's time.
 fn print_frame<W: Write>(alloc: Global, frame: &Frame, output: &mut W) -> Result<(), Failure>
     ensures { Puts result (W.contents output.old) (W.contents output.new) (frame_line frame.now) }
 {
@@ -156,7 +157,8 @@ impl<W: Write> Sink for Namer<'_, W> {
       stops_later old.framer mid.framer first second stop (W.contents old.output.now) (W.contents mid.output.now) (W.contents new.output.now) some.1 stops.1,
     ) };
 
-    /// Names the frames that are whole with this piece. What is named is printed before more is read.
+    /// Names the frames that are whole with this piece. What is named is printed before more is
+    /// read.
     fn take(&mut self, piece: &[u8]) -> Result<(), Stop> {
         self.framer.feed(piece)?;
         print_frames(self.alloc, &mut self.framer, self.output)?;
@@ -203,9 +205,10 @@ fn print_all<R: Read, W: Write>(alloc: Global, input: &mut R, output: &mut W) ->
     }
 }
 
-/// Names each frame of the IPA stream on `input`, and gives the status that the program ends with: 0, or 3 where a frame
-/// is too long, memory ran out or a device failed. The text of a status above 0 goes to `errors`, but for `fault F1`,
-/// the last line of the output where a frame is too long. The output is flushed after each read.
+/// Names each frame of the IPA stream on `input`, and gives the status that the program ends with:
+/// 0, or 3 where a frame is too long, memory ran out or a device failed. The text of a status above
+/// 0 goes to `errors`, but for `fault F1`, the last line of the output where a frame is too long.
+/// The output is flushed after each read.
 pub fn decode<R: Read, W: Write, E: Write>(
     alloc: Global,
     input: &mut R,
@@ -215,9 +218,11 @@ pub fn decode<R: Read, W: Write, E: Write>(
     ensures status { (result ≡ 0) ⊎ (result ≡ 3) }
     // It ends with 0 only where all octets were read, if it is known which there are.
     ensures read { result ≡ 0 → IsAtEnd (R.remaining input.new) }
-    // What is printed then are the lines of the frames that the octets are, if it is known what an output holds.
+    // What is printed then are the lines of the frames that the octets are, if it is known what an
+    // output holds.
     ensures printed { result ≡ 0 → Decodes (R.remaining input.old) (W.contents output.old) (W.contents output.new) }
-    // Where a frame is too long the lines end with `fault F1`. Whatever the status, what is printed is a beginning of them.
+    // Where a frame is too long the lines end with `fault F1`. Whatever the status, what is printed
+    // is a beginning of them.
     ensures begun { Begins (codes "fault F1\n") (R.remaining input.old) (W.contents output.old) (W.contents output.new) }
     ensures long { IfSome (R.remaining input.old) (λ stream. (text : List ℕ) → IsRefused stream text → result ≡ 3) }
 {

@@ -63,7 +63,8 @@ pub fn read_all<R: Read, S: Sink>(
     read_within(input, block, MOST_READS, sink)
 }
 
-/// Reads an input to its end, each time to the front of `block`, and so often at most. An interrupted read is tried again.
+/// Reads an input to its end, each time to the front of `block`, and so often at most. An
+/// interrupted read is tried again.
 fn read_within<R: Read, S: Sink>(
     input: &mut R,
     block: &mut [u8],

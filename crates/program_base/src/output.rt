@@ -2,8 +2,8 @@ ghost use Rattle.program_base.specs.Output.{Puts};
 
 use std::io::{self, ErrorKind, Write};
 
-/// Writes the octets. Where the device fails it has taken a beginning of them, which `write_all` doesn't say. An interrupted
-/// write is tried again.
+/// Writes the octets. Where the device fails it has taken a beginning of them, which `write_all`
+/// doesn't say. An interrupted write is tried again.
 pub fn put<W: Write>(output: &mut W, octets: &[u8]) -> io::Result<()>
     ensures { Puts result (W.contents output.old) (W.contents output.new) octets.now }
 {

@@ -85,8 +85,8 @@ fn fault_of(error: &Error) -> TaskFault
     }
 }
 
-/// Reads the words behind the program's name. They are `Words` only where `clap` refuses them; else the task is the
-/// subcommand that `clap` finds, with the values of its options.
+/// Reads the words behind the program's name. They are `Words` only where `clap` refuses them; else
+/// the task is the subcommand that `clap` finds, with the values of its options.
 pub fn task<'a>(alloc: Global, words: &'a [&'a str]) -> Result<Task, TaskFault>
     ensures ok { IfOk result (λ task. AreTaken (map (λ word. word.now) words.entry.now) × IsTask task (subcommand_of bsc (map (λ word. word.now) words.entry.now))) }
     ensures words { result ≡ Err TaskFault.Words → AreRefused (map (λ word. word.now) words.entry.now) }
@@ -107,7 +107,8 @@ pub fn task<'a>(alloc: Global, words: &'a [&'a str]) -> Result<Task, TaskFault>
     }
 }
 
-/// What `clap` says of words that it refuses; `None` where it takes them, or where memory for its words can't be had.
+/// What `clap` says of words that it refuses; `None` where it takes them, or where memory for its
+/// words can't be had.
 pub fn complaint<'a>(alloc: Global, words: &'a [&'a str]) -> Option<Error>
     ensures { IfSome result (λ error. kind_of error ≢ OutOfMemory → AreRefused (map (λ word. word.now) words.entry.now)) }
 {

@@ -254,8 +254,8 @@ fn line_of(alloc: Global, cells: u16, mut words: Words<'_>) -> Result<Event, Lin
     arguments(alloc, cells, kind, words)
 }
 
-/// Reads one line of a script: the event whose text the line is, where there are so many cells. A line that is no
-/// event's text is `BadEvent`; memory is needed only where the line is one's.
+/// Reads one line of a script: the event whose text the line is, where there are so many cells. A
+/// line that is no event's text is `BadEvent`; memory is needed only where the line is one's.
 pub fn read_line(alloc: Global, cells: u16, line: &str) -> Result<Event, LineFault>
     ensures event { IfOk result (λ event. IsLine cells event line.now) }
     ensures only { (event : WorldEvent) → IsLine cells event line.now → (result ≡ Ok event) ⊎ (result ≡ Err LineFault.Memory) }

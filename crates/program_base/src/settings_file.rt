@@ -22,7 +22,8 @@ pub fn settings_text<R: Runtime + AllocGlobal>(rt: &R, file: &str) -> Result<Str
     }
 }
 
-/// The settings in the text of their file, or their first fault. It may answer `Memory` for any text.
+/// The settings in the text of their file, or their first fault. It may answer `Memory` for any
+/// text.
 pub fn read_settings(alloc: Global, text: &str) -> Result<Settings, ProgramFault>
     ensures { result ≢ Err (Failed OutOfMemory) → result ≡ settings_of text.now }
 {

@@ -1,5 +1,5 @@
-//! The calls of the models, of the world and of the program that can run out of memory, each with ample memory, and what no
-//! contract says of them: printed text, and devices that fail.
+//! The calls of the models, of the world and of the program that can run out of memory, each with
+//! ample memory, and what no contract says of them: printed text, and devices that fail.
 #![tactic(auto)]
 
 #[cfg(test)]

@@ -66,8 +66,8 @@ const FRAMES_NAMED: &str =
     "fe PING\nfe CCM\n00 DATA INDICATION\nfd RLC\nfd fault A1\nff OML\n01 unknown\n\
     00 fault S1\nrest 3\n";
 
-/// A reader that gives its octets some at a time, and at their end gives none or fails. Where it is interrupted, every second
-/// read is.
+/// A reader that gives its octets some at a time, and at their end gives none or fails. Where it is
+/// interrupted, every second read is.
 #[derive(Drop)]
 struct Pieces<'a> {
     octets: &'a [u8],
@@ -106,8 +106,8 @@ impl Read for Pieces<'_> {
     }
 }
 
-/// A writer that takes some octets, and then fails or takes none. It counts how often it was flushed, and the octets that
-/// came behind the last time.
+/// A writer that takes some octets, and then fails or takes none. It counts how often it was
+/// flushed, and the octets that came behind the last time.
 #[derive(Drop)]
 struct Paper {
     taken: Vec<u8>,
@@ -201,8 +201,8 @@ fn frames_are_named_however_they_come(rt: HostRuntime) {
     answers_in_pieces(&rt, false, STREAMS);
 }
 
-/// Whether it replays, and what comes of an input whose reader fails at its end: what was read is named before the break,
-/// and a bad line before it comes first.
+/// Whether it replays, and what comes of an input whose reader fails at its end: what was read is
+/// named before the break, and a bad line before it comes first.
 const BROKEN: &[(bool, Row)] = &[
     (true, (THREE_MESSAGES, 3, "", FAILED)),
     (true, (b"bad\nhandle\n", 2, "", "bsc: line 1: bad event\n")),

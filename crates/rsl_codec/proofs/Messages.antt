@@ -1,4 +1,5 @@
--- What is read is a message that the octets are a text of, such a text is read, and what is written is such a text.
+-- What is read is a message that the octets are a text of, such a text is read, and what is written
+-- is such a text.
 use Rattle.std.proofs.Common.{◌≡◌, ℕ, suc, ◌≤◌, Bool, true, false, cond, ◌||◌, List, [], ◌∷◌, ◌++◌, length, Option, Some, None, Ok, Err, option_map, refl, sym, ap, subst, ◌∙◌, arith}
 use Rattle.std.proofs.lemmas.Bool.{ltb-false}
 use Rattle.octets.specs.declared.element.Format.TheVariants.{Tv, Tlv, TlvE}
@@ -248,7 +249,8 @@ type_again types.MeasurementResult = refl
 type_again types.RfChannelRelease = refl
 type_again types.RfChannelReleaseAck = refl
 
--- what is written of a message is a text of it, whatever follows that begins with no identifier of the table
+-- what is written of a message is a text of it, whatever follows that begins with no identifier of
+-- the table
 pub rsl_text_is_text : (v : Rsl) (more : List ℕ) → IsLawful v → rsl_write_fault v ≡ None → Stops ELEMENTS more → IsRsl (rsl_text v ++ more) v
 rsl_text_is_text v more lawful fault stops = record {
   discriminator = rsl_discriminator (type_of v);

@@ -217,7 +217,8 @@ rf_channel_release_ack = (refl, refl)
 
 -- ---- what else is read
 
--- elements in another order, of a repeated one the first, and nothing from the first identifier outside the table on
+-- elements in another order, of a repeated one the first, and nothing from the first identifier
+-- outside the table on
 any_order : rsl_reading (hex "02 04 02 03 01 41 01 42 0c 01") ≡ Ok (messages.EstablishRequest (record { channel = 0x41; link = 0x03 }))
 unfolding rsl_reading message_at elements_of breaks_off rsl_type walk link_at
 any_order = refl

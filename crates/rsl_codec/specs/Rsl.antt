@@ -70,8 +70,8 @@ IsL3 (Some l3) = (0 < length l3) × (length l3 ≤ MESSAGE_LIMIT)
 abbrev pub IsLawful : Rsl → Type 0
 IsLawful v = (is_channel (channel_of v) ≡ true) × IsL3 (l3_of v)
 
--- The octets are a text of the message: the discriminator, whatever its bit 1, and the octet of its type, then elements of
--- which the first with each identifier of its fields has the field's value.
+-- The octets are a text of the message: the discriminator, whatever its bit 1, and the octet of its
+-- type, then elements of which the first with each identifier of its fields has the field's value.
 pub record IsRsl (octets : List ℕ) (v : Rsl) : Type 0 where
   pub discriminator : ℕ
   pub octet : ℕ

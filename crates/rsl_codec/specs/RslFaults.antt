@@ -1,4 +1,5 @@
--- Which fault octets have that are no text of a message, by their elements (TS 48.058 clauses 8 and 9).
+-- Which fault octets have that are no text of a message, by their elements (TS 48.058 clauses 8 and
+-- 9).
 use Rattle.std.specs.Prelude.{◌≡◌, ℕ, ◌<◌, Bool, true, false, not, ◌==◌, nat_lt, List, [], ◌∷◌, ◌++◌, map, length, slice_index, Option, Some, None, is_none, Result}
 use Rattle.octets.specs.Causes.{first_that_holds}
 use Rattle.octets.specs.Element.{Element, AreElements}
@@ -67,15 +68,17 @@ l3_causes true es = (has_value (λ l3. length l3 == 0) es L3_INFORMATION, Short)
 abbrev pub element_causes : RslType → List Element → List (Bool × RslFault)
 element_causes kind es = map (λ id. (lacks es id, MissingElement id)) (needed kind) ++ ((has_value is_bad_channel es CHANNEL_NUMBER, BadChannel) ∷ l3_causes (has_l3 kind) es)
 
--- The first fault of octets: they end before the type, no message has their discriminator and type, or else, whatever
--- the elements behind the type are, the first cause that holds of them: one is cut, or what is wrong with them.
+-- The first fault of octets: they end before the type, no message has their discriminator and type,
+-- or else, whatever the elements behind the type are, the first cause that holds of them: one is
+-- cut, or what is wrong with them.
 pub data FirstFault : List ℕ → Option RslFault → Type 0 where
   ends : (octets : List ℕ) → length octets < 2 → FirstFault octets (Some Short)
   unknown : (discriminator octet : ℕ) (body : List ℕ) → rsl_type discriminator octet ≡ None → FirstFault (discriminator ∷ octet ∷ body) (Some UnknownType)
   known : (discriminator octet : ℕ) (body : List ℕ) (kind : RslType) (es : List Element) (is_cut : Bool) → rsl_type discriminator octet ≡ Some kind → AreElements ELEMENTS body es is_cut
       → FirstFault (discriminator ∷ octet ∷ body) (first_that_holds ((is_cut, Short) ∷ element_causes kind es))
 
--- The result refuses octets with their first fault, and runs out of memory only where they have none.
+-- The result refuses octets with their first fault, and runs out of memory only where they have
+-- none.
 pub record RefusesRsl (octets : List ℕ) (result : Result Rsl RslFault) : Type 0 where
   pub first : Option RslFault
   pub is_first : FirstFault octets first

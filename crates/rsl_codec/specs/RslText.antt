@@ -23,7 +23,8 @@ abbrev pub rsl_fields_text : List Field → List ℕ
 rsl_fields_text [] = []
 rsl_fields_text (f ∷ fs) = rsl_field_text f.id f.value ++ rsl_fields_text fs
 
--- the written text: discriminator and octet of its type, and the elements that are there in written order
+-- the written text: discriminator and octet of its type, and the elements that are there in written
+-- order
 abbrev pub rsl_text : Rsl → List ℕ
 rsl_text v = rsl_discriminator (type_of v) ∷ rsl_octet (type_of v) ∷ rsl_fields_text (fields v)
 

@@ -4,7 +4,8 @@ ghost use Rattle.rsl_codec.specs.ChannelNumber.{channel_by};
 use crate::RslFault;
 use std::marker::Model;
 
-/// The first octet of a TCH's number. From it on, the numbers of TCH/F, TCH/H, SDCCH/4 and SDCCH/8 stand without a gap.
+/// The first octet of a TCH's number. From it on, the numbers of TCH/F, TCH/H, SDCCH/4 and SDCCH/8
+/// stand without a gap.
 pub const FIRST_TCH: u8 = 0x08;
 
 /// The first octet of a TCH/H's number.
@@ -22,10 +23,11 @@ pub const RACH: u8 = 0x88;
 /// The number of the PCH and the AGCH.
 pub const PCH_AND_AGCH: u8 = 0x90;
 
-/// A channel number (TS 48.058 clause 9.3.1): the kind of channel in bits 8 to 4, the timeslot in bits 3 to 1.
+/// A channel number (TS 48.058 clause 9.3.1): the kind of channel in bits 8 to 4, the timeslot in
+/// bits 3 to 1.
 ///
-/// The octets are `08` to `0F` TCH/F, `10` to `1F` TCH/H, `20` to `3F` SDCCH/4, `40` to `7F` SDCCH/8, `88` RACH and
-/// `90` PCH and AGCH.
+/// The octets are `08` to `0F` TCH/F, `10` to `1F` TCH/H, `20` to `3F` SDCCH/4, `40` to `7F`
+/// SDCCH/8, `88` RACH and `90` PCH and AGCH.
 #[derive(Clone, Copy, PartialEq, Eq)]
 pub struct ChanNo {
     octet: u8,

@@ -38,14 +38,16 @@ pub struct ActivationAck {
     pub frame: Option<FrameNumber>,
 }
 
-/// CHANNEL ACTIVATION NEGATIVE ACKNOWLEDGE and CONNECTION FAILURE INDICATION (TS 48.058 clauses 8.4.3 and 8.4.4).
+/// CHANNEL ACTIVATION NEGATIVE ACKNOWLEDGE and CONNECTION FAILURE INDICATION (TS 48.058 clauses
+/// 8.4.3 and 8.4.4).
 #[derive(Drop)]
 pub struct Failure {
     pub channel: ChanNo,
     pub cause: Option<Cause>,
 }
 
-/// HANDOVER DETECTION (TS 48.058 clause 8.4.7): the mobile accessed the channel that it was handed over to.
+/// HANDOVER DETECTION (TS 48.058 clause 8.4.7): the mobile accessed the channel that it was handed
+/// over to.
 #[derive(Drop)]
 pub struct Detection {
     pub channel: ChanNo,
@@ -64,8 +66,8 @@ pub struct MeasurementResult {
     pub l3: Option<Octets>,
 }
 
-/// The channel number of RF CHANNEL RELEASE and its acknowledgement, which have no other element (TS 48.058 clauses 8.4.14
-/// and 8.4.19).
+/// The channel number of RF CHANNEL RELEASE and its acknowledgement, which have no other element
+/// (TS 48.058 clauses 8.4.14 and 8.4.19).
 #[tactic(auto, unfolding(crate::specs::RslReading::channel_only_at))]
 pub(crate) fn read_channel(body: &[u8]) -> Result<ChanNo, RslFault>
     ensures { result ≡ channel_only_at (elements_of body.now) }

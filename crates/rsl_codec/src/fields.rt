@@ -13,8 +13,9 @@ use crate::{ChanNo, RequestReference, RslFault};
 use octets::{MESSAGE_LIMIT, Memory, Octets, element};
 use std::alloc::Global;
 
-/// The octets of the channel number and the link identifier, and the L3 information, of a body that is these three
-/// elements in written order. Nearly all messages have such a body, and it needs no walk.
+/// The octets of the channel number and the link identifier, and the L3 information, of a body that
+/// is these three elements in written order. Nearly all messages have such a body, and it needs no
+/// walk.
 pub(crate) fn data_values(body: &[u8]) -> Option<(u8, u8, &[u8])>
     ensures { IfSome result (λ v. walk ELEMENTS body.now ≡ finding (data_elements v.0 v.1 v.2.now) false) }
 {
@@ -67,7 +68,8 @@ pub(crate) fn channel_number(value: &[u8]) -> Result<ChanNo, RslFault>
     }
 }
 
-/// The octet of a value of one octet. The table gives such an element no other size, so the 0 never counts.
+/// The octet of a value of one octet. The table gives such an element no other size, so the 0 never
+/// counts.
 pub(crate) fn octet(value: &[u8]) -> u8
     ensures { result ≡ octet_of value.now }
 {

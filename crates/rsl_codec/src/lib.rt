@@ -1,5 +1,5 @@
-//! RSL, the layer 3 messages between a base station and its controller (TS 48.058): a type for each message, read from
-//! and written to octets.
+//! RSL, the layer 3 messages between a base station and its controller (TS 48.058): a type for each
+//! message, read from and written to octets.
 #![tactic(auto)]
 
 pub use channel_number::{ChanNo, FIRST_SDCCH, FIRST_TCH, FIRST_TCH_H, LAST_SDCCH};

@@ -17,8 +17,8 @@ pub const SACCH_SAPI_3: u8 = 0x43;
 /// The SAPI in a link identifier: bits 3 to 1.
 const SAPI_BITS: u8 = 0x07;
 
-/// A link identifier (TS 48.058 clause 9.3.2): bits 8 and 7 are 00 on the main signalling channel and 01 on the SACCH,
-/// bits 3 to 1 are the SAPI. It holds every octet as it was read.
+/// A link identifier (TS 48.058 clause 9.3.2): bits 8 and 7 are 00 on the main signalling channel
+/// and 01 on the SACCH, bits 3 to 1 are the SAPI. It holds every octet as it was read.
 #[derive(Clone, Copy)]
 pub struct LinkId {
     octet: u8,

@@ -25,8 +25,8 @@ pub struct Data {
     pub l3: Octets,
 }
 
-/// A message that names a link alone: ESTABLISH REQUEST and CONFIRM, RELEASE CONFIRM and INDICATION (TS 48.058
-/// clauses 8.3.4 to 8.3.9).
+/// A message that names a link alone: ESTABLISH REQUEST and CONFIRM, RELEASE CONFIRM and INDICATION
+/// (TS 48.058 clauses 8.3.4 to 8.3.9).
 #[derive(Drop)]
 pub struct Link {
     pub channel: ChanNo,
@@ -41,7 +41,8 @@ pub struct ErrorReport {
     pub cause: Option<RlmCause>,
 }
 
-/// ESTABLISH INDICATION (TS 48.058 clause 8.3.6): the mobile established a link, perhaps with its first message.
+/// ESTABLISH INDICATION (TS 48.058 clause 8.3.6): the mobile established a link, perhaps with its
+/// first message.
 #[derive(Drop)]
 pub struct Establishment {
     pub channel: ChanNo,

@@ -24,8 +24,8 @@ use std::alloc::Global;
 
 /// A message between a base station and its controller (TS 48.058 clause 8).
 ///
-/// It is an octet with the message discriminator, an octet with the message type, and elements in any order, each an
-/// identifier with its value.
+/// It is an octet with the message discriminator, an octet with the message type, and elements in
+/// any order, each an identifier with its value.
 #[derive(Drop)]
 pub enum Rsl {
     DataRequest(Data),
@@ -101,10 +101,11 @@ fn read_all(alloc: Global, octets: &[u8]) -> Result<Rsl, RslFault>
 impl Rsl {
     /// The message that the octets are a text of.
     ///
-    /// Elements stand in any order; of a repeated one the first counts; from the first identifier outside the table on
-    /// nothing is looked at. Refused are, in this order, fewer than two octets, an unknown discriminator with type, an
-    /// element that is cut, a missing element in written order, a bad channel number, L3 information
-    /// without octets, one of more than 251, and that memory runs out.
+    /// Elements stand in any order; of a repeated one the first counts; from the first identifier
+    /// outside the table on nothing is looked at. Refused are, in this order, fewer than two
+    /// octets, an unknown discriminator with type, an element that is cut, a missing element in
+    /// written order, a bad channel number, L3 information without octets, one of more than 251,
+    /// and that memory runs out.
     pub fn read(alloc: Global, octets: &[u8]) -> Result<Rsl, RslFault>
         // What is answered is what the octets are read as.
         ensures reads { Gives RslFault.Memory (λ v. v) result (rsl_reading octets.now) }
@@ -232,8 +233,8 @@ impl Rsl {
         Ok(text)
     }
 
-    /// Appends the written text of the message. An empty L3 information is refused as `Short`, then what is too long,
-    /// then that memory runs out; a refusal appends nothing.
+    /// Appends the written text of the message. An empty L3 information is refused as `Short`, then
+    /// what is too long, then that memory runs out; a refusal appends nothing.
     pub fn write(&self, alloc: Global, out: &mut Vec<u8>) -> Result<(), RslFault>
         ensures ok { OnOk result (out.new.items ≡ out.old.items ++ rsl_text self.now) }
         ensures err { OnErr result (out.new.items ≡ out.old.items) }
@@ -247,8 +248,8 @@ impl Rsl {
     }
 }
 
-/// Law: what is written of a lawful message is a text of it, and is read as it, whatever follows that begins with no
-/// identifier of the table.
+/// Law: what is written of a lawful message is a text of it, and is read as it, whatever follows
+/// that begins with no identifier of the table.
 pub fn rsl_text_is_read()
     ensures text { (v : RslValue) (more : List ℕ) → IsLawful v → rsl_write_fault v ≡ None → Stops ELEMENTS more →
         IsRsl (rsl_text v ++ more) v }

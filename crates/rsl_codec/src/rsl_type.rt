@@ -53,7 +53,8 @@ pub const RF_CHANNEL_RELEASE: u8 = 0x2e;
 
 pub const RF_CHANNEL_RELEASE_ACK: u8 = 0x33;
 
-/// The type of a message: its message discriminator with its message type (TS 48.058 clauses 9.1 and 9.2).
+/// The type of a message: its message discriminator with its message type (TS 48.058 clauses 9.1
+/// and 9.2).
 #[derive(Clone, Copy)]
 pub enum RslType {
     DataRequest,
@@ -153,7 +154,8 @@ impl RslType {
         }
     }
 
-    /// The type with this discriminator, whatever its bit 1, and this message type; none where it isn't known.
+    /// The type with this discriminator, whatever its bit 1, and this message type; none where it
+    /// isn't known.
     #[tactic(auto, unfolding(crate::specs::RslType::rsl_type))]
     pub fn of_octets(discriminator: u8, octet: u8) -> Option<RslType>
         ensures { result ≡ rsl_type discriminator octet }

@@ -29,7 +29,8 @@ pub struct FrameNumber(pub u16);
 #[derive(Clone, Copy)]
 pub struct HandoverReference(pub u8);
 
-/// Power level and timing advance of the mobile on the SACCH (TS 48.058 clause 9.3.10), the first octet high.
+/// Power level and timing advance of the mobile on the SACCH (TS 48.058 clause 9.3.10), the first
+/// octet high.
 #[derive(Clone, Copy)]
 pub struct L1Information(pub u16);
 
@@ -37,16 +38,16 @@ pub struct L1Information(pub u16);
 #[derive(Clone, Copy)]
 pub struct AccessDelay(pub u8);
 
-/// What a mobile sent on the RACH, and the frame in which it did (TS 48.058 clause 9.3.19): the random access
-/// information, and the reduced number of the frame.
+/// What a mobile sent on the RACH, and the frame in which it did (TS 48.058 clause 9.3.19): the
+/// random access information, and the reduced number of the frame.
 #[derive(Clone, Copy)]
 pub struct RequestReference {
     pub access: u8,
     pub frame: u16,
 }
 
-/// Whether a link is released with its peer, 00, or at this end alone, 01 (TS 48.058 clause 9.3.20). It holds every
-/// octet.
+/// Whether a link is released with its peer, 00, or at this end alone, 01 (TS 48.058 clause
+/// 9.3.20). It holds every octet.
 #[derive(Clone, Copy)]
 pub struct ReleaseMode(pub u8);
 

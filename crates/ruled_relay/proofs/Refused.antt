@@ -8,7 +8,8 @@ first_is_within : (fates : List Fate) → refused_first fates ≤ most_refused f
 first_is_within [] = omega arith
 first_is_within (fate ∷ fates) = omega arith
 
--- so it is from a putter whose frames came back so often, since a line was put last and at most so far
+-- so it is from a putter whose frames came back so often, since a line was put last and at most so
+-- far
 counted : (old now : PutterView) (fates : List Fate) (running so_far : ℕ) → running ≤ so_far → old.refused ≡ min running 4294967295 → old.refusals ≡ min so_far 4294967295 → Meets old fates now
     → now.refusals ≡ min (max so_far (max (running + refused_first fates) (most_refused fates))) 4294967295
 counted old now [] running so_far within r m h = let e = ap (λ (p : PutterView). p.refusals) h in omega arith

@@ -4,7 +4,8 @@ use Rattle.atomic_table.specs.Seated.{TableId}
 use Rattle.ruled_relay.specs.declared.rule.Seen.{Seen}
 use Rattle.ruled_relay.specs.Rule.{putting, taking, left_over, AddsLast, EndsWith, TakesFirst}
 
--- An end of a queue: which queue it is of, how many items that holds at most, and what the end knows.
+-- An end of a queue: which queue it is of, how many items that holds at most, and what the end
+-- knows.
 pub record EndView (T : Type 0) : Type 0 where
   pub queue : TableId
   pub capacity : ℕ

@@ -1,4 +1,5 @@
--- What the ends of an inbox show, and what their calls do. An item's source is its place in the row of queues.
+-- What the ends of an inbox show, and what their calls do. An item's source is its place in the row
+-- of queues.
 use Rattle.std.specs.Prelude.{◌≡◌, ◌≢◌, ℕ, ◌<◌, List, [], ◌∷◌, ◌++◌, length, Result, Ok, Err, map, slice_set}
 use mathlib.Core.Option.{some}
 use lib.ListN.{get_elem?}
@@ -11,22 +12,23 @@ use Rattle.ruled_relay.specs.Rule.{putting, taking, left_over}
 use Rattle.ruled_relay.specs.Ends.{EndView, WasFull, knowing}
 use Rattle.ruled_relay.specs.Row.{EachAt, Row}
 
--- The end of a source's queue that puts: which queue it is of, how many items that holds at most, the source, and all
--- that it has put.
+-- The end of a source's queue that puts: which queue it is of, how many items that holds at most,
+-- the source, and all that it has put.
 pub record PassView : Type 0 where
   pub queue : TableId
   pub capacity : ℕ
   pub source : ℕ
   pub put : List What
 
--- the desk's end and the pass at each place are the two ends of a new queue, and the place is the pass's source
+-- the desk's end and the pass at each place are the two ends of a new queue, and the place is the
+-- pass's source
 abbrev pub AreNewInbox : ℕ → Row → List PassView → Type 0
 AreNewInbox capacity desk passes =
     (at : ℕ) (e : EndView What) (p : PassView) → get_elem? desk at ≡ some e → get_elem? passes at ≡ some p
     → (e ≡ record { queue = p.queue; capacity = capacity; seen = taking [] }) × (p ≡ record { queue = p.queue; capacity = capacity; source = at; put = [] })
 
--- The item is put last, if it is of the pass's source. A full queue hands it back, as it stood with the last of what the
--- pass has put; a refusal changes nothing.
+-- The item is put last, if it is of the pass's source. A full queue hands it back, as it stood with
+-- the last of what the pass has put; a refusal changes nothing.
 abbrev pub PutsItem : PassView → Item → Result (Unit {0}) PutFault → PassView → Type 0
 PutsItem old item (Ok _) new =
     (item.source ≡ old.source) × (new ≡ record { queue = old.queue; capacity = old.capacity; source = old.source; put = old.put ++ item.what ∷ [] })
@@ -55,7 +57,8 @@ AreJoined desk passes left = (length left ≡ length desk) × EachAt left (IsJoi
 abbrev pub IsAllGiven : Row → Type 0
 IsAllGiven row = EachAt row (λ at e. e.seen.put ≡ e.seen.taken)
 
--- the item is the next of what was put at its source's place, the first where not all was taken, and is taken there
+-- the item is the next of what was put at its source's place, the first where not all was taken,
+-- and is taken there
 abbrev pub GivesItem : Row → Item → Row → Type 0
 GivesItem old item new =
     (e : EndView What) × (get_elem? old item.source ≡ some e) × (new ≡ slice_set old item.source (knowing e (left_over e.seen.put (e.seen.taken ++ item.what ∷ []))))

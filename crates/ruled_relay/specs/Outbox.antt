@@ -7,8 +7,8 @@ use Rattle.ruled_relay.specs.declared.outbox.Full.{Full}
 use Rattle.ruled_relay.specs.Rule.{putting}
 use Rattle.ruled_relay.specs.Ends.{WasFull}
 
--- The end that puts: which outbox it is of, how many lines that holds at most, all that was put, how many frames were
--- refused since the last of these, and the greatest such number so far.
+-- The end that puts: which outbox it is of, how many lines that holds at most, all that was put,
+-- how many frames were refused since the last of these, and the greatest such number so far.
 pub record PutterView : Type 0 where
   pub queue : TableId
   pub capacity : ℕ
@@ -37,8 +37,8 @@ abbrev pub refusing : Line → PutterView → PutterView
 refusing (Frame _) p = let n = min (p.refused + 1) 4294967295 in record { queue = p.queue; capacity = p.capacity; put = p.put; refused = n; refusals = max p.refusals n }
 refusing End p = p
 
--- The line is put last, and the count of refusals begins anew. Or the outbox was full, with the last of what was put:
--- the line comes back, and its refusal is counted.
+-- The line is put last, and the count of refusals begins anew. Or the outbox was full, with the
+-- last of what was put: the line comes back, and its refusal is counted.
 abbrev pub PutsLine : PutterView → Line → Result (Unit {0}) Full → PutterView → Type 0
 PutsLine old line (Ok _) new = new ≡ record { queue = old.queue; capacity = old.capacity; put = old.put ++ line ∷ []; refused = 0; refusals = old.refusals }
 PutsLine old line (Err full) new = (full.0 ≡ line) × WasFull old.capacity (putting old.put) × (new ≡ refusing line old)

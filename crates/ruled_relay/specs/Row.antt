@@ -1,4 +1,5 @@
--- A row of queues, one for each source, seen as the ends at one side of them: what a call does to the one at a place.
+-- A row of queues, one for each source, seen as the ends at one side of them: what a call does to
+-- the one at a place.
 use Rattle.std.specs.Prelude.{◌≡◌, ℕ, ◌<◌, ◌≤◌, true, List, Option, Some, None, slice_set}
 use mathlib.Core.Option.{some}
 use lib.ListN.{get_elem?}
@@ -29,12 +30,14 @@ Row = List (EndView What)
 abbrev pub EachMayTake : Row → Type 0
 EachMayTake row = EachAt row (λ at e. e.seen.takes ≡ true)
 
--- The item is taken at the place of its source; or the queue at this place is drained, as far as its end knows.
+-- The item is taken at the place of its source; or the queue at this place is drained, as far as
+-- its end knows.
 abbrev pub TakesAt : ℕ → Row → Option Item → Row → Type 0
 TakesAt at old (Some item) new = (item.source ≡ at) × ChangesAt at old new (λ e d. Takes e item.what d)
 TakesAt at old None new = (new ≡ old) × HasAt at old (λ e. IsDrained e.seen)
 
--- The item is taken at the place of its source, the first of the range whose queue isn't drained; or all are drained.
+-- The item is taken at the place of its source, the first of the range whose queue isn't drained;
+-- or all are drained.
 abbrev pub TakesAmong : ℕ → ℕ → Row → Option Item → Row → Type 0
 TakesAmong from to old (Some item) new =
     (from ≤ item.source) × (item.source < to) × ChangesAt item.source old new (λ e d. Takes e item.what d)

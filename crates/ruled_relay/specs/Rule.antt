@@ -1,4 +1,5 @@
--- The rule of a queue with one end that puts and one that takes: what was put is what was taken, followed by what it holds.
+-- The rule of a queue with one end that puts and one that takes: what was put is what was taken,
+-- followed by what it holds.
 use Rattle.std.specs.Prelude.{◌≡◌, ℕ, Bool, true, false, List, [], ◌∷◌, ◌++◌}
 use mathlib.Core.Option.{some}
 use lib.ListN.{get_elem?}
@@ -22,7 +23,8 @@ module _ {T : Type 0} where
   abbrev pub spent_end : Seen T
   spent_end = seen false false [] []
 
-  -- an end that may put is the queue's one such end and knows all that was put; likewise one that may take
+  -- an end that may put is the queue's one such end and knows all that was put; likewise one that
+  -- may take
   abbrev pub Fits : ℕ → ℕ → List T → List T → ℕ → Seen T → Type 0
   Fits writer reader put taken at v = (v.puts ≡ true → (at ≡ writer) × (v.put ≡ put)) × (v.takes ≡ true → (at ≡ reader) × (v.taken ≡ taken))
 

@@ -5,8 +5,8 @@ use std::sync::{Arc, Wait};
 use std::thread::Parker;
 use std::time::Duration;
 
-/// Wakes the thread that waits until something is put. It promises nothing: a wait ends at a ring, after its time, or for
-/// no reason.
+/// Wakes the thread that waits until something is put. It promises nothing: a wait ends at a ring,
+/// after its time, or for no reason.
 #[derive(Drop)]
 pub(crate) struct Bell {
     shared: Arc<Shared, Global>,

@@ -22,7 +22,8 @@ pub enum PutFault {
     Full(Item),
 }
 
-/// The queues of the links that are read, one for each source, from the threads that read them to the one that takes.
+/// The queues of the links that are read, one for each source, from the threads that read them to
+/// the one that takes.
 pub struct Inbox;
 
 /// The end of a source's queue that puts. Contracts see the source, and what it has put.
@@ -66,8 +67,8 @@ impl Model for Desk {
     ghost invariant = { λ d. (length d.ends.items ≡ d.sources) × (d.turn ≤ d.sources) × EachAt d.ends.items (λ at e. e.seen ≡ taking e.seen.taken) };
 }
 
-/// What an inbox still holds when its desk and all of its passes are done. Contracts see what each source has put, and
-/// what was taken of it, in the order of the sources.
+/// What an inbox still holds when its desk and all of its passes are done. Contracts see what each
+/// source has put, and what was taken of it, in the order of the sources.
 #[derive(Drop)]
 pub struct Left {
     ends: Vec<End<What>>,
@@ -87,7 +88,8 @@ impl Model for Left {
 }
 
 impl Inbox {
-    /// An inbox for the sources 0, 1 and so on, so many of them, with at most so many items of each.
+    /// An inbox for the sources 0, 1 and so on, so many of them, with at most so many items of
+    /// each.
     pub fn new(
         alloc: Global,
         sources: u16,
@@ -119,8 +121,8 @@ impl Inbox {
         Ok((desk, passes))
     }
 
-    /// Brings the ends of one inbox together, with the passes in the order of their sources. What a source has put is
-    /// what was taken of it, and then what is left.
+    /// Brings the ends of one inbox together, with the passes in the order of their sources. What a
+    /// source has put is what was taken of it, and then what is left.
     pub fn finish(desk: Desk, passes: Vec<SourcePass>) -> Left
         requires { queues_of desk ≡ map (λ p. p.queue) passes.items }
         ensures { AreJoined desk passes.items result }
@@ -182,8 +184,8 @@ impl Desk {
         self.sources
     }
 
-    /// Takes an item, if a source has one. The sources are asked in turn, beginning after the one that was taken from
-    /// last, at first with source 0.
+    /// Takes an item, if a source has one. The sources are asked in turn, beginning after the one
+    /// that was taken from last, at first with source 0.
     pub fn take<R: Wait>(&mut self, rt: &R) -> Option<Item>
         ensures takes { MatchOption result (self.new ≡ self.old) (λ item. TakesItem self.old item self.new) }
         ensures same { queues_of self.new ≡ queues_of self.old }
@@ -200,8 +202,8 @@ impl Desk {
 }
 
 impl Left {
-    /// Takes the next item that is left: all of source 0 in order, then all of source 1, and so on. With none, all that
-    /// was put was taken.
+    /// Takes the next item that is left: all of source 0 in order, then all of source 1, and so on.
+    /// With none, all that was put was taken.
     pub fn next<R: Wait>(&mut self, rt: &R) -> Option<Item>
         ensures { MatchOption result ((self.new ≡ self.old) × IsAllGiven self.old) (λ item. GivesItem self.old item self.new) }
     {
@@ -209,8 +211,8 @@ impl Left {
     }
 }
 
-/// Law: what `next` gives, one call after the other until there is none, is all that was put and not taken: of source 0
-/// in order, then of source 1, and so on.
+/// Law: what `next` gives, one call after the other until there is none, is all that was put and
+/// not taken: of source 0 in order, then of source 1, and so on.
 pub fn all_that_is_left_is_given()
     ensures { (left : Row) (items : List Item) → GivesAll left items → items ≡ left_from 0 left }
 {}

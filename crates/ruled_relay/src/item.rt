@@ -15,7 +15,8 @@ pub enum What {
 /// What a link gave, and which link it was.
 #[derive(Drop)]
 pub struct Item {
-    /// The link's number: 0 is the switch's, 1 that of the first cell's station, and so on in the order of the settings.
+    /// The link's number: 0 is the switch's, 1 that of the first cell's station, and so on in the
+    /// order of the settings.
     pub source: u16,
     /// What it gave.
     pub what: What,

@@ -1,5 +1,5 @@
-//! The queues between the threads of the running relay: an inbox, which has a queue for each link that is read, and an
-//! outbox for each link that is written.
+//! The queues between the threads of the running relay: an inbox, which has a queue for each link
+//! that is read, and an outbox for each link that is written.
 //!
 //! The rule of each queue: what was put is what was taken, followed by what the queue holds.
 #![tactic(auto)]

@@ -24,11 +24,12 @@ pub enum Line {
 #[derive(Drop)]
 pub struct Full(pub Line);
 
-/// The queue of a link that is written, from the thread that puts its frames to the one that writes them.
+/// The queue of a link that is written, from the thread that puts its frames to the one that writes
+/// them.
 pub struct Outbox;
 
-/// The end of an outbox that puts. Contracts see all that was put, how many frames were refused since a line was put
-/// last, and the greatest such number so far, both of at most 2^32 - 1.
+/// The end of an outbox that puts. Contracts see all that was put, how many frames were refused
+/// since a line was put last, and the greatest such number so far, both of at most 2^32 - 1.
 #[derive(Drop)]
 pub struct Putter {
     end: End<Line>,
@@ -111,7 +112,8 @@ impl Outbox {
         Ok((putter, taker))
     }
 
-    /// Brings the two ends of one outbox together: what was put is what was taken, and then what is left.
+    /// Brings the two ends of one outbox together: what was put is what was taken, and then what is
+    /// left.
     pub fn finish(putter: Putter, taker: Taker) -> Unsent
         requires { putter.queue ≡ taker.queue }
         ensures lists { result ≡ record { put = putter.put; taken = taker.taken } }
@@ -124,7 +126,8 @@ impl Outbox {
 }
 
 impl Putter {
-    /// Puts a line last. A full outbox hands it back; nothing changes then, but that a frame's refusal is counted.
+    /// Puts a line last. A full outbox hands it back; nothing changes then, but that a frame's
+    /// refusal is counted.
     pub fn put<R: Wait>(&mut self, rt: &R, line: Line) -> Result<(), Full>
         ensures puts { PutsLine self.old line result self.new }
         ensures same { self.new.queue ≡ self.old.queue }
@@ -198,8 +201,9 @@ impl Unsent {
     }
 }
 
-/// Law: over any calls of `put`, from the first on, `refusals` is the greatest number of frames that came back with no
-/// line put between them, at most 2^32 - 1, and what was put are the lines that didn't come back, in order.
+/// Law: over any calls of `put`, from the first on, `refusals` is the greatest number of frames
+/// that came back with no line put between them, at most 2^32 - 1, and what was put are the lines
+/// that didn't come back, in order.
 pub fn refusals_are_those_of_all_puts()
     ensures refusals { (capacity : ℕ) (putter now : PutterView) (taker : TakerView) (fates : List Fate) →
         AreNewOutbox capacity putter taker → Meets putter fates now → now.refusals ≡ min (most_refused fates) 4294967295 }

@@ -1,11 +1,11 @@
-//! What is known of a queue with one end that puts and one that takes: what was put is what was taken, followed by what
-//! the queue holds.
+//! What is known of a queue with one end that puts and one that takes: what was put is what was
+//! taken, followed by what the queue holds.
 
 use crossbeam_queue::protocol::{Join, Lesson, Outcome, Protocol, Split};
 use std::collections::LinkedList;
 
-/// What an end of a queue knows: whether it may put and whether it may take, all that it has put, and all that it has
-/// taken. No value of it is made.
+/// What an end of a queue knows: whether it may put and whether it may take, all that it has put,
+/// and all that it has taken. No value of it is made.
 pub struct Seen<T> {
     pub puts: bool,
     pub takes: bool,
@@ -59,7 +59,8 @@ impl<T> Lesson<T, Seen<T>> for Putting {
     ghost fact = { EndsWith };
 }
 
-/// An item is taken: it is the last of what was taken, and of an end that knows what was put, the next of that.
+/// An item is taken: it is the last of what was taken, and of an end that knows what was put, the
+/// next of that.
 pub(crate) struct Taking;
 
 impl<T> Outcome<T, Seen<T>> for Taking {

@@ -76,7 +76,8 @@ impl Write for Sink {
     }
 }
 
-/// A gate that holds a link's items until the writers have got so many octets. It sleeps a millisecond in each refusal.
+/// A gate that holds a link's items until the writers have got so many octets. It sleeps a
+/// millisecond in each refusal.
 #[derive(Drop)]
 pub(crate) struct Held<R> {
     pub rt: R,

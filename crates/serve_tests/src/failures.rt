@@ -80,7 +80,8 @@ impl Failure {
         }
     }
 
-    /// The second station comes first, then the first one. The switch goes down once all of this was answered.
+    /// The second station comes first, then the first one. The switch goes down once all of this
+    /// was answered.
     fn plays(&self) -> [Play; 3] {
         let one = self.frames(1);
         let second = self.frames(2);
@@ -124,7 +125,8 @@ impl Failure {
     }
 }
 
-/// Whether the links of the switch and of both stations ended as they should where this device fails.
+/// Whether the links of the switch and of both stations ended as they should where this device
+/// fails.
 fn are_right<R, A: Abort>(rt: &A, alloc: Global, failure: Failure, ended: &[Ended<R>]) -> bool {
     let requests = failure.requests(alloc).expect(rt, "octets");
     let one = answers(alloc, 1, failure.frames(1)).expect(rt, "octets");
@@ -148,7 +150,8 @@ where
     Ok(are_right(&rt, alloc, failure, ended.as_slice()))
 }
 
-/// The first of so many places at which this device can't fail without harm to the other links, if there is one.
+/// The first of so many places at which this device can't fail without harm to the other links, if
+/// there is one.
 fn first_harm<R>(
     rt: R,
     alloc: Global,

@@ -1,5 +1,6 @@
-//! The running relay with all its threads, and what no contract says of it: that its workers work at once, that links whose
-//! devices work have no fault, and that the others relay on where a device fails.
+//! The running relay with all its threads, and what no contract says of it: that its workers work
+//! at once, that links whose devices work have no fault, and that the others relay on where a
+//! device fails.
 #![tactic(auto)]
 
 #[cfg(test)]

@@ -23,8 +23,8 @@ pub(crate) struct Play {
     pub read_fails: bool,
     /// How many octets its writer takes.
     pub room: usize,
-    /// How many frames its reader gives, and how many octets the writers of all links have to have got before they go on,
-    /// and before the `Down` behind them does.
+    /// How many frames its reader gives, and how many octets the writers of all links have to have
+    /// got before they go on, and before the `Down` behind them does.
     pub frames: u32,
     pub frames_after: [u64; 3],
     pub down_after: [u64; 3],

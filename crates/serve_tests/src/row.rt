@@ -7,8 +7,8 @@ use std::test::Fail;
 /// How often in a row a gate may refuse an item. It sleeps a millisecond each time.
 const LIMIT: u32 = 3_000;
 
-/// The second station sends three frames. The first sends them once the switch has got a connection request, and the link of
-/// the switch goes down once it has got two.
+/// The second station sends three frames. The first sends them once the switch has got a connection
+/// request, and the link of the switch goes down once it has got two.
 fn plays() -> [Play; 3] {
     let switch = Play {
         down_after: [68, 0, 0],
@@ -26,7 +26,8 @@ fn plays() -> [Play; 3] {
     [switch, one, second]
 }
 
-/// What each link gets. A station gets the last of it only where the switch goes down before the station does.
+/// What each link gets. A station gets the last of it only where the switch goes down before the
+/// station does.
 fn texts(alloc: Global) -> Result<[Vec<u8>; 3], AllocError> {
     let switch = requests(alloc, &[(1, 2), (2, 1)])?;
     let one = answers(alloc, 1, 3)?;
@@ -34,7 +35,8 @@ fn texts(alloc: Global) -> Result<[Vec<u8>; 3], AllocError> {
     Ok([switch, one, second])
 }
 
-/// Looks at how the links ended. Where one ran out of memory each has got a first part, and a gate may have stayed shut.
+/// Looks at how the links ended. Where one ran out of memory each has got a first part, and a gate
+/// may have stayed shut.
 fn judge<R>(ended: &[Ended<R>], texts: &[Vec<u8>; 3]) -> Result<(), Fail> {
     let mut wanting = false;
     let mut shut = false;

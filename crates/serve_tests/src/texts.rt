@@ -1,8 +1,8 @@
 //! The octets of a mobile's access, on the channel 41 of its cell, with the header of each frame.
 use std::alloc::{AllocError, Global};
 
-/// What a station sends: CHANNEL REQUIRED, CHANNEL ACTIVATION ACK, ESTABLISH INDICATION and, so that it gets an answer once
-/// all of this was taken, PING.
+/// What a station sends: CHANNEL REQUIRED, CHANNEL ACTIVATION ACK, ESTABLISH INDICATION and, so
+/// that it gets an answer once all of this was taken, PING.
 pub(crate) const STATION: &[u8] = &[
     0x00, 0x0a, 0x00, 0x0c, 0x13, 0x01, 0x88, 0x13, 0x7f, 0x01, 0x02, 0x11, 0x05, 0x00, 0x07, 0x00,
     0x08, 0x22, 0x01, 0x41, 0x08, 0x00, 0x00, 0x00, 0x0c, 0x00, 0x02, 0x06, 0x01, 0x41, 0x02, 0x00,
@@ -71,7 +71,8 @@ pub(crate) fn released(frames: u32) -> u64 {
     }
 }
 
-/// What the station of this cell gets for so many of its frames, with what comes when the switch goes down.
+/// What the station of this cell gets for so many of its frames, with what comes when the switch
+/// goes down.
 pub(crate) fn answers(alloc: Global, cell: u8, frames: u32) -> Result<Vec<u8>, AllocError> {
     let assign = immediate_assign(cell);
     let parts: [(bool, &[u8]); 5] = [

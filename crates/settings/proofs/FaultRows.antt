@@ -1,4 +1,5 @@
--- Tables against their first fault: each fault, and of two faults that are neighbours in the order the first.
+-- Tables against their first fault: each fault, and of two faults that are neighbours in the order
+-- the first.
 use Rattle.std.proofs.Common.{◌≡◌, ℕ, pos, true, List, [], ◌∷◌, Option, Some, None, codes, zero, suc, refl}
 use Rattle.toml.specs.Data.{Data, string, integer, boolean, array, table, Items, no_items, item, Members, no_members, member}
 use Rattle.settings.specs.declared.fault.SettingsFault.{SettingsFault}

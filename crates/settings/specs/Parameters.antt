@@ -37,7 +37,8 @@ parameters network address timers handover cells =
 
 -- ---- base station identity codes
 
--- the network colour code in the three high bits, the base station colour code in the three low ones
+-- the network colour code in the three high bits, the base station colour code in the three low
+-- ones
 abbrev pub bsic_of : ℕ → Bsic
 bsic_of number = record { ncc = number / 8; bcc = number % 8 }
 

@@ -4,8 +4,9 @@ use Rattle.toml.specs.Data.{Data, integer, boolean}
 use Rattle.settings.specs.declared.key.Key.{Key}
 use Rattle.settings.specs.declared.key.Key.TheVariants as keys
 
--- what a key holds: a text that isn't empty; a text of decimal digits, this many at least and at most; a whole number,
--- the least and the greatest; true or false; a list of the numbers of TCHs and SDCCHs, this many at least and at most
+-- what a key holds: a text that isn't empty; a text of decimal digits, this many at least and at
+-- most; a whole number, the least and the greatest; true or false; a list of the numbers of TCHs
+-- and SDCCHs, this many at least and at most
 pub data Kind : Type 0 where
   text : Kind
   digits : ℕ → ℕ → Kind

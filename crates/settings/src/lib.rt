@@ -1,4 +1,5 @@
-//! The settings of the controller, read from a text in TOML: the network, the switch, timers, handover and cells.
+//! The settings of the controller, read from a text in TOML: the network, the switch, timers,
+//! handover and cells.
 #![tactic(auto)]
 
 pub use bsic::Bsic;

@@ -8,7 +8,8 @@ ghost use Rattle.settings.specs.Tables.{repeated_fault};
 use crate::{Cell, Key, SettingsFault};
 use rsl_codec::ChanNo;
 
-// Refuses a channel that a cell has twice, then an address of two cells, then an ARFCN with one BSIC of two cells.
+// Refuses a channel that a cell has twice, then an address of two cells, then an ARFCN with one
+// BSIC of two cells.
 pub(crate) fn refuse_repeats(cells: &[Cell]) -> Result<(), SettingsFault>
     ensures reads { Reads result tt (repeated_fault cells.now) }
     ensures ok { OnOk result (IsUnrepeated cells.now) }

@@ -12,7 +12,8 @@ use crate::{Key, SettingsFault};
 use std::alloc::Global;
 use toml::Table;
 
-// Refuses a table that has another key than these, and names the least such key. The table is this one, or the top.
+// Refuses a table that has another key than these, and names the least such key. The table is this
+// one, or the top.
 pub(crate) fn refuse_unknown(
     alloc: Global,
     table: &Table,

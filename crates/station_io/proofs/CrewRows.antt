@@ -1,4 +1,5 @@
--- The definitions at literal workers and results. A worker is a number here, and may give back the next number.
+-- The definitions at literal workers and results. A worker is a number here, and may give back the
+-- next number.
 use Rattle.std.proofs.Common.{◌≡◌, ℕ, zero, suc, ◌+◌, List, [], ◌∷◌, ◌++◌, refl, sym, ap, ◌∙◌, arith}
 use mathlib.Core.Option.{some, some-injective, some-ne-none}
 use lib.ListN.{get_elem?}

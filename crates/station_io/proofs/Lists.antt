@@ -44,7 +44,8 @@ one_more {W} {D} Does workers done w d before new = (
       (at_more workers w u at here),
 )
 
--- of those that were joined each gave something back, unless one never began; these threads are still to be joined
+-- of those that were joined each gave something back, unless one never began; these threads are
+-- still to be joined
 abbrev pub Joined : {W D H : Type 0} → (W → D → Type 0) → (H → W) → List W → List H → Bool → List D → Type 0
 Joined {W} Does worker_of workers threads all_began done =
     (joined : List W) × (joined ++ map worker_of threads ≡ workers) × (all_began ≡ true → AllDone Does joined done)

@@ -167,7 +167,8 @@ switch_closes = record {
   writes = refl;
 }
 
--- its outbox was given up: a `Down` was added before the frame that still came, and half of the answer was written
+-- its outbox was given up: a `Down` was added before the frame that still came, and half of the
+-- answer was written
 given_up_midway : Comes (of_down 1 ∷ of_ping ∷ of_down 1 ∷ []) (pong_to 1 ∷ []) 1 1 (link ping_octets [] 0) (link [] (0x00 ∷ 0x01 ∷ []) 0) (Some GivenUp)
 given_up_midway = record {
   reading = None;

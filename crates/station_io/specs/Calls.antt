@@ -15,7 +15,8 @@ use Rattle.ruled_relay.specs.declared.outbox.Line.TheVariants.{End}
 use Rattle.ruled_relay.specs.Outbox.{PutterView}
 use Rattle.ruled_relay.specs.Row.{EachAt, Row}
 
--- A run of it, of which the clock and the controller are let go. It has a fault, or all items that it took are in its steps.
+-- A run of it, of which the clock and the controller are let go. It has a fault, or all items that
+-- it took are in its steps.
 pub record Runs (start : Controller) (desk : Row) (putters : List PutterView) (left : Row) (ended : List PutterView) : Type 0 where
   pub steps : List Step
   pub items : List Item

@@ -18,7 +18,8 @@ use Rattle.station_io.specs.Calls.{Runs}
 use Rattle.station_io.specs.Work.{AreNewOutboxes, AreNewQueues, readings, writings}
 use Rattle.station_io.specs.CrewDone.{AllDone}
 
--- each link was read, over readers that tell what is left of their octets and gates that tell how often they refused
+-- each link was read, over readers that tell what is left of their octets and gates that tell how
+-- often they refused
 abbrev pub AreRead : {I G : Type 0} → (I → Option (List ℕ)) → (G → ℕ) → List (Reading I G) → List (HasRead I G) → Type 0
 AreRead remaining refused readings read =
     AllDone (λ w d. Serves (remaining w.reader) (remaining d.reader) w.limit (refused w.gate) (refused d.gate) w.pass d.pass d.fault) readings read
@@ -31,7 +32,8 @@ AreWritten contents writings written = AllDone (λ w d. Delivers (contents w.wri
 abbrev pub IsCalled : {K : Type 0} → Calling K → HasCalled → Type 0
 IsCalled calling called = Runs calling.controller calling.desk calling.putters.items called.desk called.putters.items
 
--- All threads have ended: the queues that were made for the links, and what each thread did with its ends of them.
+-- All threads have ended: the queues that were made for the links, and what each thread did with
+-- its ends of them.
 pub record HasEnded {I O G : Type 0} (remaining : I → Option (List ℕ)) (contents : O → Option (List ℕ)) (refused : G → ℕ)
     (start : Controller) (alloc : Global) (limit : ℕ) (links : List (Link I O G))
     (read : List (HasRead I G)) (written : List (HasWritten O)) (desk : Row) (putters : List PutterView) : Type 0 where

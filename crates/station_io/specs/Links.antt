@@ -16,8 +16,8 @@ use Rattle.link_workers.specs.Writing.{AppendsBeginning}
 use Rattle.ruled_relay.specs.declared.item.What.TheVariants.{Down}
 use Rattle.station_io.specs.declared.link.Link.{Link}
 
--- A link as its two devices and its gate tell of it: the octets that are left to be read, those that were written, and how
--- often in a row the gate has refused.
+-- A link as its two devices and its gate tell of it: the octets that are left to be read, those
+-- that were written, and how often in a row the gate has refused.
 pub record LinkView : Type 0 where
   pub unread : Option (List ℕ)
   pub written : Option (List ℕ)
@@ -58,7 +58,8 @@ pub record Comes (steps : List Step) (outs : List Out) (limit number : ℕ) (old
   pub parts : Parts octets frames rest
   pub ends : Ends reading rest new.unread
   pub asks : AsksGate reading limit frames old.refused new.refused
-  -- its items in the steps are these frames and then `Down`; with one more `Down`, where that was added
+  -- its items in the steps are these frames and then `Down`; with one more `Down`, where that was
+  -- added
   pub added : Bool
   pub items : AreStepped added (whats_of number (items_of steps)) (given frames ++ Down ∷ [])
   pub only : added ≡ true → given_up ≡ true

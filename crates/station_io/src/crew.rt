@@ -14,8 +14,8 @@ use std::sync::{Arc, Wait};
 use std::thread;
 use std::thread::{PromisedHandle, Threads};
 
-/// Threads that were started, each with a worker that begins at a signal. Contracts see the workers, in the order in which
-/// they were started.
+/// Threads that were started, each with a worker that begins at a signal. Contracts see the
+/// workers, in the order in which they were started.
 #[derive(Drop)]
 pub struct Crew<W: Worker> {
     threads: Vec<PromisedHandle<Option<W::Done>, WorkOf<W>>>,
@@ -58,8 +58,9 @@ impl<W: Worker> Crew<W> {
         }
     }
 
-    /// Waits until all threads have ended, and gives what their workers gave back, in the order in which they were
-    /// started. Without a worker that began there is none of it, and the others' isn't given.
+    /// Waits until all threads have ended, and gives what their workers gave back, in the order in
+    /// which they were started. Without a worker that began there is none of it, and the others'
+    /// isn't given.
     pub fn join_all<R: Threads>(self, rt: &R) -> Option<Vec<W::Done>>
         ensures { IfSome result (λ done. AllDone W.does self done.items) }
     {
@@ -80,7 +81,8 @@ impl<W: Worker> Crew<W> {
 }
 
 impl<W: Worker + Send + 'static> Crew<W> {
-    /// Starts one more thread, whose worker begins at the signal. It is refused where a thread can't be had.
+    /// Starts one more thread, whose worker begins at the signal. It is refused where a thread
+    /// can't be had.
     pub fn start<R: Threads + Wait + Copy + Send + 'static>(
         &mut self,
         rt: R,

@@ -17,7 +17,8 @@ use std::sync::Wait;
 use std::thread::Threads;
 use std::time::Duration;
 
-/// How many milliseconds the desk is left alone at most while readers are to end that nobody takes from.
+/// How many milliseconds the desk is left alone at most while readers are to end that nobody takes
+/// from.
 const LONGEST_WAIT: u64 = 10;
 
 /// What all threads of the relay are to do.
@@ -73,7 +74,8 @@ impl<
         self.readers.start_all(rt, signal, readings)
     }
 
-    /// Waits until all threads have ended. Nothing is given where one never began, or the call worker ended with a fault.
+    /// Waits until all threads have ended. Nothing is given where one never began, or the call
+    /// worker ended with a fault.
     fn join<R: Threads + Wait>(self, rt: &R, called: HasCalled) -> Option<Done<I, O, G>>
         ensures read { IfSome result (λ d. AreRead I.remaining G.refused self.readers d.read.items) }
         ensures written { IfSome result (λ d. AreWritten O.contents self.writers d.written.items) }
@@ -101,8 +103,8 @@ impl<
     }
 }
 
-/// What the call worker gave back, if it has no fault. After its fault nobody takes what the readers still put, so it is let
-/// go until they have ended.
+/// What the call worker gave back, if it has no fault. After its fault nobody takes what the
+/// readers still put, so it is let go until they have ended.
 fn without_fault<I: LinkReader + Drop, G: Gate + Drop, R: Wait>(
     rt: &R,
     called: HasCalled,
@@ -135,8 +137,9 @@ fn drain<I: LinkReader + Drop, G: Gate + Drop, R: Wait>(
     }
 }
 
-/// Does all works at once: those of the links each in a thread of its own, that of the call worker in the thread that called.
-/// `Memory`: a thread couldn't be had, and then none began; or the call worker ran out of memory.
+/// Does all works at once: those of the links each in a thread of its own, that of the call worker
+/// in the thread that called. `Memory`: a thread couldn't be had, and then none began; or the call
+/// worker ran out of memory.
 pub(crate) fn run<
     I: LinkReader + Drop + Send + 'static,
     O: Write + Drop + Send + 'static,

@@ -1,5 +1,6 @@
-//! The running relay: the controller among its links, with a thread for each reader, each writer and the call worker.
-//! All are started before the first begins, and each gives back what it promised.
+//! The running relay: the controller among its links, with a thread for each reader, each writer
+//! and the call worker. All are started before the first begins, and each gives back what it
+//! promised.
 #![tactic(auto)]
 
 pub use link::Link;

@@ -18,16 +18,17 @@ use std::io::Write;
 use std::sync::Wait;
 use std::thread::Threads;
 
-/// Relays between the controller's links until all have ended: each has a reader and a writer, each in a thread of its own;
-/// the call worker has the thread that called. Gives the links back, in their order, each with its fault: its reader's, else its writer's,
-/// else `GivenUp` where its outbox was full 1,000 times in a row. A gate may refuse an item `limit` times in a row.
+/// Relays between the controller's links until all have ended: each has a reader and a writer, each
+/// in a thread of its own; the call worker has the thread that called. Gives the links back, in
+/// their order, each with its fault: its reader's, else its writer's, else `GivenUp` where its
+/// outbox was full 1,000 times in a row. A gate may refuse an item `limit` times in a row.
 ///
-/// There is one list of steps of the controller. Of each link its items in that list are the frames that were read, then
-/// `Down`, but for a `Down` that was added where the outbox was given up; and what was written are the octets of the frames
-/// that the controller put for it.
+/// There is one list of steps of the controller. Of each link its items in that list are the frames
+/// that were read, then `Down`, but for a `Down` that was added where the outbox was given up; and
+/// what was written are the octets of the frames that the controller put for it.
 ///
-/// `Memory`: there was none for a queue or in a step of the controller, or a thread couldn't be had; in that last case none
-/// begins. The links are let go.
+/// `Memory`: there was none for a queue or in a step of the controller, or a thread couldn't be
+/// had; in that last case none begins. The links are let go.
 pub fn serve_links<
     I: LinkReader + Drop + Send + 'static,
     O: Write + Drop + Send + 'static,
@@ -54,7 +55,8 @@ pub fn serve_links<
     Ok(give_back(room, read, written, called))
 }
 
-/// Makes the queues of all links and the call worker's marks, and lets each thread do its work with its ends of them.
+/// Makes the queues of all links and the call worker's marks, and lets each thread do its work with
+/// its ends of them.
 fn relay<
     I: LinkReader + Drop + Send + 'static,
     O: Write + Drop + Send + 'static,

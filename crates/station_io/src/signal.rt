@@ -9,8 +9,8 @@ const BEGINS: u64 = 1;
 
 const STOPS: u64 = 2;
 
-/// What threads wait for before they begin. It is given once, to all of them: they begin, or they end without having done
-/// anything.
+/// What threads wait for before they begin. It is given once, to all of them: they begin, or they
+/// end without having done anything.
 #[derive(Drop)]
 pub struct Signal {
     word: Arc<AtomicU64, Global>,

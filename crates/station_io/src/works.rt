@@ -8,7 +8,8 @@ use octets::Memory;
 use ruled_relay::{SourcePass, Taker};
 use std::alloc::Global;
 
-/// The reader and the writer of each link, with the ends of the queues that they put into and take from.
+/// The reader and the writer of each link, with the ends of the queues that they put into and take
+/// from.
 pub(crate) fn workers<I: Drop, O: Drop, G: Drop>(
     alloc: Global,
     links: Vec<Link<I, O, G>>,

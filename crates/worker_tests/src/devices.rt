@@ -60,7 +60,8 @@ pub(crate) struct Sink {
     pub got: Vec<u8>,
     pub flushes: u32,
     pub writes: u64,
-    /// The writes, counted from 1, of which one is interrupted, one fails and one takes nothing; 0 for none.
+    /// The writes, counted from 1, of which one is interrupted, one fails and one takes nothing; 0
+    /// for none.
     pub interrupted: u64,
     pub failed: u64,
     pub idle: u64,
@@ -177,7 +178,8 @@ pub(crate) fn is_fault(fault: Option<IoFault>, expected: Option<IoFault>) -> boo
     }
 }
 
-/// What a test ends with where a worker ran out of memory, and all else was right. With ample memory it doesn't come.
+/// What a test ends with where a worker ran out of memory, and all else was right. With ample
+/// memory it doesn't come.
 pub(crate) fn ended(fault: Option<IoFault>) -> Result<(), Fail> {
     match fault {
         None => Ok(()),

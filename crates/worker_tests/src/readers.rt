@@ -83,8 +83,8 @@ fn read<R: Wait>(
     })
 }
 
-/// What a device gives, how often its gate refuses, and how often in a row is one refusal too many; then how the reader
-/// ends, and whether it has put the frame PING before `Down`.
+/// What a device gives, how often its gate refuses, and how often in a row is one refusal too many;
+/// then how the reader ends, and whether it has put the frame PING before `Down`.
 struct Reading<'a> {
     calls: &'a [Call<'a>],
     refused: u32,

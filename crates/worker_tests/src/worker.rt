@@ -58,7 +58,8 @@ struct Link {
     taker: Taker,
 }
 
-/// New queues, of which the station's outbox has room for so many lines; with the link of the switch, and the station's.
+/// New queues, of which the station's outbox has room for so many lines; with the link of the
+/// switch, and the station's.
 fn queues<R: Abort>(rt: &R, alloc: Global, room: usize) -> (Ends, Link, Link)
     requires { 0 < room }
     ensures new { AreNew result.0.putters.items }

@@ -56,8 +56,9 @@ fn write<R: Wait>(
     }
 }
 
-/// A device that has trouble at one of its writes, counted from 1, while so many PING frames are written: it is interrupted,
-/// fails, or takes nothing; 0 for never. Then the writer's fault, and what the device has got.
+/// A device that has trouble at one of its writes, counted from 1, while so many PING frames are
+/// written: it is interrupted, fails, or takes nothing; 0 for never. Then the writer's fault, and
+/// what the device has got.
 struct Writing<'a> {
     frames: usize,
     interrupted: u64,

@@ -1,4 +1,5 @@
--- The world with a controller against literal events: what is seen of it, its queues, its events with a break.
+-- The world with a controller against literal events: what is seen of it, its queues, its events
+-- with a break.
 use Rattle.std.proofs.Common.{◌≡◌, ℕ, ◌∷◌, Bool, true, false, List, [], ◌++◌, length, map, Option, Some, None, refl}
 use Rattle.controller_model.proofs.Lives.{eager_settings, usual_settings}
 use Rattle.dtap_codec.specs.declared.sapi.Sapi.TheVariants.{Zero}
@@ -127,8 +128,9 @@ opener_in_fixed = refl
 
 -- ---- a handover
 
--- What examples/handover.script plays, up to the clearing, with settings by which the first report decides: the third message stays
--- with station 1 until the fourth came over station 2, and the switch's message is held while the channel changes.
+-- What examples/handover.script plays, up to the clearing, with settings by which the first report
+-- decides: the third message stays with station 1 until the fourth came over station 2, and the
+-- switch's message is held while the channel changes.
 abbrev moved : List Event
 moved =
     opening_by 1 1

@@ -24,7 +24,8 @@ use Rattle.world.specs.FixedState.{FixedState}
 use Rattle.world.specs.Queues.{first_of}
 use Rattle.world.specs.Fixed.{fixed_beginning, with_mobile, unless_refused, frame_in, air_up_with, after_taking, after_upper, after_air_up, after_air_ack, after_switch_takes, frame_up}
 
--- What was taken of the mobile stands at the switch and in its outbox, numbered by the modulus of both.
+-- What was taken of the mobile stands at the switch and in its outbox, numbered by the modulus of
+-- both.
 pub record IsFixedKept (world : FixedState) : Type 0 where
   pub numbered : IsNumbered [] world.mobile (world.switch.taken ++ world.outbox)
   pub modulus : world.switch.modulus ≡ world.mobile.modulus
@@ -52,7 +53,8 @@ modulus-after_acked : (place : Place) (mobile : MobileState) → (after_acked_at
 modulus-after_acked Moving mobile = refl
 modulus-after_acked OnChannel mobile = refl
 
--- What an event does to the fixed world: what it puts into the switch's outbox, and what the switch takes there.
+-- What an event does to the fixed world: what it puts into the switch's outbox, and what the switch
+-- takes there.
 pub record FixedStep (old new : FixedState) (put taken : List (List ℕ)) : Type 0 where
   pub kept : IsFixedKept old → IsFixedKept new
   pub first_out : old.outbox ++ put ≡ taken ++ new.outbox

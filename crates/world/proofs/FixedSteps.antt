@@ -33,7 +33,8 @@ fixed-step world (AirAck mobile Zero) = where_fixed-step (nat_eq mobile FIXED_MO
 fixed-step world SwitchTakes = switch_takes-step world
 fixed-step world _ = FixedStep-none world
 
--- the world after these events, and what they put into the switch's outbox and the switch took there
+-- the world after these events, and what they put into the switch's outbox and the switch took
+-- there
 abbrev pub fixed_all : FixedState → List Event → FixedState
 fixed_all world [] = world
 fixed_all world (event ∷ events) = fixed_all (fixed_next world event) events

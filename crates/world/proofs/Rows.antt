@@ -93,8 +93,8 @@ six_of_two_sent = refl
 six_of_two_acts : six_of_two.not_taken ≡ 0
 six_of_two_acts = refl
 
--- what no actor can take is counted: an acknowledgement of nothing, an empty outbox, a number in a message, SAPI 3 in the
--- air, another mobile, and each other kind
+-- what no actor can take is counted: an acknowledgement of nothing, an empty outbox, a number in a
+-- message, SAPI 3 in the air, another mobile, and each other kind
 abbrev untaken : WorldState
 untaken =
     after_all (fixed_world 4)

@@ -1,4 +1,5 @@
--- The switch of a world with a controller has what was taken out of its outbox: what it does of its own takes nothing.
+-- The switch of a world with a controller has what was taken out of its outbox: what it does of its
+-- own takes nothing.
 use Rattle.std.proofs.Common.{◌≡◌, ℕ, ◌+◌, ◌-◌, ◌==◌, ◌&&◌, not, nat_le, nat_eq, Bool, true, false, if◌then◌else◌, List, [], ◌∷◌, ◌++◌, length, fold, map, get_or, set, Option, Some, None, refl, sym, ap, ◌∙◌, subst, unwrap_or, is_some, option_map}
 use Rattle.std.specs.Prelude.{slice_get, slice_set}
 use Rattle.std.specs.Option.{is_none}

@@ -14,14 +14,17 @@ use Rattle.world.specs.declared.world.Scene.TheVariants.{Fixed, Controlled}
 
 -- what holds of a connection, with what came to the controller and what it put at these events
 pub record IsHandedInOrder (begin : Actors) (events : List Event) (connection : ℕ) : Type 0 where
-  -- the settings are allowed, and octets came: so what was handed is what is read from the frames that were put
+  -- the settings are allowed, and octets came: so what was handed is what is read from the frames
+  -- that were put
   pub allowed : AreAllowed begin.controller.settings
   pub octets : AllByRecursion ComesInOctets (all_steps begin events)
-  -- per SAPI, what was handed is some of what the switch sent, each message at most once and in its order; as long as the
-  -- connection is open, what was handed, then what is held, is what the switch sent and wasn't rejected
+  -- per SAPI, what was handed is some of what the switch sent, each message at most once and in its
+  -- order; as long as the connection is open, what was handed, then what is held, is what the
+  -- switch sent and wasn't rejected
   pub conserved : DownlinkIsConserved connection begin.controller.settings (all_steps begin events) (controller_run begin events)
-  -- from the COMMAND on nothing is handed until its mobile answers or it is cleared, and what is handed goes to the channel that
-  -- serves, the first of the service list; once CLEAR COMPLETE was put only RLC is put
+  -- from the COMMAND on nothing is handed until its mobile answers or it is cleared, and what is
+  -- handed goes to the channel that serves, the first of the service list; once CLEAR COMPLETE was
+  -- put only RLC is put
   pub in_place : HandsInPlace connection begin.controller.settings (all_steps begin events) (controller_run begin events)
   -- and from the step that closes it on nothing is handed or relayed
   pub silent : SilenceIsKept connection begin.controller.settings (all_steps begin events) (controller_run begin events)

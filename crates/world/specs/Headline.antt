@@ -1,6 +1,7 @@
--- The order of messages, end to end: for every list of events, what the switch accepts of the flow of a connection is the
--- beginning of what its mobile sent, once and in order; what the switch sends is handed to the serving channel at most once, in
--- order, never while the mobile changes its channel; and each relay queue gives what was put there, in order.
+-- The order of messages, end to end: for every list of events, what the switch accepts of the flow
+-- of a connection is the beginning of what its mobile sent, once and in order; what the switch
+-- sends is handed to the serving channel at most once, in order, never while the mobile changes its
+-- channel; and each relay queue gives what was put there, in order.
 use Rattle.std.specs.Prelude.{◌≡◌, ℕ, ◌≤◌, true, Option, Some, IsSome, List, ◌++◌}
 use Rattle.octets.specs.Lists.{IsPrefix}
 use Rattle.settings.specs.Parameters.{AreAllowed, Parameters}
@@ -20,7 +21,8 @@ pub data Begins : WorldState → Type 0 where
   fixed : (m : ℕ) → 2 ≤ m → Begins (fixed_world m)
   controlled : (settings : Parameters) → AreAllowed settings → Begins (controlled_world settings)
 
--- With a controller the events are of octets, as all events of the code are. In the fixed world they may be any.
+-- With a controller the events are of octets, as all events of the code are. In the fixed world
+-- they may be any.
 abbrev pub AreEventsFor : Scene → List Event → Type 0
 AreEventsFor (Fixed world) events = Unit {0}
 AreEventsFor (Controlled w) events = AreOctetEvents events
@@ -48,7 +50,8 @@ pub record IsInOrder (begin : Scene) (events : List Event) (scene : Scene) : Typ
   pub accepted : (connection : ℕ) (list : List (List ℕ)) → accepted_list scene connection ≡ Some list → IsBeginningOfSent begin events scene connection list
   -- no gap is ever judged
   pub no_gap : (connection : ℕ) (progress : Option ℕ) → progress_in scene connection ≡ Some progress → IsSome progress
-  -- what the switch sends is handed to the mobile in order, and after CLEAR COMPLETE only RLC is put
+  -- what the switch sends is handed to the mobile in order, and after CLEAR COMPLETE only RLC is
+  -- put
   pub handed : HandsInOrder begin events
   -- each relay queue gives what was put there, in order
   pub queues : QueuesKeepOrder begin events scene

@@ -23,7 +23,8 @@ pub data Queue : Type 0 where
   outbox : ℕ → Queue
   inbox : ℕ → Queue
 
--- what stands in a queue: in the fixed world messages, else what the controller put for a link, and what comes to it
+-- what stands in a queue: in the fixed world messages, else what the controller put for a link, and
+-- what comes to it
 pub data Queued : Type 0 where
   message : List ℕ → Queued
   entry : OutboxEntry → Queued

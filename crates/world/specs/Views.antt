@@ -1,4 +1,5 @@
--- What is seen of a world, by the number of a mobile or of a connection of the switch; None where there is none.
+-- What is seen of a world, by the number of a mobile or of a connection of the switch; None where
+-- there is none.
 use Rattle.std.specs.Prelude.{ℕ, ◌==◌, Option, Some, None, List, [], if◌then◌else◌}
 use Rattle.nsd_filter.specs.AcceptedList.{accepted_list as accepted_of, progress, not_of_the_flow}
 use Rattle.world_model.specs.Views.{sent, received, taken, accepted, unnumbered, progress_of}

@@ -40,6 +40,7 @@ abbrev pub after_all : WorldState → List Event → WorldState
 after_all world [] = world
 after_all world (event ∷ events) = after_all (after world event) events
 
--- these events, with the break of a link put before the one at a place, or last where no event has that place
+-- these events, with the break of a link put before the one at a place, or last where no event has
+-- that place
 abbrev pub broken : List Event → ℕ → ℕ → List Event
 broken events place source = take place events ++ BaseDown source ∷ drop place events

@@ -19,8 +19,8 @@ pub(crate) const FIXED_MOBILE: u8 = 1;
 /// The switch's connection of the fixed world.
 pub(crate) const FIXED_CONNECTION: u32 = 1;
 
-/// One mobile on one channel that never changes: what the station takes of SAPI 0 goes into the switch's outbox, and from
-/// there to the switch.
+/// One mobile on one channel that never changes: what the station takes of SAPI 0 goes into the
+/// switch's outbox, and from there to the switch.
 #[derive(Drop)]
 pub(crate) struct FixedWorld {
     alloc: Global,

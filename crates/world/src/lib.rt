@@ -1,5 +1,5 @@
-//! The world round the controller, as one machine: each event is one step of one actor, and what the switch accepts
-//! stays the beginning of what the mobile sent.
+//! The world round the controller, as one machine: each event is one step of one actor, and what
+//! the switch accepts stays the beginning of what the mobile sent.
 #![tactic(auto)]
 
 pub use laws::{keeps_order, queues_keep_order};

@@ -44,8 +44,9 @@ impl Model for World {
 }
 
 impl World {
-    /// The fixed world: mobile 1 is connected without an initial message, and what the station takes from it on SAPI 0
-    /// goes through the switch's outbox to connection 1 of the switch. It takes no memory.
+    /// The fixed world: mobile 1 is connected without an initial message, and what the station
+    /// takes from it on SAPI 0 goes through the switch's outbox to connection 1 of the switch. It
+    /// takes no memory.
     pub fn fixed(alloc: Global, modulus: Modulus) -> World
         ensures world { result ≡ fixed_world (count_of modulus) }
         ensures begins { Begins result }
@@ -57,8 +58,9 @@ impl World {
         }
     }
 
-    /// The world with a controller of these settings: no mobile is there, each link is up, and nothing has happened. Its
-    /// mobiles and its switch count as the settings' network does. It is refused only for lack of memory.
+    /// The world with a controller of these settings: no mobile is there, each link is up, and
+    /// nothing has happened. Its mobiles and its switch count as the settings' network does. It is
+    /// refused only for lack of memory.
     pub fn new(alloc: Global, settings: Settings) -> Result<World, Memory>
         ensures world { IfOk result (λ world. world ≡ controlled_world settings) }
         ensures begins { IfOk result (λ world. Begins world) }
@@ -70,9 +72,10 @@ impl World {
         })
     }
 
-    /// The world with a controller after these events, where the link of a source breaks before the event at `place`, from 0,
-    /// or last where no event has that place. The source is 0 for the switch, else a station's number; the break of one that
-    /// isn't there is an event that isn't taken. It is refused only for lack of memory.
+    /// The world with a controller after these events, where the link of a source breaks before the
+    /// event at `place`, from 0, or last where no event has that place. The source is 0 for the
+    /// switch, else a station's number; the break of one that isn't there is an event that isn't
+    /// taken. It is refused only for lack of memory.
     pub fn with_break(
         alloc: Global,
         settings: Settings,
@@ -102,9 +105,9 @@ impl World {
         self.run(others)
     }
 
-    /// Lets the event's actor act, and says whether it could. An event that its actor can't take is counted, and changes
-    /// nothing else, and memory is needed only for one that it can take. Once memory has run out, the world has failed,
-    /// and every later event is refused so.
+    /// Lets the event's actor act, and says whether it could. An event that its actor can't take is
+    /// counted, and changes nothing else, and memory is needed only for one that it can take. Once
+    /// memory has run out, the world has failed, and every later event is refused so.
     pub fn step(&mut self, event: Event) -> Result<bool, Memory>
         ensures ok { OnOk result (self.new ≡ after self.old event) }
         ensures taken { IfOk result (λ taken. taken ≡ is_some (scene_after self.old.scene event)) }
@@ -119,14 +122,15 @@ impl World {
     pub fn run(&mut self, events: &[Event]) -> Result<(), Memory>
         ensures ok { OnOk result (self.new ≡ after_all self.old events.now) }
 
-        // Whatever events made the world from a beginning, what the switch accepts in a connection is the beginning of what
-        // its mobile sent, no filter ever finds a gap, and each queue gives what was put there, in order. The events are of
-        // octets.
+        // Whatever events made the world from a beginning, what the switch accepts in a connection
+        // is the beginning of what its mobile sent, no filter ever finds a gap, and each queue
+        // gives what was put there, in order. The events are of octets.
         ensures in_order { OnOk result ((begin : WorldState) (before : List WorldEvent) → Begins begin → AreEventsFor begin.scene (before ++ events.now)
             → self.old ≡ after_all begin before → IsInOrder begin.scene (before ++ events.now) self.new.scene) }
 
-        // And whatever events made the world from one with a controller, of whatever settings, each queue gives what was put
-        // there, in order, and the switch has what was taken out of its outbox.
+        // And whatever events made the world from one with a controller, of whatever settings, each
+        // queue gives what was put there, in order, and the switch has what was taken out of its
+        // outbox.
         ensures queues { OnOk result ((settings : Parameters) (before : List WorldEvent) → self.old ≡ after_all (controlled_world settings) before
             → QueuesKeepOrder (controlled_world settings).scene (before ++ events.now) self.new.scene) }
         ensures stands { OnOk result (self.old.failed ≡ false) }
@@ -164,8 +168,8 @@ impl World {
         }
     }
 
-    /// The messages of the flow that the upper layers of a mobile sent, in order, without numbers; none where there is no
-    /// such mobile.
+    /// The messages of the flow that the upper layers of a mobile sent, in order, without numbers;
+    /// none where there is no such mobile.
     pub fn sent(&self, mobile: u8) -> Option<&[Octets]>
         ensures { option_map (λ list. list.now) result ≡ sent_list self.now.scene mobile }
     {
@@ -187,7 +191,8 @@ impl World {
         }
     }
 
-    /// All messages that the switch took on a connection, in order; none where there is no such connection.
+    /// All messages that the switch took on a connection, in order; none where there is no such
+    /// connection.
     pub fn taken(&self, connection: u32) -> Option<&[Octets]>
         ensures { option_map (λ list. list.now) result ≡ taken_list self.now.scene connection }
     {
@@ -198,8 +203,8 @@ impl World {
         }
     }
 
-    /// The messages of the flow that the switch accepted on a connection, in order, with numbers cleared; none where there
-    /// is no such connection.
+    /// The messages of the flow that the switch accepted on a connection, in order, with numbers
+    /// cleared; none where there is no such connection.
     pub fn accepted(&self, connection: u32) -> Option<&[Octets]>
         ensures { option_map (λ list. list.now) result ≡ accepted_list self.now.scene connection }
     {
@@ -210,7 +215,8 @@ impl World {
         }
     }
 
-    /// The messages without numbers that the switch took on a connection, in order; none where there is no such connection.
+    /// The messages without numbers that the switch took on a connection, in order; none where
+    /// there is no such connection.
     pub fn unnumbered(&self, connection: u32) -> Option<&[Octets]>
         ensures { option_map (λ list. list.now) result ≡ unnumbered_list self.now.scene connection }
     {

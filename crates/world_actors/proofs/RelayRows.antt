@@ -1,4 +1,5 @@
--- What the controller's queues make of literal frames: the links of the switch and of station 1 are up, that of station 2 is down.
+-- What the controller's queues make of literal frames: the links of the switch and of station 1 are
+-- up, that of station 2 is down.
 use Rattle.world_actors.proofs.Prelude.{◌≡◌, ℕ, true, false, List, [], ◌∷◌, Some, None, refl, place_at, Tenure, channel_required}
 use Rattle.std.proofs.Common.{map}
 use Rattle.conn_messages.specs.declared.out.Out.{Out}

@@ -1,4 +1,5 @@
--- Where mobiles act, and what stations can take, in worlds of literal events. Mobile 1 is on channel 41 of station 1, in its first tenure.
+-- Where mobiles act, and what stations can take, in worlds of literal events. Mobile 1 is on
+-- channel 41 of station 1, in its first tenure.
 use Rattle.world_actors.proofs.Prelude.{◌≡◌, ℕ, Bool, true, false, List, [], ◌∷◌, Option, Some, None, refl, place_at, On, Moving, Gone}
 use Rattle.world_actors.proofs.Prelude.{Tenure, Actors}
 use Rattle.conn_messages.specs.declared.channel.Change.TheVariants.{Handover}

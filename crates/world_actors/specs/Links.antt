@@ -1,4 +1,5 @@
--- What the calls of the links make of them, by the words of `world_model`, which has the same for the whole world.
+-- What the calls of the links make of them, by the words of `world_model`, which has the same for
+-- the whole world.
 use Rattle.std.specs.Prelude.{ℕ, Bool, if◌then◌else◌, List, [], ◌∷◌, ◌++◌, fold, set, slice_index_or, Option}
 use Rattle.conn_messages.specs.declared.out.Out.{Out}
 use Rattle.world_model.specs.declared.line.OutboxEntry.{OutboxEntry}

@@ -11,8 +11,8 @@ use rsl_codec::{AccessDelay, ChanNo, ChannelRequired, RequestReference, Rsl};
 
 /// How mobiles come.
 impl Network {
-    /// A new mobile asks a station for a channel. Its connection will begin with this message, of mobility management or of
-    /// radio resource management.
+    /// A new mobile asks a station for a channel. Its connection will begin with this message, of
+    /// mobility management or of radio resource management.
     pub fn connect(
         &mut self,
         mobile: u8,

@@ -21,7 +21,8 @@ use world_model::{AirMessage, MAX_TENURE, OutboxEntry, Seat, Tenure};
 
 /// What stations take from the controller.
 impl Network {
-    /// A station takes the first line of its outbox. It doesn't take the activation of a channel that had its last tenure.
+    /// A station takes the first line of its outbox. It doesn't take the activation of a channel
+    /// that had its last tenure.
     pub fn base_takes(&mut self, station: u16) -> Result<bool, Memory>
         ensures ok { IfOk result (λ taken. Takes self.old (after_base_takes self.old station) taken self.new) }
         ensures memory { OnErr result (IsSome (after_base_takes self.old station)) }

@@ -11,7 +11,8 @@ use std::alloc::Global;
 use std::marker::Model;
 use world_model::{OutboxEntry, Tenure};
 
-/// The links of the controller, the switch's first. There is no link of another number, and it isn't up.
+/// The links of the controller, the switch's first. There is no link of another number, and it
+/// isn't up.
 #[derive(Drop)]
 pub struct Links {
     alloc: Global,
@@ -79,8 +80,8 @@ impl Links {
         }
     }
 
-    /// Outputs of the controller join the outboxes, except those of links that are down. A command among them leads to the
-    /// channel whose activation was acknowledged.
+    /// Outputs of the controller join the outboxes, except those of links that are down. A command
+    /// among them leads to the channel whose activation was acknowledged.
     pub fn join_all(&mut self, target: &Option<Tenure>, outs: Vec<Out>) -> Result<(), Memory>
         ensures { OnOk result (self.new ≡ all_joined_in target.now self.old outs.items) }
     {

@@ -12,8 +12,8 @@ use std::marker::Model;
 use world_ends::{Mobiles, Stations, Switch};
 use world_model::Tenure;
 
-/// The actors of a world with a controller. An event of an actor that can't take it changes nothing, and memory is needed only for
-/// one that it can take.
+/// The actors of a world with a controller. An event of an actor that can't take it changes
+/// nothing, and memory is needed only for one that it can take.
 #[derive(Drop)]
 pub struct Network {
     pub(crate) alloc: Global,

@@ -23,8 +23,8 @@ use std::collections::VecDeque;
 use std::marker::Model;
 use world_model::{OutboxEntry, Tenure};
 
-/// The controller of a world, with the inbox of all its sources and an outbox for each of its links. An `Err` says that
-/// memory ran out.
+/// The controller of a world, with the inbox of all its sources and an outbox for each of its
+/// links. An `Err` says that memory ran out.
 #[derive(Drop)]
 pub struct Relay {
     alloc: Global,
@@ -143,8 +143,8 @@ impl Relay {
         self.inbox.pop_front()
     }
 
-    /// The controller handles an item, and what it puts joins the outboxes. A command among it leads to the channel whose
-    /// activation the item acknowledges.
+    /// The controller handles an item, and what it puts joins the outboxes. A command among it
+    /// leads to the channel whose activation the item acknowledges.
     pub fn handle(&mut self, target: &Option<Tenure>, item: Item) -> Result<(), Memory>
         ensures { OnOk result (self.new ≡ handling target.now item self.old) }
     {
@@ -164,7 +164,8 @@ impl Relay {
         self.links.join_all(&None, outputs.into_vec())
     }
 
-    /// The link of a source breaks: what its outbox has is lost, and its end goes to the inbox's end.
+    /// The link of a source breaks: what its outbox has is lost, and its end goes to the inbox's
+    /// end.
     pub fn break_down(&mut self, source: u16) -> Result<(), Memory>
         ensures { OnOk result (self.new ≡ breaking source self.old) }
     {

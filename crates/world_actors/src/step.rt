@@ -9,8 +9,8 @@ use world_model::Event;
 
 /// Any event.
 impl Network {
-    /// An event happens, which is taken where its actor can take it. One that isn't taken changes nothing, and memory is
-    /// wanted only for one that is.
+    /// An event happens, which is taken where its actor can take it. One that isn't taken changes
+    /// nothing, and memory is wanted only for one that is.
     #[tactic(auto, unfolding(world_model::specs::Life::event_after))]
     pub fn step(&mut self, event: &Event) -> Result<bool, Memory>
         ensures ok { IfOk result (λ taken. Takes self.old (event_after self.old event.now) taken self.new) }

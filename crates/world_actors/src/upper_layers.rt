@@ -14,7 +14,8 @@ use world_model::SwitchAction;
 
 /// What mobiles' upper layers send, and what the switch takes and sends.
 impl Network {
-    /// The upper layers of a mobile send a message, where the mobile is on a channel or between two.
+    /// The upper layers of a mobile send a message, where the mobile is on a channel or between
+    /// two.
     pub fn upper(&mut self, mobile: u8, sapi: Sapi, message: &[u8]) -> Result<bool, Memory>
         ensures ok { IfOk result (λ taken. Takes self.old (after_upper self.old mobile sapi message.now) taken self.new) }
         ensures memory { OnErr result (IsSome (after_upper self.old mobile sapi message.now)) }
@@ -39,7 +40,8 @@ impl Network {
         }
     }
 
-    /// The switch acts of its own on one of its connections, where that is open. A message that it sends has 1 to 251 octets.
+    /// The switch acts of its own on one of its connections, where that is open. A message that it
+    /// sends has 1 to 251 octets.
     pub fn switch_does(&mut self, action: &SwitchAction) -> Result<bool, Memory>
         ensures ok { IfOk result (λ taken. Takes self.old (after_switch_does self.old action.now) taken self.new) }
         ensures memory { OnErr result (IsSome (after_switch_does self.old action.now)) }

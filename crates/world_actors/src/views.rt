@@ -6,7 +6,8 @@ use crate::Network;
 use octets::Octets;
 use world_ends::MobileStation;
 
-/// What is seen of the world, by the number of a mobile or of a connection of the switch; none where there is none.
+/// What is seen of the world, by the number of a mobile or of a connection of the switch; none
+/// where there is none.
 impl Network {
     fn mobile(&self, number: u8) -> Option<&MobileStation>
         ensures { option_map (λ m. m.now) result ≡ mobile_of self.now number }
@@ -41,7 +42,8 @@ impl Network {
         self.switch.taken(connection)
     }
 
-    /// The messages of the flow that the switch accepted on a connection, in order, with numbers cleared.
+    /// The messages of the flow that the switch accepted on a connection, in order, with numbers
+    /// cleared.
     pub fn accepted(&self, connection: u32) -> Option<&[Octets]>
         ensures { option_map (λ list. list.now) result ≡ accepted self.now connection }
     {

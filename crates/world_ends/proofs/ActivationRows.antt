@@ -29,7 +29,8 @@ in_other_order : in_frame RSL_STREAM (0x08 ∷ 0x21 ∷ 0x03 ∷ 0x00 ∷ 0x06 �
 unfolding rsl_reading rsl_type breaks_off elements_of walk message_at activation_at
 in_other_order = refl
 
--- a channel mode is missing; an element is cut; the octet is no channel number; the type is RF CHANNEL RELEASE; another stream
+-- a channel mode is missing; an element is cut; the octet is no channel number; the type is RF
+-- CHANNEL RELEASE; another stream
 without_mode : in_frame RSL_STREAM (0x08 ∷ 0x21 ∷ 0x01 ∷ 0x0b ∷ 0x03 ∷ 0x00 ∷ []) ≡ None
 unfolding rsl_reading rsl_type breaks_off elements_of walk message_at activation_at
 without_mode = refl

@@ -1,4 +1,5 @@
--- What base stations make of literal calls: station 1 with two channels, an SDCCH 0B and a TCH 0A, of which 0A is active.
+-- What base stations make of literal calls: station 1 with two channels, an SDCCH 0B and a TCH 0A,
+-- of which 0A is active.
 use Rattle.std.proofs.Common.{◌≡◌, ℕ, true, false, List, [], ◌∷◌, ◌++◌, map, replicate, Some, None, refl}
 use Rattle.dtap_codec.specs.declared.sapi.Sapi.TheVariants.{Zero, Three}
 use Rattle.conn_messages.specs.declared.channel.Place.{Place}

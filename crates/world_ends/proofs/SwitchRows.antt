@@ -1,5 +1,5 @@
--- What the switch of a world makes of literal messages: two connections, the second of which is being cleared, and a message that
--- was made before.
+-- What the switch of a world makes of literal messages: two connections, the second of which is
+-- being cleared, and a message that was made before.
 use Rattle.std.proofs.Common.{◌≡◌, ℕ, zero, suc, ◌<◌, List, [], ◌∷◌, length, map, replicate, slice_index, Some, None, refl, arith}
 use Rattle.dtap_codec.specs.declared.sapi.Sapi.TheVariants.{Zero, Three}
 use Rattle.bssmap_codec.specs.declared.sccp.Sccp.{Sccp}

@@ -1,4 +1,5 @@
--- What the calls of the mobiles make of them, by the words of `world_model`, which has the same for the whole world.
+-- What the calls of the mobiles make of them, by the words of `world_model`, which has the same for
+-- the whole world.
 use Rattle.std.specs.Prelude.{ℕ, ◌&&◌, Bool, true, false, if◌then◌else◌, List, set, slice_get, Option, Some, None}
 use Rattle.std.specs.List.{position_or_len}
 use Rattle.std.specs.Option.{is_none, option_and_then, option_map}

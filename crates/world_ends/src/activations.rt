@@ -14,8 +14,8 @@ use ipa_framing::{Frame, RSL_STREAM};
 use octets::element::{first_value, is_cut};
 use rsl_codec::{ChanNo, RslType};
 
-/// The channel of the CHANNEL ACTIVATION that a frame of RSL is read as; none where it is read as another message, or isn't
-/// read. It takes no memory.
+/// The channel of the CHANNEL ACTIVATION that a frame of RSL is read as; none where it is read as
+/// another message, or isn't read. It takes no memory.
 pub fn activated_in(frame: &Frame) -> Option<ChanNo>
     ensures { result ≡ activations.activated_by (message_in frame.now) }
 {

@@ -14,8 +14,8 @@ use rsl_codec::{ChanNo, Rsl};
 use std::alloc::Global;
 use std::marker::Model;
 
-/// A base station: its end of the link to the controller, with what it made, and its channels, by number. All that it made
-/// can be written.
+/// A base station: its end of the link to the controller, with what it made, and its channels, by
+/// number. All that it made can be written.
 #[derive(Drop)]
 pub(crate) struct BaseStation {
     pub(crate) alloc: Global,

@@ -14,8 +14,8 @@ use std::alloc::Global;
 use std::marker::Model;
 use world_model::{Seat, Tenure};
 
-/// A mobile: its end of the air, where it is, and what it received. Its end is between two channels where the mobile is, and
-/// what it sends has 1 to 251 octets.
+/// A mobile: its end of the air, where it is, and what it received. Its end is between two channels
+/// where the mobile is, and what it sends has 1 to 251 octets.
 #[derive(Drop)]
 pub struct MobileStation {
     pub(crate) number: u8,
@@ -47,8 +47,8 @@ impl Model for MobileStation {
 }
 
 impl MobileStation {
-    /// A mobile that asked for a channel. Its connection will begin with this message, of mobility management or of radio
-    /// resource management.
+    /// A mobile that asked for a channel. Its connection will begin with this message, of mobility
+    /// management or of radio resource management.
     pub(crate) fn connected(
         alloc: Global,
         modulus: Modulus,

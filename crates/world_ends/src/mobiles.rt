@@ -18,8 +18,8 @@ use std::alloc::Global;
 use std::marker::Model;
 use world_model::{AirMessage, Command, Tenure};
 
-/// The mobiles of a world, in the order in which they connected. What happens to a mobile of another number changes nothing.
-/// An `Err` says that memory ran out.
+/// The mobiles of a world, in the order in which they connected. What happens to a mobile of
+/// another number changes nothing. An `Err` says that memory ran out.
 #[derive(Drop)]
 pub struct Mobiles {
     alloc: Global,
@@ -37,7 +37,8 @@ impl Model for Mobiles {
 }
 
 impl Mobiles {
-    /// No mobiles. Those that connect number the messages of their flows by this modulus. It takes no memory.
+    /// No mobiles. Those that connect number the messages of their flows by this modulus. It takes
+    /// no memory.
     pub fn new(alloc: Global, modulus: Modulus) -> Mobiles
         ensures { result ≡ record { modulus = count_of modulus; mobiles = [] } }
     {
@@ -90,8 +91,8 @@ impl Mobiles {
         }
     }
 
-    /// A new mobile asks for a channel. Its connection will begin with this message, of mobility management or of radio
-    /// resource management.
+    /// A new mobile asks for a channel. Its connection will begin with this message, of mobility
+    /// management or of radio resource management.
     pub fn connect(
         &mut self,
         number: u8,
@@ -112,7 +113,8 @@ impl Mobiles {
         Ok(())
     }
 
-    /// The upper layers of a mobile send a message, where they may and where its end doesn't refuse it.
+    /// The upper layers of a mobile send a message, where they may and where its end doesn't refuse
+    /// it.
     pub fn send(&mut self, number: u8, sapi: Sapi, message: &[u8]) -> Result<bool, Memory>
         ensures ok { IfOk result (λ taken. Takes self.old (by_mobile number (sending sapi message.now) self.old) taken self.new) }
         ensures memory { OnErr result (IsSome (by_mobile number (sending sapi message.now) self.old)) }
@@ -149,7 +151,8 @@ impl Mobiles {
         mobile.acknowledge(sapi)
     }
 
-    /// A message comes: DTAP is received; a command of the controller is remembered, and a CHANNEL RELEASE lets the mobile go.
+    /// A message comes: DTAP is received; a command of the controller is remembered, and a CHANNEL
+    /// RELEASE lets the mobile go.
     pub fn hear(&mut self, number: u8, heard: AirMessage) -> Result<(), Memory>
         ensures { OnOk result (self.new ≡ at_mobile number (λ p. hearing p heard) self.old) }
     {

@@ -79,7 +79,8 @@ impl RadioChannel {
         self.sapi_three_up = up;
     }
 
-    /// Drops the messages for the air, and the data link of SAPI 3 is down: the channel was left or released.
+    /// Drops the messages for the air, and the data link of SAPI 3 is down: the channel was left or
+    /// released.
     pub(crate) fn clear(&mut self)
         ensures { self.new ≡ record self.old { air = []; sapi_three_up = false } }
     {

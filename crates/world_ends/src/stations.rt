@@ -18,8 +18,8 @@ use std::alloc::Global;
 use std::marker::Model;
 use world_model::{AirMessage, Tenure};
 
-/// The base stations of a world, from number 1 on, a station for each cell of the settings. What happens on a station of
-/// another number changes nothing. An `Err` says that memory ran out.
+/// The base stations of a world, from number 1 on, a station for each cell of the settings. What
+/// happens on a station of another number changes nothing. An `Err` says that memory ran out.
 #[derive(Drop)]
 pub struct Stations {
     stations: Vec<BaseStation>,
@@ -73,8 +73,8 @@ impl Stations {
         self.is_active(&tenure.at) && self.last_tenure(&tenure.at) == tenure.number
     }
 
-    /// The station makes this message, which is a CHANNEL REQUIRED, HANDOVER DETECTION, MEASUREMENT RESULT, ESTABLISH CONFIRM or
-    /// RELEASE INDICATION.
+    /// The station makes this message, which is a CHANNEL REQUIRED, HANDOVER DETECTION, MEASUREMENT
+    /// RESULT, ESTABLISH CONFIRM or RELEASE INDICATION.
     pub fn tell(&mut self, station: u16, message: Rsl) -> Result<(), Memory>
         requires told { is_told message ≡ true }
         requires written { IsWritten message }
@@ -86,8 +86,9 @@ impl Stations {
         }
     }
 
-    /// A frame of a mobile, of 1 to 251 octets, comes on an active channel: on SAPI 0 its initial message, where it opens its
-    /// connection, or another; on SAPI 3, whose data link is established first where it isn't up.
+    /// A frame of a mobile, of 1 to 251 octets, comes on an active channel: on SAPI 0 its initial
+    /// message, where it opens its connection, or another; on SAPI 3, whose data link is
+    /// established first where it isn't up.
     pub fn bring(&mut self, at: &Place, opens: bool, sapi: Sapi, frame: &[u8]) -> Result<(), Memory>
         requires active { is_active_in self.old at.now ≡ true }
         requires l3 { IsL3 (Some frame.now) }
@@ -110,7 +111,8 @@ impl Stations {
         }
     }
 
-    /// A mobile leaves the channel: its messages for the air are dropped, and the data link of SAPI 3 is down.
+    /// A mobile leaves the channel: its messages for the air are dropped, and the data link of SAPI
+    /// 3 is down.
     pub fn leave(&mut self, at: &Place)
         ensures { self.new ≡ at_station at.now.station (left_on at.now.number) self.old }
     {
@@ -119,7 +121,8 @@ impl Stations {
         }
     }
 
-    /// A measurement report of 16 octets comes on a channel: a MEASUREMENT RESULT is made with it and the number of reports before it.
+    /// A measurement report of 16 octets comes on a channel: a MEASUREMENT RESULT is made with it
+    /// and the number of reports before it.
     pub fn report(&mut self, at: &Place, report: &[u8]) -> Result<(), Memory>
         requires { length report.now ≡ REPORT_LENGTH }
         ensures { OnOk result (self.new ≡ at_station at.now.station (reported_on at.now.number report.now) self.old) }
@@ -141,7 +144,8 @@ impl Stations {
         }
     }
 
-    /// CHANNEL ACTIVATION: a tenure begins, in which everything is new, and is acknowledged. An active channel stays as it is.
+    /// CHANNEL ACTIVATION: a tenure begins, in which everything is new, and is acknowledged. An
+    /// active channel stays as it is.
     pub fn activate(&mut self, at: &Place) -> Result<(), Memory>
         requires { (spot_in self.old at.now).tenure ≢ MAX_TENURE }
         ensures { OnOk result (self.new ≡ at_station at.now.station (activated_on at.now.number) self.old) }
@@ -162,7 +166,8 @@ impl Stations {
         }
     }
 
-    /// ESTABLISH REQUEST: the data link of SAPI 3 is confirmed where the answer is yes, else released.
+    /// ESTABLISH REQUEST: the data link of SAPI 3 is confirmed where the answer is yes, else
+    /// released.
     pub fn answer(&mut self, at: &Place, answer: bool) -> Result<(), Memory>
         ensures { OnOk result (self.new ≡ at_station at.now.station (answered_on answer at.now.number) self.old) }
     {

@@ -22,8 +22,8 @@ use std::alloc::Global;
 use std::collections::VecDeque;
 use std::marker::Model;
 
-/// The switch of a world: its end of the interface, and what it made and didn't give out yet, in order. All that it made can be
-/// written. An `Err` says that memory ran out.
+/// The switch of a world: its end of the interface, and what it made and didn't give out yet, in
+/// order. All that it made can be written. An `Err` says that memory ran out.
 #[derive(Drop)]
 pub struct Switch {
     alloc: Global,
@@ -55,8 +55,8 @@ impl Switch {
         }
     }
 
-    /// Takes a frame, and makes the replies to its message; one that isn't read changes nothing. A frame of another stream than
-    /// SCCP wants no memory.
+    /// Takes a frame, and makes the replies to its message; one that isn't read changes nothing. A
+    /// frame of another stream than SCCP wants no memory.
     pub fn take(&mut self, frame: &Frame) -> Result<(), Memory>
         ensures ok { OnOk result (self.new ≡ took (message_in frame.now) self.old) }
         ensures memory { OnErr result (frame.now.stream ≡ SCCP_STREAM) }

@@ -1,4 +1,5 @@
--- Connections stay lined up at every event in which the relay takes no part, whatever happened before.
+-- Connections stay lined up at every event in which the relay takes no part, whatever happened
+-- before.
 use Rattle.world_laws.proofs.Prelude.{◌≡◌, ◌≢◌, ℕ, zero, suc, ◌-◌, nat_eq, Bool, true, false, if◌then◌else◌, cond, List, [], ◌∷◌, ◌++◌}
 use Rattle.world_laws.proofs.Prelude.{find, Option, Some, None, Ok, refl, ap, ◌∙◌, subst, AllByRecursion, eqb-false, Bssap}
 use Rattle.world_laws.proofs.Prelude.{Transfer, Sccp, SWITCH_LINK, Connection, used_channels, place_of, first_message, first_of_messages}

@@ -1,4 +1,5 @@
--- The link of a station breaks: the connections stay lined up, those that lose something up to where it is missing.
+-- The link of a station breaks: the connections stay lined up, those that lose something up to
+-- where it is missing.
 use Rattle.world_laws.proofs.Prelude.{◌≡◌, ◌≢◌, ℕ, zero, suc, ◌+◌, ◌==◌, ◌&&◌, not, nat_eq, Bool, true, false, if◌then◌else◌, List, [], ◌∷◌}
 use Rattle.world_laws.proofs.Prelude.{◌++◌, length, map, get_or, set, Option, Some, None, refl, sym, ap, ◌∙◌, subst, inl, inr, arith}
 use Rattle.world_laws.proofs.Prelude.{AllByRecursion, flat_map, cases_Bool, eqb-true, eqb-false, ne_eqb, flat_map-append, append-nil}

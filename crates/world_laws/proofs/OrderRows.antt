@@ -1,4 +1,5 @@
--- What a row of the table does to one channel: at most one of its messages activates or releases it.
+-- What a row of the table does to one channel: at most one of its messages activates or releases
+-- it.
 use Rattle.world_laws.proofs.Prelude.{◌≡◌, ◌≢◌, ◌⊎◌, inl, inr, ℕ, ◌==◌, ◌&&◌, ◌≤◌, ◌<◌, Bool, true, false, if◌then◌else◌, List, [], ◌∷◌}
 use Rattle.world_laws.proofs.Prelude.{◌++◌, filter, fold, Option, Some, None, refl, sym, ap, ◌∙◌, subst, true≢false, AllByRecursion}
 use Rattle.world_laws.proofs.Prelude.{Change, Assignment, Handover, Channel, Place, Message, Station, Request, Data, ReleaseComplete}

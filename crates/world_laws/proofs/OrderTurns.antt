@@ -51,7 +51,8 @@ NoNackWord (OnChannel p input) = IsNoNack input
 NoNackWord _ = Unit {0}
 
 module _ (at : Place) (least : 1 ≤ at.station) where
-  -- from a state of the channel on, where the frames are sent; the assignments are of the controller before the step
+  -- from a state of the channel on, where the frames are sent; the assignments are of the
+  -- controller before the step
   abbrev pub Serving : Controller → ChannelState → Turn → Type 0
   Serving c from t = AllByRecursion IsSent t.outs → Goes at from t.outs (channel_state t.next at) × AllByRecursion (NamesOut at c) t.outs
 

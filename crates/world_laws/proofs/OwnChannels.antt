@@ -1,4 +1,5 @@
--- What may still come stands for what is on its way up of a connection's channels, before its input is taken and after it.
+-- What may still come stands for what is on its way up of a connection's channels, before its input
+-- is taken and after it.
 use Rattle.world_laws.proofs.Prelude.{◌≡◌, ℕ, ◌&&◌, ◌||◌, not, Bool, true, false, if◌then◌else◌, List, [], ◌∷◌, ◌++◌, refl, sym, ap, ◌∙◌}
 use Rattle.world_laws.proofs.Prelude.{subst, append_assoc, inl, inr, AllByRecursion, cases_Bool, cond-true, cond-false, Channel, Place}
 use Rattle.world_laws.proofs.Prelude.{Input, is_at, Future, IsApart, from_input, place_of, Zero, without_control, Both-empty}

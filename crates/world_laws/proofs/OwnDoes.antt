@@ -1,4 +1,5 @@
--- The row that fits an input keeps its connection's line-up: what it does to the channels, by the step that the input brings.
+-- The row that fits an input keeps its connection's line-up: what it does to the channels, by the
+-- step that the input brings.
 use Rattle.world_laws.proofs.Prelude.{◌≡◌, ℕ, suc, ◌+◌, Bool, true, false, if◌then◌else◌, List, [], ◌∷◌, ◌++◌, length, Option, Some, None}
 use Rattle.world_laws.proofs.Prelude.{refl, sym, ap, ◌∙◌, subst, arith, AllByRecursion, Channel, Place, Input, Drain, State, WaitActivation}
 use Rattle.world_laws.proofs.Prelude.{WaitEstablish, WaitConfirm, Live, Closed, Removed, Connection, TargetRole, Roles, RoleStep}

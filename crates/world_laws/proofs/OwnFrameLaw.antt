@@ -1,4 +1,5 @@
--- The controller does the row that fits for the connection that a frame says an input to, and puts nothing else.
+-- The controller does the row that fits for the connection that a frame says an input to, and puts
+-- nothing else.
 use Rattle.world_laws.proofs.Prelude.{◌≡◌, ℕ, ◌&&◌, not, Bool, true, false, if◌then◌else◌, [], Option, Some, None, refl, sym, ap, ◌∙◌}
 use Rattle.world_laws.proofs.Prelude.{subst, inl, inr, cases_Bool, Channel, Place, outs_of, Input, Active, Preparing, Changing, Draining}
 use Rattle.world_laws.proofs.Prelude.{State, WaitConfirm, Live, Connection, is_at, drain_at, TargetRole, RoleStep, target_role, roles_of}

@@ -1,4 +1,5 @@
--- What may still come of a connection's messages, by what is on its way up before its input is taken, and after it.
+-- What may still come of a connection's messages, by what is on its way up before its input is
+-- taken, and after it.
 use Rattle.world_laws.proofs.Prelude.{◌≡◌, ℕ, ◌||◌, not, Bool, true, false, if◌then◌else◌, List, [], ◌∷◌, ◌++◌, Some, refl, sym, ap, ◌∙◌}
 use Rattle.world_laws.proofs.Prelude.{cond-true, cond-false, filter-append, Place, Input, Future, from_input, Zero, is_control}
 use Rattle.world_laws.proofs.Prelude.{without_control, same_place}

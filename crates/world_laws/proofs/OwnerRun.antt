@@ -99,7 +99,8 @@ none-lead : (owner : Tenure → ℕ) (w : Actors) (at : Place) (target : Option 
 none-lead owner w at target [] none = tt
 none-lead owner w at target (out ∷ outs) none = ((λ tenure is d says same. absurd (let both : None ≡ Some tenure = sym none ∙ is in cc)), none-lead owner w at target outs none)
 
--- the tenure whose ACTIVATION ACK is the first item is the last one, and of the mobile of the connection that uses the channel
+-- the tenure whose ACTIVATION ACK is the first item is the last one, and of the mobile of the
+-- connection that uses the channel
 acknowledged-own : (owner : Tenure → ℕ) (w : Actors) (p : Place) (number mobile : ℕ) (m : Rsl) (rest : List Rsl) → Agrees owner w p → hears w.controller p.station ≡ true → channel_state w.controller p ≡ InUse number → asker w.controller number ≡ Some mobile → acknowledged_in p w.inbox ≡ m ∷ rest → owner (tenure_at w p) ≡ mobile
 acknowledged-own owner w p number mobile m rest agrees hearing used asks first =
     let way = agrees.way hearing in

@@ -1,4 +1,5 @@
--- The line-up of a connection in worlds of literal events: an assignment, with a message on its way on each channel.
+-- The line-up of a connection in worlds of literal events: an assignment, with a message on its way
+-- on each channel.
 use Rattle.world_laws.proofs.Prelude.{◌≡◌, ℕ, Bool, true, false, List, [], ◌∷◌, ◌++◌, map, replicate, Option, Some, None, option_map, refl}
 use Rattle.world_laws.proofs.Prelude.{ap, arith, option_and_then, new_controller, place_at, entry_of, usual_settings, empty_tenure}
 use Rattle.world_laws.proofs.Prelude.{RfChannelReleaseAck, On, station_item, data_indication, Connected, Zero, Three, Out, Active}
@@ -61,7 +62,8 @@ sending_is : line_up_of sending 1 1 ≡ Some (second_in_air on_serving false []
 unfolding on_literals
 sending_is = refl
 
--- a mobile that was called came onto its channel with a PAGING RESPONSE, which its station then makes an ESTABLISH INDICATION of
+-- a mobile that was called came onto its channel with a PAGING RESPONSE, which its station then
+-- makes an ESTABLISH INDICATION of
 abbrev answering : World
 answering = after_all (new_world usual_settings) (Connect 1 1 (0x06 ∷ 0x27 ∷ 0x00 ∷ []) true ∷ BasePush 1 ∷ Handle ∷ BaseTakes 1 ∷ BasePush 1 ∷ Handle ∷ BaseTakes 1 ∷ AirUp 1 Zero ∷ [])
 
@@ -134,7 +136,8 @@ come_line : option_map line (line_up_of come 1 1) ≡ Some ((0x05 ∷ 0x24 ∷ 0
 unfolding on_literals
 come_line = refl
 
--- the target serves: the message is held while the old channel, whose RF CHANNEL RELEASE ACK is on its way, drains
+-- the target serves: the message is held while the old channel, whose RF CHANNEL RELEASE ACK is on
+-- its way, drains
 abbrev draining : World
 draining = after_all come (Handle ∷ Handle ∷ BasePush 1 ∷ Handle ∷ SwitchTakes ∷ BaseTakes 1 ∷ BasePush 1 ∷ [])
 
@@ -143,7 +146,8 @@ draining_is : line_up_of draining 1 1 ≡ Some (second_in_air on_serving false (
 unfolding on_literals
 draining_is = refl
 
--- where the station's link breaks, an old channel whose RF CHANNEL RELEASE ACK is in the inbox lacks nothing, the serving one may
+-- where the station's link breaks, an old channel whose RF CHANNEL RELEASE ACK is in the inbox
+-- lacks nothing, the serving one may
 broken_serving : option_map (λ l. map (λ t. t.is_lost) l.old) (line_up_of (after_all draining (BaseDown 1 ∷ [])) 1 1) ≡ Some (false ∷ [])
 unfolding on_literals
 broken_serving = refl
@@ -204,8 +208,8 @@ takes_of_no_other = refl
 
 -- ---- a connection and its mobile, lined up
 
--- Of the messages sent the first two were taken; the second is held once more, the third stands in the inbox, the station made the
--- fourth, which stands in the air, and the fifth waits.
+-- Of the messages sent the first two were taken; the second is held once more, the third stands in
+-- the inbox, the station made the fourth, which stands in the air, and the fifth waits.
 abbrev spread : World
 spread = after_all draining (AirAck 1 Zero ∷ AirUp 1 Zero ∷ BasePush 1 ∷ AirAck 1 Zero ∷ Upper 1 Zero (0x03 ∷ 0x10 ∷ []) ∷ Upper 1 Zero (0x03 ∷ 0x11 ∷ []) ∷ AirUp 1 Zero ∷ [])
 

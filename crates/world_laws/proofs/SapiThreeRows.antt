@@ -3,8 +3,8 @@ use Rattle.world_laws.proofs.Prelude.{[], ◌∷◌, Some, refl, Nothing, OnChan
 use Rattle.conn_rules.specs.declared.input.Input.TheVariants as inputs
 use Rattle.world_laws.specs.SapiThree.{BringsBesideFlow, IsBesideFlow, SaysBesideFlow}
 
--- a short message is beside the flow, and so is one of radio resource management; call control, mobility management and
--- supplementary services are the flow
+-- a short message is beside the flow, and so is one of radio resource management; call control,
+-- mobility management and supplementary services are the flow
 beside_the_flow : IsBesideFlow (0x39 ∷ 0x01 ∷ []) × IsBesideFlow (0x06 ∷ 0x29 ∷ 0x00 ∷ []) × IsBesideFlow []
 beside_the_flow = (refl, refl, refl)
 

@@ -1,4 +1,5 @@
--- What is on the line is what the connection has still to relay: what it holds, and what is on its way up from each channel.
+-- What is on the line is what the connection has still to relay: what it holds, and what is on its
+-- way up from each channel.
 use Rattle.world_laws.proofs.Prelude.{◌≡◌, ℕ, ◌≤◌, ◌&&◌, not, Bool, true, false, if◌then◌else◌, List, [], ◌∷◌, ◌++◌, refl, sym, ap, ◌∙◌}
 use Rattle.world_laws.proofs.Prelude.{append_assoc, arith, AllByRecursion, append-nil, Channel, Place, Input, Drain, Preparing, Changing}
 use Rattle.world_laws.proofs.Prelude.{State, Live, Connection, Row, Future, IsOpen, KeepsUplink, from_input, relayed, undone, place_of}
@@ -101,7 +102,8 @@ pub parts-still : (future : Future) (coming : Place → List Item) (up : ℕ →
 parts-still future coming up seat s stands =
     sym (still-parts future coming up s.serving s.draining s.up.tenures (of_target future s.state) (target_tenure coming up seat (commanded_target s.state) ∷ []) stands.old stands.serving stands.held (target-part future coming up seat s.state stands.target))
 
--- So a row moves messages along the line: what it relays, and the line behind it, are the line before.
+-- So a row moves messages along the line: what it relays, and the line behind it, are the line
+-- before.
 pub row-line : (s : Connection) (input : Input) (r : Row) (future : Future) (before after : Place → List Item) (up : ℕ → Bool) (seat seat2 : Seat) → KeepsUplink Zero future s input r → IsOpen r.next.state → StandsFor (from_input Zero input future) before up s → StandsFor future after up r.next → AreLayer3 (relayed Zero r.outs)
     → parts_of (old_tenures before up s.draining s.up.tenures ++ serving_tenure before up s.serving (serving_hold s.draining s.up.tenures) ∷ target_tenure before up seat (commanded_target s.state) ∷ [])
     ≡ flow (relayed Zero r.outs) ++ parts_of (old_tenures after up r.next.draining r.next.up.tenures ++ serving_tenure after up r.next.serving (serving_hold r.next.draining r.next.up.tenures) ∷ target_tenure after up seat2 (commanded_target r.next.state) ∷ [])

@@ -47,8 +47,8 @@ abbrev pub ReleasesLast : List Rsl → Type 0
 ReleasesLast [] = Unit {0}
 ReleasesLast (m ∷ ms) = (is_release_ack m ≡ true → ms ≡ []) × ReleasesLast ms
 
--- Where an RF CHANNEL RELEASE ACK is the last acknowledgement of a channel, it is the last of all that comes of it; where there is
--- none, what comes of it doesn't end.
+-- Where an RF CHANNEL RELEASE ACK is the last acknowledgement of a channel, it is the last of all
+-- that comes of it; where there is none, what comes of it doesn't end.
 pub record AcksTell (w : Actors) (at : Place) : Type 0 where
   pub last : ReleasesLast (acknowledgements_up w at) → EndsLast (coming_up w at)
   pub none : NoneReleases (acknowledgements_up w at) → is_ended (coming_up w at) ≡ false
@@ -59,8 +59,8 @@ AllAcksTell settings events = (at : Place) → at.station ≢ SWITCH_LINK → Ac
 
 -- ---- which they are
 
--- While the link of the station is up, the acknowledgements due for all that the controller put are those that it took, those on
--- their way up, and those due for what stands in the outbox.
+-- While the link of the station is up, the acknowledgements due for all that the controller put are
+-- those that it took, those on their way up, and those due for what stands in the outbox.
 abbrev pub AcksFlow : Parameters → List Event → Type 0
 AcksFlow settings events =
     (at : Place) → 1 ≤ at.station → at.station ≤ length settings.cells → is_up (actors_after_all (new_actors settings) events) at.station ≡ true

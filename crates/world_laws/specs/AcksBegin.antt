@@ -1,4 +1,5 @@
--- The acknowledgements of a channel that came and are on their way, whether the link of its station is up or not.
+-- The acknowledgements of a channel that came and are on their way, whether the link of its station
+-- is up or not.
 use Rattle.std.specs.Prelude.{◌≤◌, false, List, ◌++◌, length}
 use Rattle.world_laws.specs.Prelude.{Place, Parameters, Event, actors_after_all, new_actors}
 use Rattle.octets.specs.Lists.{IsPrefix}
@@ -6,7 +7,8 @@ use Rattle.world_model.specs.Pipe.{due}
 use Rattle.world_model.specs.Queues.{all_popped, all_put}
 use Rattle.world_laws.specs.Acknowledged.{acknowledgements_taken, acknowledgements_up}
 
--- those that the controller took, and then those on their way up, are the first of those due for all that it put
+-- those that the controller took, and then those on their way up, are the first of those due for
+-- all that it put
 abbrev pub AcksBegin : Parameters → List Event → Type 0
 AcksBegin settings events =
     (at : Place) → 1 ≤ at.station → at.station ≤ length settings.cells

@@ -18,7 +18,8 @@ abbrev pub of_establishment : Option Sapi → Option (List ℕ) → List Brought
 of_establishment sapi None = []
 of_establishment sapi (Some message) = of_main sapi message
 
--- what a station's message brings of a channel: a layer 3 message of its mobile, or the end of its tenure
+-- what a station's message brings of a channel: a layer 3 message of its mobile, or the end of its
+-- tenure
 abbrev pub brings : ℕ → Rsl → List Brought
 brings channel (EstablishIndication e) = if e.channel == channel then of_establishment (sapi_of e.link) e.l3 else []
 brings channel (DataIndication d) = if d.channel == channel then of_main (sapi_of d.link) d.l3 else []

@@ -1,4 +1,5 @@
--- A connection that closed or went: what of it can still come to the switch stands in the outbox there.
+-- A connection that closed or went: what of it can still come to the switch stands in the outbox
+-- there.
 use Rattle.std.specs.Prelude.{◌≡◌, ℕ, ◌≤◌, List, [], Some}
 use Rattle.std.specs.List.{AllByRecursion}
 use Rattle.world_laws.specs.Prelude.{SWITCH_LINK, Connection, Parameters, Event, SwitchTakes, actors_after, actors_after_all, Actors}
@@ -9,7 +10,8 @@ use Rattle.world_model.specs.Queues.{put}
 use Rattle.world_laws.specs.LineUps.{taken_of, waiting_of}
 use Rattle.world_laws.specs.Staying.{AreLinedUp, DeliversFirst, carried_for}
 
--- What the switch took of the connection, and what waits for it, are messages of this mobile, in order.
+-- What the switch took of the connection, and what waits for it, are messages of this mobile, in
+-- order.
 pub record HasEnded (m : ℕ) (w : Actors) (mobile number : ℕ) : Type 0 where
   pub one : Mobile
   pub found : mobile_of w mobile ≡ Some one

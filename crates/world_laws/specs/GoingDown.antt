@@ -1,4 +1,5 @@
--- Which commands are on their way down on a channel: in its station's outbox, and among the messages for the air.
+-- Which commands are on their way down on a channel: in its station's outbox, and among the
+-- messages for the air.
 use Rattle.std.specs.Prelude.{ℕ, ◌==◌, if◌then◌else◌, List, [], ◌∷◌, ◌++◌, Option, Some, None}
 use Rattle.std.specs.List.{flat_map}
 use Rattle.world_laws.specs.Prelude.{Place, Rsl, AirMessage, OutboxEntry, Tenure, rsl_in, Actors, spot_at, outbox_of}

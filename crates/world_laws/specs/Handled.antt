@@ -1,4 +1,5 @@
--- The controller handles a frame for the connection that it says an input to, whatever happened before.
+-- The controller handles a frame for the connection that it says an input to, whatever happened
+-- before.
 use Rattle.std.specs.Prelude.{◌≡◌, ℕ, true, List, [], ◌∷◌, Option}
 use Rattle.std.specs.List.{AllByRecursion}
 use Rattle.world_laws.specs.Prelude.{Channel, SWITCH_LINK, Input, State, Live, Connection, Row, target_in, undone, place_of, RelayItem}
@@ -21,7 +22,8 @@ awaited_in _ = []
 -- What is said of the connection's channels alone:
 pub record IsReadyFor (w : Actors) (s : Connection) (input : Input) : Type 0 where
   pub switch_up : is_up w SWITCH_LINK ≡ true
-  -- of the acknowledgements on their way an RF CHANNEL RELEASE ACK is the last of an old channel, and there is none of another
+  -- of the acknowledgements on their way an RF CHANNEL RELEASE ACK is the last of an old channel,
+  -- and there is none of another
   pub old_end : AllByRecursion (λ c. ReleasesLast (acknowledgements_up w (place_of c))) (undone s.draining)
   pub others_go_on : AllByRecursion (λ c. NoneReleases (acknowledgements_up w (place_of c))) (s.serving ∷ target_in s.state)
   -- nothing came of a target before the COMMAND, or of one from which the mobile came back

@@ -1,4 +1,5 @@
--- The line-up of a connection in the world: what its mobile sent, where it stands on its way to the switch.
+-- The line-up of a connection in the world: what its mobile sent, where it stands on its way to the
+-- switch.
 use Rattle.std.specs.Prelude.{ℕ, ◌+◌, ◌==◌, ◌&&◌, not, Bool, true, false, if◌then◌else◌, List, [], ◌∷◌, length, map, find, Option, Some, None}
 use Rattle.world_laws.specs.Prelude.{Channel, Place, SWITCH_LINK, Drain, State, Live, WaitEstablish, Target, Connection, place_of}
 use Rattle.world_laws.specs.Prelude.{forwarded, DataLinkState, SwitchConnection, AirMessage, Asking, On, Actors, Mobile, is_station_up}
@@ -37,7 +38,8 @@ is_ended [] = false
 is_ended (released ∷ items) = true
 is_ended (brought message ∷ items) = is_ended items
 
--- an old channel may lack something where its link broke before its RF CHANNEL RELEASE ACK was on its way
+-- an old channel may lack something where its link broke before its RF CHANNEL RELEASE ACK was on
+-- its way
 abbrev pub draining_tenure : Bool → List Item → List (List ℕ) → Tenure
 draining_tenure up items hold = record { hold = hold; items = items; is_lost = not up && not (is_ended items); is_done = false }
 
@@ -131,8 +133,8 @@ assembled sent link seat state commands old serving target out taken = record {
   taken = taken;
 }
 
--- by what is on its way up from each channel and which links are up; by the commands on their way down, and by what waits for
--- the switch and what it took
+-- by what is on its way up from each channel and which links are up; by the commands on their way
+-- down, and by what waits for the switch and what it took
 abbrev pub lined : (Place → List Item) → (ℕ → Bool) → List AirMessage → List (List ℕ) → List (List ℕ) → Mobile → Connection → LineUp
 lined coming up commands out taken p s = assembled p.end.sent p.end.zero (seat_from s.serving p.seat) s.state
     (length commands + remembered p.seat)

@@ -1,4 +1,5 @@
--- How a connection of a run fares: it lives, lined up with its mobile, or it ended, or the switch never heard of it.
+-- How a connection of a run fares: it lives, lined up with its mobile, or it ended, or the switch
+-- never heard of it.
 use Rattle.std.specs.Prelude.{◌≡◌, ◌⊎◌, ℕ, ◌≤◌, ◌<◌, ◌==◌, false, if◌then◌else◌, List, [], ◌∷◌, find, Option, Some, None}
 use Rattle.std.specs.List.{flat_map, AllByRecursion}
 use Rattle.world_laws.specs.Prelude.{Place, State, WaitConfirm, Closed, Removed, Connection, target_in, undone, used_channels, IsThere}
@@ -18,8 +19,8 @@ use Rattle.world_laws.specs.Staying.{AreLinedUp}
 
 -- ---- what is on its way on its channels, beside its line-up
 
--- The acknowledgements on their way agree with the roles of its channels: an RF CHANNEL RELEASE ACK is the last of an old channel,
--- and there is none of another.
+-- The acknowledgements on their way agree with the roles of its channels: an RF CHANNEL RELEASE ACK
+-- is the last of an old channel, and there is none of another.
 pub record AcksAgree (w : Actors) (s : Connection) : Type 0 where
   pub old_end : AllByRecursion (λ c. ReleasesLast (acknowledgements_up w (place_of c))) (undone s.draining)
   pub others_go_on : AllByRecursion (λ c. NoneReleases (acknowledgements_up w (place_of c))) (s.serving ∷ target_in s.state)
@@ -28,7 +29,8 @@ pub record AcksAgree (w : Actors) (s : Connection) : Type 0 where
 abbrev pub IsLed : List Item → Type 0
 IsLed items = (messages_in items ≡ []) ⊎ (1 ≤ controls_in items)
 
--- Nothing came of a target before the COMMAND, and no command is on its way there; from the COMMAND on COMPLETE comes first.
+-- Nothing came of a target before the COMMAND, and no command is on its way there; from the COMMAND
+-- on COMPLETE comes first.
 pub record TargetIsFresh (w : Actors) (s : Connection) : Type 0 where
   pub silent : AllByRecursion (λ c. messages_in (coming_up w (place_of c)) ≡ []) (awaited_in s.state)
   pub uncommanded : AllByRecursion (λ c. going_down w (place_of c) ≡ []) (awaited_in s.state)
@@ -51,7 +53,8 @@ pub record HasOpened (w : Actors) (p : Mobile) (s : Connection) : Type 0 where
 
 -- ---- how it fares
 
--- It asked the switch for its connection, is open, and is lined up with the mobile that asked for it.
+-- It asked the switch for its connection, is open, and is lined up with the mobile that asked for
+-- it.
 pub record Lives (m : ℕ) (w : Actors) (mobile : ℕ) (s : Connection) : Type 0 where
   pub had : IsHad w s
   pub requested : IsRequested s.state

@@ -19,14 +19,15 @@ use Rattle.world_laws.specs.OwnStep.{StillAwaits}
 use Rattle.world_laws.specs.Staying.{AreLinedUp, EndLast, IsForOthers}
 use Rattle.world_laws.specs.ToCome.{AreLayer3, texts_of}
 
--- The tenure that an ACTIVATION ACK begins is the target's, where the row puts the COMMAND; no other row has one.
+-- The tenure that an ACTIVATION ACK begins is the target's, where the row puts the COMMAND; no
+-- other row has one.
 abbrev pub BeginsTenure : Actors → RoleStep → Option TargetRole → Option Tenure → Type 0
 BeginsTenure w role_commands (Some t) tenure = tenure ≡ Some (tenure_at w (place_of t.target.channel))
 BeginsTenure w role_commands None tenure = ⊥
 BeginsTenure w _ o tenure = tenure ≡ None
 
--- The item brings an input to the connection; the row that fits is done, and is all that is put. It doesn't put CR, and the
--- connection stays open.
+-- The item brings an input to the connection; the row that fits is done, and is all that is put. It
+-- doesn't put CR, and the connection stays open.
 pub record HandlesFor (w : Actors) (item : RelayItem) (s : Connection) (input : Input) (offer : Option Channel) (r : Row) (text : List ℕ) : Type 0 where
   pub fits : row_of s input offer ≡ Some r
   pub stays_open : IsOpen r.next.state
@@ -44,14 +45,15 @@ pub record AreInOrder (w : Actors) (s : Connection) (input : Input) : Type 0 whe
   -- an RF CHANNEL RELEASE ACK comes last on an old channel, and on no other
   pub old_end : EndLast w s
   pub others_go_on : AllByRecursion (λ c. is_ended (coming_up w (place_of c)) ≡ false) (s.serving ∷ target_in s.state)
-  -- nothing came of a target before the COMMAND, or of one from which the mobile came back; no COMMAND is on its way there
+  -- nothing came of a target before the COMMAND, or of one from which the mobile came back; no
+  -- COMMAND is on its way there
   pub silent : IsBesideTarget input → AllByRecursion (λ c. messages_in (coming_up w (place_of c)) ≡ []) (target_in s.state)
   pub uncommanded : AllByRecursion (λ c. going_down w (place_of c) ≡ []) (target_in s.state)
   -- and all are whole messages
   pub whole : AllByRecursion (λ c. AreLayer3 (texts_of (coming_up w (place_of c)))) (used_channels s)
 
--- What the row puts is read as it was put: what it relays of SAPI 0 is the flow that goes to the switch. After
--- it the connection's channels are different ones, of stations.
+-- What the row puts is read as it was put: what it relays of SAPI 0 is the flow that goes to the
+-- switch. After it the connection's channels are different ones, of stations.
 pub record IsPutAsRead (s : Connection) (r : Row) : Type 0 where
   pub whole : AreLayer3 (relayed Zero r.outs)
   pub forwards : flow (map (λ f. f.message) (forwarded (outs_of s.number r.outs) s.number)) ≡ flow (relayed Zero r.outs)

@@ -1,4 +1,5 @@
--- What the first item of the inbox says to a connection: an input, and what it brings of its channel.
+-- What the first item of the inbox says to a connection: an input, and what it brings of its
+-- channel.
 use Rattle.std.specs.Prelude.{◌≡◌, ℕ, ◌≤◌, Bool, true, false, if◌then◌else◌, List, [], ◌∷◌, ◌++◌, Option, Some}
 use Rattle.std.specs.List.{AllByRecursion}
 use Rattle.world_laws.specs.Prelude.{Channel, Place, Input, Connection, IsCarried, Stands, Row, AreApart, IsOpen, relayed, target_in}
@@ -53,7 +54,8 @@ pub record Finds (input : Input) (text : List ℕ) (before after : Place → Lis
 
 -- ---- the row that fits the input
 
--- COMMANDs on their way to the mobile, before a row and after it: the one that is put, and else none comes to them
+-- COMMANDs on their way to the mobile, before a row and after it: the one that is put, and else
+-- none comes to them
 abbrev pub CommandsAfter : RoleStep → ℕ → ℕ → Type 0
 CommandsAfter role_commands commands commands2 = commands2 ≤ 1
 CommandsAfter _ commands commands2 = commands2 ≤ commands

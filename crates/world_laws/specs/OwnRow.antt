@@ -16,9 +16,9 @@ abbrev pub over : (Place → List Item) → (ℕ → Bool) → Connection → Li
 over coming up s sent link seat commands out taken = assembled sent link seat s.state commands (old_tenures coming up s.draining s.up.tenures)
     (serving_tenure coming up s.serving (serving_hold s.draining s.up.tenures)) (target_tenure coming up seat (commanded_target s.state)) out taken
 
--- The row that fits an input, by which the connection stays open: what is on its way up was one message more, the input's; and
--- the row changes the roles of channels by a step that what is on its way allows. It isn't the row that puts CR, of which more is asked
--- below.
+-- The row that fits an input, by which the connection stays open: what is on its way up was one
+-- message more, the input's; and the row changes the roles of channels by a step that what is on
+-- its way allows. It isn't the row that puts CR, of which more is asked below.
 pub record DoesRow (s : Connection) (input : Input) (offer : Option Channel) (r : Row) (before after : Place → List Item) (up : ℕ → Bool) (commands commands2 : ℕ) (seat seat2 : Seat) : Type 0 where
   pub fits : row_of s input offer ≡ Some r
   pub stays_open : IsOpen r.next.state
@@ -41,8 +41,8 @@ RowKeepsLineUp m s input offer r =
     → Alive m (over before up s sent link seat commands out taken)
     → Alive m (over after up r.next sent link seat2 commands2 (out ++ flow (relayed Zero r.outs)) taken)
 
--- The row that puts CR with the initial message: nothing is held, and the mobile's link goes on behind that message and what is
--- on its way up behind it, where no COMPLETE or FAILURE is.
+-- The row that puts CR with the initial message: nothing is held, and the mobile's link goes on
+-- behind that message and what is on its way up behind it, where no COMPLETE or FAILURE is.
 pub record Opens (m : ℕ) (sent : List (List ℕ)) (link : DataLinkState) (initial : List ℕ) (coming : Place → List Item) (s : Connection) : Type 0 where
   pub awaits : s.state ≡ WaitConfirm
   pub none_drains : s.draining ≡ []

@@ -5,7 +5,8 @@ use Rattle.world_laws.specs.LineUp.ChangeStep.{after_complete}
 use Rattle.world_laws.specs.LineUp.Places.{Item, Seat, messages_in, controls_in, texts_in}
 use Rattle.world_laws.specs.LineUps.{is_ended, is_opening, commanded_target}
 
--- The row doesn't put the connection request: a connection that waits for its initial message still does.
+-- The row doesn't put the connection request: a connection that waits for its initial message still
+-- does.
 abbrev pub StillAwaits : State → State → Type 0
 StillAwaits state next = is_opening state ≡ true → is_opening next ≡ true
 

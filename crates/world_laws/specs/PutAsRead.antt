@@ -15,7 +15,8 @@ FramesArePutAsRead settings events =
     (s : Connection) (item : RelayItem) (items : List RelayItem) (input : Input) (offer : Option Channel) (r : Row) → AreAllowed settings → CameInOctets settings events → IsOfOctets item.what
     → (actors_after_all (new_actors settings) events).inbox ≡ item ∷ items → IsFrameFor (actors_after_all (new_actors settings) events) item s input offer r → IsPutAsRead s r
 
--- so a connection stays lined up when the controller handles a frame that says an input to it, while it stays open
+-- so a connection stays lined up when the controller handles a frame that says an input to it,
+-- while it stays open
 abbrev pub AllowedFramesKeepLineUps : Parameters → List Event → Type 0
 AllowedFramesKeepLineUps settings events =
     (mobile : ℕ) (s : Connection) (item : RelayItem) (items : List RelayItem) (input : Input) (offer : Option Channel) (r : Row) → AreAllowed settings → CameInOctets settings events → IsOfOctets item.what

@@ -1,4 +1,5 @@
--- What is still due of a channel's acknowledgements, by the state in which the controller has the channel.
+-- What is still due of a channel's acknowledgements, by the state in which the controller has the
+-- channel.
 use Rattle.std.specs.Prelude.{◌≡◌, ℕ, ◌==◌, Bool, true, false, if◌then◌else◌, List, [], ◌∷◌, ◌++◌}
 use Rattle.world_laws.specs.Prelude.{Place, Out, Free, Rsl, rsl_in}
 use Rattle.controller_model.specs.declared.channel_state.ChannelState.{ChannelState}
@@ -29,7 +30,8 @@ IsDueIn _ messages = NoneReleases messages
 abbrev pub OrdersKeepDue : Place → Type 0
 OrdersKeepDue at = (before after : ChannelState) (messages : List Rsl) (outs : List Out) → TakesTurns at before outs after → IsDueIn before messages → IsDueIn after (messages ++ due_for at (is_in_use before) outs)
 
--- and when the controller takes the first: an RF CHANNEL RELEASE ACK comes of a channel that is releasing alone, and frees it
+-- and when the controller takes the first: an RF CHANNEL RELEASE ACK comes of a channel that is
+-- releasing alone, and frees it
 abbrev pub after_ack : Bool → ChannelState → ChannelState
 after_ack true (Releasing n) = Free
 after_ack releases state = state

@@ -26,8 +26,8 @@ pub data Remembers (w : Actors) : Option Target → Option Command → Type 0 wh
   nothing : {target : Option Target} → Remembers w target None
   told : {target : Target} {command : Command} → command ≡ command_to w target → Remembers w (Some target) (Some command)
 
--- It is on the serving channel; or it was commanded, and came to the target or is between both; or it is gone. All in the
--- present tenures.
+-- It is on the serving channel; or it was commanded, and came to the target or is between both; or
+-- it is gone. All in the present tenures.
 pub data Sits (w : Actors) (serving : Channel) : Option Target → Seat → Type 0 where
   stays : {target : Option Target} {tenure : Tenure} {command : Option Command} → tenure ≡ tenure_at w (place_of serving) → Remembers w target command →
       Sits w serving target (On tenure command)
@@ -68,7 +68,8 @@ abbrev pub commanded_channels : Option Target → List Channel
 commanded_channels None = []
 commanded_channels (Some target) = target.channel ∷ []
 
--- of its serving channel, and the target to which its mobile was commanded, that of this station is active
+-- of its serving channel, and the target to which its mobile was commanded, that of this station is
+-- active
 abbrev pub AreActiveAt : ℕ → Actors → Connection → Type 0
 AreActiveAt station w s = AllByRecursion (λ c. c.station ≡ station → is_active_at w (place_of c) ≡ true) (s.serving ∷ commanded_channels (commanded_target s.state))
 

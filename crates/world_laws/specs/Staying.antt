@@ -21,8 +21,9 @@ pub record AreLinedUp (m : ℕ) (w : Actors) (mobile : ℕ) (s : Connection) : T
   pub found : mobile_of w mobile ≡ Some one
   pub lined : LinedUp m w one s
 
--- The events in which neither the controller nor its outboxes take part, and no link breaks: what mobiles do, what stations take
--- from them and give to the inbox, and what the switch does of its own.
+-- The events in which neither the controller nor its outboxes take part, and no link breaks: what
+-- mobiles do, what stations take from them and give to the inbox, and what the switch does of its
+-- own.
 abbrev pub is_beside_relay : Event → Bool
 is_beside_relay (BaseTakes station) = false
 is_beside_relay Handle = false
@@ -51,8 +52,8 @@ StationsKeepLineUps settings events station =
 abbrev pub carried_for : ℕ → Out → List (List ℕ)
 carried_for number out = map (λ f. f.message) (forwarded (out ∷ []) number)
 
--- The first entry that waits for the switch is taken as it was put: what it carries of a connection is the last that the switch
--- took of it.
+-- The first entry that waits for the switch is taken as it was put: what it carries of a connection
+-- is the last that the switch took of it.
 abbrev pub DeliversFirst : Actors → ℕ → List OutboxEntry → Type 0
 DeliversFirst w number [] = Unit {0}
 DeliversFirst w number (first ∷ others) = taken_of (switch_took (sccp_in first.out.frame) w) number ≡ taken_of w number ++ carried_for number first.out
@@ -85,7 +86,8 @@ StationBreaksKeepLineUps settings events station =
 
 -- ---- the controller does what doesn't concern the connection
 
--- An output isn't the connection's: it carries none of its messages to the switch, and no command on its channels.
+-- An output isn't the connection's: it carries none of its messages to the switch, and no command
+-- on its channels.
 pub record IsForOthers (target : Option Tenure) (s : Connection) (out : Out) : Type 0 where
   pub carries : carried_for s.number out ≡ []
   pub leads : AllByRecursion (λ c. out.to ≡ c.station → leading_from_outbox c.number (entry_of target out) ≡ []) (s.serving ∷ commanded_channels (commanded_target s.state))

@@ -48,8 +48,8 @@ abbrev pub Spares : Place → Step → Type 0
 Spares at (Take item) = item.what ≡ whats.Down → at.station ≢ item.source
 Spares at (Tick ms) = Unit {0}
 
--- What a step orders of a channel takes turns, while the link of its station is up. So it is with settings that are allowed, where what
--- came was octets and stations refuse nothing.
+-- What a step orders of a channel takes turns, while the link of its station is up. So it is with
+-- settings that are allowed, where what came was octets and stations refuse nothing.
 abbrev pub OrdersTakeTurns : Parameters → List Step → Step → Type 0
 OrdersTakeTurns p steps s =
     (at : Place) → AreAllowed p → AllByRecursion ComesInOctets steps → ComesInOctets s → RefusesNone (word_in s) → is_up (life p steps).next at.station ≡ true → Spares at s

@@ -8,28 +8,30 @@ ghost use Rattle.world_laws.specs.Access.Begun.{ConnectionsBeginForTheirMobile};
 ghost use Rattle.world_laws.specs.Access.Opened.{OpenedStayOpened};
 ghost use Rattle.world_laws.specs.Access.Requested.{ControllerBringsComing};
 
-/// Law: a connection that is coming, which hasn't asked the switch for its connection yet, stays so whatever mobiles,
-/// stations, links and the switch do: its mobile asks for a channel, or came onto the serving channel and is lined up
-/// there.
+/// Law: a connection that is coming, which hasn't asked the switch for its connection yet, stays so
+/// whatever mobiles, stations, links and the switch do: its mobile asks for a channel, or came onto
+/// the serving channel and is lined up there.
 pub fn others_keep_coming()
     ensures { (settings : Parameters) (events : List WorldEvent) (event : WorldEvent) → OthersKeepComing settings events event }
 {}
 
-/// Law: of a connection that lives, and whose channels no other mobile is on, no initial message is on its way after any event: its
-/// mobile sent it, and sends it no second time.
+/// Law: of a connection that lives, and whose channels no other mobile is on, no initial message is
+/// on its way after any event: its mobile sent it, and sends it no second time.
 pub fn opened_connections_stay_opened()
     ensures { (settings : Parameters) (events : List WorldEvent) (event : WorldEvent) → OpenedStayOpened settings events event }
 {}
 
-/// Law: when the controller handles an item, or time passes for it, a connection that is coming is still coming; or it asked the switch
-/// for its connection, lives, and the mobile that asked for it is on its channel; or it is gone. So it is while the link of the switch
-/// is up, with settings that are allowed, where what came was octets.
+/// Law: when the controller handles an item, or time passes for it, a connection that is coming is
+/// still coming; or it asked the switch for its connection, lives, and the mobile that asked for it
+/// is on its channel; or it is gone. So it is while the link of the switch is up, with settings
+/// that are allowed, where what came was octets.
 pub fn coming_connections_come()
     ensures { (settings : Parameters) (events : List WorldEvent) (event : WorldEvent) → ControllerBringsComing settings events event }
 {}
 
-/// Law: a connection that begins when the controller handles an item is coming, where the mobile that it answers asks for a channel,
-/// isn't told one yet and has no other connection, and its channel was quiet.
+/// Law: a connection that begins when the controller handles an item is coming, where the mobile
+/// that it answers asks for a channel, isn't told one yet and has no other connection, and its
+/// channel was quiet.
 pub fn connections_begin_for_their_mobile()
     ensures { (settings : Parameters) (events : List WorldEvent) → ConnectionsBeginForTheirMobile settings events }
 {}

@@ -1,9 +1,11 @@
-//! Laws of the world with a controller, and of the line-up of one connection in it: where the messages stand that a mobile
-//! sent, from the radio link over its channels and the controller to the switch, in the order of their places. Whatever
-//! happens, the switch accepts them once and in order. It holds definitions and laws alone, by subject:
-//! `LineUp` (one connection, and neither a controller nor a world), `Channels` (what is on its way on channels), `Owners` (whose
-//! they are), `Targets` (of changes of channel), `References` (at the switch), `Access` (how a connection begins), `Handling`
-//! (how it fares when the controller works) and `Order` (these joined, over whole runs).
+//! Laws of the world with a controller, and of the line-up of one connection in it: where the
+//! messages stand that a mobile sent, from the radio link over its channels and the controller to
+//! the switch, in the order of their places. Whatever happens, the switch accepts them once and in
+//! order. It holds definitions and laws alone, by subject: `LineUp` (one connection, and neither a
+//! controller nor a world), `Channels` (what is on its way on channels), `Owners` (whose they are),
+//! `Targets` (of changes of channel), `References` (at the switch), `Access` (how a connection
+//! begins), `Handling` (how it fares when the controller works) and `Order` (these joined, over
+//! whole runs).
 #![tactic(auto)]
 
 pub use access_laws::{

@@ -11,8 +11,8 @@ use Rattle.world_model.proofs.Worlds.{on_literals}
 abbrev begin : Actors
 begin = new_actors usual_settings
 
--- A mobile's second message is taken, and not acknowledged when it moves as it was told; what it can't do, it doesn't. On the target it
--- sends that message again, and a third one.
+-- A mobile's second message is taken, and not acknowledged when it moves as it was told; what it
+-- can't do, it doesn't. On the target it sends that message again, and a third one.
 abbrev arrives_on_target : List Event
 arrives_on_target = Connect 1 1 (0x05 ∷ 0x24 ∷ 0x71 ∷ []) true ∷ AirUp 1 Zero ∷ BasePush 1 ∷ Handle ∷ BaseTakes 1 ∷ BasePush 1 ∷ Handle ∷ BaseTakes 1 ∷ AirUp 1 Zero ∷ BasePush 1 ∷ Handle ∷ SwitchTakes ∷ AirAck 1 Zero ∷ BasePush 0 ∷ Handle ∷ Upper 1 Zero (0x03 ∷ 0x05 ∷ []) ∷ AirUp 1 Zero ∷ Move 1 ∷ SwitchDoes (Assign 1) ∷ BasePush 0 ∷ Handle ∷ BaseTakes 1 ∷ BasePush 1 ∷ Handle ∷ BasePush 1 ∷ Handle ∷ BaseTakes 1 ∷ AirDown 1 ∷ Move 1 ∷ AirUp 1 Zero ∷ Upper 1 Zero (0x05 ∷ 0x08 ∷ []) ∷ Upper 1 Three (0x09 ∷ 0x01 ∷ []) ∷ Arrive 2 ∷ Arrive 1 ∷ Arrive 1 ∷ AirUp 1 Zero ∷ AirUp 1 Three ∷ AirAck 1 Zero ∷ AirUp 1 Zero ∷ AirAck 1 Zero ∷ AirUp 1 Zero ∷ AirUp 1 Zero ∷ []
 

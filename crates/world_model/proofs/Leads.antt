@@ -1,4 +1,5 @@
--- What an event leads to, where its actor can take it: the ways to show something of the actors after it.
+-- What an event leads to, where its actor can take it: the ways to show something of the actors
+-- after it.
 use Rattle.world_model.proofs.Prelude.{◌≡◌, ◌≢◌, ℕ, ◌==◌, ◌&&◌, nat_eq, Bool, true, false, if◌then◌else◌, List, [], ◌∷◌, ◌++◌, length, fold}
 use Rattle.world_model.proofs.Prelude.{set, unwrap_or, slice_index_or, Option, Some, None, Result, Ok, Err, refl, sym, ap, ◌∙◌, subst}
 use Rattle.world_model.proofs.Prelude.{is_none, eqb-true, eqb-false, Sccp, Turn, place_at, Out, SWITCH_LINK, take, Sapi, LinkFault}

@@ -33,7 +33,8 @@ other_link w number other link differs = get_or-set_other w.links other number l
 
 -- ---- what an event does to a link
 
--- it goes on: what stands there and what is put is what is taken and what stands there then; or it breaks
+-- it goes on: what stands there and what is put is what is taken and what stands there then; or it
+-- breaks
 pub data Step (link : ℕ) (w : Actors) (event : Event) (v : Actors) : Type 0 where
   goes : is_up v link ≡ is_up w link → outbox_of w link ++ put link w event ≡ taken link w event ++ outbox_of v link → Step link w event v
   breaks : link_of v link ≡ broken_link → put link w event ≡ [] → taken link w event ≡ [] → Step link w event v

@@ -1,4 +1,5 @@
--- What stands in the inbox is the end of a link, or the text of a message that a station made, which is no CHANNEL ACTIVATION NACK.
+-- What stands in the inbox is the end of a link, or the text of a message that a station made,
+-- which is no CHANNEL ACTIVATION NACK.
 use Rattle.world_model.proofs.Prelude.{◌≡◌, ◌≢◌, nat_eq, Bool, true, false, if◌then◌else◌, List, [], ◌∷◌, ◌++◌, map, option_to_list, None}
 use Rattle.world_model.proofs.Prelude.{Ok, refl, subst, eqb-true, eqb-false, AllByRecursion, Sccp, SWITCH_LINK, AllByRecursion-append}
 use Rattle.world_model.proofs.Prelude.{first_message, first_of_messages, Item, What, Rsl, rsl_text, Parameters}

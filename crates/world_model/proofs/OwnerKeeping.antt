@@ -1,4 +1,5 @@
--- A channel still agrees with an ownership where its station takes entries, and where its link breaks.
+-- A channel still agrees with an ownership where its station takes entries, and where its link
+-- breaks.
 use Rattle.world_model.proofs.Prelude.{◌≡◌, ◌≢◌, ℕ, ◌==◌, Bool, true, false, if◌then◌else◌, List, [], ◌∷◌, ◌++◌, map, Some, option_to_list}
 use Rattle.world_model.proofs.Prelude.{refl, sym, ap, ◌∙◌, subst, append_assoc, eq-eqb, eqb-true, ne_eqb, AllByRecursion, flat_map}
 use Rattle.world_model.proofs.Prelude.{result_ok, Sccp, Place, SWITCH_LINK, Controller, channel_state, ChannelState, Free, InUse, Releasing}

@@ -1,4 +1,5 @@
--- What waits for a station, in parts; and at the beginning, where every channel agrees with any ownership.
+-- What waits for a station, in parts; and at the beginning, where every channel agrees with any
+-- ownership.
 use Rattle.world_model.proofs.Prelude.{◌≡◌, ℕ, zero, suc, ◌+◌, ◌-◌, ◌==◌, ◌&&◌, not, ◌≤◌, Bool, true, false, if◌then◌else◌, List, [], ◌∷◌}
 use Rattle.world_model.proofs.Prelude.{◌++◌, length, replicate, slice_index_or, Option, Some, None, refl, sym, ap, ◌∙◌, subst, Place}
 use Rattle.world_model.proofs.Prelude.{channel_state, place_at, ChannelState, Free, InUse, CHANNEL_NUMBERS, RrMessage, ImmediateAssignment}

@@ -1,4 +1,5 @@
--- What a turn of the controller puts for one channel: it releases the channel, or activates it, or passes it by.
+-- What a turn of the controller puts for one channel: it releases the channel, or activates it, or
+-- passes it by.
 use Rattle.world_model.proofs.Prelude.{◌≡◌, ◌≢◌, ◌⊎◌, inl, inr, ℕ, ◌+◌, ◌<◌, ◌==◌, ◌&&◌, ◌||◌, not, nat_eq, Bool, true, false, cond}
 use Rattle.world_model.proofs.Prelude.{if◌then◌else◌, List, [], ◌∷◌, ◌++◌, map, Option, Some, None, refl, sym, ap, ◌∙◌, subst, append_assoc}
 use Rattle.world_model.proofs.Prelude.{cases_Bool, ne_eqb, eq-eqb, append-nil, AllByRecursion, Place, Out, ChannelState, Free, InUse}

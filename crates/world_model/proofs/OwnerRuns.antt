@@ -184,7 +184,8 @@ follows-on last owner w event events more follows t from to up later =
 
 -- ---- the events
 
--- each event is one of a mobile, of the switch, a push or a break; or the controller works; or a station takes an entry
+-- each event is one of a mobile, of the switch, a push or a break; or the controller works; or a
+-- station takes an entry
 pub kinds : (P : Event → Type 0) → ((event : Event) → is_beside event ≡ true → P event) → P Handle → ((ms : ℕ) → P (Tick ms)) → ((station : ℕ) → P (BaseTakes station)) → (event : Event) → P event
 kinds P beside handle ticks takes (BaseTakes station) = takes station
 kinds P beside handle ticks takes Handle = handle

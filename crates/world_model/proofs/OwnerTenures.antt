@@ -1,4 +1,5 @@
--- The numbers of tenures at each event: they are as they were, except that of a channel that its station activates.
+-- The numbers of tenures at each event: they are as they were, except that of a channel that its
+-- station activates.
 use Rattle.world_model.proofs.Prelude.{◌≡◌, ◌≢◌, ℕ, zero, suc, ◌+◌, ◌-◌, ◌<◌, Bool, true, false, List, [], ◌∷◌, length, get_or, set}
 use Rattle.world_model.proofs.Prelude.{unwrap_or, Option, refl, sym, ap, ◌∙◌, arith, length-set, Place, SWITCH_LINK, CHANNEL_NUMBERS}
 use Rattle.world_model.proofs.Prelude.{BaseState, CellParameters, Parameters, AllByRecursion}

@@ -20,7 +20,8 @@ asking = Connect 7 1 (0x05 ∷ 0x24 ∷ 0x71 ∷ []) true ∷ BasePush 1 ∷ []
 asks : Actors
 asks = actors_after_all begin asking
 
--- the controller puts the activation: the first tenure begins, and not a second one, nor one of another channel
+-- the controller puts the activation: the first tenure begins, and not a second one, nor one of
+-- another channel
 first_begins : is_begun asks Handle (record { at = at; number = 1 }) ≡ true
 unfolding on_literals begin at asks
 first_begins = refl

@@ -201,7 +201,8 @@ pub active-append : (k : ℕ) (active : Bool) (xs ys : List OutboxEntry) → act
 active-append k active [] ys = refl
 active-append k active (x ∷ xs) ys = active-append k (is_active_then k active (rsl_in x.out.frame)) xs ys
 
--- what was given and taken so far: while the link is up all that is due was made; then what was given is its beginning
+-- what was given and taken so far: while the link is up all that is due was made; then what was
+-- given is its beginning
 data Kept (n k : ℕ) (gave : List Rsl) (took_so_far : List OutboxEntry) (w : Actors) : Type 0 where
   works : acknowledgements k (gave ++ (base_of w n).messages) ≡ due k false took_so_far → is_active (base_of w n).active k ≡ active_all k false took_so_far → Kept n k gave took_so_far w
   rested : is_up w n ≡ false → outbox_of w n ≡ [] → acknowledgements k (base_of w n).messages ≡ [] → IsPrefix (acknowledgements k gave) (due k false took_so_far) → Kept n k gave took_so_far w

@@ -61,7 +61,8 @@ time_always_passes : map (takes (new_world usual_settings)) (Tick 0 ∷ Tick 429
 unfolding on_literals
 time_always_passes = refl
 
--- a command of the controller leads to the channel whose activation was acknowledged, and no other message leads anywhere
+-- a command of the controller leads to the channel whose activation was acknowledged, and no other
+-- message leads anywhere
 command_leads_to_target : map (λ entry. entry.target) (outbox_of ((after_all opened_eager (Report 1 (0x14 ∷ 0x14 ∷ 0x00 ∷ 0x57 ∷ 0x02 ∷ 0x40 ∷ 0x00 ∷ 0x00 ∷ 0x00 ∷ 0x00 ∷ 0x00 ∷ 0x00 ∷ 0x00 ∷ 0x00 ∷ 0x00 ∷ 0x00 ∷ []) ∷ BasePush 1 ∷ Handle ∷ BaseTakes 2 ∷ BasePush 2 ∷ Handle ∷ []))).actors 1) ≡ Some (record { at = place_at 2 0x41; number = 1 }) ∷ []
 unfolding on_literals
 command_leads_to_target = refl

@@ -21,7 +21,8 @@ use Rattle.world_model.proofs.Mobility.{Fits, MobilesLive-new, Stands, Takes, co
 
 -- ---- one event
 
--- what these calls of an end add to what was taken of it so far: a list more where it comes to a channel, else these messages
+-- what these calls of an end add to what was taken of it so far: a list more where it comes to a
+-- channel, else these messages
 unfoldable IsTurn : MobileState → List Call → Bool → List (List ℕ) → Type 0
 IsTurn e calls comes taken =
     (so_far : List (List ℕ)) (rest : List Call)

@@ -16,7 +16,8 @@ begin = new_actors usual_settings
 tenure : ℕ → ℕ → Tenure
 tenure channel number = record { at = place_at 1 channel; number = number }
 
--- two mobiles ask for channels of the first cell; the first one sends before it is told its channel, and once it is
+-- two mobiles ask for channels of the first cell; the first one sends before it is told its
+-- channel, and once it is
 abbrev asking : List Event
 asking = Connect 1 1 (0x05 ∷ 0x24 ∷ 0x71 ∷ []) true ∷ Connect 2 1 (0x05 ∷ 0x24 ∷ 0x72 ∷ []) true ∷ AirUp 1 Zero ∷ BasePush 1 ∷ Handle ∷ BasePush 1 ∷ Handle ∷ BaseTakes 1 ∷ BaseTakes 1 ∷ BasePush 1 ∷ Handle ∷ BasePush 1 ∷ Handle ∷ []
 

@@ -1,4 +1,5 @@
--- What happens to a mobile's end in a run, call by call, and what stations take of it, channel after channel.
+-- What happens to a mobile's end in a run, call by call, and what stations take of it, channel
+-- after channel.
 use Rattle.std.specs.Prelude.{◌≡◌, ℕ, ◌==◌, ◌&&◌, Bool, false, if◌then◌else◌, is_some, List, [], ◌∷◌, ◌++◌, Option, Some, None}
 use Rattle.dtap_codec.specs.declared.sapi.Sapi.TheVariants.{Zero}
 use Rattle.mobile_end.specs.Calls.{Call, frame_lent}
@@ -66,8 +67,8 @@ comes_at w (Arrive mobile) number = is_done_by number w mobile (Arrive mobile)
 comes_at w (Return mobile) number = is_done_by number w mobile (Return mobile)
 comes_at w _ number = false
 
--- What stations take of it on SAPI 0, one list for its first channel and for each time that it comes to a channel; so_far was taken
--- on the first of them.
+-- What stations take of it on SAPI 0, one list for its first channel and for each time that it
+-- comes to a channel; so_far was taken on the first of them.
 abbrev pub taken_by_channel : Actors → ℕ → List (List ℕ) → List Event → List (List (List ℕ))
 taken_by_channel w number so_far [] = so_far ∷ []
 taken_by_channel w number so_far (event ∷ events) =
@@ -77,8 +78,9 @@ taken_by_channel w number so_far (event ∷ events) =
 
 -- ---- the one-repeat rule
 
--- Whatever happened: of each mobile, the messages of the flow that stations took on a channel are a slice of those that its upper
--- layers sent, and of a slice only the last message comes again on the next channel.
+-- Whatever happened: of each mobile, the messages of the flow that stations took on a channel are a
+-- slice of those that its upper layers sent, and of a slice only the last message comes again on
+-- the next channel.
 abbrev pub MobilesRepeatAtMostOne : Parameters → List Event → Type 0
 MobilesRepeatAtMostOne settings events =
     (number : ℕ) (p : Mobile) → mobile_of (actors_after_all (new_actors settings) events) number ≡ Some p
@@ -101,7 +103,8 @@ comes_with w (Arrive mobile) = complete_of (seat_of (mobile_of w mobile))
 comes_with w (Return mobile) = failure_of (seat_of (mobile_of w mobile))
 comes_with w _ = None
 
--- With which it comes, each time that it comes to a channel; to the present one it came with this, to its first channel with none.
+-- With which it comes, each time that it comes to a channel; to the present one it came with this,
+-- to its first channel with none.
 abbrev pub comings : Actors → ℕ → Option (List ℕ) → List Event → List (Option (List ℕ))
 comings w number present [] = present ∷ []
 comings w number present (event ∷ events) =
@@ -119,7 +122,7 @@ EachBegins [] [] = Unit {0}
 EachBegins (control ∷ controls) (taken ∷ others) = Begins control taken × EachBegins controls others
 EachBegins _ _ = ⊥
 
--- Whatever happened: of each mobile, stations take COMPLETE first on a channel to which it was commanded, and FAILURE first where it came
--- back.
+-- Whatever happened: of each mobile, stations take COMPLETE first on a channel to which it was
+-- commanded, and FAILURE first where it came back.
 abbrev pub CompleteComesFirst : Parameters → List Event → Type 0
 CompleteComesFirst settings events = (number : ℕ) → EachBegins (comings (new_actors settings) number None events) (taken_by_channel (new_actors settings) number [] events)

@@ -18,8 +18,9 @@ abbrev pub all_given : ℕ → Actors → List Event → List Rsl
 all_given station w [] = []
 all_given station w (event ∷ events) = given station w event ++ all_given station (actors_after w event) events
 
--- What a station gave of a channel, and what it made and has not given, stands in tenures: no ESTABLISH INDICATION and no DATA
--- INDICATION of the channel stands outside the stretch from an ACTIVATION ACK to the RELEASE ACK after it.
+-- What a station gave of a channel, and what it made and has not given, stands in tenures: no
+-- ESTABLISH INDICATION and no DATA INDICATION of the channel stands outside the stretch from an
+-- ACTIVATION ACK to the RELEASE ACK after it.
 abbrev pub IsHonest : ℕ → Actors → List Event → Type 0
 IsHonest station begin events =
     (channel : ℕ) → (end : Bool) × Tenures channel false (all_given station begin events ++ (base_of (actors_after_all begin events) station).messages) end

@@ -129,7 +129,8 @@ abbrev pub remembering : Mobile → Change → Tenure → Seat → Mobile
 remembering p change target (On tenure command) = record p { seat = On tenure (Some (record { change = change; target = target })) }
 remembering p change target seat = p
 
--- a command that the controller put is remembered, a text of the switch isn't; CHANNEL RELEASE lets the mobile go
+-- a command that the controller put is remembered, a text of the switch isn't; CHANNEL RELEASE lets
+-- the mobile go
 abbrev pub controlled : Mobile → Option Tenure → Result RrMessage RrFault → Mobile
 controlled p target (Ok (ChannelRelease cause)) = record p { seat = Gone }
 controlled p (Some target) (Ok (AssignmentCommand channel)) = remembering p Assignment target p.seat

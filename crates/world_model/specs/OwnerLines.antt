@@ -1,5 +1,5 @@
--- Whose each tenure is, while it is on its way: what waits for a station agrees with an ownership of tenures, and what comes of a
--- channel fits its state at the controller.
+-- Whose each tenure is, while it is on its way: what waits for a station agrees with an ownership
+-- of tenures, and what comes of a channel fits its state at the controller.
 use Rattle.std.specs.Prelude.{◌<◌, ◌≤◌, length, ◌≡◌, ℕ, ◌+◌, ◌==◌, ◌&&◌, not, Bool, true, false, if◌then◌else◌, List, [], ◌∷◌, ◌++◌, slice_index_or, option_map, option_to_list, Option, Some, Result, Ok}
 use Rattle.std.specs.List.{flat_map}
 use Rattle.conn_messages.specs.declared.channel.Place.{Place}
@@ -33,7 +33,8 @@ AssignsIn owner at tenure (Ok (ImmediateAssignment channel request advance)) =
     channel.channel.0 ≡ at.number → owner (record { at = at; number = tenure }) ≡ slice_index_or request 0 0
 AssignsIn owner at tenure _ = Unit {0}
 
--- it is activated only where it is there and isn't active; a command on it leads to a tenure of the same mobile
+-- it is activated only where it is there and isn't active; a command on it leads to a tenure of the
+-- same mobile
 abbrev pub FitsTenure : (Tenure → ℕ) → Place → Bool → ℕ → Option Tenure → Option Rsl → Type 0
 FitsTenure owner at active tenure target (Some (ChannelActivation a)) = a.channel ≡ at.number → (active ≡ false) × (at.number < CHANNEL_NUMBERS)
 FitsTenure owner at active tenure target (Some (ImmediateAssignCommand i)) = AssignsIn owner at tenure (rr_reading i.information)
@@ -110,7 +111,8 @@ pub record Agrees (owner : Tenure → ℕ) (w : Actors) (at : Place) : Type 0 wh
   pub line : AreFitting owner at (is_active_at w at) (spot_at w at).tenure (outbox_of w at.station)
   -- what comes fits the state, until the controller learns that the link broke
   pub way : hears w.controller at.station ≡ true → IsOnItsWay w at (channel_state w.controller at)
-  -- the last tenure is of the mobile of the connection that uses the channel, unless the link broke and no acknowledgement comes
+  -- the last tenure is of the mobile of the connection that uses the channel, unless the link broke
+  -- and no acknowledgement comes
   pub own : (number mobile : ℕ) → hears w.controller at.station ≡ true → channel_state w.controller at ≡ InUse number → asker w.controller number ≡ Some mobile
       → (is_up w at.station ≡ false → to_come w at ≡ [] → ⊥) → owner (tenure_behind w at) ≡ mobile
 

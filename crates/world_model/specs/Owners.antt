@@ -18,7 +18,8 @@ user_by c _ = 0
 abbrev pub user_of : Controller → Place → ℕ
 user_of c at = user_by c (channel_state c at)
 
--- the activation that begins the tenure is put at this event: behind all that waits there were fewer tenures, and are so many
+-- the activation that begins the tenure is put at this event: behind all that waits there were
+-- fewer tenures, and are so many
 abbrev pub is_begun : Actors → Event → Tenure → Bool
 is_begun w event t = nat_lt (tenure_behind w t.at).number t.number && nat_le t.number (tenure_behind (actors_after w event) t.at).number
 

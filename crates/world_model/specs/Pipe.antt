@@ -1,4 +1,5 @@
--- The pipe of one channel: the acknowledgements of its station follow what the controller puts, in order.
+-- The pipe of one channel: the acknowledgements of its station follow what the controller puts, in
+-- order.
 use Rattle.std.specs.Prelude.{◌≡◌, ℕ, ◌==◌, ◌&&◌, ◌||◌, ◌≤◌, not, Bool, true, false, if◌then◌else◌, List, [], ◌∷◌, ◌++◌, filter, length, Option, Some}
 use Rattle.link_model.specs.Message.{activation_ack}
 use Rattle.link_model.specs.Base.{is_active}
@@ -19,8 +20,8 @@ use Rattle.world_model.specs.World.{Actors, new_actors, is_up, outbox_of, base_o
 abbrev pub acknowledgements : ℕ → List Rsl → List Rsl
 acknowledgements channel messages = filter (is_bound_of channel) messages
 
--- those that a message to the station asks for, where the channel is active or not: of an activation unless it is active, and
--- of each release
+-- those that a message to the station asks for, where the channel is active or not: of an
+-- activation unless it is active, and of each release
 abbrev pub acknowledgement : ℕ → Bool → Option Rsl → List Rsl
 acknowledgement channel active (Some (ChannelActivation a)) = if (a.channel == channel) && not active then activation_ack channel ∷ [] else []
 acknowledgement channel active (Some (RfChannelRelease number)) = if number == channel then RfChannelReleaseAck channel ∷ [] else []
@@ -43,8 +44,8 @@ active_all channel active [] = active
 active_all channel active (entry ∷ entries) = active_all channel (is_active_then channel active (rsl_in entry.out.frame)) entries
 
 pub record IsPipe (station channel : ℕ) (begin : Actors) (events : List Event) : Type 0 where
-  -- while its link is up, the acknowledgements due for all that was put are those given, those made, and those due for what the
-  -- outbox has
+  -- while its link is up, the acknowledgements due for all that was put are those given, those
+  -- made, and those due for what the outbox has
   pub flows : is_up (actors_after_all begin events) station ≡ true → due channel false (all_put station begin events) ≡
       acknowledgements channel (all_given station begin events)
       ++ (acknowledgements channel (base_of (actors_after_all begin events) station).messages

@@ -85,9 +85,11 @@ all_taken link w (event ∷ events) = taken link w event ++ all_taken link (acto
 -- ---- each queue gives what was put there, in order
 
 pub record KeepsQueues (begin : Actors) (events : List Event) : Type 0 where
-  -- the inbox: what was put is what was handled, and then what is left, and so it is for each source
+  -- the inbox: what was put is what was handled, and then what is left, and so it is for each
+  -- source
   pub inbox : all_pushed begin events ≡ all_popped begin events ++ (actors_after_all begin events).inbox
   pub sources : (source : ℕ) → of_source source (all_pushed begin events) ≡ of_source source (all_popped begin events) ++ of_source source (actors_after_all begin events).inbox
-  -- an outbox: what was taken is the beginning of what was put, and while the link is up the rest is left
+  -- an outbox: what was taken is the beginning of what was put, and while the link is up the rest
+  -- is left
   pub outboxes : (link : ℕ) → IsPrefix (all_taken link begin events) (all_put link begin events)
   pub left : (link : ℕ) → is_up (actors_after_all begin events) link ≡ true → all_put link begin events ≡ all_taken link begin events ++ outbox_of (actors_after_all begin events) link

@@ -1,4 +1,5 @@
--- What is seen of the world, by the number of a mobile or of a connection of the switch; None where there is none.
+-- What is seen of the world, by the number of a mobile or of a connection of the switch; None where
+-- there is none.
 use Rattle.std.specs.Prelude.{ℕ, List, Option, option_map}
 use Rattle.msc_end.specs.declared.connection.Connection.{Connection}
 use Rattle.msc_end.specs.Switch.{connection_of}

@@ -1,8 +1,8 @@
 use dtap_codec::Sapi;
 use octets::Octets;
 
-/// One step of one actor. Mobiles are numbered from 1, stations from 1 in the settings' order, sources of the controller
-/// from 0, the switch, and connections of the switch from 1.
+/// One step of one actor. Mobiles are numbered from 1, stations from 1 in the settings' order,
+/// sources of the controller from 0, the switch, and connections of the switch from 1.
 #[derive(Drop)]
 pub enum Event {
     /// The mobile's upper layers send a message.

@@ -18,55 +18,62 @@ pub fn queues_keep_order()
     ensures { (settings : Parameters) (events : List WorldEvent) → KeepsQueues (new_actors settings) events }
 {}
 
-/// Law: whatever events happen, stations are honest. Of what a station gives of a channel, no ESTABLISH INDICATION and no DTAP
-/// stands outside the stretch from an activation acknowledgement to the release acknowledgement after it.
+/// Law: whatever events happen, stations are honest. Of what a station gives of a channel, no
+/// ESTABLISH INDICATION and no DTAP stands outside the stretch from an activation acknowledgement
+/// to the release acknowledgement after it.
 pub fn stations_are_honest()
     ensures { (settings : Parameters) (events : List WorldEvent) → AreHonest (new_actors settings) events }
 {}
 
-/// Law: the controller of a world is the one after the items that it handled and the time that passed for it, and what it put
-/// at the events is what these steps put. So what holds of the controller after any steps, and of what they put, holds of it.
+/// Law: the controller of a world is the one after the items that it handled and the time that
+/// passed for it, and what it put at the events is what these steps put. So what holds of the
+/// controller after any steps, and of what they put, holds of it.
 pub fn controller_lives_by_its_table()
     ensures lives { (settings : Parameters) (events : List WorldEvent) → LivesByTable settings events }
     ensures runs { (settings : Parameters) (events : List WorldEvent) → RunsByTable settings events }
 {}
 
-/// Law: whatever events happen, the acknowledgements of a station on a channel follow what the controller put for it, in order: to
-/// each activation of a channel that isn't active, and to each release, one was given, or is made, or is due for what stands
-/// in the outbox, until the link breaks.
+/// Law: whatever events happen, the acknowledgements of a station on a channel follow what the
+/// controller put for it, in order: to each activation of a channel that isn't active, and to each
+/// release, one was given, or is made, or is due for what stands in the outbox, until the link
+/// breaks.
 pub fn channels_are_pipes()
     ensures { (settings : Parameters) (events : List WorldEvent) → ArePipes settings events }
 {}
 
-/// Law: whatever events happen, all that happens to a mobile's end are calls of it: those of the run's events, in order. So what holds
-/// of a mobile end after any calls holds of the mobiles of a world.
+/// Law: whatever events happen, all that happens to a mobile's end are calls of it: those of the
+/// run's events, in order. So what holds of a mobile end after any calls holds of the mobiles of a
+/// world.
 pub fn mobiles_live_by_their_ends()
     ensures { (settings : Parameters) (events : List WorldEvent) → MobilesLive settings events }
 {}
 
-/// Law: the one-repeat rule. Whatever events happen, of each mobile: the messages of the flow that stations take of it on SAPI 0,
-/// channel after channel, are slices of those that its upper layers sent, each with the number of its place. The first slice begins
-/// at the first message sent. Each next one begins where the last one ended, or at its last message: so that message alone can come
+/// Law: the one-repeat rule. Whatever events happen, of each mobile: the messages of the flow that
+/// stations take of it on SAPI 0, channel after channel, are slices of those that its upper layers
+/// sent, each with the number of its place. The first slice begins at the first message sent. Each
+/// next one begins where the last one ended, or at its last message: so that message alone can come
 /// again.
 pub fn mobiles_repeat_at_most_one()
     ensures { (settings : Parameters) (events : List WorldEvent) → MobilesRepeatAtMostOne settings events }
 {}
 
-/// Law: whatever events happen, of each mobile: on a channel to which it was commanded, stations take COMPLETE of it first, before all
-/// else on SAPI 0; and where it came back to the channel that it left, FAILURE.
+/// Law: whatever events happen, of each mobile: on a channel to which it was commanded, stations
+/// take COMPLETE of it first, before all else on SAPI 0; and where it came back to the channel that
+/// it left, FAILURE.
 pub fn complete_comes_first()
     ensures { (settings : Parameters) (events : List WorldEvent) → CompleteComesFirst settings events }
 {}
 
-/// Law: whatever events happen, each frame that a station gives to the inbox is the text of a message that it made, and is read as
-/// that message.
+/// Law: whatever events happen, each frame that a station gives to the inbox is the text of a
+/// message that it made, and is read as that message.
 pub fn stations_are_read()
     ensures { (settings : Parameters) (events : List WorldEvent) → AreRead settings events }
 {}
 
-/// Law: let each tenure be one mobile's. As long as all that stations take agrees with it, whatever else happens, no mobile is on
-/// another's tenure, and in each tenure one mobile at most sends. What a station takes agrees where an IMMEDIATE ASSIGNMENT names
-/// the mobile of its channel's present tenure, and a command leads to a tenure of the mobile to which it is handed.
+/// Law: let each tenure be one mobile's. As long as all that stations take agrees with it, whatever
+/// else happens, no mobile is on another's tenure, and in each tenure one mobile at most sends.
+/// What a station takes agrees where an IMMEDIATE ASSIGNMENT names the mobile of its channel's
+/// present tenure, and a command leads to a tenure of the mobile to which it is handed.
 pub fn mobiles_keep_to_their_tenures()
     ensures seats { (settings : Parameters) (events : List WorldEvent) (owner : TenureValue → ℕ) → AllAreBy owner (new_actors settings) events
         → AllSitBy owner (actors_after_all (new_actors settings) events) }

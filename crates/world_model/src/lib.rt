@@ -1,5 +1,5 @@
-//! The world with a controller: mobiles, base stations, the controller with its queues, and the switch, event by event.
-//! The definitions stand in `specs`.
+//! The world with a controller: mobiles, base stations, the controller with its queues, and the
+//! switch, event by event. The definitions stand in `specs`.
 #![tactic(auto)]
 
 pub use event::{Event, SwitchAction};

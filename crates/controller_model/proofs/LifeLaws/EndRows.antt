@@ -166,7 +166,8 @@ in_state state = with_channels channels (record own { state = state } ∷ other 
 abbrev away : Controller
 away = record (in_state (Live 5 (Changing (record { change = Handover; channel = channel 2 0x43 })))) { channels = free_channels ∷ channels ∷ set free_channels 0x43 (InUse 7) ∷ [] }
 
--- DTAP and CLEAR COMMAND of the switch, HANDOVER COMPLETE of the mobile, DTAP of the mobile on each SAPI
+-- DTAP and CLEAR COMMAND of the switch, HANDOVER COMPLETE of the mobile, DTAP of the mobile on each
+-- SAPI
 abbrev sends : Step
 sends = from_switch (hex "06 00 00 07 00 01 05 01 00 02 05 08")
 

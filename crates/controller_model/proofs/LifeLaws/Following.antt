@@ -27,8 +27,9 @@ abbrev pub older : List Tenure → List Tenure
 older [] = []
 older (t ∷ old) = old
 
--- The youngest tenure is that of the serving channel; older ones that aren't over are on old channels; and what was relayed, then
--- what is still to be relayed, is what came, then what may still come.
+-- The youngest tenure is that of the serving channel; older ones that aren't over are on old
+-- channels; and what was relayed, then what is still to be relayed, is what came, then what may
+-- still come.
 pub record Follows (s : Connection) (put : List Message) (ts : List Tenure) : Type 0 where
   pub serves : Serves s.serving ts
   pub old : (at : Place) → AreAway at (undone s.draining) → NoneOn at (older ts)

@@ -1,4 +1,5 @@
--- What was relayed follows the tenures, where a message comes, a change is complete, or an old channel is released.
+-- What was relayed follows the tenures, where a message comes, a change is complete, or an old
+-- channel is released.
 use Rattle.controller_model.proofs.Prelude.{◌≡◌, ◌≢◌, ℕ, zero, suc, ◌==◌, Bool, true, false, if◌then◌else◌, List, [], ◌∷◌, ◌++◌, map}
 use Rattle.controller_model.proofs.Prelude.{Option, Some, None, refl, sym, subst, ap, ◌∙◌, inl, inr, append-nil, true≢false, cases_Bool}
 use Rattle.controller_model.proofs.Prelude.{cond-true, cond-false, eqb-true, and_parts, Channel, Place, Message, AreAway, drain_at-drains}

@@ -51,8 +51,8 @@ abbrev pub IsClearedIn : Option Connection → Type 0
 IsClearedIn None = Unit {0}
 IsClearedIn (Some s) = s.state ≡ Closed Complete
 
--- While a change goes on the mobile is away; the first tenure is that of the serving channel; CLEAR COMPLETE was put for a
--- connection that is cleared or gone.
+-- While a change goes on the mobile is away; the first tenure is that of the serving channel; CLEAR
+-- COMPLETE was put for a connection that is cleared or gone.
 pub record Agrees (number next : ℕ) (changes : Bool) (ts : List Tenure) (clear : Bool) (o : Option Connection) : Type 0 where
   pub away : changes ≡ true → IsAway o
   pub serves : ServesOf number next ts o

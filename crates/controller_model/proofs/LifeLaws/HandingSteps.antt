@@ -45,7 +45,8 @@ abbrev pub NoChannel : Word → Type 0
 NoChannel (OnChannel at input) = ⊥
 NoChannel _ = Unit {0}
 
--- it came on a channel; or it is none of a station's, and where it is the break of the switch's link that link breaks
+-- it came on a channel; or it is none of a station's, and where it is the break of the switch's
+-- link that link breaks
 abbrev pub SaysInput : Word → Bool → Input → Type 0
 SaysInput word broken input = ((at : Place) × (word ≡ OnChannel at input) × IsAtPlace at input) ⊎ (NoChannel word × IsElsewhere input × (IsSwitchDown input → broken ≡ true))
 

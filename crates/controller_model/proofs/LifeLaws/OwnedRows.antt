@@ -20,7 +20,8 @@ links_are_up = refl
 abbrev drain : ℕ → ℕ → Bool → Drain
 drain station number is_done = record { channel = channel station number; is_done = is_done }
 
--- it serves on 41 of station 1 and changes to 43 of station 2; 0A of station 2 drains, and 49 of station 3 is done
+-- it serves on 41 of station 1 and changes to 43 of station 2; 0A of station 2 drains, and 49 of
+-- station 3 is done
 abbrev changing : Connection
 changing = record (connection (Live 5 (Changing (record { change = Handover; channel = channel 2 0x43 })))) { draining = drain 2 0x0a false ∷ drain 3 0x49 true ∷ [] }
 

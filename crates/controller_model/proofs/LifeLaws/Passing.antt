@@ -177,7 +177,8 @@ only_for m (out ∷ outs) silent = elim (cases_Bool (is_for m out)) [
     first : out ∷ outs_for out.conn outs ≡ [] → ⊥
     first is = absurd cc
 
--- What the frame puts is its connection's, and of it no DATA REQUEST goes to a channel that the other one uses.
+-- What the frame puts is its connection's, and of it no DATA REQUEST goes to a channel that the
+-- other one uses.
 pub record PassesBy (n m : ℕ) (c : Controller) (s : Step) : Type 0 where
   pub put : List Message
   pub outs : (step c s).outs ≡ outs_of m put

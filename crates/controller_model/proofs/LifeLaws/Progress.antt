@@ -1,4 +1,5 @@
--- How far the switch knows a connection after a row: CR is put with the initial message, CC confirms it, and so it stays.
+-- How far the switch knows a connection after a row: CR is put with the initial message, CC
+-- confirms it, and so it stays.
 use Rattle.controller_model.proofs.Prelude.{◌≡◌, ◌⊎◌, ℕ, zero, suc, ◌==◌, ◌&&◌, nat_le, Bool, true, false, List, [], ◌∷◌, length, Option}
 use Rattle.controller_model.proofs.Prelude.{Some, None, refl, sym, subst, inl, inr, EQUIPMENT_FAILURE, Change, Assignment, Handover}
 use Rattle.controller_model.proofs.Prelude.{Channel, Place, Message, Input, Due, WasAsked, Drain, ShortMessageLink, Down, Up, Stage, Active}

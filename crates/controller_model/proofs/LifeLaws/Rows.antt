@@ -50,7 +50,8 @@ reject = Data 0x800001 (Management (SapiNReject (record { 0 = 0x83 }) (record { 
 
 -- ---- the switch's messages
 
--- before CC, of another connection, of another SAPI, or of radio resource management they don't count
+-- before CC, of another connection, of another SAPI, or of radio resource management they don't
+-- count
 of_sapi_0 : switched 1 Zero
     (moment (zero_1 (hex "05 01")) []
     ∷ moment (Tick 1) (request ∷ [])

@@ -1,5 +1,5 @@
--- What is forwarded by a connection's frames is what was relayed by its messages, where each frame is read as a message of which
--- it is the text.
+-- What is forwarded by a connection's frames is what was relayed by its messages, where each frame
+-- is read as a message of which it is the text.
 use Rattle.controller_model.proofs.Prelude.{◌≡◌, ℕ, ◌==◌, ◌&&◌, ◌||◌, ◌⊎◌, Bool, true, false, not, if◌then◌else◌, List, [], ◌∷◌, ◌++◌, drop}
 use Rattle.controller_model.proofs.Prelude.{filter, length, slice_index_or, Option, Some, Result, Ok, Err, None, ◌≤◌, arith, subst, refl}
 use Rattle.controller_model.proofs.Prelude.{sym, ap, ◌∙◌, inl, inr, append-nil, true≢false, cases_Bool, cond-true, cond-false, eq-eqb}

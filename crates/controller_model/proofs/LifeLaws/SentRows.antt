@@ -136,7 +136,8 @@ answers_where_it_came : GoesToUp (new_controller usual_settings) (on_stream 2 0x
 unfolding on_literals
 answers_where_it_came = (refl, tt)
 
--- a controller that never is: connection 7 serves on a channel of this station, and these links are up
+-- a controller that never is: connection 7 serves on a channel of this station, and these links are
+-- up
 abbrev serving_at : ℕ → Controller
 serving_at station = record (new_controller usual_settings) {
   entries = record { connection = record (connection (Live 5 Active)) { serving = channel station 0x41; draining = [] }; averages = new_averages usual_settings (channel station 0x41) } ∷ [];

@@ -58,7 +58,8 @@ over t = record t { is_over = true }
 
 -- ---- tenures
 
--- of the first channel the initial message counts, with which CR is put, and what follows; of the other one what follows its COMPLETE
+-- of the first channel the initial message counts, with which CR is put, and what follows; of the
+-- other one what follows its COMPLETE
 abbrev one_handover : List Moment
 one_handover =
     moment (zero 1 0x41 0x01) []
@@ -87,7 +88,8 @@ old_comes_first_on_sapi_3 : joined Three (service one_handover) ≡ hex "09 01" 
 unfolding on_literals
 old_comes_first_on_sapi_3 = refl
 
--- after the release nothing counts on the old channel; on the serving one a release counts for nothing
+-- after the release nothing counts on the old channel; on the serving one a release counts for
+-- nothing
 ends_with_the_release : service (one_handover
     ++ moment (is_released 2 0x41) []
     ∷ moment (zero 2 0x41 0x10) []
@@ -115,7 +117,8 @@ comes_back : service (one_handover
 unfolding on_literals
 comes_back = refl
 
--- an initial message without CR begins nothing, nor does one after CR; nor a COMPLETE that is refused, nor time, a break or a clear
+-- an initial message without CR begins nothing, nor does one after CR; nor a COMPLETE that is
+-- refused, nor time, a break or a clear
 begins_no_more : service (
     moment (initial 0x49) []
     ∷ moment (zero 1 0x49 0x01) []

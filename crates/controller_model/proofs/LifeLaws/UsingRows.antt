@@ -313,8 +313,8 @@ abbrev pub GoesUp : List Bool → Message → Type 0
 GoesUp links (Station station message) = IsAlive links station
 GoesUp links _ = is_link_up links SWITCH_LINK ≡ true
 
--- Of the channels, where one of these links broke: one that is in use is its connection's; those of links that were down are free;
--- numbers are given ones.
+-- Of the channels, where one of these links broke: one that is in use is its connection's; those of
+-- links that were down are free; numbers are given ones.
 pub record Uses (old new : List Bool) (c : Controller) : Type 0 where
   pub used : (at : Place) (n : ℕ) → is_link_up new at.station ≡ true → state_in c.channels at ≡ InUse n → Contains (used_places (connection_of c n)) at
   pub blank : (at : Place) → (IsAlive old at.station → ⊥) → state_in c.channels at ≡ Free

@@ -11,7 +11,8 @@ use Rattle.controller_model.specs.Reading.{word_of}
 use Rattle.ipa_framing.specs.declared.frame.Frame.{Frame}
 use Rattle.ruled_relay.specs.declared.item.What.TheVariants as whats
 
--- Its connection and averages are as they were, nothing is put for it, and its channels are as they were: in use, or releasing.
+-- Its connection and averages are as they were, nothing is put for it, and its channels are as they
+-- were: in use, or releasing.
 pub record IsLeft (number : ℕ) (c : Controller) (t : Turn) : Type 0 where
   pub entry : Leaves number c t.next
   pub outs : outs_for number t.outs ≡ []

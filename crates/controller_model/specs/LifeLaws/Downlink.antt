@@ -83,15 +83,17 @@ abbrev pub ConservesDownlink : Switched → Sapi → Option Connection → Type 
 ConservesDownlink a sapi None = Unit {0}
 ConservesDownlink a sapi (Some s) = IsOpen s.state → a.handed ++ filter is_dtap (messages s.down sapi) ≡ a.received
 
--- Some of a list, each at most once and in its order: the first of them is the first of the list, or all are of the others.
+-- Some of a list, each at most once and in its order: the first of them is the first of the list,
+-- or all are of the others.
 abbrev pub IsPart : List (List ℕ) → List (List ℕ) → Type 0
 IsPart [] ys = Unit {0}
 IsPart (x ∷ xs) [] = ⊥
 IsPart (x ∷ xs) (y ∷ ys) = ((x ≡ y) × IsPart xs ys) ⊎ IsPart (x ∷ xs) ys
 
--- There are messages, step by step, of which the connection's frames are, and over them, per SAPI, what was handed, then what
--- is held, is what came and wasn't rejected, as long as it is open; and always what was handed is some of what came, in its
--- order. What was handed is what is read from the frames to stations, where what came was octets.
+-- There are messages, step by step, of which the connection's frames are, and over them, per SAPI,
+-- what was handed, then what is held, is what came and wasn't rejected, as long as it is open; and
+-- always what was handed is some of what came, in its order. What was handed is what is read from
+-- the frames to stations, where what came was octets.
 pub record DownlinkIsConserved (number : ℕ) (p : Parameters) (steps : List Step) (life : Turn) : Type 0 where
   pub moments : List Moment
   pub history : IsHistory number (new_controller p) steps moments

@@ -60,8 +60,8 @@ AllAreRead number c (m ∷ ms) =
     ((sapi : Sapi) → (messages_on sapi (forwarded (step c m.taken).outs number) ≡ relayed sapi m.messages) × (handed_in (step c m.taken).outs number sapi ≡ handed sapi m.messages))
     × AllAreRead number (step c m.taken).next ms
 
--- There are messages, step by step, of which the connection's frames are, and each step keeps silence. What they relay and hand is
--- what is read from the frames, where what came was octets.
+-- There are messages, step by step, of which the connection's frames are, and each step keeps
+-- silence. What they relay and hand is what is read from the frames, where what came was octets.
 pub record SilenceIsKept (number : ℕ) (p : Parameters) (steps : List Step) (life : Turn) : Type 0 where
   pub moments : List Moment
   pub history : IsHistory number (new_controller p) steps moments

@@ -1,5 +1,5 @@
--- Where messages are handed, told by what came and what was put: nothing while the mobile changes its channel, else on the
--- channel that serves, and after CLEAR COMPLETE only RLC is put.
+-- Where messages are handed, told by what came and what was put: nothing while the mobile changes
+-- its channel, else on the channel that serves, and after CLEAR COMPLETE only RLC is put.
 use Rattle.std.specs.Prelude.{◌≡◌, ℕ, ◌==◌, ◌&&◌, ◌||◌, not, Bool, true, false, List, [], ◌∷◌, ◌++◌, fold}
 use Rattle.std.specs.List.{AllByRecursion, list_any}
 use Rattle.controller_model.specs.Prelude.{Management, Place, Message, SWITCH_LINK, outs_of, Input, handed, is_dtap, Sapi, What, AreAllowed}
@@ -37,13 +37,14 @@ abbrev pub is_release : Message → Bool
 is_release (Station station (RfChannelRelease number)) = true
 is_release _ = false
 
--- The COMMAND is put once the channel that it names is active. A message of the switch that reads alike is none.
+-- The COMMAND is put once the channel that it names is active. A message of the switch that reads
+-- alike is none.
 abbrev pub begins_by : Input → List Message → Bool
 begins_by (inputs.ActivationAck at) put = list_any is_command put
 begins_by _ put = false
 
--- The mobile answers with COMPLETE, of which the switch learns, or with FAILURE, upon which the other channel is released.
--- An answer upon which nothing is put isn't taken.
+-- The mobile answers with COMPLETE, of which the switch learns, or with FAILURE, upon which the
+-- other channel is released. An answer upon which nothing is put isn't taken.
 abbrev pub answers_by : Input → List Message → Bool
 answers_by (inputs.Complete at change cause) put = performs put
 answers_by (inputs.Failure at change cause) put = list_any is_release put
@@ -54,7 +55,8 @@ abbrev pub on_channel : (Input → List Message → Bool) → Word → List Mess
 on_channel test (OnChannel at input) put = test input put
 on_channel test _ put = false
 
--- it clears: by CLEAR REQUEST or CLEAR COMPLETE, by RLC where the switch releases, or its link breaks
+-- it clears: by CLEAR REQUEST or CLEAR COMPLETE, by RLC where the switch releases, or its link
+-- breaks
 abbrev pub is_clear : Message → Bool
 is_clear (Data reference (Management (ClearRequest cause))) = true
 is_clear (Data reference (Management ClearComplete)) = true
@@ -104,7 +106,8 @@ is_cleared moments = list_any is_clear_complete (all_messages moments)
 
 -- What a step puts for a connection, after these moments.
 pub record IsInPlace (earlier : List Moment) (m : Moment) : Type 0 where
-  -- by the step that puts the COMMAND nothing is handed, nor from then on while the mobile changes its channel
+  -- by the step that puts the COMMAND nothing is handed, nor from then on while the mobile changes
+  -- its channel
   pub held : changes_after (earlier ++ m ∷ []) ≡ true → (sapi : Sapi) → handed sapi m.messages ≡ []
   -- what is handed goes to the channel that serves after the step
   pub serving : AreHandedOn (service (earlier ++ m ∷ [])) m.messages
@@ -116,8 +119,8 @@ abbrev pub AllInPlace : List Moment → List Moment → Type 0
 AllInPlace earlier [] = Unit {0}
 AllInPlace earlier (m ∷ ms) = IsInPlace earlier m × AllInPlace (earlier ++ m ∷ []) ms
 
--- There are messages, step by step, of which the connection's frames are, and each step puts them in place. What they hand is
--- what is read from the frames, where what came was octets.
+-- There are messages, step by step, of which the connection's frames are, and each step puts them
+-- in place. What they hand is what is read from the frames, where what came was octets.
 pub record HandsInPlace (number : ℕ) (p : Parameters) (steps : List Step) (life : Turn) : Type 0 where
   pub moments : List Moment
   pub history : IsHistory number (new_controller p) steps moments

@@ -32,7 +32,8 @@ pub record Moment : Type 0 where
   pub taken : Step
   pub messages : List Message
 
--- The moments are those of these steps, and what is put for the connection, step by step, are the frames of their messages.
+-- The moments are those of these steps, and what is put for the connection, step by step, are the
+-- frames of their messages.
 abbrev pub IsHistory : ℕ → Controller → List Step → List Moment → Type 0
 IsHistory number c [] [] = Unit {0}
 IsHistory number c (s ∷ ss) (m ∷ ms) =

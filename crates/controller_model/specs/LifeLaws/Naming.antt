@@ -10,7 +10,8 @@ use Rattle.controller_model.specs.Controller.{Controller}
 use Rattle.controller_model.specs.Life.{step}
 use Rattle.rsl_codec.specs.declared.rsl.Rsl.TheVariants.{ImmediateAssignCommand}
 
--- if the message is an IMMEDIATE ASSIGN COMMAND, it assigns this channel to the mobile of this request
+-- if the message is an IMMEDIATE ASSIGN COMMAND, it assigns this channel to the mobile of this
+-- request
 abbrev pub Names : Channel → RequestReference → Message → Type 0
 Names c request (Station station (ImmediateAssignCommand i)) = (delay : ℕ) × (Station station (ImmediateAssignCommand i) ≡ immediate_assign_command c request delay)
 Names c request _ = Unit {0}
@@ -23,7 +24,8 @@ abbrev pub SameRequest : Option Connection → Option Connection → Type 0
 SameRequest (Some before) (Some after) = after.request ≡ before.request
 SameRequest _ _ = Unit {0}
 
--- What a step puts for a connection assigns its serving channel to the mobile that asked for it; and that stays the same.
+-- What a step puts for a connection assigns its serving channel to the mobile that asked for it;
+-- and that stays the same.
 pub record NamesItsMobile (number : ℕ) (c : Controller) (s : Step) : Type 0 where
   pub put : List Message
   pub outs : outs_for number (step c s).outs ≡ outs_of number put

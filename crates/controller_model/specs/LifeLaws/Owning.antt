@@ -18,8 +18,8 @@ is_link_up links source = unwrap_or (slice_get links source) false
 abbrev pub used_in : Roles → List Channel
 used_in roles = undone roles.draining ++ roles.serving ∷ target_channels roles.target
 
--- The serving channel and the target are in use by the connection, its old channels are releasing, all are different, and their
--- stations' links are up.
+-- The serving channel and the target are in use by the connection, its old channels are releasing,
+-- all are different, and their stations' links are up.
 pub record Owns (channels : List (List ChannelState)) (links : List Bool) (number : ℕ) (roles : Roles) : Type 0 where
   pub using : AreIn channels (InUse number) (roles.serving ∷ target_channels roles.target)
   pub releasing : AreIn channels (Releasing number) (undone roles.draining)

@@ -13,7 +13,8 @@ abbrev pub used_by : Option Connection → Using
 used_by None = uses_of []
 used_by (Some s) = uses_of (channels_in_use s)
 
--- What a step puts for a connection goes to channels that it uses then: from before the step, or activated in it, until released.
+-- What a step puts for a connection goes to channels that it uses then: from before the step, or
+-- activated in it, until released.
 pub record KeepsToChannels (number : ℕ) (c : Controller) (s : Step) : Type 0 where
   pub put : List Message
   pub outs : outs_for number (step c s).outs ≡ outs_of number put

@@ -20,7 +20,8 @@ abbrev pub ComesInOctets : Step → Type 0
 ComesInOctets (Take item) = IsOfOctets item.what
 ComesInOctets (Tick ms) = Unit {0}
 
--- the frame of a message of a connection; whoever gets it reads that message: RSL, or BSSAP in CR or DT1, or RLC
+-- the frame of a message of a connection; whoever gets it reads that message: RSL, or BSSAP in CR
+-- or DT1, or RLC
 pub record IsMessage (out : Out) : Type 0 where
   pub message : Message
   pub put : out ≡ out_of out.conn message

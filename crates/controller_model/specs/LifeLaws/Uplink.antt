@@ -17,7 +17,8 @@ use Rattle.controller_model.specs.LifeLaws.History.{IsHistory, Moment, all_messa
 use Rattle.controller_model.specs.LifeLaws.Seen.{messages_on}
 use Rattle.controller_model.specs.LifeLaws.Sending.{ComesInOctets}
 
--- A tenure: what came on a channel from the moment that it served, until its release is acknowledged.
+-- A tenure: what came on a channel from the moment that it served, until its release is
+-- acknowledged.
 pub record Tenure : Type 0 where
   pub place : Place
   pub is_over : Bool
@@ -64,8 +65,8 @@ abbrev pub performs : List Message → Bool
 performs [] = false
 performs (m ∷ ms) = is_performed m || performs ms
 
--- the first channel serves from the initial message on, with which CR is put; another one from its COMPLETE on, of which the
--- switch learns
+-- the first channel serves from the initial message on, with which CR is put; another one from its
+-- COMPLETE on, of which the switch learns
 abbrev pub begin_first : Bool → Place → List ℕ → List Tenure → List Tenure
 begin_first true at initial [] = beginning at (initial ∷ []) ∷ []
 begin_first requested at initial tenures = tenures
@@ -99,9 +100,10 @@ joined sapi (serving ∷ old) = joined sapi old ++ of_sapi sapi serving
 
 -- ---- the law
 
--- There are messages, step by step, of which the connection's frames are, and while it is open, per SAPI, what was relayed, then
--- what is held, is what came on its tenures, in the order in which they came to serve. What was relayed is what is read from the
--- frames to the switch, where what came was octets.
+-- There are messages, step by step, of which the connection's frames are, and while it is open, per
+-- SAPI, what was relayed, then what is held, is what came on its tenures, in the order in which
+-- they came to serve. What was relayed is what is read from the frames to the switch, where what
+-- came was octets.
 pub record UplinkIsConserved (number : ℕ) (p : Parameters) (steps : List Step) (life : Turn) : Type 0 where
   pub moments : List Moment
   pub history : IsHistory number (new_controller p) steps moments

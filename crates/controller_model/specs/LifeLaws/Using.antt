@@ -6,7 +6,8 @@ use Rattle.controller_model.specs.LifeLaws.History.{connection_of}
 use Rattle.controller_model.specs.declared.channel_state.ChannelState.TheVariants.{Free, InUse, Releasing}
 use Rattle.controller_model.specs.Controller.{Controller, channel_state, is_up, place_at, place_of}
 
--- the places of the channels that a connection uses: while it is open, the serving one and the target
+-- the places of the channels that a connection uses: while it is open, the serving one and the
+-- target
 abbrev pub used_places : Option Connection → List Place
 used_places None = []
 used_places (Some s) = map place_of (channels_in_use s)

@@ -1,4 +1,5 @@
--- A mobile that asked comes onto the serving channel: from then on it is lined up with its connection.
+-- A mobile that asked comes onto the serving channel: from then on it is lined up with its
+-- connection.
 use Rattle.world_laws.proofs.Prelude.{◌≡◌, ◌≢◌, ℕ, ◌&&◌, nat_eq, Bool, true, false, List, [], ◌∷◌, ◌++◌, None, refl, sym, ap, ◌∙◌, subst}
 use Rattle.world_laws.proofs.Prelude.{eq-eqb, SWITCH_LINK, WaitEstablish, Connection, is_at, Stands, StandsBy, place_of, empty_tenure}
 use Rattle.world_laws.proofs.Prelude.{DataLinkState, On, Actors, Mobile, is_station_up, tenure_at}

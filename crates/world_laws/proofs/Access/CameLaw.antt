@@ -1,4 +1,5 @@
--- The law on a connection that is coming, when the controller handles an item or time passes for it.
+-- The law on a connection that is coming, when the controller handles an item or time passes for
+-- it.
 use Rattle.world_laws.proofs.Prelude.{◌≡◌, ◌≢◌, ℕ, Bool, true, List, [], ◌∷◌, ◌++◌, Option, Some, None, unwrap_or, refl, sym, ap, ◌∙◌}
 use Rattle.world_laws.proofs.Prelude.{subst, arith, AllByRecursion, Channel, Place, Message, Out, SWITCH_LINK}
 use Rattle.world_laws.proofs.Prelude.{outs_of, State, WaitEstablish, Connection, is_at, Row, Acts, ActsOn, IsAged, IsBrought, brought_in}

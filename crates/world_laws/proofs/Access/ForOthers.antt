@@ -1,4 +1,5 @@
--- What the controller puts for others when it handles an item, or time passes for it, isn't a connection's.
+-- What the controller puts for others when it handles an item, or time passes for it, isn't a
+-- connection's.
 use Rattle.world_laws.proofs.Prelude.{◌≡◌, ◌≢◌, ℕ, zero, suc, ◌+◌, ◌≤◌, ◌⊎◌, nat_eq, Bool, true, false, List, [], ◌∷◌, option_map, Option}
 use Rattle.world_laws.proofs.Prelude.{Some, None, refl, sym, ap, ◌∙◌, subst, arith, inl, inr, AllByRecursion, eqb-true, eqb-false}
 use Rattle.world_laws.proofs.Prelude.{Message, Out, outs_of, Connection, connection_of, IsNumbered, ComesInOctets, IsOfOctets, conn_of}

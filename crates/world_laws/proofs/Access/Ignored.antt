@@ -1,4 +1,5 @@
--- A frame for which no row fits brings nothing of the channel of a connection that waits for its initial message.
+-- A frame for which no row fits brings nothing of the channel of a connection that waits for its
+-- initial message.
 use Rattle.world_laws.proofs.Prelude.{◌≡◌, ◌≢◌, ℕ, ◌+◌, ◌≤◌, ◌==◌, ◌&&◌, nat_eq, Bool, true, false, if◌then◌else◌, cond, List, [], ◌∷◌}
 use Rattle.world_laws.proofs.Prelude.{◌++◌, option_to_list, Option, Some, None, refl, sym, ap, ◌∙◌, subst, arith, AllByRecursion, flat_map}
 use Rattle.world_laws.proofs.Prelude.{eqb-true, eqb-false, eq-eqb, ne_eqb, Place, SWITCH_LINK, Input, State, WaitEstablish, Connection}

@@ -1,4 +1,5 @@
--- What becomes of each mobile at an event, where neither the controller nor a mobile's frame of SAPI 0 takes part.
+-- What becomes of each mobile at an event, where neither the controller nor a mobile's frame of
+-- SAPI 0 takes part.
 use Rattle.world_laws.proofs.Prelude.{◌≡◌, ℕ, ◌==◌, ◌&&◌, nat_eq, Bool, true, false, if◌then◌else◌, List, [], ◌∷◌, ◌++◌, find}
 use Rattle.world_laws.proofs.Prelude.{slice_index_or, Option, Some, None, Ok, Err, refl, sym, ap, ◌∙◌, subst, inl, inr, ◌⊎◌, is_none}
 use Rattle.world_laws.proofs.Prelude.{eqb-true, eqb-false, SWITCH_LINK, place_at, ChannelDescription, RrMessage, ImmediateAssignment}

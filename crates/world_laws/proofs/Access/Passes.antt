@@ -1,4 +1,5 @@
--- What an event leaves of what is on its way, where neither the controller nor a mobile's frame of SAPI 0 takes part.
+-- What an event leaves of what is on its way, where neither the controller nor a mobile's frame of
+-- SAPI 0 takes part.
 use Rattle.world_laws.proofs.Prelude.{◌≡◌, ◌≢◌, ℕ, ◌-◌, ◌==◌, nat_eq, Bool, true, false, if◌then◌else◌, cond, List, [], ◌∷◌, ◌++◌}
 use Rattle.world_laws.proofs.Prelude.{option_to_list, Option, Some, None, Ok, refl, sym, ap, ◌∙◌, subst, append_assoc, inl, inr}
 use Rattle.world_laws.proofs.Prelude.{AllByRecursion, flat_map, result_ok, cases_Bool, eqb-true, eqb-false, flat_map-append, append-nil}

@@ -1,5 +1,5 @@
--- The row that puts CR keeps a connection lined up: the initial message moves from its channel to what waits for the switch, and none of
--- radio resource management is behind it.
+-- The row that puts CR keeps a connection lined up: the initial message moves from its channel to
+-- what waits for the switch, and none of radio resource management is behind it.
 use Rattle.world_laws.proofs.Prelude.{◌≡◌, ℕ, ◌+◌, Bool, true, false, List, [], ◌∷◌, ◌++◌, refl, sym, ap, ◌∙◌, append_assoc, arith}
 use Rattle.world_laws.proofs.Prelude.{WaitConfirm, WaitEstablish, to_be_taken, DataLinkState}
 use Rattle.world_laws.specs.LineUp.Alive.{Alive, Stands}

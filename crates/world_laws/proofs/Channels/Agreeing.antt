@@ -1,4 +1,5 @@
--- In every run each channel agrees with the ownership that the run gives; and what is known of a channel that isn't free.
+-- In every run each channel agrees with the ownership that the run gives; and what is known of a
+-- channel that isn't free.
 use Rattle.world_laws.proofs.Prelude.{◌≡◌, ◌≢◌, ℕ, ◌≤◌, Bool, true, false, List, [], ◌∷◌, length, Some, refl, sym, ap, ◌∙◌, subst}
 use Rattle.world_laws.proofs.Prelude.{Place, Connection, roles_of, IsOpen, connection_of, Owns, OwnsOpen, AreUsed}
 use Rattle.world_laws.proofs.Prelude.{life_owns, life_ready, life_uses, Ready, Free, Controller, channel_state, hears, place_at}

@@ -1,4 +1,5 @@
--- In every run no acknowledgement of a channel that began is to come; so it is active where its station's link is up.
+-- In every run no acknowledgement of a channel that began is to come; so it is active where its
+-- station's link is up.
 use Rattle.world_laws.proofs.Prelude.{◌≡◌, ◌≢◌, ℕ, ◌≤◌, true, unwrap_or, List, [], ◌∷◌, ◌++◌, length, Option, Some, None, refl, sym, ap}
 use Rattle.world_laws.proofs.Prelude.{◌∙◌, subst, AllByRecursion, Channel, Place, Message, SWITCH_LINK, Input, State, WaitActivation}
 use Rattle.world_laws.proofs.Prelude.{WaitEstablish, WaitConfirm, Live, Closed, Removed, Connection, new_connection, target_channels}

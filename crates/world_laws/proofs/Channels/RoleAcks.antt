@@ -101,7 +101,8 @@ module _ (settings : Parameters) (events : List Event) (allowed : AreAllowed set
     zero-less : (k : ℕ) → k ≡ SWITCH_LINK → 1 ≤ k → ⊥
     zero-less k is least = absurd (omega (arith, is, least))
 
-  -- so what comes of a channel in use doesn't end, and of one that is releasing nothing comes behind the RF CHANNEL RELEASE ACK
+  -- so what comes of a channel in use doesn't end, and of one that is releasing nothing comes
+  -- behind the RF CHANNEL RELEASE ACK
   pub goes-on-of : (at : Place) (n : ℕ) → channel_state w.controller at ≡ InUse n → is_ended (coming_up w at) ≡ false
   goes-on-of at n used = (tells-of at (λ free. absurd (let both : Free ≡ InUse n = sym free ∙ used in cc))).none (none-of at n used)
 

@@ -1,4 +1,5 @@
--- A step that brings a connection no input of a frame: a report, a break, or time. It goes on in the same line, or ends.
+-- A step that brings a connection no input of a frame: a report, a break, or time. It goes on in
+-- the same line, or ends.
 use Rattle.world_laws.proofs.Prelude.{◌≡◌, ℕ, ◌≤◌, Bool, true, false, List, [], length, Option, Some, None, refl, sym, ap, ◌∙◌, subst}
 use Rattle.world_laws.proofs.Prelude.{AllByRecursion, Handover, Channel, Message, outs_of, Input, Active, Preparing, Changing, Draining}
 use Rattle.world_laws.proofs.Prelude.{State, WaitActivation, WaitEstablish, WaitConfirm, Live, Closed, Removed, Connection, Row, IsOpen}

@@ -1,4 +1,5 @@
--- What the controller puts, and what it makes of a connection, leaves the connection lined up where nothing of it goes to the switch.
+-- What the controller puts, and what it makes of a connection, leaves the connection lined up where
+-- nothing of it goes to the switch.
 use Rattle.world_laws.proofs.Prelude.{◌≡◌, ℕ, ◌≤◌, ◌==◌, ◌&&◌, Bool, true, false, cond, List, [], ◌∷◌, ◌++◌, find, fold, map, Option, None}
 use Rattle.world_laws.proofs.Prelude.{refl, sym, ap, ◌∙◌, subst, inl, inr, AllByRecursion, flat_map, cases_Bool, cond-false, cond-true}
 use Rattle.world_laws.proofs.Prelude.{append-nil, Channel, Message, Out, SWITCH_LINK, outs_of, Target, Connection, AreApart, relayed}

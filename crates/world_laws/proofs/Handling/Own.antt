@@ -1,4 +1,5 @@
--- A frame that says an input to a connection that lives: the row that fits keeps it lined up, or ends it; else nothing changes.
+-- A frame that says an input to a connection that lives: the row that fits keeps it lined up, or
+-- ends it; else nothing changes.
 use Rattle.world_laws.proofs.Prelude.{◌≡◌, ◌≢◌, ℕ, ◌≤◌, ◌&&◌, Bool, true, false, if◌then◌else◌, List, [], ◌∷◌, ◌++◌, option_to_list, Option}
 use Rattle.world_laws.proofs.Prelude.{Some, None, refl, sym, ap, ◌∙◌, subst, inl, inr, arith, AllByRecursion, flat_map, cases_Bool, Channel}
 use Rattle.world_laws.proofs.Prelude.{Place, Out, SWITCH_LINK, outs_of, Input, Active, Preparing, Changing, Draining, State, WaitActivation}

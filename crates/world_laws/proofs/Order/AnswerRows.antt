@@ -36,7 +36,8 @@ holds_service = refl
 holds_paging : to_be_taken (connected 4 7 paging true).end.zero ≡ paging ∷ []
 holds_paging = refl
 
--- a PAGING RESPONSE would be counted with COMPLETE and FAILURE, but the initial message is not among what is counted
+-- a PAGING RESPONSE would be counted with COMPLETE and FAILURE, but the initial message is not
+-- among what is counted
 counted_of_paging : controls_of (to_be_taken (connected 4 7 paging true).end.zero) ≡ 1
 counted_of_paging = refl
 

@@ -1,4 +1,5 @@
--- What a step puts for one connection passes the channels by that another one uses before and after it.
+-- What a step puts for one connection passes the channels by that another one uses before and after
+-- it.
 use Rattle.world_laws.proofs.Prelude.{◌≡◌, ◌≢◌, ℕ, ◌==◌, ◌≤◌, ◌&&◌, ◌||◌, not, Bool, false, List, [], ◌∷◌, Option, Some, None, refl, sym}
 use Rattle.world_laws.proofs.Prelude.{subst, ap, ◌∙◌, inl, inr, true≢false, cases_Bool, eqb-true, and_parts, AllByRecursion, list_any}
 use Rattle.world_laws.proofs.Prelude.{Change, Assignment, Handover, Channel, Place, Message, Station, Request, Data, ReleaseComplete}

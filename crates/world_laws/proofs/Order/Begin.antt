@@ -1,4 +1,5 @@
--- The serving channel of a connection that begins is quiet: its activation waits, or goes to no link.
+-- The serving channel of a connection that begins is quiet: its activation waits, or goes to no
+-- link.
 use Rattle.world_laws.proofs.Prelude.{◌≡◌, ◌⊎◌, ℕ, ◌==◌, ◌&&◌, not, Bool, true, false, cond, if◌then◌else◌, map, List, [], ◌∷◌, ◌++◌}
 use Rattle.world_laws.proofs.Prelude.{Option, Some, None, refl, sym, ap, ◌∙◌, subst, cond-false, cond-true, ne_eqb, eq-eqb, append-nil}
 use Rattle.world_laws.proofs.Prelude.{AllByRecursion, Place, Out, ChannelState, Free, InUse, activation_ack, Rsl, OutboxEntry, Tenure}
@@ -28,7 +29,8 @@ passes-none k (Some (rsl.ChannelActivation a)) beside = ne_eqb a.channel k besid
 passes-none k None beside = refl
 passes-none k (Some _) beside = refl
 
--- a channel that comes into use by outputs that carry no DATA REQUEST for it is activated by one of them
+-- a channel that comes into use by outputs that carry no DATA REQUEST for it is activated by one of
+-- them
 goes-waits : (at : Place) (target : Option Tenure) (n : ℕ) {state end : ChannelState} {outs : List Out} → Goes at state outs end → end ≡ InUse n → (state ≡ InUse n → ⊥) → AllByRecursion (NoDataOut at) outs → Waits at.number (entries_to at target outs)
 goes-waits at target n (runs all) is isnt none = absurd (isnt (runs-kept n all is))
 goes-waits at target n (first_passes {out = out} {outs = outs} beside rest) is isnt none = by ((entry_of target out).out.to == at.station) refl (goes-waits at target n rest is isnt none.1) where

@@ -1,4 +1,5 @@
--- A connection that begins: the mobile that asked for it is as it connected, and nothing is on its way on its channel.
+-- A connection that begins: the mobile that asked for it is as it connected, and nothing is on its
+-- way on its channel.
 use Rattle.world_laws.proofs.Prelude.{◌≡◌, ◌≢◌, ℕ, ◌+◌, ◌-◌, ◌≤◌, ◌<◌, leb, Bool, true, false, if◌then◌else◌, List, [], ◌∷◌}
 use Rattle.world_laws.proofs.Prelude.{◌++◌, find, fold, length, option_map, Option, Some, None, refl, sym, ap, ◌∙◌, subst, append_assoc}
 use Rattle.world_laws.proofs.Prelude.{arith, inl, inr, AllByRecursion, flat_map, result_ok, cases_Bool, cond-false, cond-true, leb-false}

@@ -1,4 +1,5 @@
--- What the controller puts for the switch is fair: CR has a reference, and a CLEAR REQUEST a cause of one octet.
+-- What the controller puts for the switch is fair: CR has a reference, and a CLEAR REQUEST a cause
+-- of one octet.
 use Rattle.world_laws.proofs.Prelude.{◌≡◌, ◌⊎◌, inl, inr, ℕ, ◌^◌, ◌<◌, ◌≤◌, ◌==◌, Bool, true, false, if◌then◌else◌, List, [], ◌∷◌, ◌++◌}
 use Rattle.world_laws.proofs.Prelude.{drop, slice_index_or, option_map, Option, Some, None, Ok, leb, append_assoc, refl, sym, ap, ◌∙◌}
 use Rattle.world_laws.proofs.Prelude.{subst, arith, true≢false, AllByRecursion, result_ok, cases_Bool, eq-eqb, leb-false, leb-true}

@@ -1,4 +1,5 @@
--- What a step makes of a connection that is early after it: it was early before, or begins. It puts no DATA REQUEST.
+-- What a step makes of a connection that is early after it: it was early before, or begins. It puts
+-- no DATA REQUEST.
 use Rattle.world_laws.proofs.Prelude.{◌≡◌, ℕ, Bool, List, [], ◌∷◌, Option, Some, None, refl, sym, ap, ◌∙◌, subst, AllByRecursion, Channel}
 use Rattle.world_laws.proofs.Prelude.{Place, Message, access_activation, Input, State, Closed, Live, Removed, WaitActivation, WaitConfirm}
 use Rattle.world_laws.proofs.Prelude.{WaitEstablish, Connection, ChangesRoles, goes_on, ends, had_ended, Stands, Row, IsOpen, Acts, Brought}

@@ -1,4 +1,5 @@
--- Events by who takes part: the controller, the switch that takes, a station that takes, a link that breaks, or none of these.
+-- Events by who takes part: the controller, the switch that takes, a station that takes, a link
+-- that breaks, or none of these.
 use Rattle.world_laws.proofs.Prelude.{◌≡◌, ◌⊎◌, inl, ℕ, Bool, true, false, if◌then◌else◌, [], refl, sym, ap, subst, SWITCH_LINK}
 use Rattle.world_laws.proofs.Prelude.{AllByRecursion, Event, BaseTakes, Handle, SwitchTakes, Tick, BaseDown, OutboxEntry, actors_after}
 use Rattle.world_laws.proofs.Prelude.{outputs, put, to_link, step_at, Actors, is_up, outbox_of, false≢true}

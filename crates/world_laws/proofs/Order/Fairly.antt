@@ -1,4 +1,5 @@
--- In each run of settings that are allowed what the controller puts for the switch is fair, and so all that comes to it is of octets.
+-- In each run of settings that are allowed what the controller puts for the switch is fair, and so
+-- all that comes to it is of octets.
 use Rattle.world_laws.proofs.Prelude.{◌==◌, Bool, true, false, if◌then◌else◌, List, [], ◌∷◌, ◌++◌, map, Option, Some, None, sym, subst}
 use Rattle.world_laws.proofs.Prelude.{AllByRecursion, Out, SWITCH_LINK, AllByRecursion-filter, ComesInOctets, Step, Controller, step, Item}
 use Rattle.world_laws.proofs.Prelude.{AreAllowed, Parameters, Event, Tenure, outputs, outputs_at, put, to_link, target_in}

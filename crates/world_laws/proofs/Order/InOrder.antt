@@ -1,4 +1,5 @@
--- What the switch accepts of each connection of a run is a prefix of what its mobile sent, with no gap.
+-- What the switch accepts of each connection of a run is a prefix of what its mobile sent, with no
+-- gap.
 use Rattle.world_laws.proofs.Prelude.{◌≡◌, ℕ, ◌≤◌, Bool, true, false, if◌then◌else◌, find, drop, List, option_map, Option, Some, None, refl}
 use Rattle.world_laws.proofs.Prelude.{sym, ap, ◌∙◌, subst, arith, option_and_then, none-some, same_Some, Connection, SwitchConnection}
 use Rattle.world_laws.proofs.Prelude.{AreAllowed, Parameters, Event, Actors, Mobile, mobile_of, modulus_in, new_actors}

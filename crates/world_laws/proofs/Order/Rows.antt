@@ -1,4 +1,5 @@
--- Rows: which states asked the switch, which events are of octets, what is fair, and what may still come of a line-up.
+-- Rows: which states asked the switch, which events are of octets, what is fair, and what may still
+-- come of a line-up.
 use Rattle.world_laws.proofs.Prelude.{◌≡◌, ◌<◌, true, false, [], ◌∷◌, map, Some, None, refl, arith, ConnectionRequest, Due, WaitActivation}
 use Rattle.world_laws.proofs.Prelude.{WaitEstablish, WaitConfirm, Closed, Removed, Given, Reached, to_be_taken, outstanding_messages}
 use Rattle.world_laws.proofs.Prelude.{Connect, Move}
@@ -41,7 +42,8 @@ none_asks is = is
 
 -- ---- what may still come
 
--- an old channel that holds one message and on which one is on its way; the serving one, on which one is on its way
+-- an old channel that holds one message and on which one is on its way; the serving one, on which
+-- one is on its way
 abbrev pub old_channel : Tenure
 old_channel = record fresh { hold = (0x03 ∷ 0x42 ∷ []) ∷ []; items = brought (0x05 ∷ 0x83 ∷ []) ∷ released ∷ [] }
 

@@ -1,4 +1,5 @@
--- Which events change the switch, and a run whose switch's link is down: nothing more comes to the switch.
+-- Which events change the switch, and a run whose switch's link is down: nothing more comes to the
+-- switch.
 use Rattle.world_laws.proofs.Prelude.{◌≡◌, ℕ, ◌&&◌, Bool, true, false, if◌then◌else◌, List, [], ◌∷◌, ◌++◌, ◌+◌, length, unwrap_or, Option}
 use Rattle.world_laws.proofs.Prelude.{Some, None, refl, ap, ◌∙◌, Bssap, Transfer, SWITCH_LINK, after_clear, assignment_request}
 use Rattle.world_laws.proofs.Prelude.{clear_command, data_forms_on, dlci_for, send_fault, SwitchState, is_none, Parameters, Event}

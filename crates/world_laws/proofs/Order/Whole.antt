@@ -1,4 +1,5 @@
--- All that the order of a run rests on holds: what is a law elsewhere, in the form in which it is used.
+-- All that the order of a run rests on holds: what is a law elsewhere, in the form in which it is
+-- used.
 use Rattle.world_laws.proofs.Prelude.{◌≡◌, ℕ, ◌≤◌, Bool, true, false, List, [], ◌∷◌, ◌++◌, Option, Some, None, inl, inr, refl, sym, subst}
 use Rattle.world_laws.proofs.Prelude.{AllByRecursion, SWITCH_LINK, State, WaitActivation, WaitEstablish, WaitConfirm, Live, Closed, Removed}
 use Rattle.world_laws.proofs.Prelude.{Connection, connection_of, ComesInOctets, AreAllowed, Parameters, Event}

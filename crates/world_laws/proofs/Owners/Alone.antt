@@ -86,7 +86,8 @@ still-up w event station up = by (is_up w station) refl where
 
 -- ---- old channels
 
--- while the link of its station is up, the last tenure of an old channel is the mobile's that asked for the connection
+-- while the link of its station is up, the last tenure of an old channel is the mobile's that asked
+-- for the connection
 OldIn : (Tenure → ℕ) → Actors → Type 0
 OldIn owner w = (s : Connection) → IsHad w s → (c : Channel) → Contains (undone s.draining) c → is_up w c.station ≡ true → owner (tenure_behind w (place_of c)) ≡ s.request.access
 

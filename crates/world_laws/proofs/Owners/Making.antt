@@ -1,4 +1,5 @@
--- What events make at stations: requests of mobiles that connect alone, and nothing where the link is down.
+-- What events make at stations: requests of mobiles that connect alone, and nothing where the link
+-- is down.
 use Rattle.world_laws.proofs.Prelude.{◌≡◌, ◌≢◌, ℕ, zero, suc, ◌+◌, ◌-◌, ◌≤◌, ◌==◌, ◌&&◌, nat_eq, Bool, true, false, cond, if◌then◌else◌}
 use Rattle.world_laws.proofs.Prelude.{List, [], ◌∷◌, ◌++◌, find, get_or, set, unwrap_or, Option, Some, None, refl, sym, ap, ◌∙◌, subst}
 use Rattle.world_laws.proofs.Prelude.{inl, inr, arith, true≢false, cases_Bool, cond-true, cond-false, eqb-true, is_none, Transfer, Bssap}
@@ -74,7 +75,8 @@ push-there k p (x ∷ xs) = by (nat_eq x.number k) (p.number == k) (push-there k
 
 -- ---- an event beside the controller
 
--- It makes these more requests at most, and nothing where the link is down; who is there is there still.
+-- It makes these more requests at most, and nothing where the link is down; who is there is there
+-- still.
 pub record Makes (more : ℕ → ℕ) (w v : Actors) : Type 0 where
   pub total : (k : ℕ) → requests_in k (made_by v.stations) ≤ requests_in k (made_by w.stations) + more k
   pub silent : (n : ℕ) → n ≢ SWITCH_LINK → is_up w n ≡ false → (base_of w n).messages ≡ [] → (base_of v n).messages ≡ []

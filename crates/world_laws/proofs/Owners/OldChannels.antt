@@ -1,5 +1,5 @@
--- Where an old channel of a connection comes from: it was one before a step, and the step doesn't bring its RF CHANNEL RELEASE
--- ACK; or it served.
+-- Where an old channel of a connection comes from: it was one before a step, and the step doesn't
+-- bring its RF CHANNEL RELEASE ACK; or it served.
 use Rattle.world_laws.proofs.Prelude.{◌≡◌, ◌≢◌, ◌⊎◌, ℕ, ◌==◌, ◌≤◌, Bool, true, cond, if◌then◌else◌, List, [], ◌∷◌, option_to_list, Contains}
 use Rattle.world_laws.proofs.Prelude.{Option, Some, None, refl, sym, ap, ◌∙◌, subst, inl, inr, cases_Bool, eqb-true, eq-eqb, Channel, Place}
 use Rattle.world_laws.proofs.Prelude.{Message, SWITCH_LINK, ChangesRoles-row, Input, Drain}

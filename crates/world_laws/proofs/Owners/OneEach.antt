@@ -26,7 +26,8 @@ use Rattle.world_laws.proofs.Events.{snoc-actors, world}
 
 -- ---- what an event does to requests and connections
 
--- The controller takes these requests. A connection of the controller was one before, or it begins by one of them, as the next one.
+-- The controller takes these requests. A connection of the controller was one before, or it begins
+-- by one of them, as the next one.
 abbrev pub WasOrBegins : (ℕ → ℕ) → Actors → ℕ → Connection → Type 0
 WasOrBegins taken w n t =
     ((s : Connection) × (connection_of w.controller n ≡ Some s) × (t.request.access ≡ s.request.access)) ⊎ ((1 ≤ taken t.request.access) × (n ≡ w.controller.next_number))

@@ -1,4 +1,5 @@
--- The switch takes the first entry: the names agree after it, and it is taken as it was put, or its connection is refused.
+-- The switch takes the first entry: the names agree after it, and it is taken as it was put, or its
+-- connection is refused.
 use Rattle.world_laws.proofs.Prelude.{◌≡◌, ◌≢◌, ◌⊎◌, ℕ, ◌+◌, ◌<◌, ◌≤◌, ◌^◌, ◌==◌, Bool, true, cond, List, [], ◌∷◌, ◌++◌, find, map, Option}
 use Rattle.world_laws.proofs.Prelude.{Some, None, refl, sym, ap, ◌∙◌, subst, arith, inl, inr, AllByRecursion, cases_Bool, eq-eqb, eqb-true}
 use Rattle.world_laws.proofs.Prelude.{eqb-false, ne_eqb, append-nil, Bssap, Management, Transfer, Sccp, ConnectionConfirm}

@@ -1,4 +1,5 @@
--- The entries that a step of the controller puts for the switch: what the switch reads of them, and what they carry.
+-- The entries that a step of the controller puts for the switch: what the switch reads of them, and
+-- what they carry.
 use Rattle.world_laws.proofs.Prelude.{◌≡◌, ◌≢◌, ℕ, ◌≤◌, ◌==◌, ◌&&◌, Bool, true, false, cond, if◌then◌else◌, List, [], ◌∷◌, ◌++◌, filter}
 use Rattle.world_laws.proofs.Prelude.{map, Option, Some, Ok, refl, sym, ap, ◌∙◌, subst, arith, inl, inr, AllByRecursion, flat_map}
 use Rattle.world_laws.proofs.Prelude.{result_ok, eq-eqb, ne_eqb, append-nil, map-append, filter-append, Bssap, Management, Transfer}

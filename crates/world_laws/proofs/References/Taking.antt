@@ -1,4 +1,5 @@
--- The switch takes an entry of a connection: what that changes for the connection, and what it leaves of others.
+-- The switch takes an entry of a connection: what that changes for the connection, and what it
+-- leaves of others.
 use Rattle.world_laws.proofs.Prelude.{◌≡◌, ◌≢◌, ◌⊎◌, ℕ, ◌+◌, ◌<◌, ◌≤◌, Bool, true, List, [], ◌∷◌, ◌++◌, length, find, Option, Some, None}
 use Rattle.world_laws.proofs.Prelude.{refl, sym, ap, ◌∙◌, subst, inl, inr, slice_get, slice_set, AllByRecursion, append-nil, Sccp}
 use Rattle.world_laws.proofs.Prelude.{ConnectionConfirm, ConnectionRefused, ConnectionRequest, DataForm1, Released, IsReference}
@@ -25,7 +26,8 @@ abbrev pub took_replies : List Connection → Option Sccp → List Sccp
 took_replies cs None = []
 took_replies cs (Some message) = replies cs message
 
--- The world after it has these connections of the switch and these replies more; the other entries wait.
+-- The world after it has these connections of the switch and these replies more; the other entries
+-- wait.
 pub record After (w v : Actors) (others : List OutboxEntry) (cs : List Connection) (reps : List Sccp) : Type 0 where
   pub conns : v.switch.connections ≡ cs
   pub made : v.switch_made ≡ w.switch_made ++ reps

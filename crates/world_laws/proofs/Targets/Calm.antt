@@ -1,4 +1,5 @@
--- Links and stations at each event: a link breaks at a break alone, and where it is down its station's channels stay as they are.
+-- Links and stations at each event: a link breaks at a break alone, and where it is down its
+-- station's channels stay as they are.
 use Rattle.world_laws.proofs.Prelude.{◌≡◌, ◌≢◌, ℕ, Bool, true, false, List, [], ◌∷◌, ◌++◌, unwrap_or, Option, Some, refl, sym, ap, ◌∙◌}
 use Rattle.world_laws.proofs.Prelude.{append-nil, Place, SWITCH_LINK, place_at, BaseState, first_message, first_of_messages}
 use Rattle.world_laws.proofs.Prelude.{messages_behind_first, Rsl, Event, BasePush, Handle, SwitchTakes, SwitchDoes, Tick, BaseDown}

@@ -155,7 +155,8 @@ puts-rests w event at none = by (is_up w at.station) where
 
 -- ---- each event
 
--- what is kept: the channels agree, the air of those that aren't active is empty, and all are settled
+-- what is kept: the channels agree, the air of those that aren't active is empty, and all are
+-- settled
 pub record Keeps (settings : Parameters) (owner : Tenure → ℕ) (w : Actors) (later : List Event) : Type 0 where
   pub right : Right settings owner w later
   pub air : IdleAir w

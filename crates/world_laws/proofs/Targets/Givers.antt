@@ -1,4 +1,5 @@
--- What the connection's mobile gives first on the target, at each event in which the controller does nothing.
+-- What the connection's mobile gives first on the target, at each event in which the controller
+-- does nothing.
 use Rattle.world_laws.proofs.Prelude.{◌≡◌, ◌≢◌, ℕ, ◌%◌, nat_eq, Bool, true, false, if◌then◌else◌, find, List, [], ◌∷◌, ◌++◌, length}
 use Rattle.world_laws.proofs.Prelude.{unwrap_or, option_to_list, Option, Some, None, Ok, Err, refl, sym, ap, ◌∙◌, subst, append_assoc, inl}
 use Rattle.world_laws.proofs.Prelude.{inr, cases_Bool, eqb-false, eqb-true, Change, Assignment, Handover, Channel, Place, Target, is_dtap}

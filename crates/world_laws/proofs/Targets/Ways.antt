@@ -49,7 +49,8 @@ goes-read n w event n_is good =
     ∙ ap (flat_map (read_of n)) (inbox-goes w event)
     ∙ flat_map-append (read_of n) (popped w event) (actors_after w event).inbox
 
--- of a station whose link is down then, what the controller takes was on its way, and then what is on its way still
+-- of a station whose link is down then, what the controller takes was on its way, and then what is
+-- on its way still
 pub ways-down : (n : ℕ) (w : Actors) (event : Event) → n ≢ 0 → Good w → is_up (actors_after w event) n ≡ false → (rest : List Rsl) × (messages_up w n ≡ flat_map (read_of n) (popped w event) ++ (messages_up (actors_after w event) n ++ rest))
 ways-down n w event n_is good down =
     let v : Actors = actors_after w event in
@@ -101,7 +102,8 @@ behind-end k channel (m ∷ ms) rest (apart not_brought not_bound t) is = behind
 
 -- ---- in every run
 
--- what is on its way up stands in tenures; it ends as the station has the channel, while its link is up
+-- what is on its way up stands in tenures; it ends as the station has the channel, while its link
+-- is up
 pub record WaysStand (w : Actors) (at : Place) : Type 0 where
   pub within : Bool
   pub end : Bool

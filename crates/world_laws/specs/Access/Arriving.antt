@@ -26,7 +26,8 @@ pub record IsKnown (m : ℕ) (w : Actors) (mobile : ℕ) (s : Connection) : Type
   -- no other mobile is on its channel, and no CHANNEL RELEASE is in the air there
   pub alone : IsAlone w mobile s
   pub kept : AllByRecursion LetsNoneGo (spot_at w (place_of s.serving)).air
-  -- its channel is active, once its activation was acknowledged; and stations that take keep what is lined up
+  -- its channel is active, once its activation was acknowledged; and stations that take keep what
+  -- is lined up
   pub active : (station : ℕ) → is_station_up w station ≡ true → s.state ≡ WaitEstablish → AreActiveAt station w s
   pub stations : (station one : ℕ) (t : Connection) → AreActiveAt station w t → AreLinedUp m w one t → AreLinedUp m (actors_after w (BaseTakes station)) one t
   -- the switch has none for it, nothing of it waits there, and what waits is taken as it was put

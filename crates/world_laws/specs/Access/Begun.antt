@@ -11,7 +11,8 @@ use Rattle.world_laws.specs.Access.Coming.{IsComing, IsNew}
 use Rattle.world_laws.specs.Access.Requested.{AssignsAnother}
 use Rattle.world_laws.specs.Owners.OneEach.{IsUnanswered}
 
--- a mobile of this number asks for a channel, sent nothing yet, and isn't told one in what waits for a station
+-- a mobile of this number asks for a channel, sent nothing yet, and isn't told one in what waits
+-- for a station
 pub record AwaitsChannel (m : ℕ) (w : Actors) (mobile : ℕ) : Type 0 where
   pub one : Mobile
   pub found : mobile_of w mobile ≡ Some one
@@ -24,7 +25,8 @@ pub record IsQuietAt (w : Actors) (at : Place) : Type 0 where
   pub none_comes : messages_in (coming_up w at) ≡ []
   pub none_commanded : going_down w at ≡ []
 
--- Whatever happened before: a connection that begins is coming, where its mobile asked and has none yet, and its channel was quiet.
+-- Whatever happened before: a connection that begins is coming, where its mobile asked and has none
+-- yet, and its channel was quiet.
 abbrev pub ConnectionsBeginForTheirMobile : Parameters → List Event → Type 0
 ConnectionsBeginForTheirMobile settings events =
     (s : Connection) (item : RelayItem) (items : List RelayItem) → AreAllowed settings → CameInOctets settings (events ++ Handle ∷ []) → (actors_after_all (new_actors settings) events).inbox ≡ item ∷ items → 1 ≤ s.number

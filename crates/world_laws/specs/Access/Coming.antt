@@ -1,4 +1,5 @@
--- A connection that is coming: it has its channel, and hasn't asked the switch for its connection yet. How its mobile comes to it.
+-- A connection that is coming: it has its channel, and hasn't asked the switch for its connection
+-- yet. How its mobile comes to it.
 use Rattle.std.specs.Prelude.{◌≡◌, ℕ, ◌+◌, ◌≤◌, ◌==◌, if◌then◌else◌, true, false, List, [], ◌∷◌, length, slice_index_or, Option, Some, None, Result, Ok}
 use Rattle.std.specs.List.{AllByRecursion, flat_map}
 use Rattle.world_laws.specs.Prelude.{WaitEstablish, Place, Connection, place_of, sapi_of, RrMessage, RrFault, rr_reading, to_be_taken}
@@ -22,8 +23,8 @@ abbrev pub behind_first : List (List ℕ) → List (List ℕ)
 behind_first [] = []
 behind_first (_ ∷ messages) = messages
 
--- it sent nothing yet: its link begins with the first message of the flow that its upper layers sent, whatever that is, and gives no
--- message of radio resource management behind it
+-- it sent nothing yet: its link begins with the first message of the flow that its upper layers
+-- sent, whatever that is, and gives no message of radio resource management behind it
 pub record IsNew (m : ℕ) (p : Mobile) : Type 0 where
   pub opens : p.opens ≡ true
   pub goes_on : GoesOn m p.end.sent [] p.end.zero
@@ -38,21 +39,23 @@ data_by channel _ = []
 abbrev pub data_up : Actors → Place → List (List ℕ)
 data_up w at = flat_map (data_by at.number) (messages_up w at.station)
 
--- It is to send its initial message, and nothing came of the channel; or it sent it, and at most one initial message is on its way.
--- Behind the initial message, which may be any, none of radio resource management is on its way up or to be taken of its link.
+-- It is to send its initial message, and nothing came of the channel; or it sent it, and at most
+-- one initial message is on its way. Behind the initial message, which may be any, none of radio
+-- resource management is on its way up or to be taken of its link.
 pub data BeginsOnce (w : Actors) (p : Mobile) (at : Place) : Type 0 where
   to_begin : p.opens ≡ true → messages_in (coming_up w at) ≡ [] → controls_of (behind_first (to_be_taken p.end.zero)) ≡ 0 → BeginsOnce w p at
   began : p.opens ≡ false → length (initials_up w at) ≤ 1 → controls_of (data_up w at) + controls_of (to_be_taken p.end.zero) ≡ 0 → BeginsOnce w p at
 
--- It asks for a channel, and the serving channel is quiet; or it is on the serving channel in its present tenure, lined up with the
--- connection.
+-- It asks for a channel, and the serving channel is quiet; or it is on the serving channel in its
+-- present tenure, lined up with the connection.
 pub data Comes (m : ℕ) (w : Actors) (s : Connection) (p : Mobile) : Type 0 where
   asks : p.seat ≡ Asking → IsNew m p → messages_in (coming_up w (place_of s.serving)) ≡ [] → going_down w (place_of s.serving) ≡ [] → Comes m w s p
   arrived : s.state ≡ WaitEstablish → p.seat ≡ On (tenure_at w (place_of s.serving)) None → LinedUp m w p s → BeginsOnce w p (place_of s.serving) → Comes m w s p
 
 -- ---- who is told its channel
 
--- an IMMEDIATE ASSIGNMENT that names the mobile is of the serving channel of the connection, whose activation was acknowledged
+-- an IMMEDIATE ASSIGNMENT that names the mobile is of the serving channel of the connection, whose
+-- activation was acknowledged
 abbrev pub Assigns : ℕ → Connection → ℕ → Result RrMessage RrFault → Type 0
 Assigns mobile s station (Ok (ImmediateAssignment channel request advance)) =
     slice_index_or request 0 0 ≡ mobile → (place_at station channel.channel.0 ≡ place_of s.serving) × (s.state ≡ WaitEstablish)
@@ -71,7 +74,8 @@ AreAssigned w mobile s = (station : ℕ) → AllByRecursion (AssignsIn mobile s 
 
 -- ---- the connection
 
--- The controller has the connection, which this mobile asked for and which hasn't asked the switch; and the mobile comes to it.
+-- The controller has the connection, which this mobile asked for and which hasn't asked the switch;
+-- and the mobile comes to it.
 pub record IsComing (m : ℕ) (w : Actors) (mobile : ℕ) (s : Connection) : Type 0 where
   pub had : IsHad w s
   pub early : IsEarlyIn s.state

@@ -6,8 +6,8 @@ use Rattle.world_laws.specs.OthersFrame.{IsHad}
 use Rattle.world_laws.specs.Seated.{IsAlone}
 use Rattle.world_laws.specs.Staying.{AreLinedUp}
 
--- Whatever happened before: of a connection that lives, no initial message is on its way on its channels after an event either, where
--- nothing came of a target that is new.
+-- Whatever happened before: of a connection that lives, no initial message is on its way on its
+-- channels after an event either, where nothing came of a target that is new.
 abbrev pub OpenedStayOpened : Parameters → List Event → Event → Type 0
 OpenedStayOpened settings events event =
     (mobile : ℕ) (s next : Connection) → Lives (modulus_in settings) (actors_after_all (new_actors settings) events) mobile s → IsAlone (actors_after_all (new_actors settings) events) mobile s

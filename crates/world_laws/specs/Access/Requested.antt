@@ -14,7 +14,8 @@ use Rattle.world_laws.specs.Access.Coming.{IsComing}
 
 -- ---- what becomes of it
 
--- It is still coming; or it asked the switch for its connection, lives, and its mobile is on its channel; or it is gone.
+-- It is still coming; or it asked the switch for its connection, lives, and its mobile is on its
+-- channel; or it is gone.
 pub data Came (Comes : Actors → ℕ → Connection → Type 0) (m : ℕ) (w : Actors) (mobile number : ℕ) : Type 0 where
   comes : (next : Connection) → next.number ≡ number → Comes w mobile next → Came Comes m w mobile number
   requests : (next : Connection) → next.number ≡ number → next.state ≡ WaitConfirm → Lives m w mobile next → option_map (λ p. p.number) (mobile_on w (tenure_at w (place_of next.serving))) ≡ Some mobile → Came Comes m w mobile number
@@ -31,7 +32,8 @@ abbrev pub AssignsAnother : ℕ → Option Rsl → Type 0
 AssignsAnother mobile (Some (ImmediateAssignCommand i)) = NamesAnother mobile (rr_reading i.information)
 AssignsAnother mobile _ = Unit {0}
 
--- what isn't the connection's carries none of its messages and no command on its channel, and assigns none to its mobile
+-- what isn't the connection's carries none of its messages and no command on its channel, and
+-- assigns none to its mobile
 pub record IsBeside (target : Option Tenure) (mobile : ℕ) (s : Connection) (out : Out) : Type 0 where
   pub for_others : IsForOthers target s out
   pub assigns : AssignsAnother mobile (rsl_in out.frame)

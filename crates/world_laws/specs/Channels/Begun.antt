@@ -9,7 +9,8 @@ use Rattle.world_laws.specs.OthersFrame.{CameInOctets, IsHad}
 use Rattle.world_laws.specs.OwnFrame.{IsRequested}
 use Rattle.world_laws.specs.Seated.{AreActiveAt, commanded_channels}
 
--- The channels whose ACTIVATION ACK an open connection took: the serving one, and the target to which its mobile was commanded.
+-- The channels whose ACTIVATION ACK an open connection took: the serving one, and the target to
+-- which its mobile was commanded.
 abbrev pub begun_in : State → Channel → List Channel
 begun_in WaitActivation serving = []
 begun_in (Closed clearing) serving = []
@@ -24,8 +25,8 @@ abbrev pub BegunIsTaken : Parameters → List Event → Type 0
 BegunIsTaken settings events =
     (s : Connection) → AreAllowed settings → CameInOctets settings events → IsHad (actors_after_all (new_actors settings) events) s → HasBegun (actors_after_all (new_actors settings) events) s
 
--- So these channels are active at a station that is up: of a connection that asked the switch for its connection, the serving one, and
--- the target to which its mobile was commanded.
+-- So these channels are active at a station that is up: of a connection that asked the switch for
+-- its connection, the serving one, and the target to which its mobile was commanded.
 abbrev pub ServedAreActive : Parameters → List Event → Type 0
 ServedAreActive settings events =
     (station : ℕ) (s : Connection) → AreAllowed settings → CameInOctets settings events → IsHad (actors_after_all (new_actors settings) events) s → IsRequested s.state

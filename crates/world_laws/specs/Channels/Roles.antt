@@ -1,4 +1,5 @@
--- What is on its way on the channels of an open connection agrees with their roles, whatever events happened.
+-- What is on its way on the channels of an open connection agrees with their roles, whatever events
+-- happened.
 use Rattle.std.specs.Prelude.{◌≡◌, ◌≤◌, true, false, List, [], ◌∷◌, length}
 use Rattle.std.specs.List.{AllByRecursion}
 use Rattle.world_laws.specs.Prelude.{Place, Connection, target_in, Free, channel_state, hears, place_of, AreAllowed, Parameters, Event}
@@ -10,8 +11,8 @@ use Rattle.world_laws.specs.Lives.{AcksAgree}
 use Rattle.world_laws.specs.OthersFrame.{CameInOctets, IsHad}
 use Rattle.world_laws.specs.Staying.{EndLast}
 
--- The acknowledgements on their way agree with the roles of the channels. So it is with settings that are allowed, where what came
--- was octets.
+-- The acknowledgements on their way agree with the roles of the channels. So it is with settings
+-- that are allowed, where what came was octets.
 abbrev pub AcknowledgementsAgree : Parameters → List Event → Type 0
 AcknowledgementsAgree settings events =
     (s : Connection) → AreAllowed settings → CameInOctets settings events → IsHad (actors_after_all (new_actors settings) events) s → AcksAgree (actors_after_all (new_actors settings) events) s
@@ -21,7 +22,8 @@ pub record IsSilent (w : Actors) (at : Place) : Type 0 where
   pub acknowledged : acknowledgements_up w at ≡ []
   pub brings : coming_up w at ≡ []
 
--- so it is of a channel that the controller has as free, unless it learned that the link of its station broke
+-- so it is of a channel that the controller has as free, unless it learned that the link of its
+-- station broke
 abbrev pub FreeAreSilent : Parameters → List Event → Type 0
 FreeAreSilent settings events =
     (at : Place) → AreAllowed settings → CameInOctets settings events → 1 ≤ at.station → at.station ≤ length settings.cells
@@ -30,7 +32,8 @@ FreeAreSilent settings events =
 
 -- ---- what comes of them
 
--- An RF CHANNEL RELEASE ACK is the last that comes of an old channel; what comes of the serving channel, and of a target, doesn't end.
+-- An RF CHANNEL RELEASE ACK is the last that comes of an old channel; what comes of the serving
+-- channel, and of a target, doesn't end.
 pub record ChannelsEnd (w : Actors) (s : Connection) : Type 0 where
   pub old : EndLast w s
   pub others : AllByRecursion (λ c. is_ended (coming_up w (place_of c)) ≡ false) (s.serving ∷ target_in s.state)

@@ -14,7 +14,8 @@ is_of_controller Handle = true
 is_of_controller (Tick ms) = true
 is_of_controller _ = false
 
--- The connection is still there, open and lined up with the mobile that asked for it; or it ended in order.
+-- The connection is still there, open and lined up with the mobile that asked for it; or it ended
+-- in order.
 pub data FaresOn (m : ℕ) (w : Actors) (mobile : ℕ) (s : Connection) : Type 0 where
   goes_on : (next : Connection) → next.number ≡ s.number → IsHad w next → IsRequested next.state → next.request ≡ s.request → AreLinedUp m w mobile next → FaresOn m w mobile s
   is_over : (IsThere (connection_of w.controller s.number) → ⊥) → HasEnded m w mobile s.number → FaresOn m w mobile s

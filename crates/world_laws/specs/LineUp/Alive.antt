@@ -5,12 +5,14 @@ use Rattle.world_laws.specs.Prelude.{to_be_taken, DataLinkState, GoesOn}
 use Rattle.world_laws.specs.LineUp.Places.{Tenure, Seat, LineUp, line, controls_in, controls_of, texts_in}
 use Rattle.world_laws.specs.LineUp.Places.Seat.{on_serving, on_target, moving, gone}
 
--- Where the line is intact, the mobile's link goes on where it ends; else its places rise, and nothing comes behind it.
+-- Where the line is intact, the mobile's link goes on where it ends; else its places rise, and
+-- nothing comes behind it.
 pub data Follows (m : ℕ) (sent messages : List (List ℕ)) (link : DataLinkState) : Bool → Type 0 where
   goes_on : GoesOn m sent messages link → Follows m sent messages link true
   rises : (k : ℕ) → Rise m sent 0 messages k → Follows m sent messages link false
 
--- Of the oldest channel nothing is held: its messages are relayed at once. Before CC what came of the first channel is held.
+-- Of the oldest channel nothing is held: its messages are relayed at once. Before CC what came of
+-- the first channel is held.
 abbrev pub FirstRelays : Bool → List Tenure → List (List ℕ) → Type 0
 FirstRelays confirmed [] hold = confirmed ≡ true → hold ≡ []
 FirstRelays confirmed (t ∷ ts) hold = t.hold ≡ []
@@ -20,10 +22,12 @@ pub data Stays (here : Seat) : Seat → Type 0 where
   remains : Stays here here
   left : Stays here gone
 
--- Where a change of channel stands: of COMMANDs on their way down there is at most one, and of COMPLETE and FAILURE on their
--- way up at most one. The initial message may be of radio resource management too, so that nothing is said of the controls of
--- the serving channel and of the link while it is still to come. The numbers are: commands on their way to the mobile; controls
--- of the serving channel; messages of the flow of the target, and its controls; and controls that the mobile's link still gives.
+-- Where a change of channel stands: of COMMANDs on their way down there is at most one, and of
+-- COMPLETE and FAILURE on their way up at most one. The initial message may be of radio resource
+-- management too, so that nothing is said of the controls of the serving channel and of the link
+-- while it is still to come. The numbers are: commands on their way to the mobile; controls of the
+-- serving channel; messages of the flow of the target, and its controls; and controls that the
+-- mobile's link still gives.
 pub data Stands : Bool → Bool → ℕ → Seat → ℕ → ℕ → ℕ → ℕ → Type 0 where
   -- the initial message is still to come
   opens : {commands serving texts target link : ℕ} {seat : Seat} → Stays on_serving seat → commands + texts + target ≡ 0 →
@@ -48,8 +52,9 @@ abbrev pub some_lost : List Tenure → Bool
 some_lost [] = false
 some_lost (t ∷ ts) = t.is_lost || some_lost ts
 
--- Why the line is intact, or isn't: by the mobile's seat, and by what is lost of old channels, of the serving one and of the
--- target. A target that breaks before the mobile came there does no harm, since FAILURE can still come.
+-- Why the line is intact, or isn't: by the mobile's seat, and by what is lost of old channels, of
+-- the serving one and of the target. A target that breaks before the mobile came there does no
+-- harm, since FAILURE can still come.
 pub data Condition : Seat → Bool → Bool → Bool → Bool → Type 0 where
   sound : {seat : Seat} → Condition seat false false false true
   left_the_cell : {old serving target : Bool} → Condition gone old serving target false

@@ -1,5 +1,6 @@
--- What the break of a station's link changes: of what is on its way up a part is dropped, and nothing comes behind it. The
--- link of a target that the mobile didn't come to may break without a step.
+-- What the break of a station's link changes: of what is on its way up a part is dropped, and
+-- nothing comes behind it. The link of a target that the mobile didn't come to may break without a
+-- step.
 use Rattle.std.specs.Prelude.{true, false, List, ◌∷◌, ◌++◌}
 use Rattle.world_laws.specs.LineUp.Places.{Item, Tenure, LineUp, with_items}
 use Rattle.world_laws.specs.LineUp.Places.Seat.{on_target}

@@ -1,4 +1,5 @@
--- How the roles of a connection's channels change: ASSIGNMENT and HANDOVER, and the end of old channels.
+-- How the roles of a connection's channels change: ASSIGNMENT and HANDOVER, and the end of old
+-- channels.
 use Rattle.std.specs.Prelude.{◌≡◌, ℕ, true, false, List, [], ◌∷◌, ◌++◌}
 use Rattle.world_laws.specs.Prelude.{is_control}
 use Rattle.world_laws.specs.LineUp.Places.{Item, Tenure, Seat, LineUp, fresh, with_items, emptied}

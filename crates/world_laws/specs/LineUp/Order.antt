@@ -4,9 +4,9 @@ use Rattle.dtap_codec.specs.Places.{Rise}
 use Rattle.world_model.specs.AcceptedList.{accepted_list, progress}
 use Rattle.world_laws.specs.LineUp.Places.{LineUp, flow, parts_of}
 
--- The switch accepted the first messages that the mobile's upper layers sent, once and in order, and judged no gap. What may
--- still come goes on there: its first message of the flow is the next one sent, or the last accepted once more, and so on, by
--- steps of 1 or 0.
+-- The switch accepted the first messages that the mobile's upper layers sent, once and in order,
+-- and judged no gap. What may still come goes on there: its first message of the flow is the next
+-- one sent, or the last accepted once more, and so on, by steps of 1 or 0.
 pub record IsInOrder (m : ℕ) (sent taken coming : List (List ℕ)) : Type 0 where
   pub count : ℕ
   pub accepted : accepted_list m taken ≡ take count sent
@@ -14,11 +14,12 @@ pub record IsInOrder (m : ℕ) (sent taken coming : List (List ℕ)) : Type 0 wh
   pub last : ℕ
   pub rise : Rise m sent count coming last
 
--- what may still come to the switch while the connection lives: what waits in its outbox, and what came of each channel
+-- what may still come to the switch while the connection lives: what waits in its outbox, and what
+-- came of each channel
 abbrev pub coming : LineUp → List (List ℕ)
 coming l = flow l.out ++ parts_of (l.old ++ l.serving ∷ l.target ∷ [])
 
--- Once the connection closed or went, what waits in the outbox alone can still come: the places of what the switch took and
--- of what waits rise.
+-- Once the connection closed or went, what waits in the outbox alone can still come: the places of
+-- what the switch took and of what waits rise.
 abbrev pub Ended : ℕ → List (List ℕ) → List (List ℕ) → List (List ℕ) → Type 0
 Ended m sent out taken = (k : ℕ) × Rise m sent 0 (taken ++ out) k

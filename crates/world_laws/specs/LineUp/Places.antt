@@ -1,4 +1,5 @@
--- The line-up of one connection: where the mobile's messages of SAPI 0 stand on their way to the switch.
+-- The line-up of one connection: where the mobile's messages of SAPI 0 stand on their way to the
+-- switch.
 use Rattle.std.specs.Prelude.{ℕ, Bool, false, List, [], ◌∷◌, ◌++◌, filter, length, if◌then◌else◌}
 use Rattle.world_laws.specs.Prelude.{is_flow_message, is_control, DataLinkState}
 
@@ -24,8 +25,8 @@ pub record Tenure : Type 0 where
 abbrev pub fresh : Tenure
 fresh = record { hold = []; items = []; is_lost = false; is_done = false }
 
--- where the mobile is, seen from the connection: on its serving channel, on the target of a change of channel, between the
--- two, or gone
+-- where the mobile is, seen from the connection: on its serving channel, on the target of a change
+-- of channel, between the two, or gone
 pub data Seat : Type 0 where
   on_serving : Seat
   on_target : Seat
@@ -77,7 +78,8 @@ abbrev pub parts_of : List Tenure → List (List ℕ)
 parts_of [] = []
 parts_of (t ∷ ts) = part_of t ++ (if t.is_lost then [] else parts_of ts)
 
--- The line: what the switch took, what waits for it, and then what came of each channel, in the order in which they served.
+-- The line: what the switch took, what waits for it, and then what came of each channel, in the
+-- order in which they served.
 abbrev pub line : LineUp → List (List ℕ)
 line l = flow l.taken ++ flow l.out ++ parts_of (l.old ++ l.serving ∷ l.target ∷ [])
 

@@ -1,4 +1,5 @@
--- How the mobile's messages move along the line-up: from a channel over the controller to the switch.
+-- How the mobile's messages move along the line-up: from a channel over the controller to the
+-- switch.
 use Rattle.std.specs.Prelude.{◌≡◌, ℕ, true, false, List, [], ◌∷◌, ◌++◌}
 use Rattle.world_laws.specs.Prelude.{is_flow_message}
 use Rattle.world_laws.specs.LineUp.Places.{Item, Tenure, LineUp, with_items, holding, emptied}

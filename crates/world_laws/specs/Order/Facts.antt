@@ -1,4 +1,5 @@
--- What the order of a run rests on, event by event: what holds of each world of the run, and of each event.
+-- What the order of a run rests on, event by event: what holds of each world of the run, and of
+-- each event.
 use Rattle.std.specs.Prelude.{◌≡◌, ◌⊎◌, ℕ, ◌≤◌, ◌<◌, true, false, Option, Some, None}
 use Rattle.world_laws.specs.Prelude.{SWITCH_LINK, WaitConfirm, Connection, IsThere, connection_of, Event, BaseTakes}
 use Rattle.world_laws.specs.Prelude.{SwitchTakes, actors_after, Actors, Mobile, is_station_up, is_up, mobile_of, outbox_of}
@@ -37,7 +38,8 @@ pub record Holds (m : ℕ) (w : Actors) : Type 0 where
   pub end_last : (s : Connection) → IsHad w s → EndLast w s
   pub active : (s : Connection) (station : ℕ) → IsHad w s → IsRequested s.state → is_station_up w station ≡ true → AreActiveAt station w s
   pub stations : (station mobile : ℕ) (s : Connection) → AreActiveAt station w s → AreLinedUp m w mobile s → AreLinedUp m (actors_after w (BaseTakes station)) mobile s
-  -- of the switch: what it has of numbers that haven't asked it, what it takes, and whose its connections are
+  -- of the switch: what it has of numbers that haven't asked it, what it takes, and whose its
+  -- connections are
   pub not_given : (number : ℕ) → 1 ≤ number → w.controller.next_number ≤ number → IsUnheardOf w number
   pub not_asked : (number : ℕ) → 1 ≤ number → IsAsking (connection_of w.controller number) → IsUnheardOf w number
   pub delivers : (number : ℕ) → 1 ≤ number → is_up w SWITCH_LINK ≡ true → DeliversFirst w number (outbox_of w SWITCH_LINK) ⊎ IsUnheard (actors_after w SwitchTakes) number

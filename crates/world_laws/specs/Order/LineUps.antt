@@ -1,4 +1,5 @@
--- In each run: where each connection stands, and how the places of its mobile's messages rise, from the switch down to the mobile.
+-- In each run: where each connection stands, and how the places of its mobile's messages rise, from
+-- the switch down to the mobile.
 use Rattle.std.specs.Prelude.{◌≡◌, ◌⊎◌, ℕ, ◌≤◌, true, if◌then◌else◌, length, List, [], ◌++◌, Option, Some}
 use Rattle.world_laws.specs.Prelude.{SWITCH_LINK, Connection, to_be_taken, AreAllowed, Parameters, Event, actors_after_all}
 use Rattle.world_laws.specs.Prelude.{Actors, is_up, modulus_in, new_actors}
@@ -23,15 +24,18 @@ AllNumbersStand settings events =
 
 -- ---- how the places rise
 
--- What may still come to the switch: what waits for it, and then, channel by channel in the order in which they serve, what the
--- controller holds and what is on its way up in the inbox and at the station. It ends with a channel of which something is lost. Where
--- nothing is lost and the mobile is still there, these messages of its link come last.
+-- What may still come to the switch: what waits for it, and then, channel by channel in the order
+-- in which they serve, what the controller holds and what is on its way up in the inbox and at the
+-- station. It ends with a channel of which something is lost. Where nothing is lost and the mobile
+-- is still there, these messages of its link come last.
 abbrev pub still_to_come : LineUp → List (List ℕ) → List (List ℕ)
 still_to_come l of_link = coming l ++ (if l.is_intact then flow of_link else [])
 
--- The switch accepted the first messages sent. The places of what may still come begin behind them, or at the last one accepted, and
--- rise by 1 or 0. So it is with what stations can still take of the mobile's link; and also with all that wasn't acknowledged, the
--- message in the air first, as the mobile gives it on another channel. Where nothing is lost the places go on to the last message sent.
+-- The switch accepted the first messages sent. The places of what may still come begin behind them,
+-- or at the last one accepted, and rise by 1 or 0. So it is with what stations can still take of
+-- the mobile's link; and also with all that wasn't acknowledged, the message in the air first, as
+-- the mobile gives it on another channel. Where nothing is lost the places go on to the last
+-- message sent.
 pub record PlacesRise (m : ℕ) (taken : List (List ℕ)) (l : LineUp) : Type 0 where
   pub now : IsInOrder m l.sent taken (still_to_come l (to_be_taken l.link))
   pub anew : IsInOrder m l.sent taken (still_to_come l (outstanding_messages l.link))
@@ -45,8 +49,8 @@ pub record IsLinedUp (m : ℕ) (w : Actors) (opener : Option ℕ) (s : Connectio
   pub lives : Lives m w mobile s
   pub places : PlacesRise m (taken_of w s.number) (line_up w lives.lined.one s)
 
--- Whatever happened, while the link of the switch is up: of each connection that asked the switch for its connection, and is open.
--- Or the switch refused it, and never hears of it.
+-- Whatever happened, while the link of the switch is up: of each connection that asked the switch
+-- for its connection, and is open. Or the switch refused it, and never hears of it.
 abbrev pub AllPlacesRise : Parameters → List Event → Type 0
 AllPlacesRise settings events =
     (s : Connection) → AreAllowed settings → AreOctetEvents events → is_up (actors_after_all (new_actors settings) events) SWITCH_LINK ≡ true

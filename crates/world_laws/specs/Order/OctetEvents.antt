@@ -20,8 +20,8 @@ abbrev pub IsOctetAction : SwitchAction → Type 0
 IsOctetAction (Dtap connection sapi message) = AreOctets message
 IsOctetAction _ = Unit {0}
 
--- each text that a mobile's upper layers, a measurement or the switch gives, and the number of a mobile that connects, which its
--- request for a channel names
+-- each text that a mobile's upper layers, a measurement or the switch gives, and the number of a
+-- mobile that connects, which its request for a channel names
 abbrev pub IsOctetEvent : Event → Type 0
 IsOctetEvent (Upper mobile sapi message) = AreOctets message
 IsOctetEvent (Connect mobile station initial accepts) = (mobile < 256) × AreOctets initial
@@ -39,7 +39,8 @@ IsOctetItem item = item.source ≢ SWITCH_LINK → IsOfOctets item.what
 abbrev pub StationsGiveOctets : Parameters → List Event → Type 0
 StationsGiveOctets settings events = AreOctetEvents events → AllByRecursion IsOctetItem (all_pushed (new_actors settings) events)
 
--- What the switch reads of what is put for it has a reference in CR, and a cause of one octet in a CLEAR REQUEST.
+-- What the switch reads of what is put for it has a reference in CR, and a cause of one octet in a
+-- CLEAR REQUEST.
 abbrev pub HasFairCause : Option Bssap → Type 0
 HasFairCause (Some (Management (ClearRequest cause))) = (octet : ℕ) × (octet < 256) × (cause.0 ≡ octet ∷ [])
 HasFairCause _ = Unit {0}
@@ -52,7 +53,8 @@ IsFair _ = Unit {0}
 abbrev pub IsFairEntry : OutboxEntry → Type 0
 IsFairEntry entry = IsFair (sccp_in entry.out.frame)
 
--- all that the controller puts for it, with settings that are allowed and where what came was octets
+-- all that the controller puts for it, with settings that are allowed and where what came was
+-- octets
 abbrev pub PutsFairly : Parameters → Type 0
 PutsFairly settings =
     AreAllowed settings → (events : List Event) (event : Event) → CameInOctets settings (events ++ event ∷ []) → AllByRecursion IsFairEntry (put SWITCH_LINK (actors_after_all (new_actors settings) events) event)

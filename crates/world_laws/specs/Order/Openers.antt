@@ -1,4 +1,5 @@
--- Whose connection it is: the mobile on whose channel the controller first had it asked for at the switch.
+-- Whose connection it is: the mobile on whose channel the controller first had it asked for at the
+-- switch.
 use Rattle.std.specs.Prelude.{ℕ, Bool, true, false, Option, None, option_map, List, [], ◌∷◌, if◌then◌else◌}
 use Rattle.std.specs.Option.{option_and_then, option_or}
 use Rattle.world_laws.specs.Prelude.{State, WaitActivation, WaitEstablish, Connection, place_of, Event, actors_after, mobile_on, Actors}

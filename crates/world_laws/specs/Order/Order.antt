@@ -25,14 +25,16 @@ pub record IsBeginningOfSent (begin : Actors) (events : List Event) (connection 
   pub is_sent : sent (actors_after_all begin events) mobile ≡ Some sent_list
   pub is_prefix : IsPrefix list sent_list
 
--- What the switch accepts of each connection is a prefix of what its mobile sent, and no gap is ever judged.
+-- What the switch accepts of each connection is a prefix of what its mobile sent, and no gap is
+-- ever judged.
 pub record IsInOrderFor (begin : Actors) (events : List Event) : Type 0 where
   pub in_order : (connection : ℕ) (list : List (List ℕ)) → accepted (actors_after_all begin events) connection ≡ Some list → IsBeginningOfSent begin events connection list
   pub no_gap : (connection : ℕ) (progress : Option ℕ) → progress_of (actors_after_all begin events) connection ≡ Some progress → IsSome progress
 
 -- ---- what it rests on
 
--- In each run of these settings in which what comes is octets: what holds of its world, and of each event after it.
+-- In each run of these settings in which what comes is octets: what holds of its world, and of each
+-- event after it.
 pub record Facts (settings : Parameters) : Type 0 where
   pub holds : (events : List Event) → AreAllowed settings → CameInOctets settings events → Holds (modulus_in settings) (actors_after_all (new_actors settings) events)
   pub holds_at : (events : List Event) (event : Event) → AreAllowed settings → CameInOctets settings (events ++ event ∷ []) → HoldsAt (modulus_in settings) (actors_after_all (new_actors settings) events) event

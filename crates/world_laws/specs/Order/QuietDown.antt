@@ -25,7 +25,8 @@ pub data Waits (channel : ℕ) : List OutboxEntry → Type 0 where
   here : {entry : OutboxEntry} {entries : List OutboxEntry} → activates channel (rsl_in entry.out.frame) ≡ true → AllByRecursion (NoDataEntry channel) entries → Waits channel (entry ∷ entries)
   later : {entry : OutboxEntry} {entries : List OutboxEntry} → activates channel (rsl_in entry.out.frame) ≡ false → Waits channel entries → Waits channel (entry ∷ entries)
 
--- The channel's activation waits, and it isn't active; or nothing is in its air, and no DATA REQUEST for it waits.
+-- The channel's activation waits, and it isn't active; or nothing is in its air, and no DATA
+-- REQUEST for it waits.
 pub data Quiet (w : Actors) (at : Place) : Type 0 where
   waits : is_active_at w at ≡ false → Waits at.number (outbox_of w at.station) → Quiet w at
   begun : (spot_at w at).air ≡ [] → AllByRecursion (NoDataEntry at.number) (outbox_of w at.station) → Quiet w at

@@ -1,4 +1,5 @@
--- Where a connection of a run stands, from before its number is given until nothing more of it comes.
+-- Where a connection of a run stands, from before its number is given until nothing more of it
+-- comes.
 use Rattle.std.specs.Prelude.{◌≡◌, ℕ, ◌≤◌, ◌<◌, true, false, List, [], Option, Some, None}
 use Rattle.std.specs.List.{AllByRecursion}
 use Rattle.world_laws.specs.Prelude.{SWITCH_LINK, Connection, IsThere, connection_of, SwitchConnection, Parameters, Event, actors_after_all}
@@ -20,8 +21,9 @@ IsComingTo m w mobile s = IsComing m w mobile s × Quiet w (place_of s.serving)
 abbrev pub IsFresh : Actors → Mobile → Connection → Type 0
 IsFresh w p s = IsFreshIn w p s.state
 
--- While the link of the switch is up: its number is still to be given; or it is coming, and hasn't asked the switch; or it lives, with
--- the mobile that was the first it served, and its target is fresh; or it ended in order; or the switch never hears of it.
+-- While the link of the switch is up: its number is still to be given; or it is coming, and hasn't
+-- asked the switch; or it lives, with the mobile that was the first it served, and its target is
+-- fresh; or it ended in order; or the switch never hears of it.
 pub data WhileUp (m : ℕ) (w : Actors) (opener : Option ℕ) (number : ℕ) : Type 0 where
   unborn : opener ≡ None → w.controller.next_number ≤ number → WhileUp m w opener number
   coming : (mobile : ℕ) (s : Connection) → opener ≡ None → s.number ≡ number → IsComingTo m w mobile s → WhileUp m w opener number
@@ -29,7 +31,8 @@ pub data WhileUp (m : ℕ) (w : Actors) (opener : Option ℕ) (number : ℕ) : T
   ended : (mobile : ℕ) → opener ≡ Some mobile → number < w.controller.next_number → (IsThere (connection_of w.controller number) → ⊥) → HasEnded m w mobile number → WhileUp m w opener number
   unheard : IsUnheard w number → WhileUp m w opener number
 
--- Once the link broke nothing more of it comes to the switch: what it took is in order, or there is nothing.
+-- Once the link broke nothing more of it comes to the switch: what it took is in order, or there is
+-- nothing.
 pub data OnceDown (m : ℕ) (w : Actors) (opener : Option ℕ) (number : ℕ) : Type 0 where
   silent : IsUnheardOf w number → OnceDown m w opener number
   cut : (mobile : ℕ) → opener ≡ Some mobile → HasEnded m w mobile number → waiting_of w number ≡ [] → OnceDown m w opener number

@@ -1,5 +1,6 @@
--- In each run: no layer 3 message of SAPI 0 comes of the channel to which a connection changes before its mobile is commanded there,
--- and then COMPLETE comes first. That is the second thing that an honest station keeps, beside the laws of stations alone.
+-- In each run: no layer 3 message of SAPI 0 comes of the channel to which a connection changes
+-- before its mobile is commanded there, and then COMPLETE comes first. That is the second thing
+-- that an honest station keeps, beside the laws of stations alone.
 use Rattle.std.specs.Prelude.{◌≡◌, ℕ, true, Option, Some, List}
 use Rattle.world_laws.specs.Prelude.{SWITCH_LINK, Live, Connection, AreAllowed, Parameters, Event, actors_after_all, Actors, is_up}
 use Rattle.world_laws.specs.Prelude.{modulus_in, new_actors}
@@ -10,14 +11,16 @@ use Rattle.world_laws.specs.Targets.Fresh.{IsFreshIn}
 use Rattle.world_laws.specs.Order.OctetEvents.{AreOctetEvents}
 use Rattle.world_laws.specs.Order.Openers.{first_served}
 
--- It lives with the mobile that it first served, and the target to which it changes is fresh, as the mobile finds it.
+-- It lives with the mobile that it first served, and the target to which it changes is fresh, as
+-- the mobile finds it.
 pub record IsServed (m : ℕ) (w : Actors) (opener : Option ℕ) (s : Connection) : Type 0 where
   pub mobile : ℕ
   pub opened : opener ≡ Some mobile
   pub lives : Lives m w mobile s
   pub fresh : IsFreshIn w lives.lined.one s.state
 
--- whatever happened, of each connection that the switch confirmed, while the link of the switch is up
+-- whatever happened, of each connection that the switch confirmed, while the link of the switch is
+-- up
 abbrev pub TargetsAreFresh : Parameters → List Event → Type 0
 TargetsAreFresh settings events =
     (s : Connection) (reference : ℕ) (stage : Stage) → AreAllowed settings → AreOctetEvents events → is_up (actors_after_all (new_actors settings) events) SWITCH_LINK ≡ true

@@ -18,7 +18,8 @@ WasNeverAnswered settings events mobile = (before after : List Event) → events
 abbrev pub NoneNames : Actors → ℕ → Type 0
 NoneNames w mobile = (station : ℕ) → AllByRecursion (λ entry. AssignsAnother mobile (rsl_in entry.out.frame)) (outbox_of w station)
 
--- It connected in this run, with an initial message, and is as it was then: it asks for a channel, and sent nothing.
+-- It connected in this run, with an initial message, and is as it was then: it asks for a channel,
+-- and sent nothing.
 pub record IsAsItConnected (m : ℕ) (events : List Event) (mobile : ℕ) (p : Mobile) : Type 0 where
   pub before : List Event
   pub station : ℕ

@@ -8,8 +8,8 @@ use Rattle.world_model.specs.Owners.{owner_in}
 use Rattle.world_laws.specs.OthersFrame.{CameInOctets, IsHad}
 use Rattle.world_laws.specs.Seated.{IsAlone}
 
--- While the link of its station is up, the last tenure of the channel is the mobile's; and the channel's present one is the last,
--- where the channel is active.
+-- While the link of its station is up, the last tenure of the channel is the mobile's; and the
+-- channel's present one is the last, where the channel is active.
 pub record IsMobiles (owner : Tenure → ℕ) (w : Actors) (mobile : ℕ) (c : Channel) : Type 0 where
   pub last : is_up w c.station ≡ true → owner (tenure_behind w (place_of c)) ≡ mobile
   pub present : is_up w c.station ≡ true → is_active_at w (place_of c) ≡ true → tenure_behind w (place_of c) ≡ tenure_at w (place_of c)

@@ -9,7 +9,8 @@ use Rattle.world_laws.specs.OthersFrame.{IsHad}
 
 -- ---- the links of a connection
 
--- at the controller the link of the switch, and those of the stations of the channels that the connection uses
+-- at the controller the link of the switch, and those of the stations of the channels that the
+-- connection uses
 pub record LinksAreUp (w : Actors) (s : Connection) : Type 0 where
   pub switch : hears w.controller SWITCH_LINK ≡ true
   pub stations : AllByRecursion (λ c. hears w.controller c.station ≡ true) (used_channels s)
@@ -31,7 +32,8 @@ EndsWithDown source (item ∷ items) = (item ≡ down_of source → of_source so
 
 -- What comes of a source, and what it made, once its link broke:
 pub record EndsOnce (w : Actors) (source : ℕ) : Type 0 where
-  -- the end of the link is the last that stands in the inbox, which isn't there while the link is up
+  -- the end of the link is the last that stands in the inbox, which isn't there while the link is
+  -- up
   pub last : EndsWithDown source w.inbox
   pub none_yet : is_up w source ≡ true → AllByRecursion (λ item. item ≢ down_of source) w.inbox
   -- of a link that is down nothing is made

@@ -52,7 +52,8 @@ ConnectionsAreOneEach settings events =
     (number other : ℕ) (s t : Connection) → connection_of (actors_after_all (new_actors settings) events).controller number ≡ Some s
     → connection_of (actors_after_all (new_actors settings) events).controller other ≡ Some t → s.request.access ≡ t.request.access → number ≡ other
 
--- A request that is on its way is of a mobile that is there. It is the only one of it, and no connection is the answer yet.
+-- A request that is on its way is of a mobile that is there. It is the only one of it, and no
+-- connection is the answer yet.
 pub record AsksOnce (w : Actors) (mobile : ℕ) : Type 0 where
   pub from_one : 1 ≤ mobile
   pub one : Mobile

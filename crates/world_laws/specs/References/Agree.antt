@@ -1,4 +1,5 @@
--- How the switch's connections, what is on its way to the switch and the controller's connections agree by references.
+-- How the switch's connections, what is on its way to the switch and the controller's connections
+-- agree by references.
 use Rattle.std.specs.Prelude.{◌≡◌, ◌⊎◌, ℕ, zero, suc, ◌+◌, ◌≤◌, ◌<◌, Bool, true, false, List, [], ◌∷◌, map, find, None}
 use Rattle.std.specs.List.{AllByRecursion}
 use Rattle.world_laws.specs.Prelude.{Sccp, Out, SWITCH_LINK, connection_of, word_by, Word, OnConnection, Item, OutboxEntry, sccp_in, Actors}
@@ -32,7 +33,8 @@ AsksOnce number (asks source initial ∷ rest) = (source ≡ number) × AreNothi
 AsksOnce number (nothing ∷ rest) = AsksOnce number rest
 AsksOnce number (_ ∷ rest) = ⊥
 
--- DT1 to this reference, and none behind CLEAR COMPLETE: whether that was taken before, and whether it was put
+-- DT1 to this reference, and none behind CLEAR COMPLETE: whether that was taken before, and whether
+-- it was put
 abbrev pub Heeds : ℕ → Bool → Read → Type 0
 Heeds reference over nothing = Unit {0}
 Heeds reference over (carries destination message) = (over ≡ false) × (destination ≡ reference)

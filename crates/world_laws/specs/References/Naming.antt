@@ -1,4 +1,5 @@
--- What a connection puts for the switch, by how far it is: before CR, before CC, with the reference that CC told, after CLEAR COMPLETE.
+-- What a connection puts for the switch, by how far it is: before CR, before CC, with the reference
+-- that CC told, after CLEAR COMPLETE.
 use Rattle.std.specs.Prelude.{◌≡◌, ℕ, List, [], ◌∷◌, ◌++◌, Option, Some, None}
 use Rattle.std.specs.List.{AllByRecursion}
 use Rattle.world_laws.specs.Prelude.{Management, Input, State, WaitActivation, WaitEstablish, WaitConfirm, Live, Closed, Removed}

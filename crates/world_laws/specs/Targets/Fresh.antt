@@ -1,4 +1,5 @@
--- The target of a change of channel is fresh until the connection's mobile comes there, and COMPLETE comes first of it.
+-- The target of a change of channel is fresh until the connection's mobile comes there, and
+-- COMPLETE comes first of it.
 use Rattle.std.specs.Prelude.{◌≡◌, ℕ, true, List, [], ◌∷◌, ◌++◌, Some}
 use Rattle.world_laws.specs.Prelude.{Channel, Place, State, Live, Target, Connection, place_of, to_be_taken, AreAllowed, Parameters, Event}
 use Rattle.world_laws.specs.Prelude.{On, actors_after, actors_after_all, Actors, Mobile, is_up, mobile_of, modulus_in, new_actors}
@@ -27,8 +28,8 @@ abbrev pub IsOnPlace : Seat → Place → Type 0
 IsOnPlace (On tenure command) at = tenure.at ≡ at
 IsOnPlace _ at = ⊥
 
--- Of a target to which the mobile was commanded COMPLETE comes first. As long as nothing came, it is the first that the mobile gives
--- once it is there, while the link of the station is up.
+-- Of a target to which the mobile was commanded COMPLETE comes first. As long as nothing came, it
+-- is the first that the mobile gives once it is there, while the link of the station is up.
 pub record IsLedBy (w : Actors) (p : Mobile) (t : Target) : Type 0 where
   pub first : BeginWith (complete t.change) (messages_in (coming_up w (place_of t.channel)))
   pub gives : messages_in (coming_up w (place_of t.channel)) ≡ [] → is_up w t.channel.station ≡ true → IsOnPlace p.seat (place_of t.channel) → first_in (to_be_taken p.end.zero) ≡ Some (complete t.change)

@@ -17,7 +17,8 @@ pub record IsQuiet (w : Actors) (at : Place) : Type 0 where
   pub none_opens : initials_up w at ≡ []
   pub none_commanded : going_down w at ≡ []
 
--- whatever happened, of a channel that the controller has free, while it hears the channel's station
+-- whatever happened, of a channel that the controller has free, while it hears the channel's
+-- station
 abbrev pub FreeChannelsAreQuiet : Parameters → List Event → Type 0
 FreeChannelsAreQuiet settings events =
     (at : Place) → AreAllowed settings → CameInOctets settings events → 1 ≤ at.station → at.station ≤ length settings.cells → channel_state (actors_after_all (new_actors settings) events).controller at ≡ Free
@@ -34,8 +35,9 @@ StandWithin channel active (entry ∷ entries) = (active ≡ false → leading_f
 abbrev pub is_ending : Actors → Place → Bool
 is_ending w at = list_any is_release_ack (acknowledgements_up w at)
 
--- A channel is settled: its commands stand in its tenures; while it isn't active nothing stands in the air; it isn't active where it is
--- free, nor where its end is on its way; and of a free one nothing comes.
+-- A channel is settled: its commands stand in its tenures; while it isn't active nothing stands in
+-- the air; it isn't active where it is free, nor where its end is on its way; and of a free one
+-- nothing comes.
 pub record IsSettled (w : Actors) (at : Place) : Type 0 where
   pub line : StandWithin at.number (is_active_at w at) (outbox_of w at.station)
   pub air : is_active_at w at ≡ false → (spot_at w at).air ≡ []
