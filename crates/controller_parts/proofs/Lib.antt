@@ -1,6 +1,5 @@
 pub mod Passed
-mod FrameRows
+mod Rows
 pub mod Valid
 pub mod Words
 mod Follows
-mod ChannelRows

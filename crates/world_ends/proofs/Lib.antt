@@ -1,10 +1,7 @@
 mod Activating
-mod ActivationRows
+mod Rows
 mod Numbering
-mod StationRows
 pub mod Written
 mod Fit
 mod Places
-mod MobileRows
 pub mod SwitchWritten
-mod SwitchRows

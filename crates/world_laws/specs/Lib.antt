@@ -1,4 +1,5 @@
 mod Prelude
+pub mod Runs
 pub mod ComingUp
 pub mod GoingDown
 pub mod LineUps

@@ -1,24 +1,22 @@
 //! Laws: each contract states what holds of the definitions that it names. Their bodies are empty.
 
-ghost use Rattle.std.specs.Prelude.{List};
-ghost use Rattle.settings.specs.Parameters.{Parameters};
-ghost use Rattle.world_model.specs.declared.event.Event.{Event as WorldEvent};
 ghost use Rattle.world_laws.specs.Access.Arriving.{OthersKeepComing};
 ghost use Rattle.world_laws.specs.Access.Begun.{ConnectionsBeginForTheirMobile};
 ghost use Rattle.world_laws.specs.Access.Opened.{OpenedStayOpened};
 ghost use Rattle.world_laws.specs.Access.Requested.{ControllerBringsComing};
+ghost use Rattle.world_laws.specs.Runs.{AtEvents, OfRuns};
 
 /// Law: a connection that is coming, which hasn't asked the switch for its connection yet, stays so
 /// whatever mobiles, stations, links and the switch do: its mobile asks for a channel, or came onto
 /// the serving channel and is lined up there.
 pub fn others_keep_coming()
-    ensures { (settings : Parameters) (events : List WorldEvent) (event : WorldEvent) → OthersKeepComing settings events event }
+    ensures { AtEvents OthersKeepComing }
 {}
 
 /// Law: of a connection that lives, and whose channels no other mobile is on, no initial message is
 /// on its way after any event: its mobile sent it, and sends it no second time.
 pub fn opened_connections_stay_opened()
-    ensures { (settings : Parameters) (events : List WorldEvent) (event : WorldEvent) → OpenedStayOpened settings events event }
+    ensures { AtEvents OpenedStayOpened }
 {}
 
 /// Law: when the controller handles an item, or time passes for it, a connection that is coming is
@@ -26,12 +24,12 @@ pub fn opened_connections_stay_opened()
 /// is on its channel; or it is gone. So it is while the link of the switch is up, with settings
 /// that are allowed, where what came was octets.
 pub fn coming_connections_come()
-    ensures { (settings : Parameters) (events : List WorldEvent) (event : WorldEvent) → ControllerBringsComing settings events event }
+    ensures { AtEvents ControllerBringsComing }
 {}
 
 /// Law: a connection that begins when the controller handles an item is coming, where the mobile
 /// that it answers asks for a channel, isn't told one yet and has no other connection, and its
 /// channel was quiet.
 pub fn connections_begin_for_their_mobile()
-    ensures { (settings : Parameters) (events : List WorldEvent) → ConnectionsBeginForTheirMobile settings events }
+    ensures { OfRuns ConnectionsBeginForTheirMobile }
 {}

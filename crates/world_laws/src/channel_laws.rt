@@ -1,45 +1,43 @@
 //! Laws: each contract states what holds of the definitions that it names. Their bodies are empty.
 
-ghost use Rattle.std.specs.Prelude.{List};
-ghost use Rattle.settings.specs.Parameters.{Parameters};
-ghost use Rattle.world_model.specs.declared.event.Event.{Event as WorldEvent};
 ghost use Rattle.world_laws.specs.Channels.Begun.{BegunIsTaken, EstablishedAreActive, ServedAreActive};
 ghost use Rattle.world_laws.specs.Channels.Roles.{AcknowledgementsAgree, FreeAreSilent, OldChannelsEnd};
+ghost use Rattle.world_laws.specs.Runs.{OfRuns};
 
 /// Law: whatever events happened, the acknowledgements on their way agree with the roles of the
 /// channels of each connection that is open: an RF CHANNEL RELEASE ACK is the last acknowledgement
 /// of an old channel, and there is none of the serving channel or of a target. So it is with
 /// settings that are allowed, where what came was octets.
 pub fn acknowledgements_agree()
-    ensures { (settings : Parameters) (events : List WorldEvent) → AcknowledgementsAgree settings events }
+    ensures { OfRuns AcknowledgementsAgree }
 {}
 
 /// Law: and no acknowledgement is on its way of a channel that the controller has as free, unless
 /// the link of its station broke.
 pub fn free_channels_are_silent()
-    ensures { (settings : Parameters) (events : List WorldEvent) → FreeAreSilent settings events }
+    ensures { OfRuns FreeAreSilent }
 {}
 
 /// Law: so nothing comes behind the RF CHANNEL RELEASE ACK of an old channel, and what comes of the
 /// serving channel, or of a target, doesn't end.
 pub fn old_channels_end()
-    ensures { (settings : Parameters) (events : List WorldEvent) → OldChannelsEnd settings events }
+    ensures { OfRuns OldChannelsEnd }
 {}
 
 /// Law: the connection took the ACTIVATION ACKs of its serving channel, once it waits for it no
 /// more, and of the target to which its mobile was commanded: none of their acknowledgements is on
 /// its way, nor due for what waits.
 pub fn begun_channels_are_taken()
-    ensures { (settings : Parameters) (events : List WorldEvent) → BegunIsTaken settings events }
+    ensures { OfRuns BegunIsTaken }
 {}
 
 /// Law: so these channels are active at a station whose link is up.
 pub fn served_channels_are_active()
-    ensures { (settings : Parameters) (events : List WorldEvent) → ServedAreActive settings events }
+    ensures { OfRuns ServedAreActive }
 {}
 
 /// Law: and so is the serving channel of a connection that is established, and hasn't asked the
 /// switch yet.
 pub fn established_channels_are_active()
-    ensures { (settings : Parameters) (events : List WorldEvent) → EstablishedAreActive settings events }
+    ensures { OfRuns EstablishedAreActive }
 {}

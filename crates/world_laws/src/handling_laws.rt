@@ -1,14 +1,12 @@
 //! Laws: each contract states what holds of the definitions that it names. Their bodies are empty.
 
-ghost use Rattle.std.specs.Prelude.{List};
-ghost use Rattle.settings.specs.Parameters.{Parameters};
-ghost use Rattle.world_model.specs.declared.event.Event.{Event as WorldEvent};
 ghost use Rattle.world_laws.specs.Handling.Faring.{LiveConnectionsFareOn};
+ghost use Rattle.world_laws.specs.Runs.{AtEvents};
 
 /// Law: whatever events happened, a connection that lives fares on when the controller handles the
 /// first item of its inbox, whatever that is, and when time passes: it is still there, open and
 /// lined up with its mobile, or it ended in order. So it is with settings that are allowed, where
 /// what came was octets, while the link of the switch is up.
 pub fn live_connections_fare_on()
-    ensures { (settings : Parameters) (events : List WorldEvent) (event : WorldEvent) → LiveConnectionsFareOn settings events event }
+    ensures { AtEvents LiveConnectionsFareOn }
 {}

@@ -6,7 +6,6 @@ ghost use Rattle.conn_rules.specs.declared.input.Input.{Input};
 ghost use Rattle.conn_rules.specs.Connection.{Connection};
 ghost use Rattle.conn_rules.specs.Steps.{Row};
 ghost use Rattle.settings.specs.Parameters.{Parameters};
-ghost use Rattle.world_model.specs.declared.event.Event.{Event as WorldEvent};
 ghost use Rattle.world_model.specs.World.{Actors};
 ghost use Rattle.world_laws.specs.Acknowledged.{AcksFlow, AllAcksTell};
 ghost use Rattle.world_laws.specs.Ended.{EndedAreInOrder, EndedStayInOrder, LineUpsMayEnd};
@@ -30,38 +29,39 @@ ghost use Rattle.world_laws.specs.TakingTurns.{OrdersTakeTurns};
 ghost use Rattle.controller_model.specs.declared.step.Step.{Step as ControllerStep};
 ghost use Rattle.world_laws.specs.Remaining.{KeepsDue};
 ghost use Rattle.conn_messages.specs.declared.channel.Place.{Place as ChannelPlace};
+ghost use Rattle.world_laws.specs.Runs.{AtEvents, OfNumbers, OfRuns};
 
 /// Law: whatever events happened, a connection that is lined up with its mobile, and whose channels
 /// no other mobile is on, stays lined up at what mobiles do, at what stations take from them and
 /// give to the inbox, and at what the switch does of its own.
 pub fn mobiles_keep_line_ups()
-    ensures { (settings : Parameters) (events : List WorldEvent) (event : WorldEvent) → MobilesKeepLineUps settings events event }
+    ensures { AtEvents MobilesKeepLineUps }
 {}
 
 /// Law: and it stays lined up when a station takes the first entry of its outbox: when a message
 /// goes into the air or is lost, when a channel is activated or released, and when a mobile is
 /// assigned, where its own channels of that station are active.
 pub fn stations_keep_line_ups()
-    ensures { (settings : Parameters) (events : List WorldEvent) (station : ℕ) → StationsKeepLineUps settings events station }
+    ensures { OfNumbers StationsKeepLineUps }
 {}
 
 /// Law: and it stays lined up when the switch takes what waits for it, where the first entry is
 /// taken as it was put.
 pub fn switch_keeps_line_ups()
-    ensures { (settings : Parameters) (events : List WorldEvent) → SwitchKeepsLineUps settings events }
+    ensures { OfRuns SwitchKeepsLineUps }
 {}
 
 /// Law: and it stays lined up when the link of a station breaks, up to where something of it is
 /// missing, where nothing comes behind the RF CHANNEL RELEASE ACKs of its old channels.
 pub fn station_breaks_keep_line_ups()
-    ensures { (settings : Parameters) (events : List WorldEvent) (station : ℕ) → StationBreaksKeepLineUps settings events station }
+    ensures { OfNumbers StationBreaksKeepLineUps }
 {}
 
 /// Law: and it stays lined up when the controller handles an item, or time passes for it, where
 /// neither what came nor what is put is the connection's.
 pub fn relay_leaves_others()
-    ensures handled { (settings : Parameters) (events : List WorldEvent) → RelayLeavesOthers settings events }
-    ensures passed { (settings : Parameters) (events : List WorldEvent) (ms : ℕ) → TimeLeavesOthers settings events ms }
+    ensures handled { OfRuns RelayLeavesOthers }
+    ensures passed { OfNumbers TimeLeavesOthers }
 {}
 
 /// Law: whatever events happened, what the controller puts by a frame that concerns another
@@ -69,7 +69,7 @@ pub fn relay_leaves_others()
 /// goes to its serving channel or to the target of its mobile. So it is with settings that are
 /// allowed, where what came was octets.
 pub fn frames_are_for_others()
-    ensures { (settings : Parameters) (events : List WorldEvent) → FramesAreForOthers settings events }
+    ensures { OfRuns FramesAreForOthers }
 {}
 
 /// Law: and it stays lined up when the controller handles an item for the connection itself, by the
@@ -78,8 +78,8 @@ pub fn frames_are_for_others()
 /// switch is up, and what the row puts is read as it was put. And it stays so when time passes and
 /// none of its timers expires.
 pub fn handle_keeps_line_ups()
-    ensures handled { (settings : Parameters) (events : List WorldEvent) → HandleKeepsLineUps settings events }
-    ensures passed { (settings : Parameters) (events : List WorldEvent) (ms : ℕ) → TimeAgesLineUps settings events ms }
+    ensures handled { OfRuns HandleKeepsLineUps }
+    ensures passed { OfNumbers TimeAgesLineUps }
 {}
 
 /// Law: where the first item of the inbox is a frame of a link that is up, and says an input to a
@@ -96,7 +96,7 @@ pub fn frames_are_handled()
 /// connection stands, that all on its way is whole, and what acknowledgements tell are laws, and no
 /// premises.
 pub fn frames_keep_line_ups()
-    ensures { (settings : Parameters) (events : List WorldEvent) → FramesKeepLineUps settings events }
+    ensures { OfRuns FramesKeepLineUps }
 {}
 
 /// Law: a row of the table by which a connection stays open, and which doesn't put CR, keeps it
@@ -118,13 +118,13 @@ pub fn inputs_keep_line_ups()
 
 /// Law: whatever events happened, each connection of the controller stands.
 pub fn connections_stand()
-    ensures { (settings : Parameters) (events : List WorldEvent) → ConnectionsStand settings events }
+    ensures { OfRuns ConnectionsStand }
 {}
 
 /// Law: whatever events happened, the messages on their way up from a channel are whole: each has 1
 /// to 251 octets.
 pub fn messages_are_whole()
-    ensures { (settings : Parameters) (events : List WorldEvent) → MessagesAreWhole settings events }
+    ensures { OfRuns MessagesAreWhole }
 {}
 
 /// Law: whatever events happened, the acknowledgements of a channel that are on their way up tell
@@ -132,8 +132,8 @@ pub fn messages_are_whole()
 /// where there is none, what comes of the channel doesn't end. And while the link is up, those that
 /// the controller took, those on their way and those still due are what is due for all that it put.
 pub fn acknowledgements_tell()
-    ensures ends { (settings : Parameters) (events : List WorldEvent) → AllAcksTell settings events }
-    ensures flow { (settings : Parameters) (events : List WorldEvent) → AcksFlow settings events }
+    ensures ends { OfRuns AllAcksTell }
+    ensures flow { OfRuns AcksFlow }
 {}
 
 /// Law: a connection is lined up from the row on that puts CR with its initial message.
@@ -153,7 +153,7 @@ pub fn line_ups_are_in_order()
 /// mobile's upper layers sent, once and in order, and judged no gap.
 pub fn ended_connections_stay_in_order()
     ensures ends { (m : ℕ) (w : Actors) (mobile : ℕ) (s : Connection) → LineUpsMayEnd m w mobile s }
-    ensures stays { (settings : Parameters) (events : List WorldEvent) (event : WorldEvent) → EndedStayInOrder settings events event }
+    ensures stays { AtEvents EndedStayInOrder }
     ensures accepted { (m : ℕ) (w : Actors) (mobile : ℕ) (number : ℕ) → EndedAreInOrder m w mobile number }
 {}
 
@@ -161,7 +161,7 @@ pub fn ended_connections_stay_in_order()
 /// waits in the inbox there, and none is held there of a connection that is open. So SAPI 0 alone
 /// carries the flow.
 pub fn flow_comes_on_sapi_zero()
-    ensures { (settings : Parameters) (events : List WorldEvent) → FlowComesOnSapiZero settings events }
+    ensures { OfRuns FlowComesOnSapiZero }
 {}
 
 /// Law: what the row that fits puts by a frame is read as it was put, whatever events happened,
@@ -170,7 +170,7 @@ pub fn flow_comes_on_sapi_zero()
 /// different ones, of stations. So it is with settings that are allowed, where what came was
 /// octets.
 pub fn frames_are_put_as_read()
-    ensures { (settings : Parameters) (events : List WorldEvent) → FramesArePutAsRead settings events }
+    ensures { OfRuns FramesArePutAsRead }
 {}
 
 /// Law: so a connection stays lined up when the controller handles a frame that says an input to
@@ -178,20 +178,20 @@ pub fn frames_are_put_as_read()
 /// up, the acknowledgements on their way tell of no other end, and a target is silent before its
 /// COMMAND. What the row puts is read as it was put, and no premise.
 pub fn allowed_frames_keep_line_ups()
-    ensures { (settings : Parameters) (events : List WorldEvent) → AllowedFramesKeepLineUps settings events }
+    ensures { OfRuns AllowedFramesKeepLineUps }
 {}
 
 /// Law: whatever events happened, whether the link of a station is up or broke, the
 /// acknowledgements of a channel that the controller took, and then those on their way up, are the
 /// first of those due for all that it put.
 pub fn acknowledgements_begin()
-    ensures { (settings : Parameters) (events : List WorldEvent) → AcksBegin settings events }
+    ensures { OfRuns AcksBegin }
 {}
 
 /// Law: whatever events happened, no CHANNEL ACTIVATION NEGATIVE ACKNOWLEDGE came to the
 /// controller, and none waits in the inbox.
 pub fn stations_refuse_nothing()
-    ensures { (settings : Parameters) (events : List WorldEvent) → NoneRefuse settings events }
+    ensures { OfRuns NoneRefuse }
 {}
 
 /// Law: what a step of the controller orders of a channel takes turns, while the link of its
@@ -207,9 +207,9 @@ pub fn orders_take_turns()
 /// or told to change to one, only where that was for it; and in each tenure one mobile sends at
 /// most. So it is with settings that are allowed, where what came was octets.
 pub fn tenures_are_mobiles()
-    ensures takes { (settings : Parameters) (events : List WorldEvent) → TenuresAreOwned settings events }
-    ensures seats { (settings : Parameters) (events : List WorldEvent) → MobilesSitOnTheirs settings events }
-    ensures senders { (settings : Parameters) (events : List WorldEvent) → OneSendsEach settings events }
+    ensures takes { OfRuns TenuresAreOwned }
+    ensures seats { OfRuns MobilesSitOnTheirs }
+    ensures senders { OfRuns OneSendsEach }
 {}
 
 /// Law: what is due of a channel's acknowledgements follows the state in which the controller has

@@ -1,8 +1,6 @@
 //! Laws: each contract states what holds of the definitions that it names. Their bodies are empty.
 
-ghost use Rattle.std.specs.Prelude.{List};
 ghost use Rattle.settings.specs.Parameters.{Parameters};
-ghost use Rattle.world_model.specs.declared.event.Event.{Event as WorldEvent};
 ghost use Rattle.world_laws.specs.Order.Beginning.{ConnectionsBegin, ConnectionsBeginComing};
 ghost use Rattle.world_laws.specs.Order.LineUps.{AllNumbersStand, AllPlacesRise};
 ghost use Rattle.world_laws.specs.Order.OctetEvents.{ComeInOctets, PutsFairly, StationsGiveOctets};
@@ -11,24 +9,25 @@ ghost use Rattle.world_laws.specs.Order.QuietDown.{ChannelsBeginQuiet, ChannelsS
 ghost use Rattle.world_laws.specs.Order.Standing.{SwitchIsOfModulus};
 ghost use Rattle.world_laws.specs.Order.Targets.{TargetsAreFresh};
 ghost use Rattle.world_laws.specs.Order.Unanswered.{UnansweredMobilesAsk};
+ghost use Rattle.world_laws.specs.Runs.{AtEvents, OfRuns};
 
 /// Law: whatever events happened, a mobile to which no connection was ever the answer is as it
 /// connected: it asks for a channel, and sent nothing. And no IMMEDIATE ASSIGNMENT that waits for a
 /// station names it. So it is with settings that are allowed, where what came was octets.
 pub fn unanswered_mobiles_ask()
-    ensures { (settings : Parameters) (events : List WorldEvent) → UnansweredMobilesAsk settings events }
+    ensures { OfRuns UnansweredMobilesAsk }
 {}
 
 /// Law: whatever events happened before, a connection that begins at an event is in its first
 /// state, the mobile that asked for it is as it connected, nothing is on its way on its channel,
 /// and no one told the mobile a channel.
 pub fn connections_begin()
-    ensures { (settings : Parameters) (events : List WorldEvent) (event : WorldEvent) → ConnectionsBegin settings events event }
+    ensures { AtEvents ConnectionsBegin }
 {}
 
 /// Law: so it is coming to its mobile, whatever message the mobile begins with.
 pub fn connections_begin_coming()
-    ensures { (settings : Parameters) (events : List WorldEvent) (event : WorldEvent) → ConnectionsBeginComing settings events event }
+    ensures { AtEvents ConnectionsBeginComing }
 {}
 
 /// Law: whatever events happened, the serving channel of a connection that begins at an event is
@@ -36,27 +35,27 @@ pub fn connections_begin_coming()
 /// its activation waits, and it isn't active, or nothing is in its air and no DATA REQUEST for it
 /// waits. So no CHANNEL RELEASE is in the air there.
 pub fn channel_of_a_coming_one_is_quiet_down()
-    ensures begins { (settings : Parameters) (events : List WorldEvent) (event : WorldEvent) → ChannelsBeginQuiet settings events event }
-    ensures stays { (settings : Parameters) (events : List WorldEvent) (event : WorldEvent) → ChannelsStayQuiet settings events event }
-    ensures none_go { (settings : Parameters) (events : List WorldEvent) → QuietLetsNoneGo settings events }
+    ensures begins { AtEvents ChannelsBeginQuiet }
+    ensures stays { AtEvents ChannelsStayQuiet }
+    ensures none_go { OfRuns QuietLetsNoneGo }
 {}
 
 /// Law: once the link of the switch is down, a number stays as it stands, whatever happens: the
 /// switch has no connection for it and nothing of it waits, or what it took of it is in order, of
 /// the mobile that was first served.
 pub fn cut_numbers_stay()
-    ensures { (settings : Parameters) (events : List WorldEvent) (event : WorldEvent) → CutNumbersStay settings events event }
+    ensures { AtEvents CutNumbersStay }
 {}
 
 /// Law: whatever events happened, the flows of the switch's connections have as many numbers as the
 /// network's settings say.
 pub fn switch_is_of_modulus()
-    ensures { (settings : Parameters) (events : List WorldEvent) → SwitchIsOfModulus settings events }
+    ensures { OfRuns SwitchIsOfModulus }
 {}
 
 /// Law: where events are of octets, all that stations give to the controller is, whatever happened.
 pub fn stations_give_octets()
-    ensures { (settings : Parameters) (events : List WorldEvent) → StationsGiveOctets settings events }
+    ensures { OfRuns StationsGiveOctets }
 {}
 
 /// Law: what the controller puts for the switch is fair: CR has a reference, and a CLEAR REQUEST a
@@ -68,7 +67,7 @@ pub fn fair_frames_are_put()
 /// Law: with settings that are allowed, where events are of octets, all that comes to the
 /// controller is.
 pub fn octets_come()
-    ensures { (settings : Parameters) (events : List WorldEvent) → ComeInOctets settings events }
+    ensures { OfRuns ComeInOctets }
 {}
 
 /// Law: the line-up. Whatever events happened, each connection number stands. It is still to be
@@ -83,15 +82,15 @@ pub fn octets_come()
 /// the first loss. Where nothing is lost they go on to the last message sent. So it is with
 /// settings that are allowed, where events are of octets.
 pub fn line_ups_stand()
-    ensures stands { (settings : Parameters) (events : List WorldEvent) → AllNumbersStand settings events }
-    ensures rise { (settings : Parameters) (events : List WorldEvent) → AllPlacesRise settings events }
+    ensures stands { OfRuns AllNumbersStand }
+    ensures rise { OfRuns AllPlacesRise }
 {}
 
 /// Law: the order of a run. Whatever events happened, what the switch accepts of each connection is
 /// a prefix of what its mobile's upper layers sent, once and in order, and no gap is ever judged:
 /// with settings that are allowed, where events are of octets.
 pub fn runs_are_in_order()
-    ensures { (settings : Parameters) (events : List WorldEvent) → AllRunsAreInOrder settings events }
+    ensures { OfRuns AllRunsAreInOrder }
 {}
 
 /// Law: while the link of the switch is up, whatever events happened, the target of a change of
@@ -99,5 +98,5 @@ pub fn runs_are_in_order()
 /// and from then on COMPLETE is the first. So it is for each connection that the switch confirmed,
 /// with settings that are allowed, where events are of octets.
 pub fn targets_are_fresh()
-    ensures { (settings : Parameters) (events : List WorldEvent) → TargetsAreFresh settings events }
+    ensures { OfRuns TargetsAreFresh }
 {}

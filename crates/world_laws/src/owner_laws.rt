@@ -6,14 +6,15 @@ ghost use Rattle.world_model.specs.declared.event.Event.{Event as WorldEvent};
 ghost use Rattle.world_laws.specs.Owners.Alone.{ChannelsAreMobiles, ConnectionsAreAlone};
 ghost use Rattle.world_laws.specs.Owners.LinkEnds.{LinksEndOnce, LinksOfChannelsAreUp};
 ghost use Rattle.world_laws.specs.Owners.OneEach.{ConnectionsAnswerMobiles, ConnectionsAreOneEach, NoneIsAnsweredAgain, NoneWasAnswered, RequestsComeOnce};
+ghost use Rattle.world_laws.specs.Runs.{OfRuns};
 
 /// Law: whatever events happened, the channels that an open connection uses are its mobile's: while
 /// the link of its station is up, the last tenure of each, old channels included, is the mobile's
 /// that asked for the connection. So no other mobile is on one of them, in its present tenure. So
 /// it is with settings that are allowed, where what came was octets.
 pub fn connections_are_alone()
-    ensures channels { (settings : Parameters) (events : List WorldEvent) → ChannelsAreMobiles settings events }
-    ensures mobiles { (settings : Parameters) (events : List WorldEvent) → ConnectionsAreAlone settings events }
+    ensures channels { OfRuns ChannelsAreMobiles }
+    ensures mobiles { OfRuns ConnectionsAreAlone }
 {}
 
 /// Law: whatever events happened, a mobile has one connection at most: it asks once, and a
@@ -21,9 +22,9 @@ pub fn connections_are_alone()
 /// request is on its way, it is the only one of its mobile, and no connection is the answer to it,
 /// or ever was. A connection of a mobile that had one is that one.
 pub fn connections_are_one_each()
-    ensures answers { (settings : Parameters) (events : List WorldEvent) → ConnectionsAnswerMobiles settings events }
-    ensures one_each { (settings : Parameters) (events : List WorldEvent) → ConnectionsAreOneEach settings events }
-    ensures once { (settings : Parameters) (events : List WorldEvent) → RequestsComeOnce settings events }
+    ensures answers { OfRuns ConnectionsAnswerMobiles }
+    ensures one_each { OfRuns ConnectionsAreOneEach }
+    ensures once { OfRuns RequestsComeOnce }
     ensures before { (settings : Parameters) (before after : List WorldEvent) → NoneWasAnswered settings before after }
     ensures again { (settings : Parameters) (before after : List WorldEvent) → NoneIsAnsweredAgain settings before after }
 {}
@@ -31,12 +32,12 @@ pub fn connections_are_one_each()
 /// Law: whatever events happened, the controller has the links up of the switch and of the stations
 /// of the channels that an open connection uses. So it is with settings that are allowed.
 pub fn links_of_channels_are_up()
-    ensures { (settings : Parameters) (events : List WorldEvent) → LinksOfChannelsAreUp settings events }
+    ensures { OfRuns LinksOfChannelsAreUp }
 {}
 
 /// Law: whatever events happened, nothing of a source stands in the inbox behind the end of its
 /// link; of a link that is down nothing is made; and once the controller learned of it, nothing of
 /// the source comes.
 pub fn frames_come_before_their_down()
-    ensures { (settings : Parameters) (events : List WorldEvent) → LinksEndOnce settings events }
+    ensures { OfRuns LinksEndOnce }
 {}

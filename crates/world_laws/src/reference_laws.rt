@@ -1,10 +1,8 @@
 //! Laws: each contract states what holds of the definitions that it names. Their bodies are empty.
 
-ghost use Rattle.std.specs.Prelude.{List};
-ghost use Rattle.settings.specs.Parameters.{Parameters};
-ghost use Rattle.world_model.specs.declared.event.Event.{Event as WorldEvent};
 ghost use Rattle.world_laws.specs.References.Over.{OverPutsNoMore};
 ghost use Rattle.world_laws.specs.References.Taken.{DroppedAreUnheard, NamesAlwaysAgree, PeersDiffer, SwitchDeliversOrRefuses, UnaskedAreUnheardOf, UnheardStayUnheard};
+ghost use Rattle.world_laws.specs.Runs.{AtEvents, OfRuns};
 
 /// Law: whatever events happened, with settings that are allowed and where what came was octets,
 /// the controller's connections, what is on its way to the switch and back, and the switch's
@@ -12,41 +10,41 @@ ghost use Rattle.world_laws.specs.References.Taken.{DroppedAreUnheard, NamesAlwa
 /// switch's connection of its number, what it puts goes there, and nothing goes there behind its
 /// CLEAR COMPLETE.
 pub fn names_agree()
-    ensures { (settings : Parameters) (events : List WorldEvent) → NamesAlwaysAgree settings events }
+    ensures { OfRuns NamesAlwaysAgree }
 {}
 
 /// Law: and each connection of the switch is the one of its peer: no other has this peer, which is
 /// one of the controller's numbers.
 pub fn peers_differ()
-    ensures { (settings : Parameters) (events : List WorldEvent) → PeersDiffer settings events }
+    ensures { OfRuns PeersDiffer }
 {}
 
 /// Law: so the first entry that waits for the switch is taken as it was put, for each connection;
 /// or it asks for a connection that the switch refuses, since it has no more to give, and the
 /// switch never hears of that connection.
 pub fn switch_delivers_or_refuses()
-    ensures { (settings : Parameters) (events : List WorldEvent) → SwitchDeliversOrRefuses settings events }
+    ensures { OfRuns SwitchDeliversOrRefuses }
 {}
 
 /// Law: a connection that the switch never hears of stays so, whatever happens.
 pub fn unheard_stay_unheard()
-    ensures { (settings : Parameters) (events : List WorldEvent) (event : WorldEvent) → UnheardStayUnheard settings events event }
+    ensures { AtEvents UnheardStayUnheard }
 {}
 
 /// Law: of a connection that isn't there yet, or hasn't asked the switch, the switch has heard
 /// nothing, and nothing waits for it.
 pub fn unasked_are_unheard_of()
-    ensures { (settings : Parameters) (events : List WorldEvent) → UnaskedAreUnheardOf settings events }
+    ensures { OfRuns UnaskedAreUnheardOf }
 {}
 
 /// Law: a connection that was there, and is closed or gone, puts no more of its mobile's messages
 /// for the switch, and stays closed or gone.
 pub fn over_puts_no_more()
-    ensures { (settings : Parameters) (events : List WorldEvent) (event : WorldEvent) → OverPutsNoMore settings events event }
+    ensures { AtEvents OverPutsNoMore }
 {}
 
 /// Law: a connection that hasn't asked the switch, and is closed or gone after an event, is one
 /// that the switch never hears of.
 pub fn dropped_are_unheard()
-    ensures { (settings : Parameters) (events : List WorldEvent) (event : WorldEvent) → DroppedAreUnheard settings events event }
+    ensures { AtEvents DroppedAreUnheard }
 {}

@@ -1,12 +1,10 @@
 //! Laws: each contract states what holds of the definitions that it names. Their bodies are empty.
 
-ghost use Rattle.std.specs.Prelude.{List};
-ghost use Rattle.settings.specs.Parameters.{Parameters};
-ghost use Rattle.world_model.specs.declared.event.Event.{Event as WorldEvent};
 ghost use Rattle.conn_rules.specs.Connection.{Connection};
 ghost use Rattle.world_model.specs.World.{Actors, Mobile as MobileValue};
 ghost use Rattle.world_laws.specs.Targets.Fresh.{FreshTells, TargetsStayFresh};
 ghost use Rattle.world_laws.specs.Targets.Quiet.{ChannelsAreSettled, FreeChannelsAreQuiet};
+ghost use Rattle.world_laws.specs.Runs.{AtEvents, OfRuns};
 
 /// Law: whatever events happened, nothing is on its way on a channel that the controller has free,
 /// as long as it hears the channel's station: no message of it is on its way up, and no command on
@@ -14,8 +12,8 @@ ghost use Rattle.world_laws.specs.Targets.Quiet.{ChannelsAreSettled, FreeChannel
 /// channel is settled, from which that follows: the commands that wait for its station stand in its
 /// tenures, and nothing stands in the air while it isn't active.
 pub fn free_channels_are_quiet()
-    ensures settled { (settings : Parameters) (events : List WorldEvent) → ChannelsAreSettled settings events }
-    ensures quiet { (settings : Parameters) (events : List WorldEvent) → FreeChannelsAreQuiet settings events }
+    ensures settled { OfRuns ChannelsAreSettled }
+    ensures quiet { OfRuns FreeChannelsAreQuiet }
 {}
 
 /// Law: whatever events happened, the target of a change of channel is fresh until the connection's
@@ -25,6 +23,6 @@ pub fn free_channels_are_quiet()
 /// long as none came, it is the first that the mobile gives there. So it is with settings that are
 /// allowed, where what came was octets.
 pub fn targets_stay_fresh()
-    ensures stays { (settings : Parameters) (events : List WorldEvent) (event : WorldEvent) → TargetsStayFresh settings events event }
+    ensures stays { AtEvents TargetsStayFresh }
     ensures tells { (w : Actors) (p : MobileValue) (s : Connection) → FreshTells w p s }
 {}
