@@ -7,33 +7,33 @@ use Rattle.conn_rules.specs.Standing.{Stands}
 use Rattle.conn_rules.specs.Steps.{Row}
 use Rattle.conn_rules.specs.Streams.{OfRow, KeepsDownlink, IsSilent}
 use Rattle.conn_rules.specs.Table.{row_of}
-use Rattle.conn_rules.proofs.DownlinkMessages.{AllByRecursion-so, IsParting, handed-parting, handed-quiet, GoesTo-parting}
-use Rattle.conn_rules.proofs.DownlinkSteps.{Does, KeepsDownlink-quiet}
+use Rattle.conn_rules.proofs.DownlinkMessages.{AllByRecursion-so, IsParting, handed-parting, handed-quiet, goes_to_parting}
+use Rattle.conn_rules.proofs.DownlinkSteps.{Does, keeps_downlink_quiet}
 use Rattle.conn_rules.proofs.DownlinkSteps.Does.{ends, passes, moves}
 use Rattle.conn_rules.proofs.DownlinkTable.{Does-row}
 use Rattle.conn_rules.specs.Streams.{GoesTo}
 
 -- what every row has
-pub OfRow-so : (P Q : Row → Type 0) → ((r : Row) → P r → Q r) → (o : Option Row) → OfRow P o → OfRow Q o
-OfRow-so P Q so None holds = tt
-OfRow-so P Q so (Some r) holds = so r holds
+pub of_row_so : (P Q : Row → Type 0) → ((r : Row) → P r → Q r) → (o : Option Row) → OfRow P o → OfRow Q o
+of_row_so P Q so None holds = tt
+of_row_so P Q so (Some r) holds = so r holds
 
-KeepsDownlink-does : (sapi : Sapi) (state : State) (s : Connection) (input : Input) (r : Row) → Stands s → Does state s input r → KeepsDownlink sapi s input r
-KeepsDownlink-does sapi state s input r stands (ends shut parting releases) = record {
+keeps_downlink_does : (sapi : Sapi) (state : State) (s : Connection) (input : Input) (r : Row) → Stands s → Does state s input r → KeepsDownlink sapi s input r
+keeps_downlink_does sapi state s input r stands (ends shut parting releases) = record {
   stream = λ is_open. absurd (shut is_open);
-  serving = AllByRecursion-so IsParting (GoesTo r.next.serving) (GoesTo-parting r.next.serving) r.outs parting;
+  serving = AllByRecursion-so IsParting (GoesTo r.next.serving) (goes_to_parting r.next.serving) r.outs parting;
 }
-KeepsDownlink-does sapi state s input r stands (passes was_open is_open quiet same nothing) = KeepsDownlink-quiet sapi s input r quiet same nothing
-KeepsDownlink-does sapi state s input r stands (moves was_open is_open keeps silent) = keeps stands sapi
+keeps_downlink_does sapi state s input r stands (passes was_open is_open quiet same nothing) = keeps_downlink_quiet sapi s input r quiet same nothing
+keeps_downlink_does sapi state s input r stands (moves was_open is_open keeps silent) = keeps stands sapi
 
 pub KeepsDownlink-row : (sapi : Sapi) (s : Connection) (input : Input) (offer : Option Channel) → Stands s → OfRow (KeepsDownlink sapi s input) (row_of s input offer)
 KeepsDownlink-row sapi s input offer stands =
-    OfRow-so (Does s.state s input) (KeepsDownlink sapi s input) (λ r. KeepsDownlink-does sapi s.state s input r stands) (row_of s input offer) (Does-row s input offer)
+    of_row_so (Does s.state s input) (KeepsDownlink sapi s input) (λ r. keeps_downlink_does sapi s.state s input r stands) (row_of s input offer) (Does-row s input offer)
 
-IsSilent-does : (state : State) (s : Connection) (input : Input) (r : Row) → Does state s input r → IsSilent r
-IsSilent-does state s input r (ends shut parting releases) = λ _. (handed-parting Zero r.outs parting, handed-parting Three r.outs parting)
-IsSilent-does state s input r (passes was_open is_open quiet same nothing) = λ _. (handed-quiet Zero r.outs quiet, handed-quiet Three r.outs quiet)
-IsSilent-does state s input r (moves was_open is_open keeps silent) = silent
+is_silent_does : (state : State) (s : Connection) (input : Input) (r : Row) → Does state s input r → IsSilent r
+is_silent_does state s input r (ends shut parting releases) = λ _. (handed-parting Zero r.outs parting, handed-parting Three r.outs parting)
+is_silent_does state s input r (passes was_open is_open quiet same nothing) = λ _. (handed-quiet Zero r.outs quiet, handed-quiet Three r.outs quiet)
+is_silent_does state s input r (moves was_open is_open keeps silent) = silent
 
 pub IsSilent-row : (s : Connection) (input : Input) (offer : Option Channel) → OfRow IsSilent (row_of s input offer)
-IsSilent-row s input offer = OfRow-so (Does s.state s input) IsSilent (IsSilent-does s.state s input) (row_of s input offer) (Does-row s input offer)
+IsSilent-row s input offer = of_row_so (Does s.state s input) IsSilent (is_silent_does s.state s input) (row_of s input offer) (Does-row s input offer)

@@ -78,13 +78,13 @@ relayed-parting sapi [] parting = refl
 relayed-parting sapi (m ∷ ms) parting = rw (relayed_by-parting sapi m parting.0, relayed-parting sapi ms parting.1) refl
 
 -- such messages go anywhere
-pub GoesTo-quiet : (c : Channel) (m : Message) → IsQuiet m → GoesTo c m
-GoesTo-quiet c (Station station (DataRequest request)) quiet = λ dtap. absurd (true≢false (sym dtap ∙ quiet))
-GoesTo-quiet c _ quiet = tt
+pub goes_to_quiet : (c : Channel) (m : Message) → IsQuiet m → GoesTo c m
+goes_to_quiet c (Station station (DataRequest request)) quiet = λ dtap. absurd (true≢false (sym dtap ∙ quiet))
+goes_to_quiet c _ quiet = tt
 
-pub GoesTo-parting : (c : Channel) (m : Message) → IsParting m → GoesTo c m
-GoesTo-parting c (Station station (DataRequest request)) parting = λ dtap. absurd (true≢false (sym dtap ∙ parting))
-GoesTo-parting c _ parting = tt
+pub goes_to_parting : (c : Channel) (m : Message) → IsParting m → GoesTo c m
+goes_to_parting c (Station station (DataRequest request)) parting = λ dtap. absurd (true≢false (sym dtap ∙ parting))
+goes_to_parting c _ parting = tt
 
 is_reject-quiet : (m : Message) → IsQuiet m → is_reject m ≡ false
 is_reject-quiet (Data reference (Management (SapiNReject dlci cause))) quiet = absurd quiet
@@ -141,9 +141,9 @@ handed-handing c Three Zero (m ∷ ms) = rw (handed_by-handing c Three Zero m, h
 pub handed-append : (sapi : Sapi) (xs ys : List Message) → handed sapi (xs ++ ys) ≡ handed sapi xs ++ handed sapi ys
 handed-append sapi xs ys = flat_map-append (handed_by sapi) xs ys
 
-pub GoesTo-handing : (c : Channel) (sapi : Sapi) (messages : List (List ℕ)) → AllByRecursion (GoesTo c) (map (handing c sapi) messages)
-GoesTo-handing c sapi [] = tt
-GoesTo-handing c sapi (m ∷ ms) = (λ dtap. (refl, refl), GoesTo-handing c sapi ms)
+pub goes_to_handing : (c : Channel) (sapi : Sapi) (messages : List (List ℕ)) → AllByRecursion (GoesTo c) (map (handing c sapi) messages)
+goes_to_handing c sapi [] = tt
+goes_to_handing c sapi (m ∷ ms) = (λ dtap. (refl, refl), goes_to_handing c sapi ms)
 
 pub rejects-handing : (c : Channel) (sapi : Sapi) (messages : List (List ℕ)) → rejects (map (handing c sapi) messages) ≡ false
 rejects-handing c sapi [] = refl

@@ -17,7 +17,7 @@ use Rattle.conn_rules.specs.Standing.{IsAskedFor, Stands}
 use Rattle.conn_rules.specs.Steps.{Row, row, ◌then◌, end_outs, failing, dropping, without_station, goes_to, may_begin, begin_outs, after_begin, begin, waiting_outs, after_waiting, begin_waiting, hold_down, hand_held, request_where, hold_short_message, short_message, request_for, ask_for_held, link_up, link_down, hold_up}
 use Rattle.conn_rules.specs.Streams.{IsOpen, is_dtap, handed, GoesTo, received_by, rejects, KeepsDownlink, IsChanging, IsSilent, OnlyReleases}
 use Rattle.conn_rules.proofs.StandingSteps.{IsStill}
-use Rattle.conn_rules.proofs.DownlinkMessages.{AllByRecursion-append, AllByRecursion-filter, AllByRecursion-so, IsQuiet, AreQuiet, IsParting, AreParting, handed-quiet, GoesTo-quiet, rejects-quiet, rejects-append, without_rejected-none, of_sapi, handed-handing, handed-append, GoesTo-handing, rejects-handing}
+use Rattle.conn_rules.proofs.DownlinkMessages.{AllByRecursion-append, AllByRecursion-filter, AllByRecursion-so, IsQuiet, AreQuiet, IsParting, AreParting, handed-quiet, goes_to_quiet, rejects-quiet, rejects-append, without_rejected-none, of_sapi, handed-handing, handed-append, goes_to_handing, rejects-handing}
 
 -- an input without a message of the switch
 abbrev pub BringsNothing : Input → Type 0
@@ -39,53 +39,53 @@ pub data Does (state : State) (s : Connection) (input : Input) (r : Row) : Type 
 
 -- ---- ends
 
-pub OnlyReleases-open : (state : State) (outs : List Message) → IsOpen state → OnlyReleases state outs
-OnlyReleases-open (Closed clearing) outs is_open = absurd is_open
-OnlyReleases-open _ outs is_open = tt
+pub only_releases_open : (state : State) (outs : List Message) → IsOpen state → OnlyReleases state outs
+only_releases_open (Closed clearing) outs is_open = absurd is_open
+only_releases_open _ outs is_open = tt
 
-pub AreParting-end : (state : State) (serving : Channel) (cause : ℕ) → AreParting (end_outs state serving cause)
-AreParting-end (Live reference (Preparing target)) serving cause = (refl, (tt, (tt, tt)))
-AreParting-end (Live reference (Changing target)) serving cause = (refl, (tt, (tt, tt)))
-AreParting-end _ serving cause = (refl, (tt, tt))
+pub are_parting_end : (state : State) (serving : Channel) (cause : ℕ) → AreParting (end_outs state serving cause)
+are_parting_end (Live reference (Preparing target)) serving cause = (refl, (tt, (tt, tt)))
+are_parting_end (Live reference (Changing target)) serving cause = (refl, (tt, (tt, tt)))
+are_parting_end _ serving cause = (refl, (tt, tt))
 
-pub Does-ending : (state : State) (s : Connection) (input : Input) (cause : ℕ) (more : List Message) (next : Connection) → IsOpen state → (IsOpen next.state → ⊥) → AreParting more → Does state s input (row (end_outs state s.serving cause ++ more) next)
-Does-ending state s input cause more next is_open shut parting =
-    ends shut (AllByRecursion-append IsParting (end_outs state s.serving cause) more (AreParting-end state s.serving cause) parting) (OnlyReleases-open state _ is_open)
+pub does_ending : (state : State) (s : Connection) (input : Input) (cause : ℕ) (more : List Message) (next : Connection) → IsOpen state → (IsOpen next.state → ⊥) → AreParting more → Does state s input (row (end_outs state s.serving cause ++ more) next)
+does_ending state s input cause more next is_open shut parting =
+    ends shut (AllByRecursion-append IsParting (end_outs state s.serving cause) more (are_parting_end state s.serving cause) parting) (only_releases_open state _ is_open)
 
-AreParting-failing : (state : State) (s : Connection) (cause : ℕ) → AreParting (failing state s cause).outs
-AreParting-failing (Live reference stage) s cause = (tt, AreParting-end (Live reference stage) s.serving ABNORMAL_RELEASE)
-AreParting-failing state s cause = AreParting-end state s.serving ABNORMAL_RELEASE
+are_parting_failing : (state : State) (s : Connection) (cause : ℕ) → AreParting (failing state s cause).outs
+are_parting_failing (Live reference stage) s cause = (tt, are_parting_end (Live reference stage) s.serving ABNORMAL_RELEASE)
+are_parting_failing state s cause = are_parting_end state s.serving ABNORMAL_RELEASE
 
-pub failing-shut : (state : State) (s : Connection) (cause : ℕ) → IsOpen (failing state s cause).next.state → ⊥
-failing-shut (Live reference stage) s cause = absurd
-failing-shut _ s cause = absurd
+pub failing_shut : (state : State) (s : Connection) (cause : ℕ) → IsOpen (failing state s cause).next.state → ⊥
+failing_shut (Live reference stage) s cause = absurd
+failing_shut _ s cause = absurd
 
-pub Does-failing : (state : State) (s : Connection) (input : Input) (cause : ℕ) → IsOpen state → Does state s input (failing state s cause)
-Does-failing state s input cause is_open = ends (failing-shut state s cause) (AreParting-failing state s cause) (OnlyReleases-open state _ is_open)
+pub does_failing : (state : State) (s : Connection) (input : Input) (cause : ℕ) → IsOpen state → Does state s input (failing state s cause)
+does_failing state s input cause is_open = ends (failing_shut state s cause) (are_parting_failing state s cause) (only_releases_open state _ is_open)
 
-pub Does-dropping : (state : State) (s : Connection) (input : Input) → IsOpen state → Does state s input (dropping s)
-Does-dropping state s input is_open = ends absurd (tt, tt) (OnlyReleases-open state _ is_open)
+pub does_dropping : (state : State) (s : Connection) (input : Input) → IsOpen state → Does state s input (dropping s)
+does_dropping state s input is_open = ends absurd (tt, tt) (only_releases_open state _ is_open)
 
 -- a station that is down gets less
-pub Does-without : (state : State) (s : Connection) (input : Input) (station : ℕ) (r : Row) → IsOpen state → (IsOpen r.next.state → ⊥) → AreParting r.outs → Does state s input (without_station station r)
-Does-without state s input station r is_open shut parting =
-    ends shut (AllByRecursion-filter IsParting (λ message. not (goes_to station message)) r.outs parting) (OnlyReleases-open state _ is_open)
+pub does_without : (state : State) (s : Connection) (input : Input) (station : ℕ) (r : Row) → IsOpen state → (IsOpen r.next.state → ⊥) → AreParting r.outs → Does state s input (without_station station r)
+does_without state s input station r is_open shut parting =
+    ends shut (AllByRecursion-filter IsParting (λ message. not (goes_to station message)) r.outs parting) (only_releases_open state _ is_open)
 
-pub Does-broken : (state : State) (s : Connection) (input : Input) (station cause : ℕ) → IsOpen state → Does state s input (without_station station (failing state s cause))
-Does-broken state s input station cause is_open =
-    Does-without state s input station (failing state s cause) is_open (failing-shut state s cause) (AreParting-failing state s cause)
+pub does_broken : (state : State) (s : Connection) (input : Input) (station cause : ℕ) → IsOpen state → Does state s input (without_station station (failing state s cause))
+does_broken state s input station cause is_open =
+    does_without state s input station (failing state s cause) is_open (failing_shut state s cause) (are_parting_failing state s cause)
 
 -- ---- changes begin
 
-AreQuiet-begin : (reference : ℕ) (change : Change) (offer : Option Channel) → AreQuiet (begin_outs reference change offer)
-AreQuiet-begin reference Assignment (Some channel) = (tt, tt)
-AreQuiet-begin reference Handover (Some channel) = (tt, tt)
-AreQuiet-begin reference Assignment None = (tt, tt)
-AreQuiet-begin reference Handover None = tt
+are_quiet_begin : (reference : ℕ) (change : Change) (offer : Option Channel) → AreQuiet (begin_outs reference change offer)
+are_quiet_begin reference Assignment (Some channel) = (tt, tt)
+are_quiet_begin reference Handover (Some channel) = (tt, tt)
+are_quiet_begin reference Assignment None = (tt, tt)
+are_quiet_begin reference Handover None = tt
 
-AreQuiet-waiting : (waits : Bool) (reference : ℕ) (offer : Option Channel) → AreQuiet (waiting_outs waits reference offer)
-AreQuiet-waiting true reference offer = AreQuiet-begin reference Assignment offer
-AreQuiet-waiting false reference offer = tt
+are_quiet_waiting : (waits : Bool) (reference : ℕ) (offer : Option Channel) → AreQuiet (waiting_outs waits reference offer)
+are_quiet_waiting true reference offer = are_quiet_begin reference Assignment offer
+are_quiet_waiting false reference offer = tt
 
 -- what a change that begins leaves
 record Begins (s next : Connection) : Type 0 where
@@ -94,33 +94,33 @@ record Begins (s next : Connection) : Type 0 where
   pub stays_open : IsOpen s.state → IsOpen next.state
   pub prepares : IsChanging next.state → IsChanging s.state
 
-Begins-begin : (reference : ℕ) (change : Change) (offer : Option Channel) (s : Connection) → Begins s (after_begin reference change offer s)
-Begins-begin reference change (Some channel) s = record { down = refl; serving = refl; stays_open = λ _. tt; prepares = absurd }
-Begins-begin reference change None s = record { down = refl; serving = refl; stays_open = λ stays. stays; prepares = λ changes. changes }
+begins_begin : (reference : ℕ) (change : Change) (offer : Option Channel) (s : Connection) → Begins s (after_begin reference change offer s)
+begins_begin reference change (Some channel) s = record { down = refl; serving = refl; stays_open = λ _. tt; prepares = absurd }
+begins_begin reference change None s = record { down = refl; serving = refl; stays_open = λ stays. stays; prepares = λ changes. changes }
 
-Begins-waiting : (waits : Bool) (reference : ℕ) (offer : Option Channel) (s : Connection) → Begins s (after_waiting waits reference offer s)
-Begins-waiting true reference offer s =
-    let begins = Begins-begin reference Assignment offer (record s { waits = false }) in
+begins_waiting : (waits : Bool) (reference : ℕ) (offer : Option Channel) (s : Connection) → Begins s (after_waiting waits reference offer s)
+begins_waiting true reference offer s =
+    let begins = begins_begin reference Assignment offer (record s { waits = false }) in
     record { down = begins.down; serving = begins.serving; stays_open = begins.stays_open; prepares = begins.prepares }
-Begins-waiting false reference offer s = record { down = refl; serving = refl; stays_open = λ stays. stays; prepares = λ changes. changes }
+begins_waiting false reference offer s = record { down = refl; serving = refl; stays_open = λ stays. stays; prepares = λ changes. changes }
 
-pub Does-begin : (state : State) (s : Connection) (input : Input) (reference : ℕ) (change : Change) (offer : Option Channel) → IsOpen state → IsOpen s.state → BringsNothing input → Does state s input (begin reference change offer s)
-Does-begin state s input reference change offer is_open opened nothing =
-    let begins = Begins-begin reference change offer s in
-    passes is_open (begins.stays_open opened) (AreQuiet-begin reference change offer) begins.down nothing
+pub does_begin : (state : State) (s : Connection) (input : Input) (reference : ℕ) (change : Change) (offer : Option Channel) → IsOpen state → IsOpen s.state → BringsNothing input → Does state s input (begin reference change offer s)
+does_begin state s input reference change offer is_open opened nothing =
+    let begins = begins_begin reference change offer s in
+    passes is_open (begins.stays_open opened) (are_quiet_begin reference change offer) begins.down nothing
 
 -- a request that waits begins behind quiet messages
-pub Does-waiting : (state : State) (s : Connection) (input : Input) (stage : Stage) (reference : ℕ) (offer : Option Channel) (outs : List Message) (t : Connection) → IsOpen state → IsOpen t.state → AreQuiet outs → t.down ≡ s.down → BringsNothing input → Does state s input (row outs t then begin_waiting stage reference offer)
-Does-waiting state s input stage reference offer outs t is_open opened quiet same nothing =
-    let begins = Begins-waiting (t.waits && may_begin stage t.draining) reference offer t in
+pub does_waiting : (state : State) (s : Connection) (input : Input) (stage : Stage) (reference : ℕ) (offer : Option Channel) (outs : List Message) (t : Connection) → IsOpen state → IsOpen t.state → AreQuiet outs → t.down ≡ s.down → BringsNothing input → Does state s input (row outs t then begin_waiting stage reference offer)
+does_waiting state s input stage reference offer outs t is_open opened quiet same nothing =
+    let begins = begins_waiting (t.waits && may_begin stage t.draining) reference offer t in
     passes is_open (begins.stays_open opened)
-    (AllByRecursion-append IsQuiet outs _ quiet (AreQuiet-waiting (t.waits && may_begin stage t.draining) reference offer)) (begins.down ∙ same) nothing
+    (AllByRecursion-append IsQuiet outs _ quiet (are_quiet_waiting (t.waits && may_begin stage t.draining) reference offer)) (begins.down ∙ same) nothing
 
 -- ---- what rows keep of the downlink
 
 -- where nothing came and nothing is rejected
-KeepsDownlink-still : (sapi : Sapi) (s : Connection) (input : Input) (r : Row) → rejects r.outs ≡ false → BringsNothing input → AllByRecursion (GoesTo r.next.serving) r.outs → handed sapi r.outs ++ filter is_dtap (messages r.next.down sapi) ≡ filter is_dtap (messages s.down sapi) → KeepsDownlink sapi s input r
-KeepsDownlink-still sapi s input r none nothing goes same = record {
+keeps_downlink_still : (sapi : Sapi) (s : Connection) (input : Input) (r : Row) → rejects r.outs ≡ false → BringsNothing input → AllByRecursion (GoesTo r.next.serving) r.outs → handed sapi r.outs ++ filter is_dtap (messages r.next.down sapi) ≡ filter is_dtap (messages s.down sapi) → KeepsDownlink sapi s input r
+keeps_downlink_still sapi s input r none nothing goes same = record {
   serving = goes;
   stream = λ _. same ∙ sym (
       without_rejected-none sapi r.outs (filter is_dtap (messages s.down sapi ++ received_by sapi input)) none
@@ -128,10 +128,10 @@ KeepsDownlink-still sapi s input r none nothing goes same = record {
       ∙ ap (filter is_dtap) (append-nil (messages s.down sapi)));
 }
 
-pub KeepsDownlink-quiet : (sapi : Sapi) (s : Connection) (input : Input) (r : Row) → AreQuiet r.outs → r.next.down ≡ s.down → BringsNothing input → KeepsDownlink sapi s input r
-KeepsDownlink-quiet sapi s input r quiet same nothing =
-    KeepsDownlink-still sapi s input r (rejects-quiet r.outs quiet) nothing
-    (AllByRecursion-so IsQuiet (GoesTo r.next.serving) (GoesTo-quiet r.next.serving) r.outs quiet)
+pub keeps_downlink_quiet : (sapi : Sapi) (s : Connection) (input : Input) (r : Row) → AreQuiet r.outs → r.next.down ≡ s.down → BringsNothing input → KeepsDownlink sapi s input r
+keeps_downlink_quiet sapi s input r quiet same nothing =
+    keeps_downlink_still sapi s input r (rejects-quiet r.outs quiet) nothing
+    (AllByRecursion-so IsQuiet (GoesTo r.next.serving) (goes_to_quiet r.next.serving) r.outs quiet)
     (rw (handed-quiet sapi r.outs quiet, same) refl)
 
 -- a message is held
@@ -141,26 +141,26 @@ messages-held Three Three message down = refl
 messages-held Zero Three message down = sym (ap (filter is_dtap) (append-nil down.zero))
 messages-held Three Zero message down = sym (ap (filter is_dtap) (append-nil down.three))
 
-pub KeepsDownlink-held : (of sapi : Sapi) (message : List ℕ) (s : Connection) (r : Row) → AreQuiet r.outs → r.next.down ≡ with_messages s.down sapi (messages s.down sapi ++ message ∷ []) → KeepsDownlink of s (inputs.Downlink sapi message) r
-KeepsDownlink-held of sapi message s r quiet held = record {
-  serving = AllByRecursion-so IsQuiet (GoesTo r.next.serving) (GoesTo-quiet r.next.serving) r.outs quiet;
+pub keeps_downlink_held : (of sapi : Sapi) (message : List ℕ) (s : Connection) (r : Row) → AreQuiet r.outs → r.next.down ≡ with_messages s.down sapi (messages s.down sapi ++ message ∷ []) → KeepsDownlink of s (inputs.Downlink sapi message) r
+keeps_downlink_held of sapi message s r quiet held = record {
+  serving = AllByRecursion-so IsQuiet (GoesTo r.next.serving) (goes_to_quiet r.next.serving) r.outs quiet;
   stream = λ _. rw (handed-quiet of r.outs quiet, held)
       (messages-held of sapi message s.down
       ∙ sym (without_rejected-none of r.outs (filter is_dtap (messages s.down of ++ received_by of (inputs.Downlink sapi message))) (rejects-quiet r.outs quiet)));
 }
 
 -- a message is handed, where none is held
-handed-at_once : (of sapi : Sapi) (message : List ℕ) (down : HoldState) → messages down sapi ≡ [] → filter is_dtap (of_sapi of sapi (message ∷ [])) ++ filter is_dtap (messages down of) ≡ filter is_dtap (messages down of ++ received_by of (inputs.Downlink sapi message))
-handed-at_once Zero Zero message down none = rw none (append-nil (filter is_dtap (message ∷ [])))
-handed-at_once Three Three message down none = rw none (append-nil (filter is_dtap (message ∷ [])))
-handed-at_once Zero Three message down none = sym (ap (filter is_dtap) (append-nil down.zero))
-handed-at_once Three Zero message down none = sym (ap (filter is_dtap) (append-nil down.three))
+handed_at_once : (of sapi : Sapi) (message : List ℕ) (down : HoldState) → messages down sapi ≡ [] → filter is_dtap (of_sapi of sapi (message ∷ [])) ++ filter is_dtap (messages down of) ≡ filter is_dtap (messages down of ++ received_by of (inputs.Downlink sapi message))
+handed_at_once Zero Zero message down none = rw none (append-nil (filter is_dtap (message ∷ [])))
+handed_at_once Three Three message down none = rw none (append-nil (filter is_dtap (message ∷ [])))
+handed_at_once Zero Three message down none = sym (ap (filter is_dtap) (append-nil down.zero))
+handed_at_once Three Zero message down none = sym (ap (filter is_dtap) (append-nil down.three))
 
-pub KeepsDownlink-handed : (of sapi : Sapi) (message : List ℕ) (s : Connection) → messages s.down sapi ≡ [] → KeepsDownlink of s (inputs.Downlink sapi message) (row (handing s.serving sapi message ∷ []) s)
-KeepsDownlink-handed of sapi message s none = record {
+pub keeps_downlink_handed : (of sapi : Sapi) (message : List ℕ) (s : Connection) → messages s.down sapi ≡ [] → KeepsDownlink of s (inputs.Downlink sapi message) (row (handing s.serving sapi message ∷ []) s)
+keeps_downlink_handed of sapi message s none = record {
   serving = (λ dtap. (refl, refl), tt);
   stream = λ _. ap (λ (xs : List (List ℕ)). xs ++ filter is_dtap (messages s.down of)) (handed-handing s.serving of sapi (message ∷ []))
-      ∙ handed-at_once of sapi message s.down none
+      ∙ handed_at_once of sapi message s.down none
       ∙ sym (without_rejected-none of (handing s.serving sapi message ∷ []) (filter is_dtap (messages s.down of ++ received_by of (inputs.Downlink sapi message))) refl);
 }
 
@@ -187,70 +187,70 @@ opened : (reference : ℕ) (stage : Stage) (s : Connection) → s.state ≡ Live
 opened reference stage s is = subst IsOpen (sym is) tt
 
 -- a message is handed
-pub Does-handing : (reference : ℕ) (stage : Stage) (s : Connection) (sapi : Sapi) (message : List ℕ) → IsStill stage → s.state ≡ Live reference stage → (Stands s → messages s.down sapi ≡ []) → Does (Live reference stage) s (inputs.Downlink sapi message) (row (handing s.serving sapi message ∷ []) s)
-Does-handing reference stage s sapi message still is none =
-    moves tt (opened reference stage s is) (λ stands of. KeepsDownlink-handed of sapi message s (none stands)) (λ changes. absurd (not_changing stage reference s still is changes))
+pub does_handing : (reference : ℕ) (stage : Stage) (s : Connection) (sapi : Sapi) (message : List ℕ) → IsStill stage → s.state ≡ Live reference stage → (Stands s → messages s.down sapi ≡ []) → Does (Live reference stage) s (inputs.Downlink sapi message) (row (handing s.serving sapi message ∷ []) s)
+does_handing reference stage s sapi message still is none =
+    moves tt (opened reference stage s is) (λ stands of. keeps_downlink_handed of sapi message s (none stands)) (λ changes. absurd (not_changing stage reference s still is changes))
 
 -- a message is held while a channel changes
-pub Does-hold_down : (reference : ℕ) (target : Target) (s : Connection) (sapi : Sapi) (message : List ℕ) → s.state ≡ Live reference (Changing target) → Does (Live reference (Changing target)) s (inputs.Downlink sapi message) (hold_down (Live reference (Changing target)) sapi message s)
-Does-hold_down reference target s sapi message is =
+pub does_hold_down : (reference : ℕ) (target : Target) (s : Connection) (sapi : Sapi) (message : List ℕ) → s.state ≡ Live reference (Changing target) → Does (Live reference (Changing target)) s (inputs.Downlink sapi message) (hold_down (Live reference (Changing target)) sapi message s)
+does_hold_down reference target s sapi message is =
     cond_both (eqb (count s.down) s.down.limit) _ _ (Does (Live reference (Changing target)) s (inputs.Downlink sapi message))
-    (λ full. Does-failing (Live reference (Changing target)) s (inputs.Downlink sapi message) EQUIPMENT_FAILURE tt)
-    (λ room. moves tt (opened reference (Changing target) s is) (λ stands of. KeepsDownlink-held of sapi message s _ tt refl) (λ _. (refl, refl)))
+    (λ full. does_failing (Live reference (Changing target)) s (inputs.Downlink sapi message) EQUIPMENT_FAILURE tt)
+    (λ room. moves tt (opened reference (Changing target) s is) (λ stands of. keeps_downlink_held of sapi message s _ tt refl) (λ _. (refl, refl)))
 
 -- a message of SAPI 3 is held for its link
-AreQuiet-request : (link : ShortMessageLink) (serving : Channel) → AreQuiet (request_where link serving)
-AreQuiet-request Down serving = (tt, tt)
-AreQuiet-request Asked serving = tt
-AreQuiet-request Up serving = tt
+are_quiet_request : (link : ShortMessageLink) (serving : Channel) → AreQuiet (request_where link serving)
+are_quiet_request Down serving = (tt, tt)
+are_quiet_request Asked serving = tt
+are_quiet_request Up serving = tt
 
-Does-hold_short : (reference : ℕ) (stage : Stage) (s : Connection) (message : List ℕ) → s.state ≡ Live reference stage → Does (Live reference stage) s (inputs.Downlink Three message) (hold_short_message (Live reference stage) message s)
-Does-hold_short reference stage s message is =
+does_hold_short : (reference : ℕ) (stage : Stage) (s : Connection) (message : List ℕ) → s.state ≡ Live reference stage → Does (Live reference stage) s (inputs.Downlink Three message) (hold_short_message (Live reference stage) message s)
+does_hold_short reference stage s message is =
     cond_both (eqb (count s.down) s.down.limit) _ _ (Does (Live reference stage) s (inputs.Downlink Three message))
-    (λ full. Does-failing (Live reference stage) s (inputs.Downlink Three message) EQUIPMENT_FAILURE tt)
-    (λ room. moves tt (opened reference stage s is) (λ stands of. KeepsDownlink-held of Three message s _ (AreQuiet-request s.link s.serving) refl)
-    (λ _. handed_none (request_where s.link s.serving) (AreQuiet-request s.link s.serving)))
+    (λ full. does_failing (Live reference stage) s (inputs.Downlink Three message) EQUIPMENT_FAILURE tt)
+    (λ room. moves tt (opened reference stage s is) (λ stands of. keeps_downlink_held of Three message s _ (are_quiet_request s.link s.serving) refl)
+    (λ _. handed_none (request_where s.link s.serving) (are_quiet_request s.link s.serving)))
 
-pub Does-short_message : (reference : ℕ) (stage : Stage) (link : ShortMessageLink) (s : Connection) (message : List ℕ) → IsStill stage → s.state ≡ Live reference stage → (Stands s → IsAskedFor link s.down.three) → Does (Live reference stage) s (inputs.Downlink Three message) (short_message (Live reference stage) link message s)
-Does-short_message reference stage Up s message still is none = Does-handing reference stage s Three message still is none
-Does-short_message reference stage _ s message still is none = Does-hold_short reference stage s message is
+pub does_short_message : (reference : ℕ) (stage : Stage) (link : ShortMessageLink) (s : Connection) (message : List ℕ) → IsStill stage → s.state ≡ Live reference stage → (Stands s → IsAskedFor link s.down.three) → Does (Live reference stage) s (inputs.Downlink Three message) (short_message (Live reference stage) link message s)
+does_short_message reference stage Up s message still is none = does_handing reference stage s Three message still is none
+does_short_message reference stage _ s message still is none = does_hold_short reference stage s message is
 
 -- SAPI 3 comes up
-pub Does-link_up : (reference : ℕ) (stage : Stage) (s : Connection) (input : Input) → IsStill stage → s.state ≡ Live reference stage → BringsNothing input → Does (Live reference stage) s input (link_up s)
-Does-link_up reference stage s input still is nothing =
+pub does_link_up : (reference : ℕ) (stage : Stage) (s : Connection) (input : Input) → IsStill stage → s.state ≡ Live reference stage → BringsNothing input → Does (Live reference stage) s input (link_up s)
+does_link_up reference stage s input still is nothing =
     moves tt (opened reference stage s is)
-    (λ stands of. KeepsDownlink-still of s input (link_up s) (rejects-handing s.serving Three s.down.three) nothing (GoesTo-handing s.serving Three s.down.three) (handed-held of Three s.serving s.down))
+    (λ stands of. keeps_downlink_still of s input (link_up s) (rejects-handing s.serving Three s.down.three) nothing (goes_to_handing s.serving Three s.down.three) (handed-held of Three s.serving s.down))
     (λ changes. absurd (not_changing stage reference s still is changes))
 
 -- SAPI 3 goes down: what is held for it is rejected
-KeepsDownlink-rejected : (of : Sapi) (reference : ℕ) (s : Connection) (input : Input) → BringsNothing input → KeepsDownlink of s input (link_down Asked reference s)
-KeepsDownlink-rejected Zero reference s input nothing = record {
+keeps_downlink_rejected : (of : Sapi) (reference : ℕ) (s : Connection) (input : Input) → BringsNothing input → KeepsDownlink of s input (link_down Asked reference s)
+keeps_downlink_rejected Zero reference s input nothing = record {
   serving = (tt, tt);
   stream = λ _. rw (received_by-nothing Zero input nothing) (sym (ap (filter is_dtap) (append-nil s.down.zero)));
 }
-KeepsDownlink-rejected Three reference s input nothing = record { serving = (tt, tt); stream = λ _. refl }
+keeps_downlink_rejected Three reference s input nothing = record { serving = (tt, tt); stream = λ _. refl }
 
-pub Does-link_down : (reference : ℕ) (stage : Stage) (link : ShortMessageLink) (s : Connection) (input : Input) → IsStill stage → s.state ≡ Live reference stage → BringsNothing input → Does (Live reference stage) s input (link_down link reference s)
-Does-link_down reference stage Asked s input still is nothing =
-    moves tt (opened reference stage s is) (λ stands of. KeepsDownlink-rejected of reference s input nothing) (λ changes. absurd (not_changing stage reference s still is changes))
-Does-link_down reference stage _ s input still is nothing = passes tt (opened reference stage s is) tt refl nothing
+pub does_link_down : (reference : ℕ) (stage : Stage) (link : ShortMessageLink) (s : Connection) (input : Input) → IsStill stage → s.state ≡ Live reference stage → BringsNothing input → Does (Live reference stage) s input (link_down link reference s)
+does_link_down reference stage Asked s input still is nothing =
+    moves tt (opened reference stage s is) (λ stands of. keeps_downlink_rejected of reference s input nothing) (λ changes. absurd (not_changing stage reference s still is changes))
+does_link_down reference stage _ s input still is nothing = passes tt (opened reference stage s is) tt refl nothing
 
 -- a message of the mobile is held
-pub Does-hold_up : (state : State) (s : Connection) (input : Input) (tenure : ℕ) (sapi : Sapi) (message : List ℕ) → IsOpen state → s.state ≡ state → BringsNothing input → Does state s input (hold_up state tenure sapi message s)
-Does-hold_up state s input tenure sapi message is_open is nothing =
+pub does_hold_up : (state : State) (s : Connection) (input : Input) (tenure : ℕ) (sapi : Sapi) (message : List ℕ) → IsOpen state → s.state ≡ state → BringsNothing input → Does state s input (hold_up state tenure sapi message s)
+does_hold_up state s input tenure sapi message is_open is nothing =
     cond_both (eqb (chain_count s.up) s.up.limit) _ _ (Does state s input)
-    (λ full. Does-failing state s input EQUIPMENT_FAILURE is_open)
+    (λ full. does_failing state s input EQUIPMENT_FAILURE is_open)
     (λ room. passes is_open (subst IsOpen (sym is) is_open) tt refl nothing)
 
 -- ---- the end of a change: what is held of SAPI 0 is handed, that of SAPI 3 waits for its link
 
-AreQuiet-request_for : (three : List (List ℕ)) (serving : Channel) → AreQuiet (request_for three serving)
-AreQuiet-request_for [] serving = tt
-AreQuiet-request_for (first ∷ rest) serving = (tt, tt)
+are_quiet_request_for : (three : List (List ℕ)) (serving : Channel) → AreQuiet (request_for three serving)
+are_quiet_request_for [] serving = tt
+are_quiet_request_for (first ∷ rest) serving = (tt, tt)
 
-pub Does-changed : (state : State) (s : Connection) (input : Input) (outs : List Message) (t : Connection) (stage : Stage) (reference : ℕ) (offer : Option Channel) → IsOpen state → AreQuiet outs → t.down ≡ s.down → BringsNothing input → IsOpen t.state → (IsChanging t.state → ⊥) →
+pub does_changed : (state : State) (s : Connection) (input : Input) (outs : List Message) (t : Connection) (stage : Stage) (reference : ℕ) (offer : Option Channel) → IsOpen state → AreQuiet outs → t.down ≡ s.down → BringsNothing input → IsOpen t.state → (IsChanging t.state → ⊥) →
     Does state s input (row outs t then hand_held Zero then ask_for_held then begin_waiting stage reference offer)
-Does-changed state s input outs t stage reference offer is_open quiet same nothing opened still =
+does_changed state s input outs t stage reference offer is_open quiet same nothing opened still =
     moves is_open (begins.stays_open opened) (λ stands. keeps) (λ changes. absurd (still (begins.prepares changes)))
   where
     handing_outs : List Message
@@ -269,7 +269,7 @@ Does-changed state s input outs t stage reference offer is_open quiet same nothi
     asking = request_for t.down.three t.serving
 
     begins : Begins after (after_waiting waits reference offer after)
-    begins = Begins-waiting waits reference offer after
+    begins = begins_waiting waits reference offer after
 
     all : List Message
     all = outs ++ handing_outs ++ asking ++ behind
@@ -277,9 +277,9 @@ Does-changed state s input outs t stage reference offer is_open quiet same nothi
     handed_all : (of : Sapi) → handed of all ≡ handed of handing_outs
     handed_all of =
         handed-append of (outs ++ handing_outs ++ asking) behind
-        ∙ rw (handed-quiet of behind (AreQuiet-waiting waits reference offer)) (append-nil (handed of (outs ++ handing_outs ++ asking)))
+        ∙ rw (handed-quiet of behind (are_quiet_waiting waits reference offer)) (append-nil (handed of (outs ++ handing_outs ++ asking)))
         ∙ handed-append of (outs ++ handing_outs) asking
-        ∙ rw (handed-quiet of asking (AreQuiet-request_for t.down.three t.serving)) (append-nil (handed of (outs ++ handing_outs)))
+        ∙ rw (handed-quiet of asking (are_quiet_request_for t.down.three t.serving)) (append-nil (handed of (outs ++ handing_outs)))
         ∙ handed-append of outs handing_outs
         ∙ rw (handed-quiet of outs quiet) refl
 
@@ -287,20 +287,20 @@ Does-changed state s input outs t stage reference offer is_open quiet same nothi
     none = rejects-append (outs ++ handing_outs ++ asking) behind
         (rejects-append (outs ++ handing_outs) asking
         (rejects-append outs handing_outs (rejects-quiet outs quiet) (rejects-handing t.serving Zero t.down.zero))
-        (rejects-quiet asking (AreQuiet-request_for t.down.three t.serving)))
-        (rejects-quiet behind (AreQuiet-waiting waits reference offer))
+        (rejects-quiet asking (are_quiet_request_for t.down.three t.serving)))
+        (rejects-quiet behind (are_quiet_waiting waits reference offer))
 
     goes_quiet : (outs : List Message) → AreQuiet outs → AllByRecursion (GoesTo t.serving) outs
-    goes_quiet outs quiet = AllByRecursion-so IsQuiet (GoesTo t.serving) (GoesTo-quiet t.serving) outs quiet
+    goes_quiet outs quiet = AllByRecursion-so IsQuiet (GoesTo t.serving) (goes_to_quiet t.serving) outs quiet
 
     goes : AllByRecursion (GoesTo t.serving) all
     goes = AllByRecursion-append (GoesTo t.serving) (outs ++ handing_outs ++ asking) behind
         (AllByRecursion-append (GoesTo t.serving) (outs ++ handing_outs) asking
-        (AllByRecursion-append (GoesTo t.serving) outs handing_outs (goes_quiet outs quiet) (GoesTo-handing t.serving Zero t.down.zero))
-        (goes_quiet asking (AreQuiet-request_for t.down.three t.serving)))
-        (goes_quiet behind (AreQuiet-waiting waits reference offer))
+        (AllByRecursion-append (GoesTo t.serving) outs handing_outs (goes_quiet outs quiet) (goes_to_handing t.serving Zero t.down.zero))
+        (goes_quiet asking (are_quiet_request_for t.down.three t.serving)))
+        (goes_quiet behind (are_quiet_waiting waits reference offer))
 
     keeps : (of : Sapi) → KeepsDownlink of s input (row all (after_waiting waits reference offer after))
-    keeps of = KeepsDownlink-still of s input (row all (after_waiting waits reference offer after)) none nothing
+    keeps of = keeps_downlink_still of s input (row all (after_waiting waits reference offer after)) none nothing
         (subst (λ (serving : Channel). AllByRecursion (GoesTo serving) all) (sym begins.serving) goes)
         (rw (handed_all of, begins.down) (handed-held of Zero t.serving t.down ∙ ap (λ (down : HoldState). filter is_dtap (messages down of)) same))

@@ -476,12 +476,12 @@ module _ (uses : Using) where
 
 -- ---- the law
 
-or-left : (a b : Bool) → a ≡ true → (a || b) ≡ true
-or-left a b is = ap (λ (c : Bool). c || b) is
+or_left : (a b : Bool) → a ≡ true → (a || b) ≡ true
+or_left a b is = ap (λ (c : Bool). c || b) is
 
-or-right : (a b : Bool) → b ≡ true → (a || b) ≡ true
-or-right true b is = refl
-or-right false b is = is
+or_right : (a b : Bool) → b ≡ true → (a || b) ≡ true
+or_right true b is = refl
+or_right false b is = is
 
 apart_in : (cs rest : List Channel) → AreApart (cs ++ rest) → AreApart rest
 apart_in [] rest all = all
@@ -491,10 +491,10 @@ used_of : State → Connection → Using
 used_of state s = uses_of (channels_in state (record (roles_of s) { target = target_role state }))
 
 first_used : (s : Connection) (cs : List Channel) → uses_of (s.serving ∷ cs) (at_channel s.serving) ≡ true
-first_used s cs = or-left (is_at (at_channel s.serving) s.serving) (uses_of cs (at_channel s.serving)) (here s.serving)
+first_used s cs = or_left (is_at (at_channel s.serving) s.serving) (uses_of cs (at_channel s.serving)) (here s.serving)
 
 second_used : (s : Connection) (c : Channel) → uses_of (s.serving ∷ c ∷ []) (at_channel c) ≡ true
-second_used s c = or-right (is_at (at_channel c) s.serving) (uses_of (c ∷ []) (at_channel c)) (or-left (is_at (at_channel c) c) (uses_of [] (at_channel c)) (here c))
+second_used s c = or_right (is_at (at_channel c) s.serving) (uses_of (c ∷ []) (at_channel c)) (or_left (is_at (at_channel c) c) (uses_of [] (at_channel c)) (here c))
 
 -- an open connection
 open_ready : (state : State) (s : Connection) → IsOpen state → AreApart (undone s.draining ++ s.serving ∷ target_in state) → IsReady (used_of state s) state s

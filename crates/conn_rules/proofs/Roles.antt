@@ -57,9 +57,9 @@ pub none_in : (state : State) (s : Connection) (input : Input) (offer : Option C
 none_in state s input offer is same = subst (λ (state : State). step_by input (roles_in state s) ≡ stays) (sym is) same
 
 -- a row that fits where a test holds
-pub ChangesRolesBy-row_if : (s : Connection) (input : Input) (offer : Option Channel) (test : Bool) (r : Row) → (test ≡ true → ChangesRoles s input offer r) → (test ≡ false → ChangesRolesBy s input offer None) → ChangesRolesBy s input offer (row_if test r)
-ChangesRolesBy-row_if s input offer true r fits apart = fits refl
-ChangesRolesBy-row_if s input offer false r fits apart = apart refl
+pub changes_roles_by_row_if : (s : Connection) (input : Input) (offer : Option Channel) (test : Bool) (r : Row) → (test ≡ true → ChangesRoles s input offer r) → (test ≡ false → ChangesRolesBy s input offer None) → ChangesRolesBy s input offer (row_if test r)
+changes_roles_by_row_if s input offer true r fits apart = fits refl
+changes_roles_by_row_if s input offer false r fits apart = apart refl
 
 -- ---- messages that order nothing and tell the mobile nothing
 
@@ -86,19 +86,19 @@ pub orders-plain : (outs : List Message) → ArePlain outs → orders outs ≡ [
 orders-plain [] plain = refl
 orders-plain (m ∷ ms) plain = rw (is_order-plain m plain.0) (orders-plain ms plain.1)
 
-IsUntold-plain : (m : Message) → IsPlain m → IsUntold m
-IsUntold-plain (Station station (DataRequest request)) plain = absurd plain
-IsUntold-plain _ plain = tt
+is_untold_plain : (m : Message) → IsPlain m → IsUntold m
+is_untold_plain (Station station (DataRequest request)) plain = absurd plain
+is_untold_plain _ plain = tt
 
-IsOfSwitch-untold : (down : HoldState) (input : Input) (m : Message) → IsUntold m → IsOfSwitch down input m
-IsOfSwitch-untold down input (Station station (DataRequest request)) untold = absurd untold
-IsOfSwitch-untold down input _ untold = tt
+is_of_switch_untold : (down : HoldState) (input : Input) (m : Message) → IsUntold m → IsOfSwitch down input m
+is_of_switch_untold down input (Station station (DataRequest request)) untold = absurd untold
+is_of_switch_untold down input _ untold = tt
 
-pub told-untold : (down : HoldState) (input : Input) (outs : List Message) → AllByRecursion IsUntold outs → AllByRecursion (IsOfSwitch down input) outs
-told-untold down input outs untold = AllByRecursion-so IsUntold (IsOfSwitch down input) (IsOfSwitch-untold down input) outs untold
+pub told_untold : (down : HoldState) (input : Input) (outs : List Message) → AllByRecursion IsUntold outs → AllByRecursion (IsOfSwitch down input) outs
+told_untold down input outs untold = AllByRecursion-so IsUntold (IsOfSwitch down input) (is_of_switch_untold down input) outs untold
 
-pub told-plain : (down : HoldState) (input : Input) (outs : List Message) → ArePlain outs → AllByRecursion (IsOfSwitch down input) outs
-told-plain down input outs plain = told-untold down input outs (AllByRecursion-so IsPlain IsUntold IsUntold-plain outs plain)
+pub told_plain : (down : HoldState) (input : Input) (outs : List Message) → ArePlain outs → AllByRecursion (IsOfSwitch down input) outs
+told_plain down input outs plain = told_untold down input outs (AllByRecursion-so IsPlain IsUntold is_untold_plain outs plain)
 
 pub orders-append : (xs ys : List Message) → orders (xs ++ ys) ≡ orders xs ++ orders ys
 orders-append xs ys = filter-append is_order xs ys
@@ -108,43 +108,43 @@ pub orders-handing : (c : Channel) (sapi : Sapi) (ms : List (List ℕ)) → orde
 orders-handing c sapi [] = refl
 orders-handing c sapi (m ∷ ms) = orders-handing c sapi ms
 
-pub told-handing : (down : HoldState) (input : Input) (c : Channel) (sapi : Sapi) (ms : List (List ℕ)) → ((m : List ℕ) → Contains ms m → Contains (down.zero ++ (down.three ++ brought input)) m) → AllByRecursion (IsOfSwitch down input) (map (handing c sapi) ms)
-told-handing down input c sapi [] held = tt
-told-handing down input c sapi (m ∷ ms) held = (
+pub told_handing : (down : HoldState) (input : Input) (c : Channel) (sapi : Sapi) (ms : List (List ℕ)) → ((m : List ℕ) → Contains ms m → Contains (down.zero ++ (down.three ++ brought input)) m) → AllByRecursion (IsOfSwitch down input) (map (handing c sapi) ms)
+told_handing down input c sapi [] held = tt
+told_handing down input c sapi (m ∷ ms) held = (
   held m (Contains-append_left (m ∷ []) ms m (Contains-push [] m)),
-  told-handing down input c sapi ms (λ other there. held other (Contains-append_right (m ∷ []) ms other there)),
+  told_handing down input c sapi ms (λ other there. held other (Contains-append_right (m ∷ []) ms other there)),
 )
 
 -- messages of the mobile are relayed, links are asked for
-ArePlain-relaying : (reference : ℕ) (channel : Channel) (sapi : Sapi) (messages : List (List ℕ)) → ArePlain (map (relaying reference channel sapi) messages)
-ArePlain-relaying reference channel sapi [] = tt
-ArePlain-relaying reference channel sapi (m ∷ ms) = (tt, ArePlain-relaying reference channel sapi ms)
+are_plain_relaying : (reference : ℕ) (channel : Channel) (sapi : Sapi) (messages : List (List ℕ)) → ArePlain (map (relaying reference channel sapi) messages)
+are_plain_relaying reference channel sapi [] = tt
+are_plain_relaying reference channel sapi (m ∷ ms) = (tt, are_plain_relaying reference channel sapi ms)
 
-pub ArePlain-tenure : (reference : ℕ) (channel : Channel) (tenures : List Tenure) → ArePlain (tenure_outs reference channel tenures)
-ArePlain-tenure reference channel [] = tt
-ArePlain-tenure reference channel (first ∷ rest) =
+pub are_plain_tenure : (reference : ℕ) (channel : Channel) (tenures : List Tenure) → ArePlain (tenure_outs reference channel tenures)
+are_plain_tenure reference channel [] = tt
+are_plain_tenure reference channel (first ∷ rest) =
     AllByRecursion-append IsPlain (map (relaying reference channel Zero) first.zero) (map (relaying reference channel Three) first.three)
-    (ArePlain-relaying reference channel Zero first.zero) (ArePlain-relaying reference channel Three first.three)
+    (are_plain_relaying reference channel Zero first.zero) (are_plain_relaying reference channel Three first.three)
 
-pub ArePlain-request_where : (link : ShortMessageLink) (serving : Channel) → ArePlain (request_where link serving)
-ArePlain-request_where Down serving = (tt, tt)
-ArePlain-request_where Asked serving = tt
-ArePlain-request_where Up serving = tt
+pub are_plain_request_where : (link : ShortMessageLink) (serving : Channel) → ArePlain (request_where link serving)
+are_plain_request_where Down serving = (tt, tt)
+are_plain_request_where Asked serving = tt
+are_plain_request_where Up serving = tt
 
-pub ArePlain-request_for : (three : List (List ℕ)) (serving : Channel) → ArePlain (request_for three serving)
-ArePlain-request_for [] serving = tt
-ArePlain-request_for (first ∷ rest) serving = (tt, tt)
+pub are_plain_request_for : (three : List (List ℕ)) (serving : Channel) → ArePlain (request_for three serving)
+are_plain_request_for [] serving = tt
+are_plain_request_for (first ∷ rest) serving = (tt, tt)
 
 -- ---- rows without a step
 
 -- nothing is ordered, nobody is told, no change begins
-pub GoesOn-plain : (before : Roles) (down : HoldState) (input : Input) (offer : Option Channel) (r : Row) → roles_of r.next ≡ before → ArePlain r.outs → GoesOn stays before down input offer r
-GoesOn-plain before down input offer r same plain = record {
+pub goes_on_plain : (before : Roles) (down : HoldState) (input : Input) (offer : Option Channel) (r : Row) → roles_of r.next ≡ before → ArePlain r.outs → GoesOn stays before down input offer r
+goes_on_plain before down input offer r same plain = record {
   begun = None;
   may = tt;
   roles = same;
   ordered = orders-plain r.outs plain;
-  tells = told-plain down input r.outs plain;
+  tells = told_plain down input r.outs plain;
 }
 
 -- ---- a change begins
@@ -157,21 +157,21 @@ pub record BeginsBy (input : Input) (offer : Option Channel) (t : Connection) (o
   pub untold : AllByRecursion IsUntold outs
   pub stays_open : IsOpen t.state → IsOpen next.state
 
-is_order-activation : (change : Change) (channel : Channel) → (orders (change_activation change channel ∷ []) ≡ change_activation change channel ∷ []) × IsUntold (change_activation change channel)
-is_order-activation Assignment channel = (refl, tt)
-is_order-activation Handover channel = (refl, tt)
+is_order_activation : (change : Change) (channel : Channel) → (orders (change_activation change channel ∷ []) ≡ change_activation change channel ∷ []) × IsUntold (change_activation change channel)
+is_order_activation Assignment channel = (refl, tt)
+is_order_activation Handover channel = (refl, tt)
 
-pub BeginsBy-begin : (input : Input) (offer : Option Channel) (reference : ℕ) (change : Change) (t : Connection) → change ≡ change_by input → target_role t.state ≡ None → BeginsBy input offer t (begin_outs reference change offer) (after_begin reference change offer t)
-BeginsBy-begin input (Some channel) reference change t kind free = record {
+pub begins_by_begin : (input : Input) (offer : Option Channel) (reference : ℕ) (change : Change) (t : Connection) → change ≡ change_by input → target_role t.state ≡ None → BeginsBy input offer t (begin_outs reference change offer) (after_begin reference change offer t)
+begins_by_begin input (Some channel) reference change t kind free = record {
   begun = Some (record { change = change; channel = channel });
   may = (kind, refl, free);
   roles = refl;
-  ordered = (is_order-activation change channel).0;
-  untold = ((is_order-activation change channel).1, tt);
+  ordered = (is_order_activation change channel).0;
+  untold = ((is_order_activation change channel).1, tt);
   stays_open = λ _. tt;
 }
-BeginsBy-begin input None reference Assignment t kind free = record { begun = None; may = tt; roles = refl; ordered = refl; untold = (tt, tt); stays_open = λ stays. stays }
-BeginsBy-begin input None reference Handover t kind free = record { begun = None; may = tt; roles = refl; ordered = refl; untold = tt; stays_open = λ stays. stays }
+begins_by_begin input None reference Assignment t kind free = record { begun = None; may = tt; roles = refl; ordered = refl; untold = (tt, tt); stays_open = λ stays. stays }
+begins_by_begin input None reference Handover t kind free = record { begun = None; may = tt; roles = refl; ordered = refl; untold = tt; stays_open = λ stays. stays }
 
 -- no change is under way where one may begin
 free_in : (stage : Stage) (draining : List Drain) (reference : ℕ) → may_begin stage draining ≡ true → target_role (Live reference stage) ≡ None
@@ -187,15 +187,15 @@ second_true : (a b : Bool) → (a && b) ≡ true → b ≡ true
 second_true true b both = both
 second_true false b both = absurd (true≢false (sym both))
 
-BeginsBy-after : (waits : Bool) (input : Input) (offer : Option Channel) (reference : ℕ) (t : Connection) → Assignment ≡ change_by input → (waits ≡ true → target_role t.state ≡ None) → BeginsBy input offer t (waiting_outs waits reference offer) (after_waiting waits reference offer t)
-BeginsBy-after true input offer reference t kind free =
-    let begins = BeginsBy-begin input offer reference Assignment (record t { waits = false }) kind (free refl) in
+begins_by_after : (waits : Bool) (input : Input) (offer : Option Channel) (reference : ℕ) (t : Connection) → Assignment ≡ change_by input → (waits ≡ true → target_role t.state ≡ None) → BeginsBy input offer t (waiting_outs waits reference offer) (after_waiting waits reference offer t)
+begins_by_after true input offer reference t kind free =
+    let begins = begins_by_begin input offer reference Assignment (record t { waits = false }) kind (free refl) in
     record { begun = begins.begun; may = begins.may; roles = begins.roles; ordered = begins.ordered; untold = begins.untold; stays_open = begins.stays_open }
-BeginsBy-after false input offer reference t kind free = record { begun = None; may = tt; roles = refl; ordered = refl; untold = tt; stays_open = λ stays. stays }
+begins_by_after false input offer reference t kind free = record { begun = None; may = tt; roles = refl; ordered = refl; untold = tt; stays_open = λ stays. stays }
 
-pub BeginsBy-waiting : (stage : Stage) (input : Input) (offer : Option Channel) (reference : ℕ) (t : Connection) → Assignment ≡ change_by input → t.state ≡ Live reference stage → BeginsBy input offer t (begin_waiting stage reference offer t).outs (begin_waiting stage reference offer t).next
-BeginsBy-waiting stage input offer reference t kind is =
-    BeginsBy-after (t.waits && may_begin stage t.draining) input offer reference t kind
+pub begins_by_waiting : (stage : Stage) (input : Input) (offer : Option Channel) (reference : ℕ) (t : Connection) → Assignment ≡ change_by input → t.state ≡ Live reference stage → BeginsBy input offer t (begin_waiting stage reference offer t).outs (begin_waiting stage reference offer t).next
+begins_by_waiting stage input offer reference t kind is =
+    begins_by_after (t.waits && may_begin stage t.draining) input offer reference t kind
     (λ both. free_where stage reference t is (second_true t.waits (may_begin stage t.draining) both))
 
 -- a step that isn't the COMMAND, and then perhaps a change begins
@@ -210,15 +210,15 @@ tells_by completes before down input outs untold told = told
 tells_by goes_back before down input outs untold told = told
 tells_by (leaves place) before down input outs untold told = told
 
-pub GoesOn-begins : (step : RoleStep) (before : Roles) (down : HoldState) (input : Input) (offer : Option Channel) (outs : List Message) (t : Connection) (behind : List Message) (next : Connection) →
+pub goes_on_begins : (step : RoleStep) (before : Roles) (down : HoldState) (input : Input) (offer : Option Channel) (outs : List Message) (t : Connection) (behind : List Message) (next : Connection) →
     IsUntoldStep step → roles_of t ≡ after_step step before → orders outs ≡ step_orders step before → AllByRecursion (IsOfSwitch down input) outs → BeginsBy input offer t behind next → GoesOn step before down input offer (row (outs ++ behind) next)
-GoesOn-begins step before down input offer outs t behind next untold same ordered told begins = record {
+goes_on_begins step before down input offer outs t behind next untold same ordered told begins = record {
   begun = begins.begun;
   may = subst (MayBegin begins.begun input offer) same begins.may;
   roles = begins.roles ∙ ap (with_target begins.begun) same;
   ordered = orders-append outs behind ∙ rw (ordered, begins.ordered) refl;
   tells = tells_by step before down input (outs ++ behind) untold
-      (AllByRecursion-append (IsOfSwitch down input) outs behind told (told-untold down input behind begins.untold));
+      (AllByRecursion-append (IsOfSwitch down input) outs behind told (told_untold down input behind begins.untold));
 }
 
 -- ---- ends
@@ -242,23 +242,23 @@ filter-filter p q (x ∷ xs) = by (p x) (q x) refl refl (filter-filter p q xs)
     by false true is also rest = simp (is, also) rest
     by false false is also rest = simp (is, also) rest
 
-pub Ends-failing : (state : State) (s : Connection) (input : Input) (cause : ℕ) → ((outs : List Message) → those_that_go input outs ≡ outs) → Ends (roles_in state s) input (failing state s cause)
-Ends-failing state s input cause all_go = record {
+pub ends_failing : (state : State) (s : Connection) (input : Input) (cause : ℕ) → ((outs : List Message) → those_that_go input outs ≡ outs) → Ends (roles_in state s) input (failing state s cause)
+ends_failing state s input cause all_go = record {
   end = dismisses ABNORMAL_RELEASE;
   fits = tt;
   ordered = to_stations-failing state s cause ∙ to_stations-end state s ABNORMAL_RELEASE ∙ sym (all_go (end_messages (dismisses ABNORMAL_RELEASE) (roles_in state s)));
 }
 
-pub Ends-broken : (state : State) (s : Connection) (station cause : ℕ) → Ends (roles_in state s) (inputs.StationDown station) (without_station station (failing state s cause))
-Ends-broken state s station cause = record {
+pub ends_broken : (state : State) (s : Connection) (station cause : ℕ) → Ends (roles_in state s) (inputs.StationDown station) (without_station station (failing state s cause))
+ends_broken state s station cause = record {
   end = dismisses ABNORMAL_RELEASE;
   fits = tt;
   ordered = filter-filter is_to_station (λ message. not (goes_to station message)) (failing state s cause).outs
       ∙ ap (filter (λ message. not (goes_to station message))) (to_stations-failing state s cause ∙ to_stations-end state s ABNORMAL_RELEASE);
 }
 
-pub Ends-dropping : (state : State) (s : Connection) (input : Input) → target_role state ≡ None → ((outs : List Message) → those_that_go input outs ≡ outs) → Ends (roles_in state s) input (dropping s)
-Ends-dropping state s input none all_go = record { end = drops; fits = none; ordered = sym (all_go (end_messages drops (roles_in state s))) }
+pub ends_dropping : (state : State) (s : Connection) (input : Input) → target_role state ≡ None → ((outs : List Message) → those_that_go input outs ≡ outs) → Ends (roles_in state s) input (dropping s)
+ends_dropping state s input none all_go = record { end = drops; fits = none; ordered = sym (all_go (end_messages drops (roles_in state s))) }
 
-pub Ends-broken_drop : (state : State) (s : Connection) (station : ℕ) → target_role state ≡ None → Ends (roles_in state s) (inputs.StationDown station) (without_station station (dropping s))
-Ends-broken_drop state s station none = record { end = drops; fits = none; ordered = filter-filter is_to_station (λ message. not (goes_to station message)) (dropping s).outs }
+pub ends_broken_drop : (state : State) (s : Connection) (station : ℕ) → target_role state ≡ None → Ends (roles_in state s) (inputs.StationDown station) (without_station station (dropping s))
+ends_broken_drop state s station none = record { end = drops; fits = none; ordered = filter-filter is_to_station (λ message. not (goes_to station message)) (dropping s).outs }

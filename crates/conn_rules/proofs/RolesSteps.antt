@@ -20,36 +20,36 @@ use Rattle.conn_rules.specs.Roles.{still_draining, leaves_at}
 use Rattle.conn_rules.specs.Connection.{first_channel, drain_at}
 use Rattle.conn_rules.specs.Steps.{resting_stage, resting, hand_held, ask_for_held, done_at, leave, shifted, relay_held, settled, settled_stage, ◌then◌}
 use Rattle.conn_rules.specs.Table.{release, nack_outs}
-use Rattle.conn_rules.proofs.Roles.{roles_in, equal_roles, goes_on_by, IsUntold, IsPlain, ArePlain, orders-plain, told-untold, told-plain, orders-append, orders-handing, told-handing, ArePlain-tenure, ArePlain-request_for, BeginsBy, BeginsBy-waiting, IsUntoldStep, GoesOn-begins}
+use Rattle.conn_rules.proofs.Roles.{roles_in, equal_roles, goes_on_by, IsUntold, IsPlain, ArePlain, orders-plain, told_untold, told_plain, orders-append, orders-handing, told_handing, are_plain_tenure, are_plain_request_for, BeginsBy, begins_by_waiting, IsUntoldStep, goes_on_begins}
 
 -- ---- a change ends: what was held is handed, SAPI 3 asked for, and a waiting request begins
 
 orders-changed : (outs : List Message) (t : Connection) → orders (outs ++ map (handing t.serving Zero) t.down.zero ++ request_for t.down.three t.serving) ≡ orders outs
 orders-changed outs t =
     orders-append (outs ++ map (handing t.serving Zero) t.down.zero) (request_for t.down.three t.serving)
-    ∙ rw (orders-plain (request_for t.down.three t.serving) (ArePlain-request_for t.down.three t.serving)) (append-nil (orders (outs ++ map (handing t.serving Zero) t.down.zero)))
+    ∙ rw (orders-plain (request_for t.down.three t.serving) (are_plain_request_for t.down.three t.serving)) (append-nil (orders (outs ++ map (handing t.serving Zero) t.down.zero)))
     ∙ orders-append outs (map (handing t.serving Zero) t.down.zero)
     ∙ rw (orders-handing t.serving Zero t.down.zero) (append-nil (orders outs))
 
-told-changed : (input : Input) (outs : List Message) (t : Connection) → AllByRecursion IsUntold outs → AllByRecursion (IsOfSwitch t.down input) (outs ++ map (handing t.serving Zero) t.down.zero ++ request_for t.down.three t.serving)
-told-changed input outs t untold =
+told_changed : (input : Input) (outs : List Message) (t : Connection) → AllByRecursion IsUntold outs → AllByRecursion (IsOfSwitch t.down input) (outs ++ map (handing t.serving Zero) t.down.zero ++ request_for t.down.three t.serving)
+told_changed input outs t untold =
     AllByRecursion-append (IsOfSwitch t.down input) (outs ++ map (handing t.serving Zero) t.down.zero) (request_for t.down.three t.serving)
-    (AllByRecursion-append (IsOfSwitch t.down input) outs (map (handing t.serving Zero) t.down.zero) (told-untold t.down input outs untold)
-    (told-handing t.down input t.serving Zero t.down.zero (λ m held. Contains-append_left t.down.zero (t.down.three ++ brought input) m held)))
-    (told-plain t.down input (request_for t.down.three t.serving) (ArePlain-request_for t.down.three t.serving))
+    (AllByRecursion-append (IsOfSwitch t.down input) outs (map (handing t.serving Zero) t.down.zero) (told_untold t.down input outs untold)
+    (told_handing t.down input t.serving Zero t.down.zero (λ m held. Contains-append_left t.down.zero (t.down.three ++ brought input) m held)))
+    (told_plain t.down input (request_for t.down.three t.serving) (are_plain_request_for t.down.three t.serving))
 
 -- for each row of this form
-pub ChangesRoles-changed : (step : RoleStep) (state : State) (s : Connection) (input : Input) (offer : Option Channel) (outs : List Message) (t : Connection) (stage : Stage) (reference : ℕ) →
+pub changes_roles_changed : (step : RoleStep) (state : State) (s : Connection) (input : Input) (offer : Option Channel) (outs : List Message) (t : Connection) (stage : Stage) (reference : ℕ) →
     step_by input (roles_in state s) ≡ step → s.state ≡ state → IsOpen state → IsUntoldStep step → t.down ≡ s.down → roles_of t ≡ after_step step (roles_in state s) → orders outs ≡ step_orders step (roles_in state s) → AllByRecursion IsUntold outs →
     t.state ≡ Live reference stage → Assignment ≡ change_by input → ChangesRoles s input offer (row outs t then hand_held Zero then ask_for_held then begin_waiting stage reference offer)
-ChangesRoles-changed step state s input offer outs t stage reference same is was_open untold hold roles ordered quiet live kind =
+changes_roles_changed step state s input offer outs t stage reference same is was_open untold hold roles ordered quiet live kind =
     let after : Connection = (ask_for_held (hand_held Zero t).next).next in
-    let begins = BeginsBy-waiting stage input offer reference after kind live in
+    let begins = begins_by_waiting stage input offer reference after kind live in
     goes_on_by step state s input offer (row outs t then hand_held Zero then ask_for_held then begin_waiting stage reference offer) same is was_open
     (begins.stays_open (subst IsOpen (sym live) tt))
     (subst (λ (down : HoldState). GoesOn step (roles_in state s) down input offer (row outs t then hand_held Zero then ask_for_held then begin_waiting stage reference offer)) hold
-    (GoesOn-begins step (roles_in state s) t.down input offer (outs ++ map (handing t.serving Zero) t.down.zero ++ request_for t.down.three t.serving) after
-    (begin_waiting stage reference offer after).outs (begin_waiting stage reference offer after).next untold roles (orders-changed outs t ∙ ordered) (told-changed input outs t quiet) begins))
+    (goes_on_begins step (roles_in state s) t.down input offer (outs ++ map (handing t.serving Zero) t.down.zero ++ request_for t.down.three t.serving) after
+    (begin_waiting stage reference offer after).outs (begin_waiting stage reference offer after).next untold roles (orders-changed outs t ∙ ordered) (told_changed input outs t quiet) begins))
 
 no_target : (draining : List Drain) (reference : ℕ) → target_role (Live reference (resting_stage draining)) ≡ None
 no_target [] reference = refl
@@ -59,15 +59,15 @@ pub resting-roles : (reference : ℕ) (state : State) (s : Connection) → roles
 resting-roles reference state s = equal_roles (roles_of (resting reference s)) (after_step goes_back (roles_in state s)) refl (no_target s.draining reference) refl
 
 -- the target's activation was refused
-pub ChangesRoles-refused : (reference : ℕ) (target : Target) (at : Place) (s : Connection) (offer : Option Channel) → step_by (inputs.ActivationNack at) (roles_in (Live reference (Preparing target)) s) ≡ goes_back → s.state ≡ Live reference (Preparing target) →
+pub changes_roles_refused : (reference : ℕ) (target : Target) (at : Place) (s : Connection) (offer : Option Channel) → step_by (inputs.ActivationNack at) (roles_in (Live reference (Preparing target)) s) ≡ goes_back → s.state ≡ Live reference (Preparing target) →
     ChangesRoles s (inputs.ActivationNack at) offer (row (nack_outs target.change reference) (resting reference s) then begin_waiting (resting_stage s.draining) reference offer)
-ChangesRoles-refused reference target at s offer same is =
-    let begins = BeginsBy-waiting (resting_stage s.draining) (inputs.ActivationNack at) offer reference (resting reference s) refl refl in
+changes_roles_refused reference target at s offer same is =
+    let begins = begins_by_waiting (resting_stage s.draining) (inputs.ActivationNack at) offer reference (resting reference s) refl refl in
     goes_on_by goes_back (Live reference (Preparing target)) s (inputs.ActivationNack at) offer (row (nack_outs target.change reference) (resting reference s) then begin_waiting (resting_stage s.draining) reference offer) same is tt (begins.stays_open tt)
-    (GoesOn-begins goes_back (roles_in (Live reference (Preparing target)) s) s.down (inputs.ActivationNack at) offer (nack_outs target.change reference) (resting reference s)
+    (goes_on_begins goes_back (roles_in (Live reference (Preparing target)) s) s.down (inputs.ActivationNack at) offer (nack_outs target.change reference) (resting reference s)
     (begin_waiting (resting_stage s.draining) reference offer (resting reference s)).outs (begin_waiting (resting_stage s.draining) reference offer (resting reference s)).next
     tt (resting-roles reference (Live reference (Preparing target)) s) (orders-plain (nack_outs target.change reference) (plain target.change))
-    (told-plain s.down (inputs.ActivationNack at) (nack_outs target.change reference) (plain target.change)) begins)
+    (told_plain s.down (inputs.ActivationNack at) (nack_outs target.change reference) (plain target.change)) begins)
   where
     plain : (change : Change) → ArePlain (nack_outs change reference)
     plain Assignment = (tt, tt)
@@ -81,18 +81,18 @@ record LeavesBy (s : Connection) (ds : List Drain) (r : Row) : Type 0 where
   pub draining : r.next.draining ≡ still_draining ds
   pub plain : ArePlain r.outs
 
-LeavesBy-leave : (reference : ℕ) (ds : List Drain) (s : Connection) → LeavesBy s ds (leave reference ds s)
-LeavesBy-leave reference [] s = record { state = refl; serving = refl; draining = refl; plain = tt }
-LeavesBy-leave reference (d ∷ ds) s =
+leaves_by_leave : (reference : ℕ) (ds : List Drain) (s : Connection) → LeavesBy s ds (leave reference ds s)
+leaves_by_leave reference [] s = record { state = refl; serving = refl; draining = refl; plain = tt }
+leaves_by_leave reference (d ∷ ds) s =
     let next : Connection = (relay_held reference (shifted ds s)).next in
-    let rest = LeavesBy-leave reference ds next in
+    let rest = leaves_by_leave reference ds next in
     cond_both d.is_done _ _ (LeavesBy s (d ∷ ds))
     (λ done. record {
       state = rest.state;
       serving = rest.serving;
       draining = rw done rest.draining;
       plain = AllByRecursion-append IsPlain (relay_held reference (shifted ds s)).outs (leave reference ds next).outs
-          (ArePlain-tenure reference (first_channel ds s.serving) (shifted ds s).up.tenures) rest.plain;
+          (are_plain_tenure reference (first_channel ds s.serving) (shifted ds s).up.tenures) rest.plain;
     })
     (λ drains. record { state = refl; serving = refl; draining = rw drains refl; plain = tt })
 
@@ -101,21 +101,21 @@ record SettlesBy (reference : ℕ) (stage : Stage) (s rests : Connection) : Type
   pub state : rests.state ≡ Live reference (settled_stage stage rests.draining)
   pub roles : roles_of rests ≡ record { serving = s.serving; target = target_role (Live reference stage); draining = s.draining }
 
-SettlesBy-settled : (reference : ℕ) (stage : Stage) (ds : List Drain) (s : Connection) → s.draining ≡ ds → s.state ≡ Live reference stage → SettlesBy reference stage s (settled reference stage ds s)
-SettlesBy-settled reference Draining [] s are is = record { state = rw are refl; roles = refl }
-SettlesBy-settled reference Draining (d ∷ ds) s are is = record { state = rw are is; roles = ap (λ (state : State). roles_in state s) is }
-SettlesBy-settled reference Active ds s are is = record { state = is; roles = ap (λ (state : State). roles_in state s) is }
-SettlesBy-settled reference (Preparing target) ds s are is = record { state = is; roles = ap (λ (state : State). roles_in state s) is }
-SettlesBy-settled reference (Changing target) ds s are is = record { state = is; roles = ap (λ (state : State). roles_in state s) is }
+settles_by_settled : (reference : ℕ) (stage : Stage) (ds : List Drain) (s : Connection) → s.draining ≡ ds → s.state ≡ Live reference stage → SettlesBy reference stage s (settled reference stage ds s)
+settles_by_settled reference Draining [] s are is = record { state = rw are refl; roles = refl }
+settles_by_settled reference Draining (d ∷ ds) s are is = record { state = rw are is; roles = ap (λ (state : State). roles_in state s) is }
+settles_by_settled reference Active ds s are is = record { state = is; roles = ap (λ (state : State). roles_in state s) is }
+settles_by_settled reference (Preparing target) ds s are is = record { state = is; roles = ap (λ (state : State). roles_in state s) is }
+settles_by_settled reference (Changing target) ds s are is = record { state = is; roles = ap (λ (state : State). roles_in state s) is }
 
-pub ChangesRoles-release : (reference : ℕ) (stage : Stage) (place : ℕ) (at : Place) (s : Connection) (offer : Option Channel) → drain_at at s.draining ≡ Some place → s.state ≡ Live reference stage → ChangesRoles s (inputs.ReleaseAck at) offer (release reference stage place offer s)
-ChangesRoles-release reference stage place at s offer found is =
+pub changes_roles_release : (reference : ℕ) (stage : Stage) (place : ℕ) (at : Place) (s : Connection) (offer : Option Channel) → drain_at at s.draining ≡ Some place → s.state ≡ Live reference stage → ChangesRoles s (inputs.ReleaseAck at) offer (release reference stage place offer s)
+changes_roles_release reference stage place at s offer found is =
     goes_on_by (leaves place) (Live reference stage) s (inputs.ReleaseAck at) offer (release reference stage place offer s) (ap leaves_at found) is tt
     (begins.stays_open (subst IsOpen (sym settles.state) tt))
-    (GoesOn-begins (leaves place) (roles_in (Live reference stage) s) s.down (inputs.ReleaseAck at) offer (left.outs ++ []) rests
+    (goes_on_begins (leaves place) (roles_in (Live reference stage) s) s.down (inputs.ReleaseAck at) offer (left.outs ++ []) rests
     (begin_waiting (settled_stage stage rests.draining) reference offer rests).outs (begin_waiting (settled_stage stage rests.draining) reference offer rests).next tt
     (settles.roles ∙ equal_roles _ (after_step (leaves place) (roles_in (Live reference stage) s)) leaves_by.serving refl leaves_by.draining)
-    (orders-plain (left.outs ++ []) plain) (told-plain s.down (inputs.ReleaseAck at) (left.outs ++ []) plain) begins)
+    (orders-plain (left.outs ++ []) plain) (told_plain s.down (inputs.ReleaseAck at) (left.outs ++ []) plain) begins)
   where
     left : Row
     left = leave reference (done_at place s.draining) s
@@ -124,13 +124,13 @@ ChangesRoles-release reference stage place at s offer found is =
     rests = settled reference stage left.next.draining left.next
 
     leaves_by : LeavesBy s (done_at place s.draining) left
-    leaves_by = LeavesBy-leave reference (done_at place s.draining) s
+    leaves_by = leaves_by_leave reference (done_at place s.draining) s
 
     settles : SettlesBy reference stage left.next rests
-    settles = SettlesBy-settled reference stage left.next.draining left.next refl (leaves_by.state ∙ is)
+    settles = settles_by_settled reference stage left.next.draining left.next refl (leaves_by.state ∙ is)
 
     begins : BeginsBy (inputs.ReleaseAck at) offer rests (begin_waiting (settled_stage stage rests.draining) reference offer rests).outs (begin_waiting (settled_stage stage rests.draining) reference offer rests).next
-    begins = BeginsBy-waiting (settled_stage stage rests.draining) (inputs.ReleaseAck at) offer reference rests refl settles.state
+    begins = begins_by_waiting (settled_stage stage rests.draining) (inputs.ReleaseAck at) offer reference rests refl settles.state
 
     plain : ArePlain (left.outs ++ [])
     plain = AllByRecursion-append IsPlain left.outs [] leaves_by.plain tt

@@ -27,18 +27,18 @@ use Rattle.conn_rules.specs.Roles.{target_role, roles_of, orders, brought, chang
 use Rattle.conn_rules.specs.Roles.RoleStep.{stays, commands, completes, goes_back}
 use Rattle.conn_rules.specs.Roles.RoleEnd.{refused, dismisses}
 use Rattle.conn_rules.specs.Streams.{IsOpen}
-use Rattle.conn_rules.proofs.DownlinkSteps.{failing-shut}
-use Rattle.conn_rules.proofs.Roles.{roles_in, roles-known, goes_on_in, goes_on_by, ends_in, had_ended_in, none_in, ChangesRolesBy-row_if, IsUntold, ArePlain, ArePlain-tenure, ArePlain-request_where, orders-handing, told-handing, GoesOn-plain, GoesOn-begins, BeginsBy-begin, free_where, to_stations-end, Ends-failing, Ends-broken, Ends-dropping, Ends-broken_drop}
-use Rattle.conn_rules.proofs.RolesSteps.{ChangesRoles-changed, ChangesRoles-refused, resting-roles, ChangesRoles-release}
+use Rattle.conn_rules.proofs.DownlinkSteps.{failing_shut}
+use Rattle.conn_rules.proofs.Roles.{roles_in, roles-known, goes_on_in, goes_on_by, ends_in, had_ended_in, none_in, changes_roles_by_row_if, IsUntold, ArePlain, are_plain_tenure, are_plain_request_where, orders-handing, told_handing, goes_on_plain, goes_on_begins, begins_by_begin, free_where, to_stations-end, ends_failing, ends_broken, ends_dropping, ends_broken_drop}
+use Rattle.conn_rules.proofs.RolesSteps.{changes_roles_changed, changes_roles_refused, resting-roles, changes_roles_release}
 
 -- ---- rows that end a connection, or leave its roles
 
 fails : (state : State) (s : Connection) (input : Input) (offer : Option Channel) (cause : ℕ) → s.state ≡ state → IsOpen state → ((outs : List Message) → those_that_go input outs ≡ outs) → ChangesRoles s input offer (failing state s cause)
 fails state s input offer cause is was_open all_go =
-    ends_in state s input offer (failing state s cause) is was_open (failing-shut state s cause) (Ends-failing state s input cause all_go)
+    ends_in state s input offer (failing state s cause) is was_open (failing_shut state s cause) (ends_failing state s input cause all_go)
 
 drops_it : (state : State) (s : Connection) (input : Input) (offer : Option Channel) → s.state ≡ state → IsOpen state → target_role state ≡ None → ((outs : List Message) → those_that_go input outs ≡ outs) → ChangesRoles s input offer (dropping s)
-drops_it state s input offer is was_open none all_go = ends_in state s input offer (dropping s) is was_open absurd (Ends-dropping state s input none all_go)
+drops_it state s input offer is was_open none all_go = ends_in state s input offer (dropping s) is was_open absurd (ends_dropping state s input none all_go)
 
 ends_it : (state : State) (s : Connection) (input : Input) (offer : Option Channel) (cause : ℕ) (more : List Message) (next : Connection) → s.state ≡ state → IsOpen state → (IsOpen next.state → ⊥) → to_stations more ≡ [] → ((outs : List Message) → those_that_go input outs ≡ outs) → ChangesRoles s input offer (row (end_outs state s.serving cause ++ more) next)
 ends_it state s input offer cause more next is was_open shut none all_go =
@@ -54,17 +54,17 @@ ends_it state s input offer cause more next is was_open shut none all_go =
 same_roles : (reference : ℕ) (stage : Stage) (s : Connection) (input : Input) (offer : Option Channel) (r : Row) → step_by input (roles_in (Live reference stage) s) ≡ stays → s.state ≡ Live reference stage → r.next.state ≡ s.state → roles_of r.next ≡ roles_of s → ArePlain r.outs → ChangesRoles s input offer r
 same_roles reference stage s input offer r none is state same plain =
     goes_on_by stays (Live reference stage) s input offer r none is tt (subst IsOpen (sym (state ∙ is)) tt)
-    (GoesOn-plain (roles_in (Live reference stage) s) s.down input offer r (same ∙ roles-known (Live reference stage) s is) plain)
+    (goes_on_plain (roles_in (Live reference stage) s) s.down input offer r (same ∙ roles-known (Live reference stage) s is) plain)
 
 -- ---- channels are activated
 
-activation_ack-roles : (state : State) (s : Connection) (at : Place) (offer : Option Channel) → s.state ≡ state → ChangesRolesBy s (inputs.ActivationAck at) offer (on_activation_ack state s at)
-activation_ack-roles WaitActivation s at offer is =
-    ChangesRolesBy-row_if s (inputs.ActivationAck at) offer (is_at at s.serving) _
-    (λ _. goes_on_in WaitActivation s (inputs.ActivationAck at) offer _ is tt tt (GoesOn-plain (roles_in WaitActivation s) s.down (inputs.ActivationAck at) offer _ refl (tt, tt)))
+activation_ack_roles : (state : State) (s : Connection) (at : Place) (offer : Option Channel) → s.state ≡ state → ChangesRolesBy s (inputs.ActivationAck at) offer (on_activation_ack state s at)
+activation_ack_roles WaitActivation s at offer is =
+    changes_roles_by_row_if s (inputs.ActivationAck at) offer (is_at at s.serving) _
+    (λ _. goes_on_in WaitActivation s (inputs.ActivationAck at) offer _ is tt tt (goes_on_plain (roles_in WaitActivation s) s.down (inputs.ActivationAck at) offer _ refl (tt, tt)))
     (λ _. none_in WaitActivation s (inputs.ActivationAck at) offer is refl)
-activation_ack-roles (Live reference (Preparing target)) s at offer is =
-    ChangesRolesBy-row_if s (inputs.ActivationAck at) offer (is_at at target.channel) _
+activation_ack_roles (Live reference (Preparing target)) s at offer is =
+    changes_roles_by_row_if s (inputs.ActivationAck at) offer (is_at at target.channel) _
     (λ there. goes_on_by commands (Live reference (Preparing target)) s (inputs.ActivationAck at) offer _ (ap (λ (b : Bool). if b then commands else stays) there) is tt tt
     (record { begun = None; may = tt; roles = refl; ordered = (quiet target.change); tells = refl }))
     (λ apart. none_in (Live reference (Preparing target)) s (inputs.ActivationAck at) offer is (ap (λ (b : Bool). if b then commands else stays) apart))
@@ -72,125 +72,125 @@ activation_ack-roles (Live reference (Preparing target)) s at offer is =
     quiet : (change : Change) → orders (change_command s.serving change target.channel ∷ []) ≡ []
     quiet Assignment = refl
     quiet Handover = refl
-activation_ack-roles state s at offer is = none_in state s (inputs.ActivationAck at) offer is refl
+activation_ack_roles state s at offer is = none_in state s (inputs.ActivationAck at) offer is refl
 
-activation_nack-roles : (state : State) (s : Connection) (at : Place) (offer : Option Channel) → s.state ≡ state → ChangesRolesBy s (inputs.ActivationNack at) offer (on_activation_nack state s at offer)
-activation_nack-roles WaitActivation s at offer is =
-    ChangesRolesBy-row_if s (inputs.ActivationNack at) offer (is_at at s.serving) _
+activation_nack_roles : (state : State) (s : Connection) (at : Place) (offer : Option Channel) → s.state ≡ state → ChangesRolesBy s (inputs.ActivationNack at) offer (on_activation_nack state s at offer)
+activation_nack_roles WaitActivation s at offer is =
+    changes_roles_by_row_if s (inputs.ActivationNack at) offer (is_at at s.serving) _
     (λ there. ends_in WaitActivation s (inputs.ActivationNack at) offer _ is tt absurd (record { end = refused; fits = (there, refl); ordered = refl }))
     (λ _. none_in WaitActivation s (inputs.ActivationNack at) offer is refl)
-activation_nack-roles (Live reference (Preparing target)) s at offer is =
-    ChangesRolesBy-row_if s (inputs.ActivationNack at) offer (is_at at target.channel) _
-    (λ there. ChangesRoles-refused reference target at s offer (ap (λ (b : Bool). if b then goes_back else stays) there) is)
+activation_nack_roles (Live reference (Preparing target)) s at offer is =
+    changes_roles_by_row_if s (inputs.ActivationNack at) offer (is_at at target.channel) _
+    (λ there. changes_roles_refused reference target at s offer (ap (λ (b : Bool). if b then goes_back else stays) there) is)
     (λ apart. none_in (Live reference (Preparing target)) s (inputs.ActivationNack at) offer is (ap (λ (b : Bool). if b then goes_back else stays) apart))
-activation_nack-roles state s at offer is = none_in state s (inputs.ActivationNack at) offer is refl
+activation_nack_roles state s at offer is = none_in state s (inputs.ActivationNack at) offer is refl
 
 -- ---- the mobile's links
 
-access-roles : (initial : Option (List ℕ)) (s : Connection) (at : Place) (sapi : Sapi) (offer : Option Channel) → s.state ≡ WaitEstablish → ChangesRoles s (inputs.EstablishIndication at sapi initial) offer (access initial s)
-access-roles (Some initial) s at sapi offer is =
+access_roles : (initial : Option (List ℕ)) (s : Connection) (at : Place) (sapi : Sapi) (offer : Option Channel) → s.state ≡ WaitEstablish → ChangesRoles s (inputs.EstablishIndication at sapi initial) offer (access initial s)
+access_roles (Some initial) s at sapi offer is =
     cond_both (leb (length initial) INITIAL_LIMIT) _ _ (ChangesRoles s (inputs.EstablishIndication at sapi (Some initial)) offer)
     (λ _. goes_on_in WaitEstablish s (inputs.EstablishIndication at sapi (Some initial)) offer _ is tt tt
-    (GoesOn-plain (roles_in WaitEstablish s) s.down (inputs.EstablishIndication at sapi (Some initial)) offer _ refl (tt, tt)))
+    (goes_on_plain (roles_in WaitEstablish s) s.down (inputs.EstablishIndication at sapi (Some initial)) offer _ refl (tt, tt)))
     (λ _. drops_it WaitEstablish s (inputs.EstablishIndication at sapi (Some initial)) offer is tt refl (λ _. refl))
-access-roles None s at sapi offer is = drops_it WaitEstablish s (inputs.EstablishIndication at sapi None) offer is tt refl (λ _. refl)
+access_roles None s at sapi offer is = drops_it WaitEstablish s (inputs.EstablishIndication at sapi None) offer is tt refl (λ _. refl)
 
 -- SAPI 3 comes up: what is held of it is handed
-link_up-roles : (reference : ℕ) (stage : Stage) (s : Connection) (input : Input) (offer : Option Channel) → step_by input (roles_in (Live reference stage) s) ≡ stays → s.state ≡ Live reference stage → ChangesRoles s input offer (link_up s)
-link_up-roles reference stage s input offer none is =
+link_up_roles : (reference : ℕ) (stage : Stage) (s : Connection) (input : Input) (offer : Option Channel) → step_by input (roles_in (Live reference stage) s) ≡ stays → s.state ≡ Live reference stage → ChangesRoles s input offer (link_up s)
+link_up_roles reference stage s input offer none is =
     goes_on_by stays (Live reference stage) s input offer (link_up s) none is tt (subst IsOpen (sym is) tt)
     (record {
       begun = None;
       may = tt;
       roles = roles-known (Live reference stage) s is;
       ordered = orders-handing s.serving Three s.down.three;
-      tells = told-handing s.down input s.serving Three s.down.three (λ m held.
+      tells = told_handing s.down input s.serving Three s.down.three (λ m held.
           Contains-append_right s.down.zero (s.down.three ++ brought input) m (Contains-append_left s.down.three (brought input) m held));
     })
 
-establish_indication-roles : (state : State) (s : Connection) (at : Place) (sapi : Sapi) (message : Option (List ℕ)) (offer : Option Channel) → s.state ≡ state → ChangesRolesBy s (inputs.EstablishIndication at sapi message) offer (on_establish_indication state s at sapi message)
-establish_indication-roles WaitEstablish s at Zero message offer is =
-    ChangesRolesBy-row_if s (inputs.EstablishIndication at Zero message) offer (is_at at s.serving) _ (λ _. access-roles message s at Zero offer is) (λ _. refl)
-establish_indication-roles (Live reference (Changing target)) s at sapi message offer is = refl
-establish_indication-roles (Live reference stage) s at Three message offer is =
-    ChangesRolesBy-row_if s (inputs.EstablishIndication at Three message) offer (is_at at s.serving) _ (λ _. link_up-roles reference stage s (inputs.EstablishIndication at Three message) offer refl is) (λ _. refl)
-establish_indication-roles _ s at sapi message offer is = refl
+establish_indication_roles : (state : State) (s : Connection) (at : Place) (sapi : Sapi) (message : Option (List ℕ)) (offer : Option Channel) → s.state ≡ state → ChangesRolesBy s (inputs.EstablishIndication at sapi message) offer (on_establish_indication state s at sapi message)
+establish_indication_roles WaitEstablish s at Zero message offer is =
+    changes_roles_by_row_if s (inputs.EstablishIndication at Zero message) offer (is_at at s.serving) _ (λ _. access_roles message s at Zero offer is) (λ _. refl)
+establish_indication_roles (Live reference (Changing target)) s at sapi message offer is = refl
+establish_indication_roles (Live reference stage) s at Three message offer is =
+    changes_roles_by_row_if s (inputs.EstablishIndication at Three message) offer (is_at at s.serving) _ (λ _. link_up_roles reference stage s (inputs.EstablishIndication at Three message) offer refl is) (λ _. refl)
+establish_indication_roles _ s at sapi message offer is = refl
 
-establish_confirm-roles : (state : State) (s : Connection) (at : Place) (sapi : Sapi) (offer : Option Channel) → s.state ≡ state → ChangesRolesBy s (inputs.EstablishConfirm at sapi) offer (on_establish_confirm state s at sapi)
-establish_confirm-roles (Live reference (Changing target)) s at sapi offer is = refl
-establish_confirm-roles (Live reference stage) s at Three offer is =
-    ChangesRolesBy-row_if s (inputs.EstablishConfirm at Three) offer (was_asked s.link && is_at at s.serving) _ (λ _. link_up-roles reference stage s (inputs.EstablishConfirm at Three) offer refl is) (λ _. refl)
-establish_confirm-roles _ s at sapi offer is = refl
+establish_confirm_roles : (state : State) (s : Connection) (at : Place) (sapi : Sapi) (offer : Option Channel) → s.state ≡ state → ChangesRolesBy s (inputs.EstablishConfirm at sapi) offer (on_establish_confirm state s at sapi)
+establish_confirm_roles (Live reference (Changing target)) s at sapi offer is = refl
+establish_confirm_roles (Live reference stage) s at Three offer is =
+    changes_roles_by_row_if s (inputs.EstablishConfirm at Three) offer (was_asked s.link && is_at at s.serving) _ (λ _. link_up_roles reference stage s (inputs.EstablishConfirm at Three) offer refl is) (λ _. refl)
+establish_confirm_roles _ s at sapi offer is = refl
 
-link_down-roles : (reference : ℕ) (stage : Stage) (link : ShortMessageLink) (s : Connection) (input : Input) (offer : Option Channel) → step_by input (roles_in (Live reference stage) s) ≡ stays → s.state ≡ Live reference stage → ChangesRoles s input offer (link_down link reference s)
-link_down-roles reference stage Asked s input offer none is = same_roles reference stage s input offer (link_down Asked reference s) none is refl refl (tt, tt)
-link_down-roles reference stage Down s input offer none is = same_roles reference stage s input offer (link_down Down reference s) none is refl refl tt
-link_down-roles reference stage Up s input offer none is = same_roles reference stage s input offer (link_down Up reference s) none is refl refl tt
+link_down_roles : (reference : ℕ) (stage : Stage) (link : ShortMessageLink) (s : Connection) (input : Input) (offer : Option Channel) → step_by input (roles_in (Live reference stage) s) ≡ stays → s.state ≡ Live reference stage → ChangesRoles s input offer (link_down link reference s)
+link_down_roles reference stage Asked s input offer none is = same_roles reference stage s input offer (link_down Asked reference s) none is refl refl (tt, tt)
+link_down_roles reference stage Down s input offer none is = same_roles reference stage s input offer (link_down Down reference s) none is refl refl tt
+link_down_roles reference stage Up s input offer none is = same_roles reference stage s input offer (link_down Up reference s) none is refl refl tt
 
-release_indication-roles : (state : State) (s : Connection) (at : Place) (sapi : Sapi) (offer : Option Channel) → s.state ≡ state → ChangesRolesBy s (inputs.ReleaseIndication at sapi) offer (on_release_indication state s at sapi)
-release_indication-roles WaitEstablish s at Zero offer is =
-    ChangesRolesBy-row_if s (inputs.ReleaseIndication at Zero) offer (is_at at s.serving) _ (λ _. drops_it WaitEstablish s (inputs.ReleaseIndication at Zero) offer is tt refl (λ _. refl)) (λ _. refl)
-release_indication-roles WaitConfirm s at Zero offer is =
-    ChangesRolesBy-row_if s (inputs.ReleaseIndication at Zero) offer (is_at at s.serving) _ (λ _. fails WaitConfirm s (inputs.ReleaseIndication at Zero) offer RADIO_INTERFACE_FAILURE is tt (λ _. refl)) (λ _. refl)
-release_indication-roles (Live reference (Changing target)) s at sapi offer is = refl
-release_indication-roles (Live reference stage) s at Zero offer is =
-    ChangesRolesBy-row_if s (inputs.ReleaseIndication at Zero) offer (is_at at s.serving) _ (λ _. fails (Live reference stage) s (inputs.ReleaseIndication at Zero) offer RADIO_INTERFACE_FAILURE is tt (λ _. refl)) (λ _. refl)
-release_indication-roles (Live reference stage) s at Three offer is =
-    ChangesRolesBy-row_if s (inputs.ReleaseIndication at Three) offer (is_at at s.serving) _ (λ _. link_down-roles reference stage s.link s (inputs.ReleaseIndication at Three) offer refl is) (λ _. refl)
-release_indication-roles _ s at sapi offer is = refl
+release_indication_roles : (state : State) (s : Connection) (at : Place) (sapi : Sapi) (offer : Option Channel) → s.state ≡ state → ChangesRolesBy s (inputs.ReleaseIndication at sapi) offer (on_release_indication state s at sapi)
+release_indication_roles WaitEstablish s at Zero offer is =
+    changes_roles_by_row_if s (inputs.ReleaseIndication at Zero) offer (is_at at s.serving) _ (λ _. drops_it WaitEstablish s (inputs.ReleaseIndication at Zero) offer is tt refl (λ _. refl)) (λ _. refl)
+release_indication_roles WaitConfirm s at Zero offer is =
+    changes_roles_by_row_if s (inputs.ReleaseIndication at Zero) offer (is_at at s.serving) _ (λ _. fails WaitConfirm s (inputs.ReleaseIndication at Zero) offer RADIO_INTERFACE_FAILURE is tt (λ _. refl)) (λ _. refl)
+release_indication_roles (Live reference (Changing target)) s at sapi offer is = refl
+release_indication_roles (Live reference stage) s at Zero offer is =
+    changes_roles_by_row_if s (inputs.ReleaseIndication at Zero) offer (is_at at s.serving) _ (λ _. fails (Live reference stage) s (inputs.ReleaseIndication at Zero) offer RADIO_INTERFACE_FAILURE is tt (λ _. refl)) (λ _. refl)
+release_indication_roles (Live reference stage) s at Three offer is =
+    changes_roles_by_row_if s (inputs.ReleaseIndication at Three) offer (is_at at s.serving) _ (λ _. link_down_roles reference stage s.link s (inputs.ReleaseIndication at Three) offer refl is) (λ _. refl)
+release_indication_roles _ s at sapi offer is = refl
 
-error_indication-roles : (state : State) (s : Connection) (at : Place) (sapi : Sapi) (offer : Option Channel) → s.state ≡ state → ChangesRolesBy s (inputs.ErrorIndication at sapi) offer (on_error_indication state s at sapi)
-error_indication-roles (Live reference (Changing target)) s at sapi offer is = refl
-error_indication-roles (Live reference stage) s at Three offer is =
-    ChangesRolesBy-row_if s (inputs.ErrorIndication at Three) offer (is_at at s.serving) _ (λ _. link_down-roles reference stage s.link s (inputs.ErrorIndication at Three) offer refl is) (λ _. refl)
-error_indication-roles _ s at sapi offer is = refl
+error_indication_roles : (state : State) (s : Connection) (at : Place) (sapi : Sapi) (offer : Option Channel) → s.state ≡ state → ChangesRolesBy s (inputs.ErrorIndication at sapi) offer (on_error_indication state s at sapi)
+error_indication_roles (Live reference (Changing target)) s at sapi offer is = refl
+error_indication_roles (Live reference stage) s at Three offer is =
+    changes_roles_by_row_if s (inputs.ErrorIndication at Three) offer (is_at at s.serving) _ (λ _. link_down_roles reference stage s.link s (inputs.ErrorIndication at Three) offer refl is) (λ _. refl)
+error_indication_roles _ s at sapi offer is = refl
 
-connection_failure-roles : (state : State) (s : Connection) (at : Place) (offer : Option Channel) → s.state ≡ state → ChangesRolesBy s (inputs.ConnectionFailure at) offer (on_connection_failure state s at)
-connection_failure-roles WaitEstablish s at offer is =
-    ChangesRolesBy-row_if s (inputs.ConnectionFailure at) offer (is_at at s.serving) _ (λ _. drops_it WaitEstablish s (inputs.ConnectionFailure at) offer is tt refl (λ _. refl)) (λ _. refl)
-connection_failure-roles WaitConfirm s at offer is =
-    ChangesRolesBy-row_if s (inputs.ConnectionFailure at) offer (is_at at s.serving) _ (λ _. fails WaitConfirm s (inputs.ConnectionFailure at) offer RADIO_INTERFACE_FAILURE is tt (λ _. refl)) (λ _. refl)
-connection_failure-roles (Live reference (Changing target)) s at offer is = refl
-connection_failure-roles (Live reference stage) s at offer is =
-    ChangesRolesBy-row_if s (inputs.ConnectionFailure at) offer (is_at at s.serving) _ (λ _. fails (Live reference stage) s (inputs.ConnectionFailure at) offer RADIO_INTERFACE_FAILURE is tt (λ _. refl)) (λ _. refl)
-connection_failure-roles _ s at offer is = refl
+connection_failure_roles : (state : State) (s : Connection) (at : Place) (offer : Option Channel) → s.state ≡ state → ChangesRolesBy s (inputs.ConnectionFailure at) offer (on_connection_failure state s at)
+connection_failure_roles WaitEstablish s at offer is =
+    changes_roles_by_row_if s (inputs.ConnectionFailure at) offer (is_at at s.serving) _ (λ _. drops_it WaitEstablish s (inputs.ConnectionFailure at) offer is tt refl (λ _. refl)) (λ _. refl)
+connection_failure_roles WaitConfirm s at offer is =
+    changes_roles_by_row_if s (inputs.ConnectionFailure at) offer (is_at at s.serving) _ (λ _. fails WaitConfirm s (inputs.ConnectionFailure at) offer RADIO_INTERFACE_FAILURE is tt (λ _. refl)) (λ _. refl)
+connection_failure_roles (Live reference (Changing target)) s at offer is = refl
+connection_failure_roles (Live reference stage) s at offer is =
+    changes_roles_by_row_if s (inputs.ConnectionFailure at) offer (is_at at s.serving) _ (λ _. fails (Live reference stage) s (inputs.ConnectionFailure at) offer RADIO_INTERFACE_FAILURE is tt (λ _. refl)) (λ _. refl)
+connection_failure_roles _ s at offer is = refl
 
 -- ---- the mobile's messages
 
-dtap_on_target-roles : (reference : ℕ) (stage : Stage) (s : Connection) (at : Place) (sapi : Sapi) (message : List ℕ) (offer : Option Channel) → s.state ≡ Live reference stage → ChangesRolesBy s (inputs.Dtap at sapi message) offer (dtap_on_target reference stage s at sapi)
-dtap_on_target-roles reference (Changing target) s at Zero message offer is =
-    ChangesRolesBy-row_if s (inputs.Dtap at Zero message) offer (is_at at target.channel) _ (λ _. fails (Live reference (Changing target)) s (inputs.Dtap at Zero message) offer EQUIPMENT_FAILURE is tt (λ _. refl)) (λ _. refl)
-dtap_on_target-roles reference _ s at sapi message offer is = refl
+dtap_on_target_roles : (reference : ℕ) (stage : Stage) (s : Connection) (at : Place) (sapi : Sapi) (message : List ℕ) (offer : Option Channel) → s.state ≡ Live reference stage → ChangesRolesBy s (inputs.Dtap at sapi message) offer (dtap_on_target reference stage s at sapi)
+dtap_on_target_roles reference (Changing target) s at Zero message offer is =
+    changes_roles_by_row_if s (inputs.Dtap at Zero message) offer (is_at at target.channel) _ (λ _. fails (Live reference (Changing target)) s (inputs.Dtap at Zero message) offer EQUIPMENT_FAILURE is tt (λ _. refl)) (λ _. refl)
+dtap_on_target_roles reference _ s at sapi message offer is = refl
 
-dtap_in-roles : (tenure : Option ℕ) (reference : ℕ) (stage : Stage) (s : Connection) (at : Place) (sapi : Sapi) (message : List ℕ) (offer : Option Channel) → s.state ≡ Live reference stage → ChangesRolesBy s (inputs.Dtap at sapi message) offer (dtap_in tenure reference stage s at sapi message)
-dtap_in-roles (Some zero) reference stage s at sapi message offer is = same_roles reference stage s (inputs.Dtap at sapi message) offer _ refl is refl refl (tt, tt)
-dtap_in-roles (Some (suc tenure)) reference stage s at sapi message offer is =
+dtap_in_roles : (tenure : Option ℕ) (reference : ℕ) (stage : Stage) (s : Connection) (at : Place) (sapi : Sapi) (message : List ℕ) (offer : Option Channel) → s.state ≡ Live reference stage → ChangesRolesBy s (inputs.Dtap at sapi message) offer (dtap_in tenure reference stage s at sapi message)
+dtap_in_roles (Some zero) reference stage s at sapi message offer is = same_roles reference stage s (inputs.Dtap at sapi message) offer _ refl is refl refl (tt, tt)
+dtap_in_roles (Some (suc tenure)) reference stage s at sapi message offer is =
     cond_both (eqb (chain_count s.up) s.up.limit) _ _ (ChangesRoles s (inputs.Dtap at sapi message) offer)
     (λ _. fails (Live reference stage) s (inputs.Dtap at sapi message) offer EQUIPMENT_FAILURE is tt (λ _. refl))
     (λ _. same_roles reference stage s (inputs.Dtap at sapi message) offer _ refl is refl refl tt)
-dtap_in-roles None reference stage s at sapi message offer is = dtap_on_target-roles reference stage s at sapi message offer is
+dtap_in_roles None reference stage s at sapi message offer is = dtap_on_target_roles reference stage s at sapi message offer is
 
-dtap-roles : (state : State) (s : Connection) (at : Place) (sapi : Sapi) (message : List ℕ) (offer : Option Channel) → s.state ≡ state → ChangesRolesBy s (inputs.Dtap at sapi message) offer (on_dtap state s at sapi message)
-dtap-roles WaitEstablish s at Zero message offer is =
-    ChangesRolesBy-row_if s (inputs.Dtap at Zero message) offer (is_at at s.serving) _ (λ _. drops_it WaitEstablish s (inputs.Dtap at Zero message) offer is tt refl (λ _. refl)) (λ _. refl)
-dtap-roles WaitConfirm s at sapi message offer is =
-    ChangesRolesBy-row_if s (inputs.Dtap at sapi message) offer (is_at at s.serving) _
+dtap_roles : (state : State) (s : Connection) (at : Place) (sapi : Sapi) (message : List ℕ) (offer : Option Channel) → s.state ≡ state → ChangesRolesBy s (inputs.Dtap at sapi message) offer (on_dtap state s at sapi message)
+dtap_roles WaitEstablish s at Zero message offer is =
+    changes_roles_by_row_if s (inputs.Dtap at Zero message) offer (is_at at s.serving) _ (λ _. drops_it WaitEstablish s (inputs.Dtap at Zero message) offer is tt refl (λ _. refl)) (λ _. refl)
+dtap_roles WaitConfirm s at sapi message offer is =
+    changes_roles_by_row_if s (inputs.Dtap at sapi message) offer (is_at at s.serving) _
     (λ _. cond_both (eqb (chain_count s.up) s.up.limit) _ _ (ChangesRoles s (inputs.Dtap at sapi message) offer)
     (λ _. fails WaitConfirm s (inputs.Dtap at sapi message) offer EQUIPMENT_FAILURE is tt (λ _. refl))
     (λ _. goes_on_in WaitConfirm s (inputs.Dtap at sapi message) offer _ is tt (subst IsOpen (sym is) tt)
-    (GoesOn-plain (roles_in WaitConfirm s) s.down (inputs.Dtap at sapi message) offer _ (roles-known WaitConfirm s is) tt)))
+    (goes_on_plain (roles_in WaitConfirm s) s.down (inputs.Dtap at sapi message) offer _ (roles-known WaitConfirm s is) tt)))
     (λ _. refl)
-dtap-roles (Live reference stage) s at sapi message offer is = dtap_in-roles (tenure_at at s.serving s.draining) reference stage s at sapi message offer is
-dtap-roles _ s at sapi message offer is = refl
+dtap_roles (Live reference stage) s at sapi message offer is = dtap_in_roles (tenure_at at s.serving s.draining) reference stage s at sapi message offer is
+dtap_roles _ s at sapi message offer is = refl
 
 and_false : (b : Bool) → (b && false) ≡ false
 and_false true = refl
 and_false false = refl
 
-complete-roles : (state : State) (s : Connection) (at : Place) (change : Change) (cause : RrCause) (offer : Option Channel) → s.state ≡ state → ChangesRolesBy s (inputs.Complete at change cause) offer (on_complete state s at change cause.0 offer)
-complete-roles (Live reference (Changing target)) s at change cause offer is =
-    ChangesRolesBy-row_if s (inputs.Complete at change cause) offer (is_at at target.channel && same_change change target.change) _
-    (λ there. ChangesRoles-changed completes (Live reference (Changing target)) s (inputs.Complete at change cause) offer
+complete_roles : (state : State) (s : Connection) (at : Place) (change : Change) (cause : RrCause) (offer : Option Channel) → s.state ≡ state → ChangesRolesBy s (inputs.Complete at change cause) offer (on_complete state s at change cause.0 offer)
+complete_roles (Live reference (Changing target)) s at change cause offer is =
+    changes_roles_by_row_if s (inputs.Complete at change cause) offer (is_at at target.channel && same_change change target.change) _
+    (λ there. changes_roles_changed completes (Live reference (Changing target)) s (inputs.Complete at change cause) offer
     (change_complete reference change target.channel cause.0 ∷ rf_channel_release s.serving ∷ []) (moved reference target.channel s) Draining reference
     (ap (λ (b : Bool). if b then completes else stays) there) is tt tt refl refl (quiet change).0 ((quiet change).1, (tt, tt)) refl refl)
     (λ apart. none_in (Live reference (Changing target)) s (inputs.Complete at change cause) offer is (ap (λ (b : Bool). if b then completes else stays) apart))
@@ -198,14 +198,14 @@ complete-roles (Live reference (Changing target)) s at change cause offer is =
     quiet : (change : Change) → (orders (change_complete reference change target.channel cause.0 ∷ rf_channel_release s.serving ∷ []) ≡ rf_channel_release s.serving ∷ []) × IsUntold (change_complete reference change target.channel cause.0)
     quiet Assignment = (refl, tt)
     quiet Handover = (refl, tt)
-complete-roles (Live reference (Preparing target)) s at change cause offer is =
+complete_roles (Live reference (Preparing target)) s at change cause offer is =
     none_in (Live reference (Preparing target)) s (inputs.Complete at change cause) offer is (ap (λ (b : Bool). if b then completes else stays) (and_false (is_at at target.channel)))
-complete-roles state s at change cause offer is = none_in state s (inputs.Complete at change cause) offer is refl
+complete_roles state s at change cause offer is = none_in state s (inputs.Complete at change cause) offer is refl
 
-failure-roles : (state : State) (s : Connection) (at : Place) (change : Change) (cause : RrCause) (offer : Option Channel) → s.state ≡ state → ChangesRolesBy s (inputs.Failure at change cause) offer (on_failure state s at change cause.0 offer)
-failure-roles (Live reference (Changing target)) s at change cause offer is =
-    ChangesRolesBy-row_if s (inputs.Failure at change cause) offer (is_at at s.serving && same_change change target.change) _
-    (λ there. ChangesRoles-changed goes_back (Live reference (Changing target)) s (inputs.Failure at change cause) offer
+failure_roles : (state : State) (s : Connection) (at : Place) (change : Change) (cause : RrCause) (offer : Option Channel) → s.state ≡ state → ChangesRolesBy s (inputs.Failure at change cause) offer (on_failure state s at change cause.0 offer)
+failure_roles (Live reference (Changing target)) s at change cause offer is =
+    changes_roles_by_row_if s (inputs.Failure at change cause) offer (is_at at s.serving && same_change change target.change) _
+    (λ there. changes_roles_changed goes_back (Live reference (Changing target)) s (inputs.Failure at change cause) offer
     (failure_outs change reference cause.0 ++ rf_channel_release target.channel ∷ []) (resting reference s) (resting_stage s.draining) reference
     (ap (λ (b : Bool). if b then goes_back else stays) there) is tt tt refl (resting-roles reference (Live reference (Changing target)) s) (quiet change).0 (quiet change).1 refl refl)
     (λ apart. none_in (Live reference (Changing target)) s (inputs.Failure at change cause) offer is (ap (λ (b : Bool). if b then goes_back else stays) apart))
@@ -213,72 +213,72 @@ failure-roles (Live reference (Changing target)) s at change cause offer is =
     quiet : (change : Change) → (orders (failure_outs change reference cause.0 ++ rf_channel_release target.channel ∷ []) ≡ rf_channel_release target.channel ∷ []) × AllByRecursion IsUntold (failure_outs change reference cause.0 ++ rf_channel_release target.channel ∷ [])
     quiet Assignment = (refl, (tt, (tt, tt)))
     quiet Handover = (refl, (tt, tt))
-failure-roles state s at change cause offer is =
+failure_roles state s at change cause offer is =
     none_in state s (inputs.Failure at change cause) offer is (ap (λ (b : Bool). if b then goes_back else stays) (and_false (is_at at s.serving)))
 
-release_in-roles : (found : Option ℕ) (reference : ℕ) (stage : Stage) (s : Connection) (at : Place) (offer : Option Channel) → drain_at at s.draining ≡ found → s.state ≡ Live reference stage → ChangesRolesBy s (inputs.ReleaseAck at) offer (release_in found reference stage offer s)
-release_in-roles (Some place) reference stage s at offer found is = ChangesRoles-release reference stage place at s offer found is
-release_in-roles None reference stage s at offer found is = ap leaves_at found
+release_in_roles : (found : Option ℕ) (reference : ℕ) (stage : Stage) (s : Connection) (at : Place) (offer : Option Channel) → drain_at at s.draining ≡ found → s.state ≡ Live reference stage → ChangesRolesBy s (inputs.ReleaseAck at) offer (release_in found reference stage offer s)
+release_in_roles (Some place) reference stage s at offer found is = changes_roles_release reference stage place at s offer found is
+release_in_roles None reference stage s at offer found is = ap leaves_at found
 
 -- no channel drains
 no_release : (s : Connection) (at : Place) (offer : Option Channel) → s.draining ≡ [] → ChangesRolesBy s (inputs.ReleaseAck at) offer None
 no_release s at offer none = ap (λ (ds : List Drain). leaves_at (drain_at at ds)) none
 
-release_ack-roles : (state : State) (s : Connection) (at : Place) (offer : Option Channel) → s.state ≡ state → Stands s → ChangesRolesBy s (inputs.ReleaseAck at) offer (on_release_ack state s at offer)
-release_ack-roles (Live reference stage) s at offer is stands = release_in-roles (drain_at at s.draining) reference stage s at offer refl is
-release_ack-roles WaitActivation s at offer is stands = no_release s at offer (by_state WaitActivation s is stands).0.none_drains
-release_ack-roles WaitEstablish s at offer is stands = no_release s at offer (by_state WaitEstablish s is stands).0.none_drains
-release_ack-roles WaitConfirm s at offer is stands = no_release s at offer (by_state WaitConfirm s is stands).none_drains
-release_ack-roles (Closed clearing) s at offer is stands = no_release s at offer (by_state (Closed clearing) s is stands).none_drains
-release_ack-roles Removed s at offer is stands = no_release s at offer (by_state Removed s is stands).none_drains
+release_ack_roles : (state : State) (s : Connection) (at : Place) (offer : Option Channel) → s.state ≡ state → Stands s → ChangesRolesBy s (inputs.ReleaseAck at) offer (on_release_ack state s at offer)
+release_ack_roles (Live reference stage) s at offer is stands = release_in_roles (drain_at at s.draining) reference stage s at offer refl is
+release_ack_roles WaitActivation s at offer is stands = no_release s at offer (by_state WaitActivation s is stands).0.none_drains
+release_ack_roles WaitEstablish s at offer is stands = no_release s at offer (by_state WaitEstablish s is stands).0.none_drains
+release_ack_roles WaitConfirm s at offer is stands = no_release s at offer (by_state WaitConfirm s is stands).none_drains
+release_ack_roles (Closed clearing) s at offer is stands = no_release s at offer (by_state (Closed clearing) s is stands).none_drains
+release_ack_roles Removed s at offer is stands = no_release s at offer (by_state Removed s is stands).none_drains
 
 -- ---- a change begins
 
-begin-roles : (reference : ℕ) (stage : Stage) (change : Change) (s : Connection) (input : Input) (offer : Option Channel) → step_by input (roles_in (Live reference stage) s) ≡ stays → change ≡ change_by input → s.state ≡ Live reference stage → may_begin stage s.draining ≡ true → ChangesRoles s input offer (begin reference change offer s)
-begin-roles reference stage change s input offer none kind is may =
-    let begins = BeginsBy-begin input offer reference change s kind (free_where stage reference s is may) in
+begin_roles : (reference : ℕ) (stage : Stage) (change : Change) (s : Connection) (input : Input) (offer : Option Channel) → step_by input (roles_in (Live reference stage) s) ≡ stays → change ≡ change_by input → s.state ≡ Live reference stage → may_begin stage s.draining ≡ true → ChangesRoles s input offer (begin reference change offer s)
+begin_roles reference stage change s input offer none kind is may =
+    let begins = begins_by_begin input offer reference change s kind (free_where stage reference s is may) in
     goes_on_by stays (Live reference stage) s input offer (begin reference change offer s) none is tt (begins.stays_open (subst IsOpen (sym is) tt))
-    (GoesOn-begins stays (roles_in (Live reference stage) s) s.down input offer [] s (begin_outs reference change offer) (after_begin reference change offer s) tt (roles-known (Live reference stage) s is) refl tt begins)
+    (goes_on_begins stays (roles_in (Live reference stage) s) s.down input offer [] s (begin_outs reference change offer) (after_begin reference change offer s) tt (roles-known (Live reference stage) s is) refl tt begins)
 
-move-roles : (state : State) (s : Connection) (offer : Option Channel) → s.state ≡ state → ChangesRolesBy s inputs.Move offer (on_move state s offer)
-move-roles (Live reference stage) s offer is =
-    ChangesRolesBy-row_if s inputs.Move offer (may_begin stage s.draining) _ (λ may. begin-roles reference stage Handover s inputs.Move offer refl refl is may) (λ _. refl)
-move-roles _ s offer is = refl
+move_roles : (state : State) (s : Connection) (offer : Option Channel) → s.state ≡ state → ChangesRolesBy s inputs.Move offer (on_move state s offer)
+move_roles (Live reference stage) s offer is =
+    changes_roles_by_row_if s inputs.Move offer (may_begin stage s.draining) _ (λ may. begin_roles reference stage Handover s inputs.Move offer refl refl is may) (λ _. refl)
+move_roles _ s offer is = refl
 
-assignment_request-roles : (state : State) (s : Connection) (is_speech : Bool) (offer : Option Channel) → s.state ≡ state → ChangesRolesBy s (inputs.AssignmentRequest is_speech) offer (on_assignment_request state s is_speech offer)
-assignment_request-roles (Live reference stage) s is_speech offer is =
+assignment_request_roles : (state : State) (s : Connection) (is_speech : Bool) (offer : Option Channel) → s.state ≡ state → ChangesRolesBy s (inputs.AssignmentRequest is_speech) offer (on_assignment_request state s is_speech offer)
+assignment_request_roles (Live reference stage) s is_speech offer is =
     cond_both is_speech _ _ (ChangesRoles s (inputs.AssignmentRequest is_speech) offer)
     (λ _. cond_both (may_begin stage s.draining) _ _ (ChangesRoles s (inputs.AssignmentRequest is_speech) offer)
-    (λ may. begin-roles reference stage Assignment s (inputs.AssignmentRequest is_speech) offer refl refl is may)
+    (λ may. begin_roles reference stage Assignment s (inputs.AssignmentRequest is_speech) offer refl refl is may)
     (λ _. cond_both s.waits _ _ (ChangesRoles s (inputs.AssignmentRequest is_speech) offer)
     (λ _. same_roles reference stage s (inputs.AssignmentRequest is_speech) offer _ refl is refl refl (tt, tt))
     (λ _. same_roles reference stage s (inputs.AssignmentRequest is_speech) offer _ refl is refl refl tt)))
     (λ _. same_roles reference stage s (inputs.AssignmentRequest is_speech) offer _ refl is refl refl (tt, tt))
-assignment_request-roles _ s is_speech offer is = refl
+assignment_request_roles _ s is_speech offer is = refl
 
 -- ---- the switch
 
-confirm-roles : (state : State) (s : Connection) (source : Reference) (offer : Option Channel) → s.state ≡ state → ChangesRolesBy s (inputs.ConnectionConfirm source) offer (on_confirm state s source)
-confirm-roles WaitConfirm s source offer is =
+confirm_roles : (state : State) (s : Connection) (source : Reference) (offer : Option Channel) → s.state ≡ state → ChangesRolesBy s (inputs.ConnectionConfirm source) offer (on_confirm state s source)
+confirm_roles WaitConfirm s source offer is =
     goes_on_in WaitConfirm s (inputs.ConnectionConfirm source) offer _ is tt tt
-    (GoesOn-plain (roles_in WaitConfirm s) s.down (inputs.ConnectionConfirm source) offer _ refl (ArePlain-tenure source (first_channel s.draining s.serving) s.up.tenures))
-confirm-roles (Closed (Due cause)) s source offer is = had_ended_in (Closed (Due cause)) s (inputs.ConnectionConfirm source) offer _ is absurd absurd refl
-confirm-roles _ s source offer is = refl
+    (goes_on_plain (roles_in WaitConfirm s) s.down (inputs.ConnectionConfirm source) offer _ refl (are_plain_tenure source (first_channel s.draining s.serving) s.up.tenures))
+confirm_roles (Closed (Due cause)) s source offer is = had_ended_in (Closed (Due cause)) s (inputs.ConnectionConfirm source) offer _ is absurd absurd refl
+confirm_roles _ s source offer is = refl
 
-refused-roles : (state : State) (s : Connection) (offer : Option Channel) → s.state ≡ state → ChangesRolesBy s inputs.ConnectionRefused offer (on_refused state s)
-refused-roles WaitConfirm s offer is = ends_it WaitConfirm s inputs.ConnectionRefused offer ABNORMAL_RELEASE [] (emptied Removed s) is tt absurd refl (λ _. refl)
-refused-roles (Closed (Due cause)) s offer is = had_ended_in (Closed (Due cause)) s inputs.ConnectionRefused offer _ is absurd absurd refl
-refused-roles _ s offer is = refl
+refused_roles : (state : State) (s : Connection) (offer : Option Channel) → s.state ≡ state → ChangesRolesBy s inputs.ConnectionRefused offer (on_refused state s)
+refused_roles WaitConfirm s offer is = ends_it WaitConfirm s inputs.ConnectionRefused offer ABNORMAL_RELEASE [] (emptied Removed s) is tt absurd refl (λ _. refl)
+refused_roles (Closed (Due cause)) s offer is = had_ended_in (Closed (Due cause)) s inputs.ConnectionRefused offer _ is absurd absurd refl
+refused_roles _ s offer is = refl
 
-released-roles : (state : State) (s : Connection) (source : Reference) (offer : Option Channel) → s.state ≡ state → ChangesRolesBy s (inputs.Released source) offer (on_released state s source)
-released-roles WaitConfirm s source offer is = ends_it WaitConfirm s (inputs.Released source) offer ABNORMAL_RELEASE (release_complete source ∷ []) (emptied Removed s) is tt absurd refl (λ _. refl)
-released-roles (Live own stage) s source offer is = ends_it (Live own stage) s (inputs.Released source) offer ABNORMAL_RELEASE (release_complete source ∷ []) (emptied Removed s) is tt absurd refl (λ _. refl)
-released-roles (Closed clearing) s source offer is = had_ended_in (Closed clearing) s (inputs.Released source) offer _ is absurd absurd refl
-released-roles _ s source offer is = refl
+released_roles : (state : State) (s : Connection) (source : Reference) (offer : Option Channel) → s.state ≡ state → ChangesRolesBy s (inputs.Released source) offer (on_released state s source)
+released_roles WaitConfirm s source offer is = ends_it WaitConfirm s (inputs.Released source) offer ABNORMAL_RELEASE (release_complete source ∷ []) (emptied Removed s) is tt absurd refl (λ _. refl)
+released_roles (Live own stage) s source offer is = ends_it (Live own stage) s (inputs.Released source) offer ABNORMAL_RELEASE (release_complete source ∷ []) (emptied Removed s) is tt absurd refl (λ _. refl)
+released_roles (Closed clearing) s source offer is = had_ended_in (Closed clearing) s (inputs.Released source) offer _ is absurd absurd refl
+released_roles _ s source offer is = refl
 
 -- a message is handed
-handed-roles : (reference : ℕ) (stage : Stage) (s : Connection) (sapi : Sapi) (message : List ℕ) (offer : Option Channel) → s.state ≡ Live reference stage → ChangesRoles s (inputs.Downlink sapi message) offer (row (handing s.serving sapi message ∷ []) s)
-handed-roles reference stage s sapi message offer is =
+handed_roles : (reference : ℕ) (stage : Stage) (s : Connection) (sapi : Sapi) (message : List ℕ) (offer : Option Channel) → s.state ≡ Live reference stage → ChangesRoles s (inputs.Downlink sapi message) offer (row (handing s.serving sapi message ∷ []) s)
+handed_roles reference stage s sapi message offer is =
     goes_on_by stays (Live reference stage) s (inputs.Downlink sapi message) offer (row (handing s.serving sapi message ∷ []) s) refl is tt (subst IsOpen (sym is) tt)
     (record {
       begun = None;
@@ -288,97 +288,97 @@ handed-roles reference stage s sapi message offer is =
       tells = (Contains-append_right s.down.zero (s.down.three ++ message ∷ []) message (Contains-append_right s.down.three (message ∷ []) message (Contains-push [] message)), tt);
     })
 
-short_message-roles : (reference : ℕ) (stage : Stage) (link : ShortMessageLink) (s : Connection) (message : List ℕ) (offer : Option Channel) → s.state ≡ Live reference stage → ChangesRoles s (inputs.Downlink Three message) offer (short_message (Live reference stage) link message s)
-short_message-roles reference stage Up s message offer is = handed-roles reference stage s Three message offer is
-short_message-roles reference stage _ s message offer is =
+short_message_roles : (reference : ℕ) (stage : Stage) (link : ShortMessageLink) (s : Connection) (message : List ℕ) (offer : Option Channel) → s.state ≡ Live reference stage → ChangesRoles s (inputs.Downlink Three message) offer (short_message (Live reference stage) link message s)
+short_message_roles reference stage Up s message offer is = handed_roles reference stage s Three message offer is
+short_message_roles reference stage _ s message offer is =
     cond_both (eqb (count s.down) s.down.limit) _ _ (ChangesRoles s (inputs.Downlink Three message) offer)
     (λ _. fails (Live reference stage) s (inputs.Downlink Three message) offer EQUIPMENT_FAILURE is tt (λ _. refl))
-    (λ _. same_roles reference stage s (inputs.Downlink Three message) offer _ refl is refl refl (ArePlain-request_where s.link s.serving))
+    (λ _. same_roles reference stage s (inputs.Downlink Three message) offer _ refl is refl refl (are_plain_request_where s.link s.serving))
 
-downlink-roles : (state : State) (s : Connection) (sapi : Sapi) (message : List ℕ) (offer : Option Channel) → s.state ≡ state → ChangesRolesBy s (inputs.Downlink sapi message) offer (on_downlink state s sapi message)
-downlink-roles (Live reference (Changing target)) s sapi message offer is =
+downlink_roles : (state : State) (s : Connection) (sapi : Sapi) (message : List ℕ) (offer : Option Channel) → s.state ≡ state → ChangesRolesBy s (inputs.Downlink sapi message) offer (on_downlink state s sapi message)
+downlink_roles (Live reference (Changing target)) s sapi message offer is =
     cond_both (eqb (count s.down) s.down.limit) _ _ (ChangesRoles s (inputs.Downlink sapi message) offer)
     (λ _. fails (Live reference (Changing target)) s (inputs.Downlink sapi message) offer EQUIPMENT_FAILURE is tt (λ _. refl))
     (λ _. same_roles reference (Changing target) s (inputs.Downlink sapi message) offer _ refl is refl refl tt)
-downlink-roles (Live reference stage) s Zero message offer is = handed-roles reference stage s Zero message offer is
-downlink-roles (Live reference stage) s Three message offer is = short_message-roles reference stage s.link s message offer is
-downlink-roles _ s sapi message offer is = refl
+downlink_roles (Live reference stage) s Zero message offer is = handed_roles reference stage s Zero message offer is
+downlink_roles (Live reference stage) s Three message offer is = short_message_roles reference stage s.link s message offer is
+downlink_roles _ s sapi message offer is = refl
 
-cipher_mode_command-roles : (state : State) (s : Connection) (offer : Option Channel) → s.state ≡ state → ChangesRolesBy s inputs.CipherModeCommand offer (on_cipher_mode_command state s)
-cipher_mode_command-roles (Live reference stage) s offer is = same_roles reference stage s inputs.CipherModeCommand offer _ refl is refl refl (tt, tt)
-cipher_mode_command-roles _ s offer is = refl
+cipher_mode_command_roles : (state : State) (s : Connection) (offer : Option Channel) → s.state ≡ state → ChangesRolesBy s inputs.CipherModeCommand offer (on_cipher_mode_command state s)
+cipher_mode_command_roles (Live reference stage) s offer is = same_roles reference stage s inputs.CipherModeCommand offer _ refl is refl refl (tt, tt)
+cipher_mode_command_roles _ s offer is = refl
 
-clear_command-roles : (state : State) (s : Connection) (offer : Option Channel) → s.state ≡ state → ChangesRolesBy s inputs.ClearCommand offer (on_clear_command state s)
-clear_command-roles (Live reference stage) s offer is =
+clear_command_roles : (state : State) (s : Connection) (offer : Option Channel) → s.state ≡ state → ChangesRolesBy s inputs.ClearCommand offer (on_clear_command state s)
+clear_command_roles (Live reference stage) s offer is =
     ends_it (Live reference stage) s inputs.ClearCommand offer NORMAL_EVENT (clear_complete reference ∷ []) (emptied (Closed Complete) s) is tt absurd refl (λ _. refl)
-clear_command-roles (Closed (WasAsked reference)) s offer is = had_ended_in (Closed (WasAsked reference)) s inputs.ClearCommand offer _ is absurd absurd refl
-clear_command-roles _ s offer is = refl
+clear_command_roles (Closed (WasAsked reference)) s offer is = had_ended_in (Closed (WasAsked reference)) s inputs.ClearCommand offer _ is absurd absurd refl
+clear_command_roles _ s offer is = refl
 
 -- ---- timers and links
 
-expiry-roles : (state : State) (s : Connection) (offer : Option Channel) → s.state ≡ state → ChangesRolesBy s inputs.Expiry offer (on_expiry state s)
-expiry-roles WaitActivation s offer is = drops_it WaitActivation s inputs.Expiry offer is tt refl (λ _. refl)
-expiry-roles WaitEstablish s offer is = drops_it WaitEstablish s inputs.Expiry offer is tt refl (λ _. refl)
-expiry-roles (Live reference (Preparing target)) s offer is = fails (Live reference (Preparing target)) s inputs.Expiry offer RADIO_INTERFACE_MESSAGE_FAILURE is tt (λ _. refl)
-expiry-roles (Live reference (Changing target)) s offer is = fails (Live reference (Changing target)) s inputs.Expiry offer RADIO_INTERFACE_MESSAGE_FAILURE is tt (λ _. refl)
-expiry-roles _ s offer is = refl
+expiry_roles : (state : State) (s : Connection) (offer : Option Channel) → s.state ≡ state → ChangesRolesBy s inputs.Expiry offer (on_expiry state s)
+expiry_roles WaitActivation s offer is = drops_it WaitActivation s inputs.Expiry offer is tt refl (λ _. refl)
+expiry_roles WaitEstablish s offer is = drops_it WaitEstablish s inputs.Expiry offer is tt refl (λ _. refl)
+expiry_roles (Live reference (Preparing target)) s offer is = fails (Live reference (Preparing target)) s inputs.Expiry offer RADIO_INTERFACE_MESSAGE_FAILURE is tt (λ _. refl)
+expiry_roles (Live reference (Changing target)) s offer is = fails (Live reference (Changing target)) s inputs.Expiry offer RADIO_INTERFACE_MESSAGE_FAILURE is tt (λ _. refl)
+expiry_roles _ s offer is = refl
 
-drain_expiry-roles : (state : State) (s : Connection) (offer : Option Channel) → s.state ≡ state → ChangesRolesBy s inputs.DrainExpiry offer (on_drain_expiry state s)
-drain_expiry-roles (Live reference stage) s offer is =
-    ChangesRolesBy-row_if s inputs.DrainExpiry offer (is_some_draining s.draining) _ (λ _. fails (Live reference stage) s inputs.DrainExpiry offer EQUIPMENT_FAILURE is tt (λ _. refl)) (λ _. refl)
-drain_expiry-roles _ s offer is = refl
+drain_expiry_roles : (state : State) (s : Connection) (offer : Option Channel) → s.state ≡ state → ChangesRolesBy s inputs.DrainExpiry offer (on_drain_expiry state s)
+drain_expiry_roles (Live reference stage) s offer is =
+    changes_roles_by_row_if s inputs.DrainExpiry offer (is_some_draining s.draining) _ (λ _. fails (Live reference stage) s inputs.DrainExpiry offer EQUIPMENT_FAILURE is tt (λ _. refl)) (λ _. refl)
+drain_expiry_roles _ s offer is = refl
 
 breaks : (state : State) (s : Connection) (station : ℕ) (offer : Option Channel) → s.state ≡ state → IsOpen state → ChangesRoles s (inputs.StationDown station) offer (without_station station (failing state s EQUIPMENT_FAILURE))
 breaks state s station offer is was_open =
     ends_in state s (inputs.StationDown station) offer (without_station station (failing state s EQUIPMENT_FAILURE)) is was_open
-    (failing-shut state s EQUIPMENT_FAILURE) (Ends-broken state s station EQUIPMENT_FAILURE)
+    (failing_shut state s EQUIPMENT_FAILURE) (ends_broken state s station EQUIPMENT_FAILURE)
 
-station_down-roles : (state : State) (s : Connection) (station : ℕ) (offer : Option Channel) → s.state ≡ state → ChangesRolesBy s (inputs.StationDown station) offer (on_station_down state s station)
-station_down-roles WaitActivation s station offer is =
-    ChangesRolesBy-row_if s (inputs.StationDown station) offer (eqb s.serving.station station) _
-    (λ _. ends_in WaitActivation s (inputs.StationDown station) offer (without_station station (dropping s)) is tt absurd (Ends-broken_drop WaitActivation s station refl)) (λ _. refl)
-station_down-roles WaitEstablish s station offer is =
-    ChangesRolesBy-row_if s (inputs.StationDown station) offer (eqb s.serving.station station) _
-    (λ _. ends_in WaitEstablish s (inputs.StationDown station) offer (without_station station (dropping s)) is tt absurd (Ends-broken_drop WaitEstablish s station refl)) (λ _. refl)
-station_down-roles WaitConfirm s station offer is =
-    ChangesRolesBy-row_if s (inputs.StationDown station) offer (eqb s.serving.station station) _ (λ _. breaks WaitConfirm s station offer is tt) (λ _. refl)
-station_down-roles (Live reference stage) s station offer is =
-    ChangesRolesBy-row_if s (inputs.StationDown station) offer (eqb s.serving.station station || targets station stage || drains_at station s.draining) _ (λ _. breaks (Live reference stage) s station offer is tt) (λ _. refl)
-station_down-roles _ s station offer is = refl
+station_down_roles : (state : State) (s : Connection) (station : ℕ) (offer : Option Channel) → s.state ≡ state → ChangesRolesBy s (inputs.StationDown station) offer (on_station_down state s station)
+station_down_roles WaitActivation s station offer is =
+    changes_roles_by_row_if s (inputs.StationDown station) offer (eqb s.serving.station station) _
+    (λ _. ends_in WaitActivation s (inputs.StationDown station) offer (without_station station (dropping s)) is tt absurd (ends_broken_drop WaitActivation s station refl)) (λ _. refl)
+station_down_roles WaitEstablish s station offer is =
+    changes_roles_by_row_if s (inputs.StationDown station) offer (eqb s.serving.station station) _
+    (λ _. ends_in WaitEstablish s (inputs.StationDown station) offer (without_station station (dropping s)) is tt absurd (ends_broken_drop WaitEstablish s station refl)) (λ _. refl)
+station_down_roles WaitConfirm s station offer is =
+    changes_roles_by_row_if s (inputs.StationDown station) offer (eqb s.serving.station station) _ (λ _. breaks WaitConfirm s station offer is tt) (λ _. refl)
+station_down_roles (Live reference stage) s station offer is =
+    changes_roles_by_row_if s (inputs.StationDown station) offer (eqb s.serving.station station || targets station stage || drains_at station s.draining) _ (λ _. breaks (Live reference stage) s station offer is tt) (λ _. refl)
+station_down_roles _ s station offer is = refl
 
-switch_down-roles : (state : State) (s : Connection) (offer : Option Channel) → s.state ≡ state → ChangesRolesBy s inputs.SwitchDown offer (on_switch_down state s)
-switch_down-roles WaitActivation s offer is = drops_it WaitActivation s inputs.SwitchDown offer is tt refl (λ _. refl)
-switch_down-roles WaitEstablish s offer is = drops_it WaitEstablish s inputs.SwitchDown offer is tt refl (λ _. refl)
-switch_down-roles WaitConfirm s offer is = ends_it WaitConfirm s inputs.SwitchDown offer ABNORMAL_RELEASE [] (emptied Removed s) is tt absurd refl (λ _. refl)
-switch_down-roles (Live reference stage) s offer is =
+switch_down_roles : (state : State) (s : Connection) (offer : Option Channel) → s.state ≡ state → ChangesRolesBy s inputs.SwitchDown offer (on_switch_down state s)
+switch_down_roles WaitActivation s offer is = drops_it WaitActivation s inputs.SwitchDown offer is tt refl (λ _. refl)
+switch_down_roles WaitEstablish s offer is = drops_it WaitEstablish s inputs.SwitchDown offer is tt refl (λ _. refl)
+switch_down_roles WaitConfirm s offer is = ends_it WaitConfirm s inputs.SwitchDown offer ABNORMAL_RELEASE [] (emptied Removed s) is tt absurd refl (λ _. refl)
+switch_down_roles (Live reference stage) s offer is =
     ends_in (Live reference stage) s inputs.SwitchDown offer _ is tt absurd (record { end = dismisses ABNORMAL_RELEASE; fits = tt; ordered = to_stations-end (Live reference stage) s ABNORMAL_RELEASE })
-switch_down-roles (Closed clearing) s offer is = had_ended_in (Closed clearing) s inputs.SwitchDown offer _ is absurd absurd refl
-switch_down-roles Removed s offer is = refl
+switch_down_roles (Closed clearing) s offer is = had_ended_in (Closed clearing) s inputs.SwitchDown offer _ is absurd absurd refl
+switch_down_roles Removed s offer is = refl
 
 -- ---- the whole table
 
 pub ChangesRoles-row : (s : Connection) (input : Input) (offer : Option Channel) → Stands s → ChangesRolesBy s input offer (row_of s input offer)
 unfolding row_of
-ChangesRoles-row s (inputs.ActivationAck at) offer stands = activation_ack-roles s.state s at offer refl
-ChangesRoles-row s (inputs.ActivationNack at) offer stands = activation_nack-roles s.state s at offer refl
-ChangesRoles-row s (inputs.EstablishIndication at sapi message) offer stands = establish_indication-roles s.state s at sapi message offer refl
-ChangesRoles-row s (inputs.EstablishConfirm at sapi) offer stands = establish_confirm-roles s.state s at sapi offer refl
-ChangesRoles-row s (inputs.ReleaseIndication at sapi) offer stands = release_indication-roles s.state s at sapi offer refl
-ChangesRoles-row s (inputs.ErrorIndication at sapi) offer stands = error_indication-roles s.state s at sapi offer refl
-ChangesRoles-row s (inputs.ConnectionFailure at) offer stands = connection_failure-roles s.state s at offer refl
-ChangesRoles-row s (inputs.Dtap at sapi message) offer stands = dtap-roles s.state s at sapi message offer refl
-ChangesRoles-row s (inputs.Complete at change cause) offer stands = complete-roles s.state s at change cause offer refl
-ChangesRoles-row s (inputs.Failure at change cause) offer stands = failure-roles s.state s at change cause offer refl
-ChangesRoles-row s (inputs.ReleaseAck at) offer stands = release_ack-roles s.state s at offer refl stands
-ChangesRoles-row s inputs.Move offer stands = move-roles s.state s offer refl
-ChangesRoles-row s (inputs.ConnectionConfirm source) offer stands = confirm-roles s.state s source offer refl
-ChangesRoles-row s inputs.ConnectionRefused offer stands = refused-roles s.state s offer refl
-ChangesRoles-row s (inputs.Released source) offer stands = released-roles s.state s source offer refl
-ChangesRoles-row s (inputs.Downlink sapi message) offer stands = downlink-roles s.state s sapi message offer refl
-ChangesRoles-row s (inputs.AssignmentRequest is_speech) offer stands = assignment_request-roles s.state s is_speech offer refl
-ChangesRoles-row s inputs.CipherModeCommand offer stands = cipher_mode_command-roles s.state s offer refl
-ChangesRoles-row s inputs.ClearCommand offer stands = clear_command-roles s.state s offer refl
-ChangesRoles-row s inputs.Expiry offer stands = expiry-roles s.state s offer refl
-ChangesRoles-row s inputs.DrainExpiry offer stands = drain_expiry-roles s.state s offer refl
-ChangesRoles-row s (inputs.StationDown station) offer stands = station_down-roles s.state s station offer refl
-ChangesRoles-row s inputs.SwitchDown offer stands = switch_down-roles s.state s offer refl
+ChangesRoles-row s (inputs.ActivationAck at) offer stands = activation_ack_roles s.state s at offer refl
+ChangesRoles-row s (inputs.ActivationNack at) offer stands = activation_nack_roles s.state s at offer refl
+ChangesRoles-row s (inputs.EstablishIndication at sapi message) offer stands = establish_indication_roles s.state s at sapi message offer refl
+ChangesRoles-row s (inputs.EstablishConfirm at sapi) offer stands = establish_confirm_roles s.state s at sapi offer refl
+ChangesRoles-row s (inputs.ReleaseIndication at sapi) offer stands = release_indication_roles s.state s at sapi offer refl
+ChangesRoles-row s (inputs.ErrorIndication at sapi) offer stands = error_indication_roles s.state s at sapi offer refl
+ChangesRoles-row s (inputs.ConnectionFailure at) offer stands = connection_failure_roles s.state s at offer refl
+ChangesRoles-row s (inputs.Dtap at sapi message) offer stands = dtap_roles s.state s at sapi message offer refl
+ChangesRoles-row s (inputs.Complete at change cause) offer stands = complete_roles s.state s at change cause offer refl
+ChangesRoles-row s (inputs.Failure at change cause) offer stands = failure_roles s.state s at change cause offer refl
+ChangesRoles-row s (inputs.ReleaseAck at) offer stands = release_ack_roles s.state s at offer refl stands
+ChangesRoles-row s inputs.Move offer stands = move_roles s.state s offer refl
+ChangesRoles-row s (inputs.ConnectionConfirm source) offer stands = confirm_roles s.state s source offer refl
+ChangesRoles-row s inputs.ConnectionRefused offer stands = refused_roles s.state s offer refl
+ChangesRoles-row s (inputs.Released source) offer stands = released_roles s.state s source offer refl
+ChangesRoles-row s (inputs.Downlink sapi message) offer stands = downlink_roles s.state s sapi message offer refl
+ChangesRoles-row s (inputs.AssignmentRequest is_speech) offer stands = assignment_request_roles s.state s is_speech offer refl
+ChangesRoles-row s inputs.CipherModeCommand offer stands = cipher_mode_command_roles s.state s offer refl
+ChangesRoles-row s inputs.ClearCommand offer stands = clear_command_roles s.state s offer refl
+ChangesRoles-row s inputs.Expiry offer stands = expiry_roles s.state s offer refl
+ChangesRoles-row s inputs.DrainExpiry offer stands = drain_expiry_roles s.state s offer refl
+ChangesRoles-row s (inputs.StationDown station) offer stands = station_down_roles s.state s station offer refl
+ChangesRoles-row s inputs.SwitchDown offer stands = switch_down_roles s.state s offer refl

@@ -12,7 +12,7 @@ use Rattle.bssmap_codec.specs.declared.values.RrCause.{RrCause}
 use Rattle.conn_messages.specs.declared.causes.TheConstants.{BSS_NOT_EQUIPPED, NO_RADIO_RESOURCE, PROTOCOL_ERROR, REVERSION_TO_OLD_CHANNEL}
 use Rattle.conn_messages.specs.StationMessage.{activation, change_command, establish_request, immediate_assign_command}
 use Rattle.conn_messages.specs.SwitchMessage.{assignment_failure, cipher_mode_reject, clear_request, complete_layer3, sapi_3_reject}
-use Rattle.conn_rules.proofs.Downlink.{OfRow-so}
+use Rattle.conn_rules.proofs.Downlink.{of_row_so}
 use Rattle.conn_rules.proofs.DownlinkMessages.{AllByRecursion-append, AllByRecursion-filter}
 use Rattle.conn_rules.specs.declared.input.Input.{Input}
 use Rattle.conn_rules.specs.declared.input.Input.TheVariants as inputs
@@ -622,5 +622,5 @@ enters_any k = record {
 pub row-messages : (P : Message → Type 0) (clears : Type 0) (s : Connection) (input : Input) (offer : Option Channel) → Puts (free clears) P s → (input ≡ inputs.ClearCommand → clears) → OfRow (λ r. AllByRecursion P r.outs) (row_of s input offer)
 row-messages P clears s input offer puts may =
     let entered = enters_any (free clears) in
-    OfRow-so (Keeps P (λ state request. Unit {0})) (λ r. AllByRecursion P r.outs) (λ r kept. kept.1) (row_of s input offer)
+    of_row_so (Keeps P (λ state request. Unit {0})) (λ r. AllByRecursion P r.outs) (λ r kept. kept.1) (row_of s input offer)
     (row-puts (free clears) P (λ state request. Unit {0}) s offer puts entered (free_parts clears s offer) tt input (free_brings clears input may))

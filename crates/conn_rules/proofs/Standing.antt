@@ -29,11 +29,11 @@ pub record StandsDown (down : HoldState) : Type 0 where
   pub zero : AllByRecursion IsLayer3 down.zero
   pub three : AllByRecursion IsLayer3 down.three
 
-pub StandsDown-new : (limit : ℕ) → limit ≡ DOWN_LIMIT → StandsDown (new_hold limit)
-StandsDown-new limit is = record { limit = is; within = omega arith; zero = tt; three = tt }
+pub stands_down_new : (limit : ℕ) → limit ≡ DOWN_LIMIT → StandsDown (new_hold limit)
+stands_down_new limit is = record { limit = is; within = omega arith; zero = tt; three = tt }
 
-pub StandsDown-put : (sapi : Sapi) (message : List ℕ) (down : HoldState) → StandsDown down → eqb (count down) down.limit ≡ false → IsLayer3 message → StandsDown (with_messages down sapi (messages down sapi ++ message ∷ []))
-StandsDown-put Zero message down stands room carried =
+pub stands_down_put : (sapi : Sapi) (message : List ℕ) (down : HoldState) → StandsDown down → eqb (count down) down.limit ≡ false → IsLayer3 message → StandsDown (with_messages down sapi (messages down sapi ++ message ∷ []))
+stands_down_put Zero message down stands room carried =
     let apart = eqb-false (count down) down.limit room in
     let limit = stands.limit in
     let within = stands.within in
@@ -43,7 +43,7 @@ StandsDown-put Zero message down stands room carried =
       zero = AllByRecursion-push IsLayer3 down.zero message stands.zero carried;
       three = stands.three;
     }
-StandsDown-put Three message down stands room carried =
+stands_down_put Three message down stands room carried =
     let apart = eqb-false (count down) down.limit room in
     let limit = stands.limit in
     let within = stands.within in
@@ -55,10 +55,10 @@ StandsDown-put Three message down stands room carried =
     }
 
 -- a SAPI's messages go
-pub StandsDown-without : (sapi : Sapi) (down : HoldState) → StandsDown down → StandsDown (with_messages down sapi [])
-StandsDown-without Zero down stands =
+pub stands_down_without : (sapi : Sapi) (down : HoldState) → StandsDown down → StandsDown (with_messages down sapi [])
+stands_down_without Zero down stands =
     let within = stands.within in record { limit = stands.limit; within = omega arith; zero = tt; three = stands.three }
-StandsDown-without Three down stands =
+stands_down_without Three down stands =
     let within = stands.within in record { limit = stands.limit; within = omega arith; zero = stands.zero; three = tt }
 
 -- ---- the tenures of the mobile's messages
@@ -68,81 +68,81 @@ pub record StandsUp (up : ChainState) : Type 0 where
   pub within : chain_count up ≤ UP_LIMIT
   pub each : AllByRecursion IsHeldTenure up.tenures
 
-pub StandsUp-new : (limit : ℕ) → limit ≡ UP_LIMIT → StandsUp (new_chain limit)
-StandsUp-new limit is = record { limit = is; within = omega arith; each = ((tt, tt), tt) }
+pub stands_up_new : (limit : ℕ) → limit ≡ UP_LIMIT → StandsUp (new_chain limit)
+stands_up_new limit is = record { limit = is; within = omega arith; each = ((tt, tt), tt) }
 
 pub length-put_in : (place : ℕ) (sapi : Sapi) (message : List ℕ) (ts : List Tenure) → length (put_in place sapi message ts) ≡ length ts
 length-put_in place sapi message [] = refl
 length-put_in zero sapi message (t ∷ ts) = refl
 length-put_in (suc place) sapi message (t ∷ ts) = let rest = length-put_in place sapi message ts in cc
 
-tenures_count-put_in : (place : ℕ) (sapi : Sapi) (message : List ℕ) (ts : List Tenure) → tenures_count (put_in place sapi message ts) ≤ tenures_count ts + 1
-tenures_count-put_in place sapi message [] = omega arith
-tenures_count-put_in zero Zero message (t ∷ ts) = omega (arith, length-append {A = List ℕ})
-tenures_count-put_in zero Three message (t ∷ ts) = omega (arith, length-append {A = List ℕ})
-tenures_count-put_in (suc place) sapi message (t ∷ ts) = let rest = tenures_count-put_in place sapi message ts in omega arith
+tenures_count_put_in : (place : ℕ) (sapi : Sapi) (message : List ℕ) (ts : List Tenure) → tenures_count (put_in place sapi message ts) ≤ tenures_count ts + 1
+tenures_count_put_in place sapi message [] = omega arith
+tenures_count_put_in zero Zero message (t ∷ ts) = omega (arith, length-append {A = List ℕ})
+tenures_count_put_in zero Three message (t ∷ ts) = omega (arith, length-append {A = List ℕ})
+tenures_count_put_in (suc place) sapi message (t ∷ ts) = let rest = tenures_count_put_in place sapi message ts in omega arith
 
-each-put_in : (place : ℕ) (sapi : Sapi) (message : List ℕ) (ts : List Tenure) → AllByRecursion IsHeldTenure ts → IsLayer3 message → AllByRecursion IsHeldTenure (put_in place sapi message ts)
-each-put_in place sapi message [] all carried = tt
-each-put_in zero Zero message (t ∷ ts) all carried = ((AllByRecursion-push IsLayer3 t.zero message all.0.0 carried, all.0.1), all.1)
-each-put_in zero Three message (t ∷ ts) all carried = ((all.0.0, AllByRecursion-push IsLayer3 t.three message all.0.1 carried), all.1)
-each-put_in (suc place) sapi message (t ∷ ts) all carried = (all.0, each-put_in place sapi message ts all.1 carried)
+each_put_in : (place : ℕ) (sapi : Sapi) (message : List ℕ) (ts : List Tenure) → AllByRecursion IsHeldTenure ts → IsLayer3 message → AllByRecursion IsHeldTenure (put_in place sapi message ts)
+each_put_in place sapi message [] all carried = tt
+each_put_in zero Zero message (t ∷ ts) all carried = ((AllByRecursion-push IsLayer3 t.zero message all.0.0 carried, all.0.1), all.1)
+each_put_in zero Three message (t ∷ ts) all carried = ((all.0.0, AllByRecursion-push IsLayer3 t.three message all.0.1 carried), all.1)
+each_put_in (suc place) sapi message (t ∷ ts) all carried = (all.0, each_put_in place sapi message ts all.1 carried)
 
-pub StandsUp-put : (place : ℕ) (sapi : Sapi) (message : List ℕ) (up : ChainState) → StandsUp up → eqb (chain_count up) up.limit ≡ false → IsLayer3 message → StandsUp (record up { tenures = put_in place sapi message up.tenures })
-StandsUp-put place sapi message up stands room carried =
+pub stands_up_put : (place : ℕ) (sapi : Sapi) (message : List ℕ) (up : ChainState) → StandsUp up → eqb (chain_count up) up.limit ≡ false → IsLayer3 message → StandsUp (record up { tenures = put_in place sapi message up.tenures })
+stands_up_put place sapi message up stands room carried =
     let apart = eqb-false (chain_count up) up.limit room in
     let limit = stands.limit in
     let within = stands.within in
-    let more = tenures_count-put_in place sapi message up.tenures in
-    record { limit = limit; within = omega arith; each = each-put_in place sapi message up.tenures stands.each carried }
+    let more = tenures_count_put_in place sapi message up.tenures in
+    record { limit = limit; within = omega arith; each = each_put_in place sapi message up.tenures stands.each carried }
 
 -- the first tenure is relayed
-count-first_cleared : (ts : List Tenure) → tenures_count (first_cleared ts) ≤ tenures_count ts
-count-first_cleared [] = omega arith
-count-first_cleared (t ∷ ts) = omega arith
+count_first_cleared : (ts : List Tenure) → tenures_count (first_cleared ts) ≤ tenures_count ts
+count_first_cleared [] = omega arith
+count_first_cleared (t ∷ ts) = omega arith
 
-each-first_cleared : (ts : List Tenure) → AllByRecursion IsHeldTenure ts → AllByRecursion IsHeldTenure (first_cleared ts)
-each-first_cleared [] all = tt
-each-first_cleared (t ∷ ts) all = ((tt, tt), all.1)
+each_first_cleared : (ts : List Tenure) → AllByRecursion IsHeldTenure ts → AllByRecursion IsHeldTenure (first_cleared ts)
+each_first_cleared [] all = tt
+each_first_cleared (t ∷ ts) all = ((tt, tt), all.1)
 
 pub length-first_cleared : (ts : List Tenure) → length (first_cleared ts) ≡ length ts
 length-first_cleared [] = refl
 length-first_cleared (t ∷ ts) = refl
 
-pub FirstIsEmpty-cleared : (ts : List Tenure) → length ts ≡ 1 → FirstIsEmpty (first_cleared ts)
-FirstIsEmpty-cleared [] one = absurd (omega arith)
-FirstIsEmpty-cleared (t ∷ ts) one = refl
+pub first_is_empty_cleared : (ts : List Tenure) → length ts ≡ 1 → FirstIsEmpty (first_cleared ts)
+first_is_empty_cleared [] one = absurd (omega arith)
+first_is_empty_cleared (t ∷ ts) one = refl
 
-pub StandsUp-cleared : (up : ChainState) → StandsUp up → StandsUp (record up { tenures = first_cleared up.tenures })
-StandsUp-cleared up stands = record {
+pub stands_up_cleared : (up : ChainState) → StandsUp up → StandsUp (record up { tenures = first_cleared up.tenures })
+stands_up_cleared up stands = record {
   limit = stands.limit;
-  within = le_trans (count-first_cleared up.tenures) stands.within;
-  each = each-first_cleared up.tenures stands.each;
+  within = le_trans (count_first_cleared up.tenures) stands.within;
+  each = each_first_cleared up.tenures stands.each;
 }
 
 -- the first tenure ends, and what is held of the next is relayed
-count-ended : (ts : List Tenure) → tenures_count (first_cleared (drop 1 ts)) ≤ tenures_count ts
-count-ended [] = omega arith
-count-ended (t ∷ ts) = let rest = count-first_cleared ts in omega arith
+count_ended : (ts : List Tenure) → tenures_count (first_cleared (drop 1 ts)) ≤ tenures_count ts
+count_ended [] = omega arith
+count_ended (t ∷ ts) = let rest = count_first_cleared ts in omega arith
 
-each-ended : (ts : List Tenure) → AllByRecursion IsHeldTenure ts → AllByRecursion IsHeldTenure (first_cleared (drop 1 ts))
-each-ended [] all = tt
-each-ended (t ∷ ts) all = each-first_cleared ts all.1
+each_ended : (ts : List Tenure) → AllByRecursion IsHeldTenure ts → AllByRecursion IsHeldTenure (first_cleared (drop 1 ts))
+each_ended [] all = tt
+each_ended (t ∷ ts) all = each_first_cleared ts all.1
 
 pub length-ended : (ts : List Tenure) (more : ℕ) → length ts ≡ suc more + 1 → length (first_cleared (drop 1 ts)) ≡ more + 1
 length-ended [] more long = omega arith
 length-ended (t ∷ ts) more long = let rest = length-first_cleared ts in omega arith
 
-pub FirstIsEmpty-ended : (ts : List Tenure) (more : ℕ) → length ts ≡ suc more + 1 → FirstIsEmpty (first_cleared (drop 1 ts))
-FirstIsEmpty-ended [] more long = absurd (omega arith)
-FirstIsEmpty-ended (t ∷ []) more long = absurd (omega arith)
-FirstIsEmpty-ended (t ∷ next ∷ ts) more long = refl
+pub first_is_empty_ended : (ts : List Tenure) (more : ℕ) → length ts ≡ suc more + 1 → FirstIsEmpty (first_cleared (drop 1 ts))
+first_is_empty_ended [] more long = absurd (omega arith)
+first_is_empty_ended (t ∷ []) more long = absurd (omega arith)
+first_is_empty_ended (t ∷ next ∷ ts) more long = refl
 
-pub StandsUp-ended : (up : ChainState) → StandsUp up → StandsUp (record up { tenures = first_cleared (drop 1 up.tenures) })
-StandsUp-ended up stands = record {
+pub stands_up_ended : (up : ChainState) → StandsUp up → StandsUp (record up { tenures = first_cleared (drop 1 up.tenures) })
+stands_up_ended up stands = record {
   limit = stands.limit;
-  within = le_trans (count-ended up.tenures) stands.within;
-  each = each-ended up.tenures stands.each;
+  within = le_trans (count_ended up.tenures) stands.within;
+  each = each_ended up.tenures stands.each;
 }
 
 -- a tenure begins
@@ -150,36 +150,36 @@ count-begun : (ts : List Tenure) → tenures_count (ts ++ empty_tenure ∷ []) �
 count-begun [] = refl
 count-begun (t ∷ ts) = let rest = count-begun ts in omega arith
 
-pub StandsUp-begun : (up : ChainState) → StandsUp up → StandsUp (record up { tenures = up.tenures ++ empty_tenure ∷ [] })
-StandsUp-begun up stands =
+pub stands_up_begun : (up : ChainState) → StandsUp up → StandsUp (record up { tenures = up.tenures ++ empty_tenure ∷ [] })
+stands_up_begun up stands =
     let within = stands.within in
     let same = count-begun up.tenures in
     record { limit = stands.limit; within = omega arith; each = AllByRecursion-push IsHeldTenure up.tenures empty_tenure stands.each (tt, tt) }
 
-pub FirstIsEmpty-begun : (ts : List Tenure) → FirstIsEmpty ts → FirstIsEmpty (ts ++ empty_tenure ∷ [])
-FirstIsEmpty-begun [] first = refl
-FirstIsEmpty-begun (t ∷ ts) first = first
+pub first_is_empty_begun : (ts : List Tenure) → FirstIsEmpty ts → FirstIsEmpty (ts ++ empty_tenure ∷ [])
+first_is_empty_begun [] first = refl
+first_is_empty_begun (t ∷ ts) first = first
 
 -- ---- old channels
 
-pub OldestDrains-more : (ds : List Drain) (d : Drain) → OldestDrains ds → d.is_done ≡ false → OldestDrains (ds ++ d ∷ [])
-OldestDrains-more [] d oldest drains = drains
-OldestDrains-more (first ∷ ds) d oldest drains = oldest
+pub oldest_drains_more : (ds : List Drain) (d : Drain) → OldestDrains ds → d.is_done ≡ false → OldestDrains (ds ++ d ∷ [])
+oldest_drains_more [] d oldest drains = drains
+oldest_drains_more (first ∷ ds) d oldest drains = oldest
 
-pub DrainTime-more : (ds : List Drain) (d : Drain) (drained : ℕ) → DrainTime (ds ++ d ∷ []) drained
-DrainTime-more [] d drained = tt
-DrainTime-more (first ∷ ds) d drained = tt
+pub drain_time_more : (ds : List Drain) (d : Drain) (drained : ℕ) → DrainTime (ds ++ d ∷ []) drained
+drain_time_more [] d drained = tt
+drain_time_more (first ∷ ds) d drained = tt
 
 pub length-done_at : (place : ℕ) (ds : List Drain) → length (done_at place ds) ≡ length ds
 length-done_at place [] = refl
 length-done_at zero (d ∷ ds) = refl
 length-done_at (suc place) (d ∷ ds) = let rest = length-done_at place ds in cc
 
-pub DrainTime-anew : (ds : List Drain) → DrainTime ds 0
-DrainTime-anew [] = refl
-DrainTime-anew (d ∷ ds) = tt
+pub drain_time_anew : (ds : List Drain) → DrainTime ds 0
+drain_time_anew [] = refl
+drain_time_anew (d ∷ ds) = tt
 
-pub DrainTime-done_at : (place : ℕ) (ds : List Drain) (drained : ℕ) → DrainTime ds drained → DrainTime (done_at place ds) drained
-DrainTime-done_at place [] drained time = time
-DrainTime-done_at zero (d ∷ ds) drained time = tt
-DrainTime-done_at (suc place) (d ∷ ds) drained time = tt
+pub drain_time_done_at : (place : ℕ) (ds : List Drain) (drained : ℕ) → DrainTime ds drained → DrainTime (done_at place ds) drained
+drain_time_done_at place [] drained time = time
+drain_time_done_at zero (d ∷ ds) drained time = tt
+drain_time_done_at (suc place) (d ∷ ds) drained time = tt

@@ -13,34 +13,34 @@ use Rattle.conn_rules.specs.Connection.{Connection, enter}
 use Rattle.conn_rules.specs.Standing.{FirstIsEmpty, DrainTime, IsAskedFor, Stands}
 use Rattle.conn_rules.specs.Steps.{Row, begin_waiting, resting_stage, resting, moved, hand_held, ask_for_held, link_for, relay_held, done_at, leave, settled, settled_stage, shifted}
 use Rattle.conn_rules.specs.Table.{complete, failure, release}
-use Rattle.conn_rules.proofs.Standing.{StandsDown, StandsDown-without, StandsUp, StandsUp-ended, StandsUp-begun, FirstIsEmpty-begun, OldestDrains-more, DrainTime-more, FirstIsEmpty-ended, DrainTime-anew, DrainTime-done_at, length-ended, length-done_at, nothing}
-use Rattle.conn_rules.proofs.StandingSteps.{AliveIn, alive, in_stage, StandsBut, StandsBut-of, Stands-begin_waiting, IsAskedFor-for, with_hold}
+use Rattle.conn_rules.proofs.Standing.{StandsDown, stands_down_without, StandsUp, stands_up_ended, stands_up_begun, first_is_empty_begun, oldest_drains_more, drain_time_more, first_is_empty_ended, drain_time_anew, drain_time_done_at, length-ended, length-done_at, nothing}
+use Rattle.conn_rules.proofs.StandingSteps.{AliveIn, alive, in_stage, StandsBut, stands_but_of, stands_begin_waiting, is_asked_for_for, with_hold}
 
 -- ---- the change ends
 
-StandsBut-resting : (draining : List Drain) (down : HoldState) (link : ShortMessageLink) → length draining < DRAIN_LIMIT → down.zero ≡ [] → IsAskedFor link down.three → StandsBut (resting_stage draining) draining down link
-StandsBut-resting [] down link few none asked = (refl, none, asked)
-StandsBut-resting (d ∷ ds) down link few none asked = (omega arith, omega arith, none, asked)
+stands_but_resting : (draining : List Drain) (down : HoldState) (link : ShortMessageLink) → length draining < DRAIN_LIMIT → down.zero ≡ [] → IsAskedFor link down.three → StandsBut (resting_stage draining) draining down link
+stands_but_resting [] down link few none asked = (refl, none, asked)
+stands_but_resting (d ∷ ds) down link few none asked = (omega arith, omega arith, none, asked)
 
 -- the target can't be had
-pub Stands-nack : (reference : ℕ) (target : Target) (offer : Option Channel) (s : Connection) → s.state ≡ Live reference (Preparing target) → Stands s → Stands (begin_waiting (resting_stage s.draining) reference offer (resting reference s)).next
-Stands-nack reference target offer s is stands =
+pub stands_nack : (reference : ℕ) (target : Target) (offer : Option Channel) (s : Connection) → s.state ≡ Live reference (Preparing target) → Stands s → Stands (begin_waiting (resting_stage s.draining) reference offer (resting reference s)).next
+stands_nack reference target offer s is stands =
     let stood = in_stage reference (Preparing target) s is stands in
-    Stands-begin_waiting reference (resting_stage s.draining) offer (resting reference s) refl (alive reference (Preparing target) s is stands)
-    (StandsBut-resting s.draining s.down s.link stood.0 stood.1 stood.2)
+    stands_begin_waiting reference (resting_stage s.draining) offer (resting reference s) refl (alive reference (Preparing target) s is stands)
+    (stands_but_resting s.draining s.down s.link stood.0 stood.1 stood.2)
 
 -- the mobile is back
-pub Stands-failure : (reference : ℕ) (target : Target) (change : Change) (channel : Channel) (cause : ℕ) (offer : Option Channel) (s : Connection) → s.state ≡ Live reference (Changing target) → Stands s → Stands (failure reference change channel cause offer s).next
-Stands-failure reference target change channel cause offer s is stands =
+pub stands_failure : (reference : ℕ) (target : Target) (change : Change) (channel : Channel) (cause : ℕ) (offer : Option Channel) (s : Connection) → s.state ≡ Live reference (Changing target) → Stands s → Stands (failure reference change channel cause offer s).next
+stands_failure reference target change channel cause offer s is stands =
     let lives = alive reference (Changing target) s is stands in
     let stood = in_stage reference (Changing target) s is stands in
-    Stands-begin_waiting reference (resting_stage s.draining) offer (ask_for_held (hand_held Zero (resting reference s)).next).next refl
-    (with_hold lives (StandsDown-without Zero s.down lives.down))
-    (StandsBut-resting s.draining (with_messages s.down Zero []) (link_for s.down.three s.link) stood.0 refl (IsAskedFor-for s.link s.down.three))
+    stands_begin_waiting reference (resting_stage s.draining) offer (ask_for_held (hand_held Zero (resting reference s)).next).next refl
+    (with_hold lives (stands_down_without Zero s.down lives.down))
+    (stands_but_resting s.draining (with_messages s.down Zero []) (link_for s.down.three s.link) stood.0 refl (is_asked_for_for s.link s.down.three))
 
 -- the target serves, and the channel that served drains
-pub Stands-complete : (reference : ℕ) (target : Target) (change : Change) (channel : Channel) (cause : ℕ) (offer : Option Channel) (s : Connection) → s.state ≡ Live reference (Changing target) → Stands s → Stands (complete reference change channel cause offer s).next
-Stands-complete reference target change channel cause offer s is stands =
+pub stands_complete : (reference : ℕ) (target : Target) (change : Change) (channel : Channel) (cause : ℕ) (offer : Option Channel) (s : Connection) → s.state ≡ Live reference (Changing target) → Stands s → Stands (complete reference change channel cause offer s).next
+stands_complete reference target change channel cause offer s is stands =
     let lives = alive reference (Changing target) s is stands in
     let stood = in_stage reference (Changing target) s is stands in
     let each = lives.each in
@@ -48,16 +48,16 @@ Stands-complete reference target change channel cause offer s is stands =
     let old : Drain = record { channel = s.serving; is_done = false } in
     let more : length (s.draining ++ old ∷ []) ≡ length s.draining + 1 = length-append s.draining (old ∷ []) in
     let tenures : length (s.up.tenures ++ empty_tenure ∷ []) ≡ length s.up.tenures + 1 = length-append s.up.tenures (empty_tenure ∷ []) in
-    Stands-begin_waiting reference Draining offer (ask_for_held (hand_held Zero (moved reference channel s)).next).next refl
+    stands_begin_waiting reference Draining offer (ask_for_held (hand_held Zero (moved reference channel s)).next).next refl
     (record {
       each = omega arith;
-      first = FirstIsEmpty-begun s.up.tenures lives.first;
-      oldest = OldestDrains-more s.draining old lives.oldest refl;
-      time = DrainTime-more s.draining old s.drained;
-      down = StandsDown-without Zero s.down lives.down;
-      up = StandsUp-begun s.up lives.up;
+      first = first_is_empty_begun s.up.tenures lives.first;
+      oldest = oldest_drains_more s.draining old lives.oldest refl;
+      time = drain_time_more s.draining old s.drained;
+      down = stands_down_without Zero s.down lives.down;
+      up = stands_up_begun s.up lives.up;
     })
-    (omega arith, omega arith, refl, IsAskedFor-for s.link s.down.three)
+    (omega arith, omega arith, refl, is_asked_for_for s.link s.down.three)
 
 -- ---- old channels leave
 
@@ -69,8 +69,8 @@ record IsLeft (channels : ℕ) (s left : Connection) : Type 0 where
   pub fewer : length left.draining ≤ channels
   pub lives : AliveIn left
 
-IsLeft-more : {s t left : Connection} {channels more : ℕ} → t.state ≡ s.state → t.link ≡ s.link → t.down ≡ s.down → channels ≤ more → IsLeft channels t left → IsLeft more s left
-IsLeft-more state link hold few left = record {
+is_left_more : {s t left : Connection} {channels more : ℕ} → t.state ≡ s.state → t.link ≡ s.link → t.down ≡ s.down → channels ≤ more → IsLeft channels t left → IsLeft more s left
+is_left_more state link hold few left = record {
   state = left.state ∙ state;
   link = left.link ∙ link;
   hold = left.hold ∙ hold;
@@ -78,47 +78,47 @@ IsLeft-more state link hold few left = record {
   lives = left.lives;
 }
 
-IsLeft-leave : (reference : ℕ) (ds : List Drain) (s : Connection) → length s.up.tenures ≡ length ds + 1 → FirstIsEmpty s.up.tenures → DrainTime ds s.drained → StandsDown s.down → StandsUp s.up → IsLeft (length ds) s (leave reference ds s).next
-IsLeft-leave reference [] s each first time down up =
+is_left_leave : (reference : ℕ) (ds : List Drain) (s : Connection) → length s.up.tenures ≡ length ds + 1 → FirstIsEmpty s.up.tenures → DrainTime ds s.drained → StandsDown s.down → StandsUp s.up → IsLeft (length ds) s (leave reference ds s).next
+is_left_leave reference [] s each first time down up =
     record { state = refl; link = refl; hold = refl; fewer = omega arith; lives = record { each = each; first = first; oldest = tt; time = time; down = down; up = up } }
-IsLeft-leave reference (d ∷ ds) s each first time down up =
+is_left_leave reference (d ∷ ds) s each first time down up =
     cond_both d.is_done _ _ (λ (r : Row). IsLeft (length (d ∷ ds)) s r.next)
-    (λ done. IsLeft-more {t = next} refl refl refl (omega arith)
-    (IsLeft-leave reference ds next (length-ended s.up.tenures (length ds) (each ∙ omega arith)) (FirstIsEmpty-ended s.up.tenures (length ds) (each ∙ omega arith)) (DrainTime-anew ds) down (StandsUp-ended s.up up)))
+    (λ done. is_left_more {t = next} refl refl refl (omega arith)
+    (is_left_leave reference ds next (length-ended s.up.tenures (length ds) (each ∙ omega arith)) (first_is_empty_ended s.up.tenures (length ds) (each ∙ omega arith)) (drain_time_anew ds) down (stands_up_ended s.up up)))
     (λ drains. record { state = refl; link = refl; hold = refl; fewer = omega arith; lives = record { each = each; first = first; oldest = drains; time = tt; down = down; up = up } })
   where
     next : Connection
     next = (relay_held reference (shifted ds s)).next
 
 -- Draining without an old channel is Active
-StandsBut-settled : (stage : Stage) (before after : List Drain) (down : HoldState) (link : ShortMessageLink) → length after ≤ length before → StandsBut stage before down link → StandsBut (settled_stage stage after) after down link
-StandsBut-settled Active before after down link few stands = (nothing after (let none : length before ≡ 0 = rw stands.0 refl in omega arith), stands.1, stands.2)
-StandsBut-settled (Preparing target) before after down link few stands = (let fewer = stands.0 in omega arith, stands.1, stands.2)
-StandsBut-settled (Changing target) before after down link few stands = (let fewer = stands.0 in omega arith, stands.1)
-StandsBut-settled Draining before [] down link few stands = (refl, stands.2, stands.3)
-StandsBut-settled Draining before (d ∷ ds) down link few stands = (omega arith, le_trans few stands.1, stands.2, stands.3)
+stands_but_settled : (stage : Stage) (before after : List Drain) (down : HoldState) (link : ShortMessageLink) → length after ≤ length before → StandsBut stage before down link → StandsBut (settled_stage stage after) after down link
+stands_but_settled Active before after down link few stands = (nothing after (let none : length before ≡ 0 = rw stands.0 refl in omega arith), stands.1, stands.2)
+stands_but_settled (Preparing target) before after down link few stands = (let fewer = stands.0 in omega arith, stands.1, stands.2)
+stands_but_settled (Changing target) before after down link few stands = (let fewer = stands.0 in omega arith, stands.1)
+stands_but_settled Draining before [] down link few stands = (refl, stands.2, stands.3)
+stands_but_settled Draining before (d ∷ ds) down link few stands = (omega arith, le_trans few stands.1, stands.2, stands.3)
 
 -- the waiting request begins behind what settled
 abbrev rests_then_begins : ℕ → Stage → Option Channel → List Drain → Connection → Connection
 rests_then_begins reference stage offer ds left =
     (begin_waiting (settled_stage stage (settled reference stage ds left).draining) reference offer (settled reference stage ds left)).next
 
-Stands-settled : (reference : ℕ) (stage : Stage) (offer : Option Channel) (ds : List Drain) (left : Connection) → left.draining ≡ ds → left.state ≡ Live reference stage → AliveIn left → StandsBut (settled_stage stage left.draining) left.draining left.down left.link → Stands (rests_then_begins reference stage offer ds left)
-Stands-settled reference Active offer ds left are is lives but = Stands-begin_waiting reference Active offer left is lives but
-Stands-settled reference (Preparing target) offer ds left are is lives but = Stands-begin_waiting reference (Preparing target) offer left is lives but
-Stands-settled reference (Changing target) offer ds left are is lives but = Stands-begin_waiting reference (Changing target) offer left is lives but
-Stands-settled reference Draining offer [] left are is lives but =
-    Stands-begin_waiting reference (settled_stage Draining left.draining) offer (enter (Live reference Active) left) (rw are refl) lives but
-Stands-settled reference Draining offer (d ∷ ds) left are is lives but =
-    Stands-begin_waiting reference (settled_stage Draining left.draining) offer left (rw are is) lives but
+stands_settled : (reference : ℕ) (stage : Stage) (offer : Option Channel) (ds : List Drain) (left : Connection) → left.draining ≡ ds → left.state ≡ Live reference stage → AliveIn left → StandsBut (settled_stage stage left.draining) left.draining left.down left.link → Stands (rests_then_begins reference stage offer ds left)
+stands_settled reference Active offer ds left are is lives but = stands_begin_waiting reference Active offer left is lives but
+stands_settled reference (Preparing target) offer ds left are is lives but = stands_begin_waiting reference (Preparing target) offer left is lives but
+stands_settled reference (Changing target) offer ds left are is lives but = stands_begin_waiting reference (Changing target) offer left is lives but
+stands_settled reference Draining offer [] left are is lives but =
+    stands_begin_waiting reference (settled_stage Draining left.draining) offer (enter (Live reference Active) left) (rw are refl) lives but
+stands_settled reference Draining offer (d ∷ ds) left are is lives but =
+    stands_begin_waiting reference (settled_stage Draining left.draining) offer left (rw are is) lives but
 
-pub Stands-release : (reference : ℕ) (stage : Stage) (place : ℕ) (offer : Option Channel) (s : Connection) → s.state ≡ Live reference stage → Stands s → Stands (release reference stage place offer s).next
-Stands-release reference stage place offer s is stands =
+pub stands_release : (reference : ℕ) (stage : Stage) (place : ℕ) (offer : Option Channel) (s : Connection) → s.state ≡ Live reference stage → Stands s → Stands (release reference stage place offer s).next
+stands_release reference stage place offer s is stands =
     let lives = alive reference stage s is stands in
     let same : length (done_at place s.draining) ≡ length s.draining = length-done_at place s.draining in
     let left : IsLeft (length (done_at place s.draining)) s (leave reference (done_at place s.draining) s).next =
-    IsLeft-leave reference (done_at place s.draining) s (rw same lives.each) lives.first (DrainTime-done_at place s.draining s.drained lives.time) lives.down lives.up in
+    is_left_leave reference (done_at place s.draining) s (rw same lives.each) lives.first (drain_time_done_at place s.draining s.drained lives.time) lives.down lives.up in
     let fewer = left.fewer in
-    let but : StandsBut stage s.draining s.down s.link = StandsBut-of stage s.draining s.down s.link s.waits (in_stage reference stage s is stands) in
-    Stands-settled reference stage offer (leave reference (done_at place s.draining) s).next.draining (leave reference (done_at place s.draining) s).next refl (left.state ∙ is) left.lives
-    (StandsBut-settled stage s.draining _ _ _ (omega arith) (rw (left.hold, left.link) but))
+    let but : StandsBut stage s.draining s.down s.link = stands_but_of stage s.draining s.down s.link s.waits (in_stage reference stage s is stands) in
+    stands_settled reference stage offer (leave reference (done_at place s.draining) s).next.draining (leave reference (done_at place s.draining) s).next refl (left.state ∙ is) left.lives
+    (stands_but_settled stage s.draining _ _ _ (omega arith) (rw (left.hold, left.link) but))

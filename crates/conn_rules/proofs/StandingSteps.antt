@@ -18,13 +18,13 @@ use Rattle.conn_rules.specs.Standing.{FirstIsEmpty, OldestDrains, DrainTime, IsA
 use Rattle.conn_rules.specs.Steps.{Row, failing, may_begin, begin, after_waiting, begin_waiting, hold_down, hold_short_message, short_message, link_for, link_up, link_down, hold_up, relay_held}
 use Rattle.conn_rules.specs.Streams.{OfRow}
 use Rattle.conn_rules.specs.Table.{row_if}
-use Rattle.conn_rules.proofs.Standing.{StandsDown, StandsDown-new, StandsDown-put, StandsDown-without, StandsUp, StandsUp-new, StandsUp-put, StandsUp-cleared, FirstIsEmpty-cleared, length-put_in, length-first_cleared, nothing}
+use Rattle.conn_rules.proofs.Standing.{StandsDown, stands_down_new, stands_down_put, stands_down_without, StandsUp, stands_up_new, stands_up_put, stands_up_cleared, first_is_empty_cleared, length-put_in, length-first_cleared, nothing}
 use Rattle.hold_queue.specs.ChainState.{ChainState}
 
 -- a row that fits where a test holds
-pub OfRow-row_if : (P : Row → Type 0) (test : Bool) (r : Row) → (test ≡ true → P r) → OfRow P (row_if test r)
-OfRow-row_if P true r holds = holds refl
-OfRow-row_if P false r holds = tt
+pub of_row_row_if : (P : Row → Type 0) (test : Bool) (r : Row) → (test ≡ true → P r) → OfRow P (row_if test r)
+of_row_row_if P true r holds = holds refl
+of_row_row_if P false r holds = tt
 
 -- ---- the holds alone
 
@@ -32,14 +32,14 @@ pub record Holds (s : Connection) : Type 0 where
   pub down : StandsDown s.down
   pub up : StandsUp s.up
 
-pub Holds-of : (s : Connection) → Stands s → Holds s
-Holds-of s stands = record {
+pub holds_of : (s : Connection) → Stands s → Holds s
+holds_of s stands = record {
   down = record { limit = stands.down_limit; within = stands.down_within; zero = stands.down_zero; three = stands.down_three };
   up = record { limit = stands.up_limit; within = stands.up_within; each = stands.up_messages };
 }
 
-Stands-of : (s : Connection) → StandsBy s.state s.draining s.down s.up.tenures s.link s.waits → StandsDown s.down → StandsUp s.up → DrainTime s.draining s.drained → Stands s
-Stands-of s state down up time = record {
+stands_of : (s : Connection) → StandsBy s.state s.draining s.down s.up.tenures s.link s.waits → StandsDown s.down → StandsUp s.up → DrainTime s.draining s.drained → Stands s
+stands_of s state down up time = record {
   state = state;
   down_limit = down.limit;
   up_limit = up.limit;
@@ -55,27 +55,27 @@ Stands-of s state down up time = record {
 
 pub Stands-new : (number : ℕ) (channel : Channel) (request : _) (delay : ℕ) → Stands (new_connection number channel request delay)
 Stands-new number channel request delay =
-    Stands-of (new_connection number channel request delay)
+    stands_of (new_connection number channel request delay)
     (record { none_drains = refl; none_handed = refl; one_tenure = refl; none_waits = refl }, refl)
-    (StandsDown-new DOWN_LIMIT refl) (StandsUp-new UP_LIMIT refl) refl
+    (stands_down_new DOWN_LIMIT refl) (stands_up_new UP_LIMIT refl) refl
 
-pub Stands-removed : (s : Connection) → Holds s → Stands (emptied Removed s)
-Stands-removed s holds =
-    Stands-of (emptied Removed s) (record { none_drains = refl; none_handed = refl; one_tenure = refl; none_waits = refl })
-    (StandsDown-new s.down.limit holds.down.limit) (StandsUp-new s.up.limit holds.up.limit) refl
+pub stands_removed : (s : Connection) → Holds s → Stands (emptied Removed s)
+stands_removed s holds =
+    stands_of (emptied Removed s) (record { none_drains = refl; none_handed = refl; one_tenure = refl; none_waits = refl })
+    (stands_down_new s.down.limit holds.down.limit) (stands_up_new s.up.limit holds.up.limit) refl
 
-pub Stands-closed : (clearing : Clearing) (s : Connection) → Holds s → Stands (emptied (Closed clearing) s)
-Stands-closed clearing s holds =
-    Stands-of (emptied (Closed clearing) s) (record { none_drains = refl; none_handed = refl; one_tenure = refl; none_waits = refl })
-    (StandsDown-new s.down.limit holds.down.limit) (StandsUp-new s.up.limit holds.up.limit) refl
+pub stands_closed : (clearing : Clearing) (s : Connection) → Holds s → Stands (emptied (Closed clearing) s)
+stands_closed clearing s holds =
+    stands_of (emptied (Closed clearing) s) (record { none_drains = refl; none_handed = refl; one_tenure = refl; none_waits = refl })
+    (stands_down_new s.down.limit holds.down.limit) (stands_up_new s.up.limit holds.up.limit) refl
 
-pub Stands-failing : (state : State) (s : Connection) (cause : ℕ) → Holds s → Stands (failing state s cause).next
-Stands-failing (Live reference stage) s cause holds = Stands-closed _ s holds
-Stands-failing _ s cause holds = Stands-closed _ s holds
+pub stands_failing : (state : State) (s : Connection) (cause : ℕ) → Holds s → Stands (failing state s cause).next
+stands_failing (Live reference stage) s cause holds = stands_closed _ s holds
+stands_failing _ s cause holds = stands_closed _ s holds
 
 -- another state, of which the same is true
-pub Stands-enter : (state : State) (s : Connection) → StandsBy state s.draining s.down s.up.tenures s.link s.waits → Stands s → Stands (enter state s)
-Stands-enter state s by stands = Stands-of (enter state s) by (Holds-of s stands).down (Holds-of s stands).up stands.drain_time
+pub stands_enter : (state : State) (s : Connection) → StandsBy state s.draining s.down s.up.tenures s.link s.waits → Stands s → Stands (enter state s)
+stands_enter state s by stands = stands_of (enter state s) by (holds_of s stands).down (holds_of s stands).up stands.drain_time
 
 -- the state, where it is known
 pub by_state : (state : State) (s : Connection) → s.state ≡ state → Stands s → StandsBy state s.draining s.down s.up.tenures s.link s.waits
@@ -103,15 +103,15 @@ AliveIn s = IsAlive s.draining s.drained s.down s.up
 pub alive : (reference : ℕ) (stage : Stage) (s : Connection) → s.state ≡ Live reference stage → Stands s → AliveIn s
 alive reference stage s is stands =
     let live = by_state (Live reference stage) s is stands in
-    let holds = Holds-of s stands in
+    let holds = holds_of s stands in
     record { each = live.a_tenure_each; first = live.first; oldest = live.oldest; time = stands.drain_time; down = holds.down; up = holds.up }
 
 pub in_stage : (reference : ℕ) (stage : Stage) (s : Connection) → s.state ≡ Live reference stage → Stands s → StandsIn stage s.draining s.down s.link s.waits
 in_stage reference stage s is stands = (by_state (Live reference stage) s is stands).stands
 
-pub Stands-live : (reference : ℕ) (stage : Stage) (s : Connection) → s.state ≡ Live reference stage → AliveIn s → StandsIn stage s.draining s.down s.link s.waits → Stands s
-Stands-live reference stage s is lives stands =
-    Stands-of s (subst (λ (state : State). StandsBy state s.draining s.down s.up.tenures s.link s.waits) (sym is)
+pub stands_live : (reference : ℕ) (stage : Stage) (s : Connection) → s.state ≡ Live reference stage → AliveIn s → StandsIn stage s.draining s.down s.link s.waits → Stands s
+stands_live reference stage s is lives stands =
+    stands_of s (subst (λ (state : State). StandsBy state s.draining s.down s.up.tenures s.link s.waits) (sym is)
     (record { a_tenure_each = lives.each; first = lives.first; oldest = lives.oldest; stands = stands }))
     lives.down lives.up lives.time
 
@@ -124,57 +124,57 @@ StandsBut (Preparing target) draining down link = (length draining < DRAIN_LIMIT
 StandsBut (Changing target) draining down link = (length draining < DRAIN_LIMIT) × (link ≡ Down)
 StandsBut Draining draining down link = (1 ≤ length draining) × (length draining ≤ DRAIN_LIMIT) × (down.zero ≡ []) × IsAskedFor link down.three
 
-pub StandsBut-of : (stage : Stage) (draining : List Drain) (down : HoldState) (link : ShortMessageLink) (waits : Bool) → StandsIn stage draining down link waits → StandsBut stage draining down link
-StandsBut-of Active draining down link waits stands = (stands.0, stands.1, stands.2)
-StandsBut-of (Preparing target) draining down link waits stands = stands
-StandsBut-of (Changing target) draining down link waits stands = stands
-StandsBut-of Draining draining down link waits stands = (stands.0, stands.1, stands.2, stands.3)
+pub stands_but_of : (stage : Stage) (draining : List Drain) (down : HoldState) (link : ShortMessageLink) (waits : Bool) → StandsIn stage draining down link waits → StandsBut stage draining down link
+stands_but_of Active draining down link waits stands = (stands.0, stands.1, stands.2)
+stands_but_of (Preparing target) draining down link waits stands = stands
+stands_but_of (Changing target) draining down link waits stands = stands
+stands_but_of Draining draining down link waits stands = (stands.0, stands.1, stands.2, stands.3)
 
 -- nothing waits
-StandsIn-free : (stage : Stage) (draining : List Drain) (down : HoldState) (link : ShortMessageLink) → StandsBut stage draining down link → StandsIn stage draining down link false
-StandsIn-free Active draining down link stands = (stands.0, stands.1, stands.2, refl)
-StandsIn-free (Preparing target) draining down link stands = stands
-StandsIn-free (Changing target) draining down link stands = stands
-StandsIn-free Draining draining down link stands = (stands.0, stands.1, stands.2, stands.3, λ waits. absurd (true≢false (sym waits)))
+stands_in_free : (stage : Stage) (draining : List Drain) (down : HoldState) (link : ShortMessageLink) → StandsBut stage draining down link → StandsIn stage draining down link false
+stands_in_free Active draining down link stands = (stands.0, stands.1, stands.2, refl)
+stands_in_free (Preparing target) draining down link stands = stands
+stands_in_free (Changing target) draining down link stands = stands
+stands_in_free Draining draining down link stands = (stands.0, stands.1, stands.2, stands.3, λ waits. absurd (true≢false (sym waits)))
 
 -- what waits may not begin
-pub StandsIn-waiting : (stage : Stage) (draining : List Drain) (down : HoldState) (link : ShortMessageLink) → may_begin stage draining ≡ false → StandsBut stage draining down link → StandsIn stage draining down link true
-StandsIn-waiting Active draining down link full stands = absurd (true≢false full)
-StandsIn-waiting (Preparing target) draining down link full stands = stands
-StandsIn-waiting (Changing target) draining down link full stands = stands
-StandsIn-waiting Draining draining down link full stands =
+pub stands_in_waiting : (stage : Stage) (draining : List Drain) (down : HoldState) (link : ShortMessageLink) → may_begin stage draining ≡ false → StandsBut stage draining down link → StandsIn stage draining down link true
+stands_in_waiting Active draining down link full stands = absurd (true≢false full)
+stands_in_waiting (Preparing target) draining down link full stands = stands
+stands_in_waiting (Changing target) draining down link full stands = stands
+stands_in_waiting Draining draining down link full stands =
     let three = ltb-false (length draining) DRAIN_LIMIT full in
     let most = stands.1 in
     (stands.0, stands.1, stands.2, stands.3, λ waits. omega arith)
 
 -- a change begins
-StandsIn-preparing : (stage : Stage) (target : Target) (draining : List Drain) (down : HoldState) (link : ShortMessageLink) (waits : Bool) → may_begin stage draining ≡ true → StandsBut stage draining down link → StandsIn (Preparing target) draining down link waits
-StandsIn-preparing Active target draining down link waits may stands = (subst (λ (ds : List Drain). length ds < DRAIN_LIMIT) (sym stands.0) (lit< tt), stands.1, stands.2)
-StandsIn-preparing (Preparing _) target draining down link waits may stands = absurd (true≢false (sym may))
-StandsIn-preparing (Changing _) target draining down link waits may stands = absurd (true≢false (sym may))
-StandsIn-preparing Draining target draining down link waits may stands = (ltb-true (length draining) DRAIN_LIMIT may, stands.2, stands.3)
+stands_in_preparing : (stage : Stage) (target : Target) (draining : List Drain) (down : HoldState) (link : ShortMessageLink) (waits : Bool) → may_begin stage draining ≡ true → StandsBut stage draining down link → StandsIn (Preparing target) draining down link waits
+stands_in_preparing Active target draining down link waits may stands = (subst (λ (ds : List Drain). length ds < DRAIN_LIMIT) (sym stands.0) (lit< tt), stands.1, stands.2)
+stands_in_preparing (Preparing _) target draining down link waits may stands = absurd (true≢false (sym may))
+stands_in_preparing (Changing _) target draining down link waits may stands = absurd (true≢false (sym may))
+stands_in_preparing Draining target draining down link waits may stands = (ltb-true (length draining) DRAIN_LIMIT may, stands.2, stands.3)
 
-pub Stands-begin : (reference : ℕ) (stage : Stage) (change : Change) (offer : Option Channel) (s : Connection) → AliveIn s → may_begin stage s.draining ≡ true → StandsBut stage s.draining s.down s.link → Stands s → Stands (begin reference change offer s).next
-Stands-begin reference stage change (Some channel) s lives may but stands =
+pub stands_begin : (reference : ℕ) (stage : Stage) (change : Change) (offer : Option Channel) (s : Connection) → AliveIn s → may_begin stage s.draining ≡ true → StandsBut stage s.draining s.down s.link → Stands s → Stands (begin reference change offer s).next
+stands_begin reference stage change (Some channel) s lives may but stands =
     let target : Target = record { change = change; channel = channel } in
-    Stands-live reference (Preparing target) (enter (Live reference (Preparing target)) s) refl lives (StandsIn-preparing stage target s.draining s.down s.link s.waits may but)
-Stands-begin reference stage change None s lives may but stands = stands
+    stands_live reference (Preparing target) (enter (Live reference (Preparing target)) s) refl lives (stands_in_preparing stage target s.draining s.down s.link s.waits may but)
+stands_begin reference stage change None s lives may but stands = stands
 
 -- the request that waits begins, where it may
-pub Stands-begin_waiting : (reference : ℕ) (stage : Stage) (offer : Option Channel) (s : Connection) → s.state ≡ Live reference stage → AliveIn s → StandsBut stage s.draining s.down s.link → Stands (begin_waiting stage reference offer s).next
-Stands-begin_waiting reference stage offer s is lives but =
+pub stands_begin_waiting : (reference : ℕ) (stage : Stage) (offer : Option Channel) (s : Connection) → s.state ≡ Live reference stage → AliveIn s → StandsBut stage s.draining s.down s.link → Stands (begin_waiting stage reference offer s).next
+stands_begin_waiting reference stage offer s is lives but =
     after s.waits (may_begin stage s.draining) refl refl
   where
     waiting : (waits : Bool) → StandsIn stage s.draining s.down s.link waits → Stands (record s { waits = waits })
-    waiting waits stands = Stands-live reference stage (record s { waits = waits }) is lives stands
+    waiting waits stands = stands_live reference stage (record s { waits = waits }) is lives stands
 
     after : (waits may : Bool) → s.waits ≡ waits → may_begin stage s.draining ≡ may → Stands (after_waiting (waits && may) reference offer s)
     after true true is_waiting may =
-        Stands-begin reference stage Assignment offer (record s { waits = false }) lives may but (waiting false (StandsIn-free stage s.draining s.down s.link but))
+        stands_begin reference stage Assignment offer (record s { waits = false }) lives may but (waiting false (stands_in_free stage s.draining s.down s.link but))
     after true false is_waiting may =
-        subst (λ (waits : Bool). Stands (record s { waits = waits })) (sym is_waiting) (waiting true (StandsIn-waiting stage s.draining s.down s.link may but))
+        subst (λ (waits : Bool). Stands (record s { waits = waits })) (sym is_waiting) (waiting true (stands_in_waiting stage s.draining s.down s.link may but))
     after false _ is_waiting may =
-        subst (λ (waits : Bool). Stands (record s { waits = waits })) (sym is_waiting) (waiting false (StandsIn-free stage s.draining s.down s.link but))
+        subst (λ (waits : Bool). Stands (record s { waits = waits })) (sym is_waiting) (waiting false (stands_in_free stage s.draining s.down s.link but))
 
 -- ---- the links
 
@@ -183,20 +183,20 @@ abbrev pub IsStill : Stage → Type 0
 IsStill (Changing target) = ⊥
 IsStill _ = Unit {0}
 
-IsAskedFor-nothing : (link : ShortMessageLink) → IsAskedFor link []
-IsAskedFor-nothing Down = refl
-IsAskedFor-nothing Asked = tt
-IsAskedFor-nothing Up = refl
+is_asked_for_nothing : (link : ShortMessageLink) → IsAskedFor link []
+is_asked_for_nothing Down = refl
+is_asked_for_nothing Asked = tt
+is_asked_for_nothing Up = refl
 
-pub IsAskedFor-for : (link : ShortMessageLink) (three : List (List ℕ)) → IsAskedFor (link_for three link) three
-IsAskedFor-for link [] = IsAskedFor-nothing link
-IsAskedFor-for link (first ∷ rest) = tt
+pub is_asked_for_for : (link : ShortMessageLink) (three : List (List ℕ)) → IsAskedFor (link_for three link) three
+is_asked_for_for link [] = is_asked_for_nothing link
+is_asked_for_for link (first ∷ rest) = tt
 
-StandsIn-link : (stage : Stage) (draining : List Drain) (down : HoldState) (link new : ShortMessageLink) (three : List (List ℕ)) (waits : Bool) → IsStill stage → IsAskedFor new three → StandsIn stage draining down link waits → StandsIn stage draining (record down { three = three }) new waits
-StandsIn-link Active draining down link new three waits still asked stands = (stands.0, stands.1, asked, stands.3)
-StandsIn-link (Preparing target) draining down link new three waits still asked stands = (stands.0, stands.1, asked)
-StandsIn-link (Changing target) draining down link new three waits still asked stands = absurd still
-StandsIn-link Draining draining down link new three waits still asked stands = (stands.0, stands.1, stands.2, asked, stands.4)
+stands_in_link : (stage : Stage) (draining : List Drain) (down : HoldState) (link new : ShortMessageLink) (three : List (List ℕ)) (waits : Bool) → IsStill stage → IsAskedFor new three → StandsIn stage draining down link waits → StandsIn stage draining (record down { three = three }) new waits
+stands_in_link Active draining down link new three waits still asked stands = (stands.0, stands.1, asked, stands.3)
+stands_in_link (Preparing target) draining down link new three waits still asked stands = (stands.0, stands.1, asked)
+stands_in_link (Changing target) draining down link new three waits still asked stands = absurd still
+stands_in_link Draining draining down link new three waits still asked stands = (stands.0, stands.1, stands.2, asked, stands.4)
 
 pub asked_for : (stage : Stage) (draining : List Drain) (down : HoldState) (link : ShortMessageLink) (waits : Bool) → IsStill stage → StandsIn stage draining down link waits → IsAskedFor link down.three
 asked_for Active draining down link waits still stands = stands.2
@@ -210,90 +210,90 @@ none_held (Preparing target) draining down link waits still stands = stands.1
 none_held (Changing target) draining down link waits still stands = absurd still
 none_held Draining draining down link waits still stands = stands.2
 
-pub Stands-link_up : (reference : ℕ) (stage : Stage) (s : Connection) → IsStill stage → s.state ≡ Live reference stage → Stands s → Stands (link_up s).next
-Stands-link_up reference stage s still is stands =
+pub stands_link_up : (reference : ℕ) (stage : Stage) (s : Connection) → IsStill stage → s.state ≡ Live reference stage → Stands s → Stands (link_up s).next
+stands_link_up reference stage s still is stands =
     let lives = alive reference stage s is stands in
-    Stands-live reference stage (link_up s).next is (with_hold lives (StandsDown-without Three s.down lives.down))
-    (StandsIn-link stage s.draining s.down s.link Up [] s.waits still refl (in_stage reference stage s is stands))
+    stands_live reference stage (link_up s).next is (with_hold lives (stands_down_without Three s.down lives.down))
+    (stands_in_link stage s.draining s.down s.link Up [] s.waits still refl (in_stage reference stage s is stands))
 
-pub Stands-link_down : (reference : ℕ) (stage : Stage) (link : ShortMessageLink) (s : Connection) → s.link ≡ link → IsStill stage → s.state ≡ Live reference stage → Stands s → Stands (link_down link reference s).next
-Stands-link_down reference stage Asked s was still is stands =
+pub stands_link_down : (reference : ℕ) (stage : Stage) (link : ShortMessageLink) (s : Connection) → s.link ≡ link → IsStill stage → s.state ≡ Live reference stage → Stands s → Stands (link_down link reference s).next
+stands_link_down reference stage Asked s was still is stands =
     let lives = alive reference stage s is stands in
-    Stands-live reference stage (link_down Asked reference s).next is (with_hold lives (StandsDown-without Three s.down lives.down))
-    (StandsIn-link stage s.draining s.down s.link Down [] s.waits still refl (in_stage reference stage s is stands))
-Stands-link_down reference stage Down s was still is stands =
+    stands_live reference stage (link_down Asked reference s).next is (with_hold lives (stands_down_without Three s.down lives.down))
+    (stands_in_link stage s.draining s.down s.link Down [] s.waits still refl (in_stage reference stage s is stands))
+stands_link_down reference stage Down s was still is stands =
     let stood = in_stage reference stage s is stands in
     let asked = asked_for stage s.draining s.down s.link s.waits still stood in
-    Stands-live reference stage (link_down Down reference s).next is (alive reference stage s is stands)
-    (StandsIn-link stage s.draining s.down s.link Down s.down.three s.waits still (subst (λ (link : ShortMessageLink). IsAskedFor link s.down.three) was asked) stood)
-Stands-link_down reference stage Up s was still is stands =
+    stands_live reference stage (link_down Down reference s).next is (alive reference stage s is stands)
+    (stands_in_link stage s.draining s.down s.link Down s.down.three s.waits still (subst (λ (link : ShortMessageLink). IsAskedFor link s.down.three) was asked) stood)
+stands_link_down reference stage Up s was still is stands =
     let stood = in_stage reference stage s is stands in
     let asked = asked_for stage s.draining s.down s.link s.waits still stood in
-    Stands-live reference stage (link_down Up reference s).next is (alive reference stage s is stands)
-    (StandsIn-link stage s.draining s.down s.link Down s.down.three s.waits still (subst (λ (link : ShortMessageLink). IsAskedFor link s.down.three) was asked) stood)
+    stands_live reference stage (link_down Up reference s).next is (alive reference stage s is stands)
+    (stands_in_link stage s.draining s.down s.link Down s.down.three s.waits still (subst (λ (link : ShortMessageLink). IsAskedFor link s.down.three) was asked) stood)
 
 -- ---- messages are held
 
 -- of the switch, while a channel changes
-pub Stands-hold_down : (reference : ℕ) (target : Target) (sapi : Sapi) (message : List ℕ) (s : Connection) → s.state ≡ Live reference (Changing target) → IsLayer3 message → Stands s → Stands (hold_down (Live reference (Changing target)) sapi message s).next
-Stands-hold_down reference target sapi message s is carried stands =
+pub stands_hold_down : (reference : ℕ) (target : Target) (sapi : Sapi) (message : List ℕ) (s : Connection) → s.state ≡ Live reference (Changing target) → IsLayer3 message → Stands s → Stands (hold_down (Live reference (Changing target)) sapi message s).next
+stands_hold_down reference target sapi message s is carried stands =
     let lives = alive reference (Changing target) s is stands in
     cond_both (eqb (count s.down) s.down.limit) _ _ (λ (r : Row). Stands r.next)
-    (λ full. Stands-failing (Live reference (Changing target)) s EQUIPMENT_FAILURE (Holds-of s stands))
-    (λ room. Stands-live reference (Changing target) _ is (with_hold lives (StandsDown-put sapi message s.down lives.down room carried)) (in_stage reference (Changing target) s is stands))
+    (λ full. stands_failing (Live reference (Changing target)) s EQUIPMENT_FAILURE (holds_of s stands))
+    (λ room. stands_live reference (Changing target) _ is (with_hold lives (stands_down_put sapi message s.down lives.down room carried)) (in_stage reference (Changing target) s is stands))
 
 -- of the switch, for a link that isn't up
-Stands-hold_short : (reference : ℕ) (stage : Stage) (message : List ℕ) (s : Connection) → IsStill stage → s.state ≡ Live reference stage → IsLayer3 message → Stands s → Stands (hold_short_message (Live reference stage) message s).next
-Stands-hold_short reference stage message s still is carried stands =
+stands_hold_short : (reference : ℕ) (stage : Stage) (message : List ℕ) (s : Connection) → IsStill stage → s.state ≡ Live reference stage → IsLayer3 message → Stands s → Stands (hold_short_message (Live reference stage) message s).next
+stands_hold_short reference stage message s still is carried stands =
     let lives = alive reference stage s is stands in
     cond_both (eqb (count s.down) s.down.limit) _ _ (λ (r : Row). Stands r.next)
-    (λ full. Stands-failing (Live reference stage) s EQUIPMENT_FAILURE (Holds-of s stands))
-    (λ room. Stands-live reference stage _ is (with_hold lives (StandsDown-put Three message s.down lives.down room carried))
-    (StandsIn-link stage s.draining s.down s.link Asked (s.down.three ++ message ∷ []) s.waits still tt (in_stage reference stage s is stands)))
+    (λ full. stands_failing (Live reference stage) s EQUIPMENT_FAILURE (holds_of s stands))
+    (λ room. stands_live reference stage _ is (with_hold lives (stands_down_put Three message s.down lives.down room carried))
+    (stands_in_link stage s.draining s.down s.link Asked (s.down.three ++ message ∷ []) s.waits still tt (in_stage reference stage s is stands)))
 
-pub Stands-short_message : (reference : ℕ) (stage : Stage) (link : ShortMessageLink) (message : List ℕ) (s : Connection) → IsStill stage → s.state ≡ Live reference stage → IsLayer3 message → Stands s → Stands (short_message (Live reference stage) link message s).next
-Stands-short_message reference stage Up message s still is carried stands = stands
-Stands-short_message reference stage _ message s still is carried stands = Stands-hold_short reference stage message s still is carried stands
+pub stands_short_message : (reference : ℕ) (stage : Stage) (link : ShortMessageLink) (message : List ℕ) (s : Connection) → IsStill stage → s.state ≡ Live reference stage → IsLayer3 message → Stands s → Stands (short_message (Live reference stage) link message s).next
+stands_short_message reference stage Up message s still is carried stands = stands
+stands_short_message reference stage _ message s still is carried stands = stands_hold_short reference stage message s still is carried stands
 
 -- of the mobile
-FirstIsEmpty-put_in : (place : ℕ) (sapi : Sapi) (message : List ℕ) (ts : List Tenure) → FirstIsEmpty ts → FirstIsEmpty (put_in (suc place) sapi message ts)
-FirstIsEmpty-put_in place sapi message [] first = first
-FirstIsEmpty-put_in place sapi message (t ∷ ts) first = first
+first_is_empty_put_in : (place : ℕ) (sapi : Sapi) (message : List ℕ) (ts : List Tenure) → FirstIsEmpty ts → FirstIsEmpty (put_in (suc place) sapi message ts)
+first_is_empty_put_in place sapi message [] first = first
+first_is_empty_put_in place sapi message (t ∷ ts) first = first
 
-pub Stands-hold_up : (reference : ℕ) (stage : Stage) (place : ℕ) (sapi : Sapi) (message : List ℕ) (s : Connection) → s.state ≡ Live reference stage → IsLayer3 message → Stands s → Stands (hold_up (Live reference stage) (suc place) sapi message s).next
-Stands-hold_up reference stage place sapi message s is carried stands =
+pub stands_hold_up : (reference : ℕ) (stage : Stage) (place : ℕ) (sapi : Sapi) (message : List ℕ) (s : Connection) → s.state ≡ Live reference stage → IsLayer3 message → Stands s → Stands (hold_up (Live reference stage) (suc place) sapi message s).next
+stands_hold_up reference stage place sapi message s is carried stands =
     let lives = alive reference stage s is stands in
     cond_both (eqb (chain_count s.up) s.up.limit) _ _ (λ (r : Row). Stands r.next)
-    (λ full. Stands-failing (Live reference stage) s EQUIPMENT_FAILURE (Holds-of s stands))
-    (λ room. Stands-live reference stage _ is
-    (with_chain lives (length-put_in (suc place) sapi message s.up.tenures) (FirstIsEmpty-put_in place sapi message s.up.tenures lives.first) (StandsUp-put (suc place) sapi message s.up lives.up room carried))
+    (λ full. stands_failing (Live reference stage) s EQUIPMENT_FAILURE (holds_of s stands))
+    (λ room. stands_live reference stage _ is
+    (with_chain lives (length-put_in (suc place) sapi message s.up.tenures) (first_is_empty_put_in place sapi message s.up.tenures lives.first) (stands_up_put (suc place) sapi message s.up lives.up room carried))
     (in_stage reference stage s is stands))
 
 -- the first messages wait for the switch
-pub Stands-hold_first : (sapi : Sapi) (message : List ℕ) (s : Connection) → s.state ≡ WaitConfirm → IsLayer3 message → Stands s → Stands (hold_up WaitConfirm 0 sapi message s).next
-Stands-hold_first sapi message s is carried stands =
+pub stands_hold_first : (sapi : Sapi) (message : List ℕ) (s : Connection) → s.state ≡ WaitConfirm → IsLayer3 message → Stands s → Stands (hold_up WaitConfirm 0 sapi message s).next
+stands_hold_first sapi message s is carried stands =
     let awaits = by_state WaitConfirm s is stands in
-    let holds = Holds-of s stands in
+    let holds = holds_of s stands in
     cond_both (eqb (chain_count s.up) s.up.limit) _ _ (λ (r : Row). Stands r.next)
-    (λ full. Stands-failing WaitConfirm s EQUIPMENT_FAILURE holds)
-    (λ room. Stands-of _
+    (λ full. stands_failing WaitConfirm s EQUIPMENT_FAILURE holds)
+    (λ room. stands_of _
     (subst (λ (state : State). StandsBy state s.draining s.down (put_in 0 sapi message s.up.tenures) s.link s.waits) (sym is)
     (record { none_drains = awaits.none_drains; none_handed = awaits.none_handed; one_tenure = length-put_in 0 sapi message s.up.tenures ∙ awaits.one_tenure; down_link = awaits.down_link; none_waits = awaits.none_waits }))
-    holds.down (StandsUp-put 0 sapi message s.up holds.up room carried) stands.drain_time)
+    holds.down (stands_up_put 0 sapi message s.up holds.up room carried) stands.drain_time)
 
 -- the switch confirms the connection: they are relayed
-pub Stands-confirmed : (reference : ℕ) (s : Connection) → s.state ≡ WaitConfirm → Stands s → Stands (relay_held reference (enter (Live reference Active) s)).next
-Stands-confirmed reference s is stands =
+pub stands_confirmed : (reference : ℕ) (s : Connection) → s.state ≡ WaitConfirm → Stands s → Stands (relay_held reference (enter (Live reference Active) s)).next
+stands_confirmed reference s is stands =
     let awaits = by_state WaitConfirm s is stands in
-    let holds = Holds-of s stands in
+    let holds = holds_of s stands in
     let none = awaits.none_handed in
-    Stands-live reference Active _ refl
+    stands_live reference Active _ refl
     (record {
       each = length-first_cleared s.up.tenures ∙ awaits.one_tenure ∙ rw awaits.none_drains refl;
-      first = FirstIsEmpty-cleared s.up.tenures awaits.one_tenure;
+      first = first_is_empty_cleared s.up.tenures awaits.one_tenure;
       oldest = rw awaits.none_drains tt;
       time = stands.drain_time;
       down = holds.down;
-      up = StandsUp-cleared s.up holds.up;
+      up = stands_up_cleared s.up holds.up;
     })
     (awaits.none_drains, nothing s.down.zero (omega arith), subst (λ (link : ShortMessageLink). IsAskedFor link s.down.three) (sym awaits.down_link) (nothing s.down.three (omega arith)), awaits.none_waits)

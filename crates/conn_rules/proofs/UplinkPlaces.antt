@@ -21,27 +21,27 @@ same_place at c here =
     ap (λ (n : ℕ). record at { station = n }) station ∙ ap (λ (n : ℕ). record (place_of c) { number = n }) number
 
 -- a test of two numbers, turned round
-equal-turned : (a b : ℕ) → (a == b) ≡ (b == a)
-equal-turned a b =
+equal_turned : (a b : ℕ) → (a == b) ≡ (b == a)
+equal_turned a b =
     elim (cases_Bool (a == b)) [
       | inl same ↦ same ∙ sym (eq-eqb b a (sym (eqb-true a b same)))
       | inr other ↦ other ∙ sym (false_from_ne_true (b == a) (λ same. true≢false (sym (eq-eqb a b (sym (eqb-true b a same))) ∙ other)))
     ]
 
-both-turned : (a b x y : ℕ) → ((a == b) && (x == y)) ≡ ((b == a) && (y == x))
-both-turned a b x y = ap (λ (t : Bool). t && (x == y)) (equal-turned a b) ∙ ap (λ (t : Bool). (b == a) && t) (equal-turned x y)
+both_turned : (a b x y : ℕ) → ((a == b) && (x == y)) ≡ ((b == a) && (y == x))
+both_turned a b x y = ap (λ (t : Bool). t && (x == y)) (equal_turned a b) ∙ ap (λ (t : Bool). (b == a) && t) (equal_turned x y)
 
 pub away-of : (at : Place) (c d : Channel) → IsApart c d → is_at at c ≡ true → is_at at d ≡ false
 away-of at c d apart here = subst (λ (p : Place). is_at p d ≡ false) (sym (same_place at c here)) apart
 
 pub away-of_other : (at : Place) (c d : Channel) → IsApart c d → is_at at d ≡ true → is_at at c ≡ false
-away-of_other at c d apart here = away-of at d c (both-turned d.station c.station d.number c.number ∙ apart) here
+away-of_other at c d apart here = away-of at d c (both_turned d.station c.station d.number c.number ∙ apart) here
 
 pub first_here : (at : Place) (c : Channel) (message : List ℕ) (future : Future) → is_at at c ≡ true → on_channel (first_at at message future) c ≡ message ∷ on_channel future c
-first_here at c message future here = cond-true _ _ _ (both-turned c.station at.station c.number at.number ∙ here)
+first_here at c message future here = cond-true _ _ _ (both_turned c.station at.station c.number at.number ∙ here)
 
 pub first_away : (at : Place) (c : Channel) (message : List ℕ) (future : Future) → is_at at c ≡ false → on_channel (first_at at message future) c ≡ on_channel future c
-first_away at c message future away = cond-false _ _ _ (both-turned c.station at.station c.number at.number ∙ away)
+first_away at c message future away = cond-false _ _ _ (both_turned c.station at.station c.number at.number ∙ away)
 
 -- ---- lists of channels
 
@@ -89,9 +89,9 @@ behind : (o : Option ℕ) (place : ℕ) → option_map (λ n. suc n) o ≡ Some 
 behind None place is = absurd cc
 behind (Some n) place is = let later : Some (suc n) ≡ Some place = is in (n, refl, cc)
 
-not-true_from : (b : Bool) → not b ≡ true → b ≡ false
-not-true_from true is = sym is
-not-true_from false is = refl
+not_true_from : (b : Bool) → not b ≡ true → b ≡ false
+not_true_from true is = sym is
+not_true_from false is = refl
 
 pub drain_at-drains : (at : Place) (ds : List Drain) (place : ℕ) → drain_at at ds ≡ Some place → DrainsAt at place ds
 drain_at-drains at [] place is = absurd cc
@@ -101,7 +101,7 @@ drain_at-drains at (d ∷ ds) place is =
           let parts = and_parts (is_at at d.channel) (not d.is_done) here in
           let same : Some 0 ≡ Some place = sym (cond-true _ _ _ here) ∙ is in
           let first : 0 ≡ place = cc in
-          subst (λ (n : ℕ). DrainsAt at n (d ∷ ds)) first (parts.0, not-true_from d.is_done parts.1)
+          subst (λ (n : ℕ). DrainsAt at n (d ∷ ds)) first (parts.0, not_true_from d.is_done parts.1)
       | inr other ↦
           let later = behind (drain_at at ds) place (sym (cond-false _ _ _ other) ∙ is) in
           subst (λ (n : ℕ). DrainsAt at n (d ∷ ds)) (sym later.2) (drain_at-drains at ds later.0 later.1)
@@ -124,15 +124,15 @@ drain-behind_away at (suc place) (d ∷ ds) rest drains apart = drain-behind_awa
 -- ---- what may still come, where a message comes first
 
 -- on an old channel
-pub of_drain-away : (at : Place) (message : List ℕ) (future : Future) (done : Bool) (c : Channel) → (done ≡ false → is_at at c ≡ false) → (if done then [] else on_channel (first_at at message future) c) ≡ (if done then [] else on_channel future c)
-of_drain-away at message future true c away = refl
-of_drain-away at message future false c away = first_away at c message future (away refl)
+pub of_drain_away : (at : Place) (message : List ℕ) (future : Future) (done : Bool) (c : Channel) → (done ≡ false → is_at at c ≡ false) → (if done then [] else on_channel (first_at at message future) c) ≡ (if done then [] else on_channel future c)
+of_drain_away at message future true c away = refl
+of_drain_away at message future false c away = first_away at c message future (away refl)
 
 pub still_of-away : (sapi : Sapi) (at : Place) (message : List ℕ) (future : Future) (serving : Channel) (ds : List Drain) (ts : List Tenure) (rest : List Channel) → AreAway at (undone ds ++ serving ∷ rest) → still_of sapi (first_at at message future) serving ds ts ≡ still_of sapi future serving ds ts
 still_of-away sapi at message future serving ds [] rest away = refl
 still_of-away sapi at message future serving [] (t ∷ ts) rest away = ap (λ (xs : List (List ℕ)). tenure_messages t sapi ++ xs) (first_away at serving message future away.0)
 still_of-away sapi at message future serving (d ∷ ds) (t ∷ ts) rest away =
     let is_away = λ (c : Channel). is_at at c ≡ false in
-    let first = of_drain-away at message future d.is_done d.channel (all_first is_away d.is_done d.channel (undone ds) (serving ∷ rest) away) in
+    let first = of_drain_away at message future d.is_done d.channel (all_first is_away d.is_done d.channel (undone ds) (serving ∷ rest) away) in
     let others = still_of-away sapi at message future serving ds ts rest (all_rest is_away d.is_done d.channel (undone ds) (serving ∷ rest) away) in
     rw (first, others) refl

@@ -23,8 +23,8 @@ use Rattle.rsl_codec.specs.declared.channel_number.TheConstants.{FIRST_SDCCH}
 abbrev pub Gives : Sapi → Future → List (List ℕ) → Row → Type 0
 Gives sapi future up r = relayed sapi r.outs ++ still_to_relay sapi future r.next ≡ up
 
-pub Gives-then : (sapi : Sapi) (future : Future) (up : List (List ℕ)) (r : Row) (step : Connection → Row) → Gives sapi future up r → Gives sapi future (still_to_relay sapi future r.next) (step r.next) → Gives sapi future up (r then step)
-Gives-then sapi future up r step first rest =
+pub gives_then : (sapi : Sapi) (future : Future) (up : List (List ℕ)) (r : Row) (step : Connection → Row) → Gives sapi future up r → Gives sapi future (still_to_relay sapi future r.next) (step r.next) → Gives sapi future up (r then step)
+gives_then sapi future up r step first rest =
     let next = (step r.next).next in
     let outs = (step r.next).outs in
     ap (λ (xs : List (List ℕ)). xs ++ still_to_relay sapi future next) (flat_map-append (relayed_by sapi) r.outs outs)
@@ -34,13 +34,13 @@ Gives-then sapi future up r step first rest =
 
 -- ---- what is relayed on a link identifier is of its SAPI
 
-dlci-three : (three : Bool) → is_of Three (if three then SDCCH_SAPI_3_DLCI else SACCH_SAPI_3_DLCI) ≡ true
-dlci-three true = refl
-dlci-three false = refl
+dlci_three : (three : Bool) → is_of Three (if three then SDCCH_SAPI_3_DLCI else SACCH_SAPI_3_DLCI) ≡ true
+dlci_three true = refl
+dlci_three false = refl
 
-dlci-not_zero : (three : Bool) → is_of Zero (if three then SDCCH_SAPI_3_DLCI else SACCH_SAPI_3_DLCI) ≡ false
-dlci-not_zero true = refl
-dlci-not_zero false = refl
+dlci_not_zero : (three : Bool) → is_of Zero (if three then SDCCH_SAPI_3_DLCI else SACCH_SAPI_3_DLCI) ≡ false
+dlci_not_zero true = refl
+dlci_not_zero false = refl
 
 -- the messages of a SAPI that are relayed as those of another
 abbrev pub of_sapi : Sapi → Sapi → List (List ℕ) → List (List ℕ)
@@ -51,9 +51,9 @@ of_sapi Three Three these = these
 
 pub relayed_by-relaying : (sapi of : Sapi) (reference : ℕ) (c : Channel) (message : List ℕ) → relayed_by sapi (relaying reference c of message) ≡ of_sapi sapi of (message ∷ [])
 relayed_by-relaying Zero Zero reference c message = refl
-relayed_by-relaying Zero Three reference c message = cond-false _ _ _ (dlci-not_zero (nat_le FIRST_SDCCH c.number))
+relayed_by-relaying Zero Three reference c message = cond-false _ _ _ (dlci_not_zero (nat_le FIRST_SDCCH c.number))
 relayed_by-relaying Three Zero reference c message = refl
-relayed_by-relaying Three Three reference c message = cond-true _ _ _ (dlci-three (nat_le FIRST_SDCCH c.number))
+relayed_by-relaying Three Three reference c message = cond-true _ _ _ (dlci_three (nat_le FIRST_SDCCH c.number))
 
 of_sapi-cons : (sapi of : Sapi) (message : List ℕ) (these : List (List ℕ)) → of_sapi sapi of (message ∷ []) ++ of_sapi sapi of these ≡ of_sapi sapi of (message ∷ these)
 of_sapi-cons Zero Zero message these = refl
@@ -94,8 +94,8 @@ first_of sapi future reference c serving ds [] more = refl
 first_of sapi future reference c serving ds (t ∷ ts) more =
     rw (relayed-tenure sapi reference c t ts, ← still_of-first sapi future serving ds t ts) (sym (append_assoc (tenure_messages t sapi) (still_of sapi future serving ds (empty_tenure ∷ ts)) more))
 
-pub Gives-relay_held : (sapi : Sapi) (future : Future) (reference : ℕ) (s : Connection) → Gives sapi future (still_to_relay sapi future s) (relay_held reference s)
-Gives-relay_held sapi future reference s = first_of sapi future reference (first_channel s.draining s.serving) s.serving s.draining s.up.tenures (of_target future s.state)
+pub gives_relay_held : (sapi : Sapi) (future : Future) (reference : ℕ) (s : Connection) → Gives sapi future (still_to_relay sapi future s) (relay_held reference s)
+gives_relay_held sapi future reference s = first_of sapi future reference (first_channel s.draining s.serving) s.serving s.draining s.up.tenures (of_target future s.state)
 
 -- ---- steps that relay nothing
 
@@ -103,36 +103,36 @@ none_handed : (sapi : Sapi) (c : Channel) (of : Sapi) (these : List (List ℕ)) 
 none_handed sapi c of [] = refl
 none_handed sapi c of (message ∷ these) = none_handed sapi c of these
 
-pub Gives-hand_held : (sapi : Sapi) (future : Future) (of : Sapi) (s : Connection) → Gives sapi future (still_to_relay sapi future s) (hand_held of s)
-Gives-hand_held sapi future of s = rw (none_handed sapi s.serving of _) refl
+pub gives_hand_held : (sapi : Sapi) (future : Future) (of : Sapi) (s : Connection) → Gives sapi future (still_to_relay sapi future s) (hand_held of s)
+gives_hand_held sapi future of s = rw (none_handed sapi s.serving of _) refl
 
 none_requested : (sapi : Sapi) (c : Channel) (these : List (List ℕ)) → relayed sapi (request_for these c) ≡ []
 none_requested sapi c [] = refl
 none_requested sapi c (message ∷ these) = refl
 
-pub Gives-ask_for_held : (sapi : Sapi) (future : Future) (s : Connection) → Gives sapi future (still_to_relay sapi future s) (ask_for_held s)
-Gives-ask_for_held sapi future s = ap (λ (xs : List (List ℕ)). xs ++ still_to_relay sapi future s) (none_requested sapi s.serving s.down.three)
+pub gives_ask_for_held : (sapi : Sapi) (future : Future) (s : Connection) → Gives sapi future (still_to_relay sapi future s) (ask_for_held s)
+gives_ask_for_held sapi future s = ap (λ (xs : List (List ℕ)). xs ++ still_to_relay sapi future s) (none_requested sapi s.serving s.down.three)
 
 -- ---- a change begins, where the mobile isn't on its way to another channel
 
-pub Gives-begin : (sapi : Sapi) (future : Future) (reference : ℕ) (change : Change) (offer : Option Channel) (s : Connection) → of_target future s.state ≡ [] → Gives sapi future (still_to_relay sapi future s) (begin reference change offer s)
-Gives-begin sapi future reference Assignment (Some channel) s none = rw none refl
-Gives-begin sapi future reference Handover (Some channel) s none = rw none refl
-Gives-begin sapi future reference Assignment None s none = refl
-Gives-begin sapi future reference Handover None s none = refl
+pub gives_begin : (sapi : Sapi) (future : Future) (reference : ℕ) (change : Change) (offer : Option Channel) (s : Connection) → of_target future s.state ≡ [] → Gives sapi future (still_to_relay sapi future s) (begin reference change offer s)
+gives_begin sapi future reference Assignment (Some channel) s none = rw none refl
+gives_begin sapi future reference Handover (Some channel) s none = rw none refl
+gives_begin sapi future reference Assignment None s none = refl
+gives_begin sapi future reference Handover None s none = refl
 
-pub begins-untargeted : (future : Future) (reference : ℕ) (stage : Stage) (waits : Bool) (ds : List Drain) → (waits && may_begin stage ds) ≡ true → of_target future (Live reference stage) ≡ []
-begins-untargeted future reference (Changing target) true ds begins = absurd (true≢false (sym begins))
-begins-untargeted future reference (Changing target) false ds begins = absurd (true≢false (sym begins))
-begins-untargeted future reference _ waits ds begins = refl
+pub begins_untargeted : (future : Future) (reference : ℕ) (stage : Stage) (waits : Bool) (ds : List Drain) → (waits && may_begin stage ds) ≡ true → of_target future (Live reference stage) ≡ []
+begins_untargeted future reference (Changing target) true ds begins = absurd (true≢false (sym begins))
+begins_untargeted future reference (Changing target) false ds begins = absurd (true≢false (sym begins))
+begins_untargeted future reference _ waits ds begins = refl
 
-Gives-waiting : (sapi : Sapi) (future : Future) (reference : ℕ) (offer : Option Channel) (s : Connection) (begins : Bool) → (begins ≡ true → of_target future s.state ≡ []) → Gives sapi future (still_to_relay sapi future s) (row (waiting_outs begins reference offer) (after_waiting begins reference offer s))
-Gives-waiting sapi future reference offer s true none = Gives-begin sapi future reference Assignment offer (record s { waits = false }) (none refl)
-Gives-waiting sapi future reference offer s false none = refl
+gives_waiting : (sapi : Sapi) (future : Future) (reference : ℕ) (offer : Option Channel) (s : Connection) (begins : Bool) → (begins ≡ true → of_target future s.state ≡ []) → Gives sapi future (still_to_relay sapi future s) (row (waiting_outs begins reference offer) (after_waiting begins reference offer s))
+gives_waiting sapi future reference offer s true none = gives_begin sapi future reference Assignment offer (record s { waits = false }) (none refl)
+gives_waiting sapi future reference offer s false none = refl
 
-pub Gives-begin_waiting : (sapi : Sapi) (future : Future) (stage : Stage) (reference : ℕ) (offer : Option Channel) (s : Connection) → s.state ≡ Live reference stage → Gives sapi future (still_to_relay sapi future s) (begin_waiting stage reference offer s)
-Gives-begin_waiting sapi future stage reference offer s is =
-    Gives-waiting sapi future reference offer s (s.waits && may_begin stage s.draining) (λ begins. ap (of_target future) is ∙ begins-untargeted future reference stage s.waits s.draining begins)
+pub gives_begin_waiting : (sapi : Sapi) (future : Future) (stage : Stage) (reference : ℕ) (offer : Option Channel) (s : Connection) → s.state ≡ Live reference stage → Gives sapi future (still_to_relay sapi future s) (begin_waiting stage reference offer s)
+gives_begin_waiting sapi future stage reference offer s is =
+    gives_waiting sapi future reference offer s (s.waits && may_begin stage s.draining) (λ begins. ap (of_target future) is ∙ begins_untargeted future reference stage s.waits s.draining begins)
 
 pub resting-untargeted : (future : Future) (reference : ℕ) (ds : List Drain) → of_target future (Live reference (resting_stage ds)) ≡ []
 resting-untargeted future reference [] = refl
@@ -143,25 +143,25 @@ resting-untargeted future reference (d ∷ ds) = refl
 abbrev with_tenures : List Tenure → Connection → Connection
 with_tenures ts s = record s { up = record s.up { tenures = ts } }
 
-Gives-leave_by : (sapi : Sapi) (future : Future) (reference : ℕ) (ds : List Drain) (ts : List Tenure) (s : Connection) → FirstIsEmpty ts → length ts ≡ length ds + 1 → Gives sapi future (still_of sapi future s.serving ds ts ++ of_target future s.state) (leave reference ds (with_tenures ts s))
-Gives-leave_by sapi future reference [] ts s first long = refl
-Gives-leave_by sapi future reference (d ∷ ds) [] s first long = absurd first
-Gives-leave_by sapi future reference (d ∷ ds) (t ∷ []) s first long = absurd (omega arith)
-Gives-leave_by sapi future reference (d ∷ ds) (t ∷ (u ∷ ts)) s first long =
+gives_leave_by : (sapi : Sapi) (future : Future) (reference : ℕ) (ds : List Drain) (ts : List Tenure) (s : Connection) → FirstIsEmpty ts → length ts ≡ length ds + 1 → Gives sapi future (still_of sapi future s.serving ds ts ++ of_target future s.state) (leave reference ds (with_tenures ts s))
+gives_leave_by sapi future reference [] ts s first long = refl
+gives_leave_by sapi future reference (d ∷ ds) [] s first long = absurd first
+gives_leave_by sapi future reference (d ∷ ds) (t ∷ []) s first long = absurd (omega arith)
+gives_leave_by sapi future reference (d ∷ ds) (t ∷ (u ∷ ts)) s first long =
     elim (cases_Bool d.is_done) [
       | inl done ↦
           let left : Connection = shifted ds (with_tenures (t ∷ (u ∷ ts)) s) in
           let up = still_of sapi future s.serving (d ∷ ds) (t ∷ (u ∷ ts)) ++ of_target future s.state in
           let goes : Gives sapi future up (row [] left) = rw (first, empty-messages sapi, done) refl in
-          let relays = Gives-then sapi future up (row [] left) (relay_held reference) goes (Gives-relay_held sapi future reference left) in
-          let others = Gives-leave_by sapi future reference ds (empty_tenure ∷ ts) left refl (omega arith) in
-          let all = Gives-then sapi future up (row [] left then relay_held reference) (leave reference ds) relays others in
+          let relays = gives_then sapi future up (row [] left) (relay_held reference) goes (gives_relay_held sapi future reference left) in
+          let others = gives_leave_by sapi future reference ds (empty_tenure ∷ ts) left refl (omega arith) in
+          let all = gives_then sapi future up (row [] left then relay_held reference) (leave reference ds) relays others in
           subst (λ (r : Row). Gives sapi future up r) (sym (cond-true _ _ _ done)) all
       | inr drains ↦ subst (λ (r : Row). Gives sapi future (still_of sapi future s.serving (d ∷ ds) (t ∷ (u ∷ ts)) ++ of_target future s.state) r) (sym (cond-false _ _ _ drains)) refl
     ]
 
-pub Gives-leave : (sapi : Sapi) (future : Future) (reference : ℕ) (ds : List Drain) (s : Connection) → FirstIsEmpty s.up.tenures → length s.up.tenures ≡ length ds + 1 → Gives sapi future (still_of sapi future s.serving ds s.up.tenures ++ of_target future s.state) (leave reference ds s)
-Gives-leave sapi future reference ds s first long = Gives-leave_by sapi future reference ds s.up.tenures s first long
+pub gives_leave : (sapi : Sapi) (future : Future) (reference : ℕ) (ds : List Drain) (s : Connection) → FirstIsEmpty s.up.tenures → length s.up.tenures ≡ length ds + 1 → Gives sapi future (still_of sapi future s.serving ds s.up.tenures ++ of_target future s.state) (leave reference ds s)
+gives_leave sapi future reference ds s first long = gives_leave_by sapi future reference ds s.up.tenures s first long
 
 pub leave-state : (reference : ℕ) (ds : List Drain) (s : Connection) → (leave reference ds s).next.state ≡ s.state
 leave-state reference [] s = refl
@@ -173,9 +173,9 @@ leave-state reference (d ∷ ds) s =
       | inr drains ↦ ap (λ (r : Row). r.next.state) (cond-false _ _ _ drains)
     ]
 
-pub Gives-settled : (sapi : Sapi) (future : Future) (reference : ℕ) (stage : Stage) (ds : List Drain) (s : Connection) → s.state ≡ Live reference stage → Gives sapi future (still_to_relay sapi future s) (row [] (settled reference stage ds s))
-Gives-settled sapi future reference Draining [] s is = ap (λ (state : State). still_of sapi future s.serving s.draining s.up.tenures ++ of_target future state) (sym is)
-Gives-settled sapi future reference stage ds s is = refl
+pub gives_settled : (sapi : Sapi) (future : Future) (reference : ℕ) (stage : Stage) (ds : List Drain) (s : Connection) → s.state ≡ Live reference stage → Gives sapi future (still_to_relay sapi future s) (row [] (settled reference stage ds s))
+gives_settled sapi future reference Draining [] s is = ap (λ (state : State). still_of sapi future s.serving s.draining s.up.tenures ++ of_target future state) (sym is)
+gives_settled sapi future reference stage ds s is = refl
 
 settled-state : (reference : ℕ) (stage : Stage) (ds : List Drain) (s : Connection) → s.state ≡ Live reference stage → (settled reference stage ds s).state ≡ Live reference (settled_stage stage ds)
 settled-state reference Draining [] s is = refl

@@ -10,7 +10,7 @@ use Rattle.conn_rules.specs.declared.state.State.TheVariants.{Live}
 use Rattle.conn_rules.specs.Connection.{is_at, tenure_at}
 use Rattle.conn_rules.specs.Steps.{done_at}
 use Rattle.conn_rules.specs.Streams.{Future, on_channel, still_of, of_target, first_at, undone, target_in, IsApart, AreApart}
-use Rattle.conn_rules.proofs.UplinkPlaces.{DrainsAt, AreAway, same_place, away-of_other, first_here, first_away, all_away, all_behind, apart_behind, apart_rest, apart_first, drain_at-drains, drain-away, drain-behind_away, of_drain-away, still_of-away}
+use Rattle.conn_rules.proofs.UplinkPlaces.{DrainsAt, AreAway, same_place, away-of_other, first_here, first_away, all_away, all_behind, apart_behind, apart_rest, apart_first, drain_at-drains, drain-away, drain-behind_away, of_drain_away, still_of-away}
 use Rattle.hold_queue.specs.ChainState.{with_tenure_messages}
 
 -- ---- a message is held in the tenure of its channel
@@ -32,21 +32,21 @@ serving-put sapi at message future serving (d ∷ ds) [] rest here apart = refl
 serving-put sapi at message future serving (d ∷ ds) (t ∷ ts) rest here apart =
     let others = serving-put sapi at message future serving ds ts rest here (apart_rest d.is_done d.channel (undone ds) (serving ∷ rest) apart) in
     let away : d.is_done ≡ false → is_at at d.channel ≡ false = λ undone_one. away-of_other at d.channel serving (all_behind (IsApart d.channel) (undone ds) (serving ∷ rest) (apart_first d.is_done d.channel (undone ds) (serving ∷ rest) undone_one apart)).0 here in
-    let first = of_drain-away at message future d.is_done d.channel away in
+    let first = of_drain_away at message future d.is_done d.channel away in
     rw (first, others) refl
 
 -- in that of an old channel
-drain-put : (sapi : Sapi) (at : Place) (message : List ℕ) (future : Future) (serving : Channel) (place : ℕ) (ds : List Drain) (ts : List Tenure) (rest : List Channel) → DrainsAt at place ds → AreApart (undone ds ++ serving ∷ rest) → still_of sapi future serving ds (put_in place sapi message ts) ≡ still_of sapi (first_at at message future) serving ds ts
-drain-put sapi at message future serving place [] ts rest drains apart = absurd drains
-drain-put sapi at message future serving place (d ∷ ds) [] rest drains apart = refl
-drain-put sapi at message future serving zero (d ∷ ds) (t ∷ ts) rest drains apart =
+drain_put : (sapi : Sapi) (at : Place) (message : List ℕ) (future : Future) (serving : Channel) (place : ℕ) (ds : List Drain) (ts : List Tenure) (rest : List Channel) → DrainsAt at place ds → AreApart (undone ds ++ serving ∷ rest) → still_of sapi future serving ds (put_in place sapi message ts) ≡ still_of sapi (first_at at message future) serving ds ts
+drain_put sapi at message future serving place [] ts rest drains apart = absurd drains
+drain_put sapi at message future serving place (d ∷ ds) [] rest drains apart = refl
+drain_put sapi at message future serving zero (d ∷ ds) (t ∷ ts) rest drains apart =
     let away = all_away at d.channel (undone ds ++ serving ∷ rest) drains.0 (apart_first d.is_done d.channel (undone ds) (serving ∷ rest) drains.1 apart) in
     let others = still_of-away sapi at message future serving ds ts rest away in
     rw (held t sapi, drains.1, others, first_here at d.channel message future drains.0) (append_assoc (tenure_messages t sapi) (message ∷ []) (on_channel future d.channel ++ still_of sapi future serving ds ts))
-drain-put sapi at message future serving (suc place) (d ∷ ds) (t ∷ ts) rest drains apart =
-    let others = drain-put sapi at message future serving place ds ts rest drains (apart_rest d.is_done d.channel (undone ds) (serving ∷ rest) apart) in
+drain_put sapi at message future serving (suc place) (d ∷ ds) (t ∷ ts) rest drains apart =
+    let others = drain_put sapi at message future serving place ds ts rest drains (apart_rest d.is_done d.channel (undone ds) (serving ∷ rest) apart) in
     let away : d.is_done ≡ false → is_at at d.channel ≡ false = λ undone_one. drain-away at d.channel place ds (serving ∷ rest) drains (apart_first d.is_done d.channel (undone ds) (serving ∷ rest) undone_one apart) in
-    let first = of_drain-away at message future d.is_done d.channel away in
+    let first = of_drain_away at message future d.is_done d.channel away in
     rw (first, others) refl
 
 -- the target is another channel
@@ -54,8 +54,8 @@ target-away : (at : Place) (message : List ℕ) (future : Future) (state : State
 target-away at message future (Live reference (Changing target)) away = first_away at target.channel message future away.0
 target-away at message future _ away = refl
 
-pub tenure-put : (sapi : Sapi) (at : Place) (message : List ℕ) (future : Future) (serving : Channel) (ds : List Drain) (ts : List Tenure) (state : State) (place : ℕ) → AreApart (undone ds ++ serving ∷ target_in state) → tenure_at at serving ds ≡ Some place → still_of sapi future serving ds (put_in place sapi message ts) ++ of_target future state ≡ still_of sapi (first_at at message future) serving ds ts ++ of_target (first_at at message future) state
-tenure-put sapi at message future serving ds ts state place apart is =
+pub tenure_put : (sapi : Sapi) (at : Place) (message : List ℕ) (future : Future) (serving : Channel) (ds : List Drain) (ts : List Tenure) (state : State) (place : ℕ) → AreApart (undone ds ++ serving ∷ target_in state) → tenure_at at serving ds ≡ Some place → still_of sapi future serving ds (put_in place sapi message ts) ++ of_target future state ≡ still_of sapi (first_at at message future) serving ds ts ++ of_target (first_at at message future) state
+tenure_put sapi at message future serving ds ts state place apart is =
     elim (cases_Bool (is_at at serving)) [
       | inl here ↦
           let last : Some (length ds) ≡ Some place = sym (cond-true _ _ _ here) ∙ is in
@@ -65,7 +65,7 @@ tenure-put sapi at message future serving ds ts state place apart is =
       | inr other ↦
           let drains = drain_at-drains at ds place (sym (cond-false _ _ _ other) ∙ is) in
           let target = target-away at message future state (drain-behind_away at place ds (serving ∷ target_in state) drains apart).1 in
-          rw (drain-put sapi at message future serving place ds ts (target_in state) drains apart, target) refl
+          rw (drain_put sapi at message future serving place ds ts (target_in state) drains apart, target) refl
     ]
 
 -- ---- an old channel is done, on which nothing comes any more
@@ -82,12 +82,12 @@ done-still sapi at future serving (suc place) (d ∷ ds) (t ∷ ts) over drains 
 
 -- ---- the target serves, and the channel that served drains
 
-pub moved-still : (sapi : Sapi) (future : Future) (serving target : Channel) (ds : List Drain) (ts : List Tenure) → length ts ≡ length ds + 1 → still_of sapi future target (ds ++ record { channel = serving; is_done = false } ∷ []) (ts ++ empty_tenure ∷ []) ≡ still_of sapi future serving ds ts ++ on_channel future target
-moved-still sapi future serving target [] [] long = absurd (omega arith)
-moved-still sapi future serving target [] (t ∷ []) long =
+pub moved_still : (sapi : Sapi) (future : Future) (serving target : Channel) (ds : List Drain) (ts : List Tenure) → length ts ≡ length ds + 1 → still_of sapi future target (ds ++ record { channel = serving; is_done = false } ∷ []) (ts ++ empty_tenure ∷ []) ≡ still_of sapi future serving ds ts ++ on_channel future target
+moved_still sapi future serving target [] [] long = absurd (omega arith)
+moved_still sapi future serving target [] (t ∷ []) long =
     rw (empty-messages sapi) (sym (append_assoc (tenure_messages t sapi) (on_channel future serving) (on_channel future target)))
-moved-still sapi future serving target [] (t ∷ (u ∷ ts)) long = absurd (omega arith)
-moved-still sapi future serving target (d ∷ ds) [] long = absurd (omega arith)
-moved-still sapi future serving target (d ∷ ds) (t ∷ ts) long =
-    let others = moved-still sapi future serving target ds ts (omega arith) in
+moved_still sapi future serving target [] (t ∷ (u ∷ ts)) long = absurd (omega arith)
+moved_still sapi future serving target (d ∷ ds) [] long = absurd (omega arith)
+moved_still sapi future serving target (d ∷ ds) (t ∷ ts) long =
+    let others = moved_still sapi future serving target ds ts (omega arith) in
     rw others (simp append_assoc)

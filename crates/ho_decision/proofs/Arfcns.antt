@@ -23,9 +23,9 @@ place xs a = count_by (λ x. nat_lt x a) xs
 place-cons : (x : ℕ) (xs : List ℕ) (a : ℕ) → place (x ∷ xs) a ≡ cond (nat_lt x a) 1 0 + place xs a
 place-cons x xs a = sum_by-cons (λ y. cond (nat_lt y a) 1 0) x xs
 
-Above-weaker : (a b : ℕ) (xs : List ℕ) → a ≤ b → Above b xs → Above a xs
-Above-weaker a b [] le h = tt
-Above-weaker a b (x ∷ xs) le h = (omega (arith, h.0), Above-weaker a b xs le h.1)
+above_weaker : (a b : ℕ) (xs : List ℕ) → a ≤ b → Above b xs → Above a xs
+above_weaker a b [] le h = tt
+above_weaker a b (x ∷ xs) le h = (omega (arith, h.0), above_weaker a b xs le h.1)
 
 -- nothing goes behind what is above it
 place_first : (a c : ℕ) (xs : List ℕ) → a ≤ c → Above c xs → place xs a ≡ 0
@@ -35,64 +35,64 @@ place_first a c (x ∷ xs) le h =
     ∙ ap (λ b. cond b 1 0 + place xs a) (le-ltb x a (omega (arith, h.0)))
     ∙ omega (arith, place_first a c xs le h.1)
 
-Above-insert : (b a : ℕ) (k : ℕ) (xs : List ℕ) → b < a → Above b xs → Above b (insert xs k a)
-Above-insert b a zero xs lt h = (lt, h)
-Above-insert b a (suc k) [] lt h = (lt, tt)
-Above-insert b a (suc k) (x ∷ xs) lt h = (h.0, Above-insert b a k xs lt h.1)
+above_insert : (b a : ℕ) (k : ℕ) (xs : List ℕ) → b < a → Above b xs → Above b (insert xs k a)
+above_insert b a zero xs lt h = (lt, h)
+above_insert b a (suc k) [] lt h = (lt, tt)
+above_insert b a (suc k) (x ∷ xs) lt h = (h.0, above_insert b a k xs lt h.1)
 
 -- an ARFCN that isn't there goes before the head or behind it
 insert_behind : (b : Bool) (a x : ℕ) (xs : List ℕ) → nat_lt x a ≡ b → (x == a) ≡ false → Above x xs → Rising xs → Rising (insert xs (place xs a) a) → Rising (insert (x ∷ xs) (cond b 1 0 + place xs a) a)
 insert_behind true a x xs lt ne above rising rest =
     let P : ℕ → Type 0 = λ k. Rising (insert (x ∷ xs) k a) in
     let k : suc (place xs a) ≡ 1 + place xs a = omega arith in
-    subst P k (Above-insert x a (place xs a) xs (ltb-true x a lt) above, rest)
+    subst P k (above_insert x a (place xs a) xs (ltb-true x a lt) above, rest)
 insert_behind false a x xs ge ne above rising rest =
     let le : a ≤ x = ltb-false x a ge in
     let apart : x ≡ a → ⊥ = eqb-false x a ne in
     let lt : a < x = omega arith in
     let P : ℕ → Type 0 = λ k. Rising (insert (x ∷ xs) k a) in
     let k : 0 ≡ 0 + place xs a = omega (arith, place_first a x xs le above) in
-    subst P k ((lt, Above-weaker a x xs le above), (above, rising))
+    subst P k ((lt, above_weaker a x xs le above), (above, rising))
 
 or_false : (a b : Bool) → (a || b) ≡ false → (a ≡ false) × (b ≡ false)
 or_false true b e = absurd (true≢false e)
 or_false false b e = (refl, e)
 
-Rising-insert : (a : ℕ) (xs : List ℕ) → Rising xs → list_any (λ x. x == a) xs ≡ false → Rising (insert xs (place xs a) a)
-Rising-insert a [] h none = (tt, tt)
-Rising-insert a (x ∷ xs) h none =
+rising_insert : (a : ℕ) (xs : List ℕ) → Rising xs → list_any (λ x. x == a) xs ≡ false → Rising (insert xs (place xs a) a)
+rising_insert a [] h none = (tt, tt)
+rising_insert a (x ∷ xs) h none =
     let parts = or_false (x == a) (list_any (λ y. y == a) xs) none in
     let P : ℕ → Type 0 = λ k. Rising (insert (x ∷ xs) k a) in
     subst P
     (sym (place-cons x xs a))
-    (insert_behind (nat_lt x a) a x xs refl parts.0 h.0 h.1 (Rising-insert a xs h.1 parts.1))
+    (insert_behind (nat_lt x a) a x xs refl parts.0 h.0 h.1 (rising_insert a xs h.1 parts.1))
 
 with_by : (b : Bool) (xs : List ℕ) (a : ℕ) → list_any (λ x. x == a) xs ≡ b → Rising xs → Rising (cond b xs (insert xs (place xs a) a))
 with_by true xs a e h = h
-with_by false xs a e h = Rising-insert a xs h e
+with_by false xs a e h = rising_insert a xs h e
 
-Rising-fold : (xs : List ℕ) (cells : List Cell) → Rising xs → Rising (fold with_cell xs cells)
-Rising-fold xs [] h = h
-Rising-fold xs (cell ∷ cells) h =
-    Rising-fold (with_cell xs cell) cells (with_by (list_any (λ x. x == cell.arfcn) xs) xs cell.arfcn refl h)
+rising_fold : (xs : List ℕ) (cells : List Cell) → Rising xs → Rising (fold with_cell xs cells)
+rising_fold xs [] h = h
+rising_fold xs (cell ∷ cells) h =
+    rising_fold (with_cell xs cell) cells (with_by (list_any (λ x. x == cell.arfcn) xs) xs cell.arfcn refl h)
 
-Above-first : (a : ℕ) (xs : List ℕ) → 0 < length xs → Above a xs → a < get_or xs 0 0
-Above-first a [] some h = absurd (omega arith)
-Above-first a (x ∷ xs) some h = h.0
+above_first : (a : ℕ) (xs : List ℕ) → 0 < length xs → Above a xs → a < get_or xs 0 0
+above_first a [] some h = absurd (omega arith)
+above_first a (x ∷ xs) some h = h.0
 
-IsStrictlyIncreasing-from_rising : (xs : List ℕ) → Rising xs → IsStrictlyIncreasing xs
-IsStrictlyIncreasing-from_rising [] h k within = absurd (omega arith)
-IsStrictlyIncreasing-from_rising (x ∷ xs) h zero within = Above-first x xs (omega arith) h.0
-IsStrictlyIncreasing-from_rising (x ∷ xs) h (suc k) within =
+is_strictly_increasing_from_rising : (xs : List ℕ) → Rising xs → IsStrictlyIncreasing xs
+is_strictly_increasing_from_rising [] h k within = absurd (omega arith)
+is_strictly_increasing_from_rising (x ∷ xs) h zero within = above_first x xs (omega arith) h.0
+is_strictly_increasing_from_rising (x ∷ xs) h (suc k) within =
     let P : ℕ → Type 0 = λ n. get_or (x ∷ xs) (suc k) 0 < get_or (x ∷ xs) n 0 in
     let next : suc (k + 1) ≡ suc k + 1 = omega arith in
-    subst P next (IsStrictlyIncreasing-from_rising xs h.1 k (omega arith))
+    subst P next (is_strictly_increasing_from_rising xs h.1 k (omega arith))
 
-pub other_arfcns-Rising : (s : Settings) → Rising (other_arfcns s)
-other_arfcns-Rising s = Rising-fold [] (others s) tt
+pub other_arfcns_rising : (s : Settings) → Rising (other_arfcns s)
+other_arfcns_rising s = rising_fold [] (others s) tt
 
-pub other_arfcns-rising : (s : Settings) → IsStrictlyIncreasing (other_arfcns s)
-other_arfcns-rising s = IsStrictlyIncreasing-from_rising (other_arfcns s) (other_arfcns-Rising s)
+pub other_arfcns_strictly_increase : (s : Settings) → IsStrictlyIncreasing (other_arfcns s)
+other_arfcns_strictly_increase s = is_strictly_increasing_from_rising (other_arfcns s) (other_arfcns_rising s)
 
 or_comm : (a b : Bool) → (a || b) ≡ (b || a)
 or_comm true true = refl

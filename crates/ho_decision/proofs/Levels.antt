@@ -11,7 +11,7 @@ use Rattle.ho_decision.specs.declared.settings.Cell.{Cell}
 use Rattle.ho_decision.specs.Settings.{Settings, other_arfcns}
 use Rattle.ho_decision.specs.Average.{average, last, is_arfcn, names, level_in, neighbour_average}
 use Rattle.ho_decision.specs.Measure.{names_at, value_of, level_of}
-use Rattle.ho_decision.proofs.Arfcns.{Above, Rising, other_arfcns-Rising}
+use Rattle.ho_decision.proofs.Arfcns.{Above, Rising, other_arfcns_rising}
 
 -- whether a place is this one
 abbrev is_place : Option ℕ → ℕ → Bool
@@ -73,7 +73,7 @@ names_same s cell n =
     let arfcns = other_arfcns s in
     let P : ℕ → Type 0 = λ k. is_arfcn (slice_get arfcns n.bcch_freq) cell.arfcn ≡ is_place (position_from (λ a. a == cell.arfcn) 0 arfcns) k in
     let from_start : 0 + n.bcch_freq ≡ n.bcch_freq = omega arith in
-    let there = subst P from_start (at_place arfcns cell.arfcn 0 n.bcch_freq (other_arfcns-Rising s)) in
+    let there = subst P from_start (at_place arfcns cell.arfcn 0 n.bcch_freq (other_arfcns_rising s)) in
     names_by (position (λ a. a == cell.arfcn) arfcns) cell.bsic n
     ∙ ap (λ o. is_place o n.bcch_freq && (n.bsic == cell.bsic)) (position_from-zero (λ a. a == cell.arfcn) arfcns)
     ∙ ap (λ b. b && (n.bsic == cell.bsic)) (sym there)

@@ -56,9 +56,9 @@ is_due-last s reports number allowed =
     ap (λ ys. nat_le BAD_REPORTS (count_by is_bad ys) || (serving_average s reports == 0) || at_end) (sym (last-last QUALITY_WINDOW MAX_WINDOW reports (omega arith)))
     ∙ ap (λ v. nat_le BAD_REPORTS (count_by is_bad (last QUALITY_WINDOW (last MAX_WINDOW reports))) || (v == 0) || at_end) (serving_average-last s reports allowed)
 
-empty-last : (reports : List Report) → last MAX_WINDOW reports ≡ [] → reports ≡ []
-empty-last [] e = refl
-empty-last (r ∷ rs) e =
+empty_last : (reports : List Report) → last MAX_WINDOW reports ≡ [] → reports ≡ []
+empty_last [] e = refl
+empty_last (r ∷ rs) e =
     absurd (omega (arith, ap (λ (ys : List Report). length ys) e, length-drop (length (r ∷ rs) - MAX_WINDOW) (r ∷ rs)))
 
 last-empty : (reports : List Report) → reports ≡ [] → last MAX_WINDOW reports ≡ []
@@ -72,10 +72,10 @@ record Alike (s : Settings) (number : ℕ) (these those : List Report) : Type 0 
   serving : serving_average s these ≡ serving_average s those
   level : (place : ℕ) → average_at s these place ≡ average_at s those place
 
-Chooses-alike : (s : Settings) (number : ℕ) (these those : List Report) (many : ℕ) (d : Decision) → Alike s number these those → Chooses s these many d → Chooses s those many d
-Chooses-alike s number these those many Stay alike h =
+chooses_alike : (s : Settings) (number : ℕ) (these those : List Report) (many : ℕ) (d : Decision) → Alike s number these those → Chooses s these many d → Chooses s those many d
+chooses_alike s number these those many Stay alike h =
     λ place other. omega (arith, h place other, alike.level place, alike.serving)
-Chooses-alike s number these those many (Move to) alike h = (
+chooses_alike s number these those many (Move to) alike h = (
   h.0,
   h.1,
   record {
@@ -86,30 +86,30 @@ Chooses-alike s number these those many (Move to) alike h = (
   },
 )
 
-Decides-alike : (s : Settings) (number : ℕ) (these those : List Report) (d : Decision) → Alike s number these those → Decides s these number d → Decides s those number d
-Decides-alike s number these those d alike h = record {
+decides_alike : (s : Settings) (number : ℕ) (these those : List Report) (d : Decision) → Alike s number these those → Decides s these number d → Decides s those number d
+decides_alike s number these those d alike h = record {
   none = λ e. h.none (alike.none e);
   not_due = λ e. h.not_due (alike.due ∙ e);
   due = λ some due.
-      Chooses-alike s number these those (length s.cells) d alike
+      chooses_alike s number these those (length s.cells) d alike
       (h.due (λ e. some (alike.some e)) (alike.due ∙ due));
 }
 
-pub Decides-of_last : (s : Settings) (reports : List Report) (number : ℕ) (d : Decision) → IsAllowed s → Decides s (last MAX_WINDOW reports) number d → Decides s reports number d
-Decides-of_last s reports number d allowed =
-    Decides-alike s number (last MAX_WINDOW reports) reports d record {
-      some = empty-last reports;
+pub decides_of_last : (s : Settings) (reports : List Report) (number : ℕ) (d : Decision) → IsAllowed s → Decides s (last MAX_WINDOW reports) number d → Decides s reports number d
+decides_of_last s reports number d allowed =
+    decides_alike s number (last MAX_WINDOW reports) reports d record {
+      some = empty_last reports;
       none = last-empty reports;
       due = sym (is_due-last s reports number allowed);
       serving = sym (serving_average-last s reports allowed);
       level = λ place. sym (neighbour_average-last s reports _ allowed);
     }
 
-pub Decides-last : (s : Settings) (reports : List Report) (number : ℕ) (d : Decision) → IsAllowed s → Decides s reports number d → Decides s (last MAX_WINDOW reports) number d
-Decides-last s reports number d allowed =
-    Decides-alike s number reports (last MAX_WINDOW reports) d record {
+pub decides_last : (s : Settings) (reports : List Report) (number : ℕ) (d : Decision) → IsAllowed s → Decides s reports number d → Decides s (last MAX_WINDOW reports) number d
+decides_last s reports number d allowed =
+    decides_alike s number reports (last MAX_WINDOW reports) d record {
       some = last-empty reports;
-      none = empty-last reports;
+      none = empty_last reports;
       due = is_due-last s reports number allowed;
       serving = serving_average-last s reports allowed;
       level = λ place. neighbour_average-last s reports _ allowed;

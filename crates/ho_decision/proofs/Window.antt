@@ -26,8 +26,8 @@ last-more w xs x some =
     let here : length (xs ++ x ∷ []) - w ≡ k = omega (arith, length-append xs (x ∷ [])) in
     ap (λ j. drop j (xs ++ x ∷ [])) here ∙ drop-append-le k xs (x ∷ []) (omega arith)
 
-some-none : {X : Type 0} (o : Option X) (x : X) → o ≡ Some x → o ≡ None → ⊥
-some-none o x e n = absurd cc
+some_none : {X : Type 0} (o : Option X) (x : X) → o ≡ Some x → o ≡ None → ⊥
+some_none o x e n = absurd cc
 
 -- what stands so far from the back
 found_by : {X : Type 0} (b : Bool) (xs : List X) (back : ℕ) (x : X) → ltb back (length xs) ≡ b → Some x ≡ cond b (slice_get xs (length xs - back - 1)) None → (back < length xs) × (slice_get xs (length xs - back - 1) ≡ Some x)
@@ -38,7 +38,7 @@ missing_by : {X : Type 0} (b : Bool) (xs : List X) (back : ℕ) → ltb back (le
 missing_by true xs back is e =
     let within : back < length xs = ltb-true back (length xs) is in
     elim ((slice_get_cases xs (length xs - back - 1)).1) [
-      | inl some ↦ absurd (some-none (slice_get xs (length xs - back - 1)) some.0 some.2 (sym e))
+      | inl some ↦ absurd (some_none (slice_get xs (length xs - back - 1)) some.0 some.2 (sym e))
       | inr past ↦ absurd (omega (arith, past.0, within))
     ]
 missing_by false xs back is e = ltb-false back (length xs) is
@@ -65,29 +65,29 @@ sum_by-staying f xs w some e =
     ap (λ k. sum_by f (drop k xs)) here
 
 -- a sum of octets
-pub sum_by-last-le : {X : Type 0} (f : X → ℕ) (n : ℕ) (xs : List X) → All (λ x. f x ≤ 255) xs → sum_by f (last n xs) ≤ length (last n xs) * 255
-sum_by-last-le f n xs octets =
+pub sum_by_last_le : {X : Type 0} (f : X → ℕ) (n : ℕ) (xs : List X) → All (λ x. f x ≤ 255) xs → sum_by f (last n xs) ≤ length (last n xs) * 255
+sum_by_last_le f n xs octets =
     sum_by-le f 255 (last n xs) (All-drop (λ x. f x ≤ 255) (length xs - n) xs octets)
 
 -- a sum over the last ten reports
-pub IsSum-last : (reports : List Report) (sum : RunningSum) → IsSum reports sum → IsSum (last MAX_WINDOW reports) sum
-IsSum-last reports sum h = record {
+pub is_sum_last : (reports : List Report) (sum : RunningSum) → IsSum reports sum → IsSum (last MAX_WINDOW reports) sum
+is_sum_last reports sum h = record {
   window = h.window;
   total = h.total ∙ sym (ap (λ ys. sum_by (value_of sum.of.measure) ys) (last-last sum.of.window MAX_WINDOW reports h.window.1));
   octets = All-drop (λ r. value_of sum.of.measure r ≤ 255) (length reports - MAX_WINDOW) reports h.octets;
 }
 
-pub AreSums-last : (reports : List Report) (sums : Sums) → AreSums reports sums → AreSums (last MAX_WINDOW reports) sums
-AreSums-last reports sums h = record {
-  serving_level = IsSum-last reports sums.serving_level h.serving_level;
-  serving_quality = IsSum-last reports sums.serving_quality h.serving_quality;
-  bad_quality = IsSum-last reports sums.bad_quality h.bad_quality;
-  levels = λ k d within. IsSum-last reports _ (h.levels k d within);
+pub are_sums_last : (reports : List Report) (sums : Sums) → AreSums reports sums → AreSums (last MAX_WINDOW reports) sums
+are_sums_last reports sums h = record {
+  serving_level = is_sum_last reports sums.serving_level h.serving_level;
+  serving_quality = is_sum_last reports sums.serving_quality h.serving_quality;
+  bad_quality = is_sum_last reports sums.bad_quality h.bad_quality;
+  levels = λ k d within. is_sum_last reports _ (h.levels k d within);
 }
 
 -- sums of the same as those of the settings
-pub AreOf-same : (s : Settings) (before after : Sums) → AreOf s before → AreOfSame before after → AreOf s after
-AreOf-same s before after h same = record {
+pub are_of_same : (s : Settings) (before after : Sums) → AreOf s before → AreOfSame before after → AreOf s after
+are_of_same s before after h same = record {
   serving_level = same.serving_level ∙ h.serving_level;
   serving_quality = same.serving_quality ∙ h.serving_quality;
   bad_quality = same.bad_quality ∙ h.bad_quality;

@@ -17,16 +17,16 @@ use Rattle.rsl_codec.specs.declared.rsl.Rsl.{Rsl}
 use Rattle.rsl_codec.specs.declared.rsl.Rsl.TheVariants as messages
 
 -- tenures that go on
-Tenures-append : {channel : ℕ} {mid end : Bool} (ys : List Rsl) {within : Bool} {xs : List Rsl} → Tenures channel within xs mid → Tenures channel mid ys end → Tenures channel within (xs ++ ys) end
-Tenures-append ys (over within) later = later
-Tenures-append ys (begins first) later = begins (Tenures-append ys first later)
-Tenures-append ys (brings is first) later = brings is (Tenures-append ys first later)
-Tenures-append ys (ends first) later = ends (Tenures-append ys first later)
-Tenures-append ys (apart free unbound first) later = apart free unbound (Tenures-append ys first later)
+tenures_append : {channel : ℕ} {mid end : Bool} (ys : List Rsl) {within : Bool} {xs : List Rsl} → Tenures channel within xs mid → Tenures channel mid ys end → Tenures channel within (xs ++ ys) end
+tenures_append ys (over within) later = later
+tenures_append ys (begins first) later = begins (tenures_append ys first later)
+tenures_append ys (brings is first) later = brings is (tenures_append ys first later)
+tenures_append ys (ends first) later = ends (tenures_append ys first later)
+tenures_append ys (apart free unbound first) later = apart free unbound (tenures_append ys first later)
 
 -- the same from and to what is equal
-Tenures-at : {channel : ℕ} {a b d e : Bool} {xs : List Rsl} → a ≡ b → d ≡ e → Tenures channel b xs e → Tenures channel a xs d
-Tenures-at {channel} {b} {d} {xs} from to tenures =
+tenures_at : {channel : ℕ} {a b d e : Bool} {xs : List Rsl} → a ≡ b → d ≡ e → Tenures channel b xs e → Tenures channel a xs d
+tenures_at {channel} {b} {d} {xs} from to tenures =
     subst (λ (x : Bool). Tenures channel x xs d) (sym from) (subst (λ (x : Bool). Tenures channel b xs x) (sym to) tenures)
 
 -- a channel is active after its activation, and the others are as they were
@@ -41,11 +41,11 @@ activation channel number active idle =
           let before : is_active active channel ≡ false = ap (is_active active) (sym number_is) ∙ idle in
           let after : is_active (active ++ number ∷ []) channel ≡ true =
           is_active-push active number channel ∙ ap (λ (b : Bool). b || (nat_eq number channel || false)) before ∙ ap (λ (b : Bool). b || false) same in
-          Tenures-at before after (subst (λ (n : ℕ). Tenures channel false (activation_ack n ∷ []) true) (sym number_is) (begins (over true)))
+          tenures_at before after (subst (λ (n : ℕ). Tenures channel false (activation_ack n ∷ []) true) (sym number_is) (begins (over true)))
       | inr other ↦
           let after : is_active (active ++ number ∷ []) channel ≡ is_active active channel =
           is_active-push active number channel ∙ ap (λ (b : Bool). is_active active channel || (b || false)) other ∙ or-false (is_active active channel) in
-          Tenures-at refl after (apart refl other (over (is_active active channel)))
+          tenures_at refl after (apart refl other (over (is_active active channel)))
     ]
 
 -- what a mobile brings on an active channel
@@ -54,7 +54,7 @@ bringing channel number active message up is unbound =
     elim (cases_Bool (nat_eq number channel)) [
       | inl same ↦
           let here : is_active active channel ≡ true = ap (is_active active) (sym (eqb-true number channel same)) ∙ up in
-          Tenures-at here here (brings (is ∙ same) (over true))
+          tenures_at here here (brings (is ∙ same) (over true))
       | inr other ↦ apart (is ∙ other) unbound (over (is_active active channel))
     ]
 
@@ -91,45 +91,45 @@ releasing channel released active =
           let released_is : released ≡ channel = eqb-true released channel same in
           let after : is_active (filter (λ number. not (nat_eq number released)) active) channel ≡ false =
           ap (λ (n : ℕ). is_active (filter (λ number. not (nat_eq number n)) active) channel) released_is ∙ is_active-released channel active in
-          Tenures-at refl after (subst (λ (n : ℕ). Tenures channel (is_active active channel) (messages.RfChannelReleaseAck n ∷ []) false) (sym released_is) (ends (over false)))
-      | inr other ↦ Tenures-at refl (is_active-kept channel released active other) (apart refl other (over (is_active active channel)))
+          tenures_at refl after (subst (λ (n : ℕ). Tenures channel (is_active active channel) (messages.RfChannelReleaseAck n ∷ []) false) (sym released_is) (ends (over false)))
+      | inr other ↦ tenures_at refl (is_active-kept channel released active other) (apart refl other (over (is_active active channel)))
     ]
 
 -- what `tell` makes touches no tenure
-told-apart : (channel : ℕ) (message : Rsl) → is_told message ≡ true → (is_brought_on channel message ≡ false) × (is_bound_of channel message ≡ false)
-told-apart channel (messages.ChannelRequired required) told = (refl, refl)
-told-apart channel (messages.HandoverDetection detection) told = (refl, refl)
-told-apart channel (messages.MeasurementResult measured) told = (refl, refl)
-told-apart channel (messages.EstablishConfirm link) told = (refl, refl)
-told-apart channel (messages.ReleaseIndication link) told = (refl, refl)
-told-apart channel _ told = absurd cc
+told_apart : (channel : ℕ) (message : Rsl) → is_told message ≡ true → (is_brought_on channel message ≡ false) × (is_bound_of channel message ≡ false)
+told_apart channel (messages.ChannelRequired required) told = (refl, refl)
+told_apart channel (messages.HandoverDetection detection) told = (refl, refl)
+told_apart channel (messages.MeasurementResult measured) told = (refl, refl)
+told_apart channel (messages.EstablishConfirm link) told = (refl, refl)
+told_apart channel (messages.ReleaseIndication link) told = (refl, refl)
+told_apart channel _ told = absurd cc
 
 -- each call
-activate-by : (channel number : ℕ) (base : BaseState) (up : Bool) → is_active base.active number ≡ up → let fault : Option LinkFault = cond up (Some Busy) None in Tenures channel (is_active base.active channel) (message_unless fault (activation_ack number)) (is_active (state_unless fault base (after_activate base number)).active channel)
-activate-by channel number base true is = over (is_active base.active channel)
-activate-by channel number base false is = activation channel number base.active is
+activate_by : (channel number : ℕ) (base : BaseState) (up : Bool) → is_active base.active number ≡ up → let fault : Option LinkFault = cond up (Some Busy) None in Tenures channel (is_active base.active channel) (message_unless fault (activation_ack number)) (is_active (state_unless fault base (after_activate base number)).active channel)
+activate_by channel number base true is = over (is_active base.active channel)
+activate_by channel number base false is = activation channel number base.active is
 
-bring-by : (channel number : ℕ) (base new : BaseState) (message : Rsl) (up : Bool) → new.active ≡ base.active → is_active base.active number ≡ up → is_brought_on channel message ≡ nat_eq number channel → is_bound_of channel message ≡ false → let fault : Option LinkFault = cond up None (Some NotActive) in Tenures channel (is_active base.active channel) (message_unless fault message) (is_active (state_unless fault base new).active channel)
-bring-by channel number base new message true same is names unbound = Tenures-at refl (ap (λ (active : List ℕ). is_active active channel) same) (bringing channel number base.active message is names unbound)
-bring-by channel number base new message false same is names unbound = over (is_active base.active channel)
+bring_by : (channel number : ℕ) (base new : BaseState) (message : Rsl) (up : Bool) → new.active ≡ base.active → is_active base.active number ≡ up → is_brought_on channel message ≡ nat_eq number channel → is_bound_of channel message ≡ false → let fault : Option LinkFault = cond up None (Some NotActive) in Tenures channel (is_active base.active channel) (message_unless fault message) (is_active (state_unless fault base new).active channel)
+bring_by channel number base new message true same is names unbound = tenures_at refl (ap (λ (active : List ℕ). is_active active channel) same) (bringing channel number base.active message is names unbound)
+bring_by channel number base new message false same is names unbound = over (is_active base.active channel)
 
-tell-by : (channel : ℕ) (base : BaseState) (message : Rsl) (told : Bool) → is_told message ≡ told → Tenures channel (is_active base.active channel) (cond told (message ∷ []) []) (is_active (cond told (after_tell base message) base).active channel)
-tell-by channel base message true is = let free = told-apart channel message is in apart free.0 free.1 (over (is_active base.active channel))
-tell-by channel base message false is = over (is_active base.active channel)
+tell_by : (channel : ℕ) (base : BaseState) (message : Rsl) (told : Bool) → is_told message ≡ told → Tenures channel (is_active base.active channel) (cond told (message ∷ []) []) (is_active (cond told (after_tell base message) base).active channel)
+tell_by channel base message true is = let free = told_apart channel message is in apart free.0 free.1 (over (is_active base.active channel))
+tell_by channel base message false is = over (is_active base.active channel)
 
-Tenures-call : (channel : ℕ) (base : BaseState) (call : BaseCall) → Tenures channel (is_active base.active channel) (messages_made_by_call base call) (is_active (after_call base call).active channel)
-Tenures-call channel base (activates number) = activate-by channel number base (is_active base.active number) refl
-Tenures-call channel base (establishes number sapi message) = bring-by channel number base (after_establish base number sapi message) (establish_indication number sapi message) (is_active base.active number) refl refl refl refl
-Tenures-call channel base (brings_up number sapi message) = bring-by channel number base (after_up base number sapi message) (data_indication number sapi message) (is_active base.active number) refl refl refl refl
-Tenures-call channel base (releases number) = releasing channel number base.active
-Tenures-call channel base (tells message) = tell-by channel base message (is_told message) refl
-Tenures-call channel base gives_next = over (is_active base.active channel)
+tenures_call : (channel : ℕ) (base : BaseState) (call : BaseCall) → Tenures channel (is_active base.active channel) (messages_made_by_call base call) (is_active (after_call base call).active channel)
+tenures_call channel base (activates number) = activate_by channel number base (is_active base.active number) refl
+tenures_call channel base (establishes number sapi message) = bring_by channel number base (after_establish base number sapi message) (establish_indication number sapi message) (is_active base.active number) refl refl refl refl
+tenures_call channel base (brings_up number sapi message) = bring_by channel number base (after_up base number sapi message) (data_indication number sapi message) (is_active base.active number) refl refl refl refl
+tenures_call channel base (releases number) = releasing channel number base.active
+tenures_call channel base (tells message) = tell_by channel base message (is_told message) refl
+tenures_call channel base gives_next = over (is_active base.active channel)
 
-pub Tenures-calls : (channel : ℕ) (base : BaseState) (calls : List BaseCall) → Tenures channel (is_active base.active channel) (messages_made base calls) (is_active (after_calls base calls).active channel)
-Tenures-calls channel base [] = over (is_active base.active channel)
-Tenures-calls channel base (call ∷ calls) = Tenures-append (messages_made (after_call base call) calls) (Tenures-call channel base call) (Tenures-calls channel (after_call base call) calls)
+pub tenures_calls : (channel : ℕ) (base : BaseState) (calls : List BaseCall) → Tenures channel (is_active base.active channel) (messages_made base calls) (is_active (after_calls base calls).active channel)
+tenures_calls channel base [] = over (is_active base.active channel)
+tenures_calls channel base (call ∷ calls) = tenures_append (messages_made (after_call base call) calls) (tenures_call channel base call) (tenures_calls channel (after_call base call) calls)
 
 -- what a new end gave out, with what waits, is what it made
 pub Tenures-given : (channel station : ℕ) (calls : List BaseCall) → Tenures channel false (messages_given (new_base station) calls ++ (after_calls (new_base station) calls).messages) (is_active (after_calls (new_base station) calls).active channel)
 Tenures-given channel station calls =
-    subst (λ (xs : List Rsl). Tenures channel false xs (is_active (after_calls (new_base station) calls).active channel)) (sym (given-calls (new_base station) calls)) (Tenures-calls channel (new_base station) calls)
+    subst (λ (xs : List Rsl). Tenures channel false xs (is_active (after_calls (new_base station) calls).active channel)) (sym (given-calls (new_base station) calls)) (tenures_calls channel (new_base station) calls)

@@ -21,8 +21,8 @@ use Rattle.mobile_end.proofs.Numbering.{to_be_taken-waits}
 use Rattle.mobile_end.proofs.Resuming.{is_control-apart, without_control-flow}
 
 -- one list in the place of another
-Rise-list : {m n k : ℕ} {sent xs ys : List (List ℕ)} → xs ≡ ys → Rise m sent n xs k → Rise m sent n ys k
-Rise-list {m} {n} {k} {sent} same rise = subst (λ (list : List (List ℕ)). Rise m sent n list k) same rise
+rise_list : {m n k : ℕ} {sent xs ys : List (List ℕ)} → xs ≡ ys → Rise m sent n xs k → Rise m sent n ys k
+rise_list {m} {n} {k} {sent} same rise = subst (λ (list : List (List ℕ)). Rise m sent n list k) same rise
 
 -- a mobile that never sent
 pub GoesOn-new : (m : ℕ) → GoesOn m [] [] idle_link
@@ -35,30 +35,30 @@ moved xs x ys =
     ∙ sym (append_assoc xs (filter is_flow_message (x ∷ [])) (filter is_flow_message ys))
 
 lent_of : {m : ℕ} {sent : List (List ℕ)} (xs : List (List ℕ)) (x : List ℕ) (waiting : List (List ℕ)) → Rise m sent 0 (xs ++ filter is_flow_message (x ∷ waiting)) (length sent) → GoesOn m sent (xs ++ filter is_flow_message (x ∷ [])) (record { waiting = waiting; air = Reached x })
-lent_of xs x waiting rise = record { now = Rise-list (moved xs x waiting) rise; anew = Rise-flow_twice xs x waiting rise }
+lent_of xs x waiting rise = record { now = rise_list (moved xs x waiting) rise; anew = Rise-flow_twice xs x waiting rise }
 
-GoesOn-lent_by : {m : ℕ} {sent xs : List (List ℕ)} (waiting : List (List ℕ)) (air : Air) (x : List ℕ) → let link : DataLinkState = record { waiting = waiting; air = air } in lent_message link ≡ Some x → GoesOn m sent xs link → GoesOn m sent (xs ++ filter is_flow_message (x ∷ [])) (after_lending link)
-GoesOn-lent_by [] Empty x lent going = absurd cc
-GoesOn-lent_by {m} {sent} {xs} (first ∷ others) Empty x lent going =
+goes_on_lent_by : {m : ℕ} {sent xs : List (List ℕ)} (waiting : List (List ℕ)) (air : Air) (x : List ℕ) → let link : DataLinkState = record { waiting = waiting; air = air } in lent_message link ≡ Some x → GoesOn m sent xs link → GoesOn m sent (xs ++ filter is_flow_message (x ∷ [])) (after_lending link)
+goes_on_lent_by [] Empty x lent going = absurd cc
+goes_on_lent_by {m} {sent} {xs} (first ∷ others) Empty x lent going =
     let same : first ≡ x = cc in
     subst (λ (y : List ℕ). GoesOn m sent (xs ++ filter is_flow_message (y ∷ [])) (record { waiting = others; air = Reached first })) same (lent_of xs first others going.now)
-GoesOn-lent_by {m} {sent} {xs} waiting (Given message) x lent going =
+goes_on_lent_by {m} {sent} {xs} waiting (Given message) x lent going =
     let same : message ≡ x = cc in
     subst (λ (y : List ℕ). GoesOn m sent (xs ++ filter is_flow_message (y ∷ [])) (record { waiting = waiting; air = Reached message })) same (lent_of xs message waiting going.now)
-GoesOn-lent_by waiting (Reached message) x lent going = absurd cc
+goes_on_lent_by waiting (Reached message) x lent going = absurd cc
 
 -- a station takes the message that the link lends
 pub GoesOn-lent : {m : ℕ} {sent xs : List (List ℕ)} (link : DataLinkState) (x : List ℕ) → lent_message link ≡ Some x → GoesOn m sent xs link → GoesOn m sent (xs ++ filter is_flow_message (x ∷ [])) (after_lending link)
-GoesOn-lent link x lent going = GoesOn-lent_by link.waiting link.air x lent going
+GoesOn-lent link x lent going = goes_on_lent_by link.waiting link.air x lent going
 
-GoesOn-acknowledged_by : {m : ℕ} {sent xs : List (List ℕ)} (waiting : List (List ℕ)) (air : Air) → let link : DataLinkState = record { waiting = waiting; air = air } in GoesOn m sent xs link → GoesOn m sent xs (after_acknowledgement link)
-GoesOn-acknowledged_by waiting Empty going = going
-GoesOn-acknowledged_by waiting (Given message) going = going
-GoesOn-acknowledged_by waiting (Reached message) going = record { now = going.now; anew = going.now }
+goes_on_acknowledged_by : {m : ℕ} {sent xs : List (List ℕ)} (waiting : List (List ℕ)) (air : Air) → let link : DataLinkState = record { waiting = waiting; air = air } in GoesOn m sent xs link → GoesOn m sent xs (after_acknowledgement link)
+goes_on_acknowledged_by waiting Empty going = going
+goes_on_acknowledged_by waiting (Given message) going = going
+goes_on_acknowledged_by waiting (Reached message) going = record { now = going.now; anew = going.now }
 
 -- what was taken is acknowledged
 pub GoesOn-acknowledged : {m : ℕ} {sent xs : List (List ℕ)} (link : DataLinkState) → GoesOn m sent xs link → GoesOn m sent xs (after_acknowledgement link)
-GoesOn-acknowledged link going = GoesOn-acknowledged_by link.waiting link.air going
+GoesOn-acknowledged link going = goes_on_acknowledged_by link.waiting link.air going
 
 -- the mobile sends again on another channel, or on the one that it left, behind a control message
 pub GoesOn-resumed : {m : ℕ} {sent xs : List (List ℕ)} (link : DataLinkState) (control : List ℕ) → is_control control ≡ true → GoesOn m sent xs link → GoesOn m sent xs (after_resume link control)
@@ -66,7 +66,7 @@ GoesOn-resumed {m} {sent} {xs} link control is going =
     let kept : List (List ℕ) = without_control (outstanding_messages link) in
     let dropped : filter is_flow_message (control ∷ kept) ≡ filter is_flow_message kept = cond-false (is_flow_message control) (control ∷ filter is_flow_message kept) (filter is_flow_message kept) (is_control-apart control is) in
     let same : filter is_flow_message (outstanding_messages link) ≡ filter is_flow_message (control ∷ kept) = sym (dropped ∙ without_control-flow (outstanding_messages link)) in
-    let again : Rise m sent 0 (xs ++ filter is_flow_message (control ∷ kept)) (length sent) = Rise-list (ap (λ (list : List (List ℕ)). xs ++ list) same) going.anew in
+    let again : Rise m sent 0 (xs ++ filter is_flow_message (control ∷ kept)) (length sent) = rise_list (ap (λ (list : List (List ℕ)). xs ++ list) same) going.anew in
     record { now = again; anew = again }
 
 -- one more message waits
@@ -85,8 +85,8 @@ GoesOn-numbered {m} {sent} {xs} link message clear going =
     let y : List ℕ = with_number (length sent % m) message in
     let flow : is_flow_message y ≡ true = is_flow-with_number (length sent % m) message ∙ clear.is_flow in
     record {
-      now = Rise-list (flow-push xs (to_be_taken link) y flow ∙ ap (λ (list : List (List ℕ)). xs ++ filter is_flow_message list) (sym (to_be_taken-waits link y))) (Rise-push message clear going.now);
-      anew = Rise-list (flow-push xs (outstanding_messages link) y flow ∙ ap (λ (list : List (List ℕ)). xs ++ filter is_flow_message list) (sym (outstanding-waits link y))) (Rise-push message clear going.anew);
+      now = rise_list (flow-push xs (to_be_taken link) y flow ∙ ap (λ (list : List (List ℕ)). xs ++ filter is_flow_message list) (sym (to_be_taken-waits link y))) (Rise-push message clear going.now);
+      anew = rise_list (flow-push xs (outstanding_messages link) y flow ∙ ap (λ (list : List (List ℕ)). xs ++ filter is_flow_message list) (sym (outstanding-waits link y))) (Rise-push message clear going.anew);
     }
 
 flow-passed : (xs front : List (List ℕ)) (y : List ℕ) → is_flow_message y ≡ false → xs ++ filter is_flow_message front ≡ xs ++ filter is_flow_message (front ++ y ∷ [])
@@ -97,6 +97,6 @@ flow-passed xs front y apart =
 -- they send a message of another protocol
 pub GoesOn-unnumbered : {m : ℕ} {sent xs : List (List ℕ)} (link : DataLinkState) (message : List ℕ) → is_flow_message message ≡ false → GoesOn m sent xs link → GoesOn m sent xs (waits link message)
 GoesOn-unnumbered {m} {sent} {xs} link message apart going = record {
-  now = Rise-list (flow-passed xs (to_be_taken link) message apart ∙ ap (λ (list : List (List ℕ)). xs ++ filter is_flow_message list) (sym (to_be_taken-waits link message))) going.now;
-  anew = Rise-list (flow-passed xs (outstanding_messages link) message apart ∙ ap (λ (list : List (List ℕ)). xs ++ filter is_flow_message list) (sym (outstanding-waits link message))) going.anew;
+  now = rise_list (flow-passed xs (to_be_taken link) message apart ∙ ap (λ (list : List (List ℕ)). xs ++ filter is_flow_message list) (sym (to_be_taken-waits link message))) going.now;
+  anew = rise_list (flow-passed xs (outstanding_messages link) message apart ∙ ap (λ (list : List (List ℕ)). xs ++ filter is_flow_message list) (sym (outstanding-waits link message))) going.anew;
 }

@@ -27,8 +27,8 @@ use Rattle.mobile_end.specs.Calls.Call.{connects, sends, frames, acknowledges, l
 use Rattle.mobile_end.specs.OneRepeat.{OneRepeat}
 use Rattle.mobile_end.specs.OneRepeat.OneRepeat.{over, goes_on, repeats}
 use Rattle.mobile_end.proofs.Numbering.{IsNumbered-after_queue, IsNumbered-frame, IsNumbered-acked, IsNumbered-new}
-use Rattle.mobile_end.proofs.Resuming.{IsLastTaken, IsGoing, IsCut, arrival-cut, arrival-going}
-use Rattle.mobile_end.proofs.Slices.{IsSlice-of_parts, IsSlice-grow}
+use Rattle.mobile_end.proofs.Resuming.{IsLastTaken, IsGoing, IsCut, arrival_cut, arrival_going}
+use Rattle.mobile_end.proofs.Slices.{is_slice_of_parts, is_slice_grow}
 
 -- what may be sent has no number
 pub is_sendable-clear : (sapi : Sapi) (message : List ℕ) → is_sendable sapi message ≡ true → has_clear_number message ≡ true
@@ -40,14 +40,14 @@ is_initial-clear [] lawful = refl
 is_initial-clear (first ∷ rest) lawful = second_so _ (has_clear_number (first ∷ rest)) lawful
 
 -- what is behind a refusal that didn't come
-pub unless_refused-by : (P : MobileState → Type 0) (lawful : Bool) (earlier : Option MobileFault) (old new : MobileState) → P old → (lawful ≡ true → P new) → P (unless_refused (first_refusal earlier (cond lawful None (Some BadMessage))) old new)
-unless_refused-by P lawful (Some fault) old new kept made = kept
-unless_refused-by P true None old new kept made = made refl
-unless_refused-by P false None old new kept made = kept
+pub unless_refused_by : (P : MobileState → Type 0) (lawful : Bool) (earlier : Option MobileFault) (old new : MobileState) → P old → (lawful ≡ true → P new) → P (unless_refused (first_refusal earlier (cond lawful None (Some BadMessage))) old new)
+unless_refused_by P lawful (Some fault) old new kept made = kept
+unless_refused_by P true None old new kept made = made refl
+unless_refused_by P false None old new kept made = kept
 
-pub unless_connected-by : (P : MobileState → Type 0) (stage : Stage) (old new : MobileState) → P old → P new → P (unless_connected stage old new)
-unless_connected-by P New old new kept made = made
-unless_connected-by P Connected old new kept made = kept
+pub unless_connected_by : (P : MobileState → Type 0) (stage : Stage) (old new : MobileState) → P old → P new → P (unless_connected stage old new)
+unless_connected_by P New old new kept made = made
+unless_connected_by P Connected old new kept made = kept
 
 -- What calls keep: the modulus, and what was sent.
 pub record IsKept (old new : MobileState) : Type 0 where
@@ -55,75 +55,75 @@ pub record IsKept (old new : MobileState) : Type 0 where
   pub more : List (List ℕ)
   pub sent : new.sent ≡ old.sent ++ more
 
-IsKept-same : (old new : MobileState) → new.modulus ≡ old.modulus → new.sent ≡ old.sent → IsKept old new
-IsKept-same old new modulus sent = record { modulus = modulus; more = []; sent = sent ∙ sym (append-nil old.sent) }
+is_kept_same : (old new : MobileState) → new.modulus ≡ old.modulus → new.sent ≡ old.sent → IsKept old new
+is_kept_same old new modulus sent = record { modulus = modulus; more = []; sent = sent ∙ sym (append-nil old.sent) }
 
-IsKept-then : {old mid new : MobileState} → IsKept old mid → IsKept mid new → IsKept old new
-IsKept-then {old} {mid} {new} one two = record {
+is_kept_then : {old mid new : MobileState} → IsKept old mid → IsKept mid new → IsKept old new
+is_kept_then {old} {mid} {new} one two = record {
   modulus = two.modulus ∙ one.modulus;
   more = one.more ++ two.more;
   sent = two.sent ∙ ap (λ (xs : List (List ℕ)). xs ++ two.more) one.sent ∙ append_assoc old.sent one.more two.more;
 }
 
-IsKept-with_link : (mobile : MobileState) (sapi : Sapi) (link : DataLinkState) → IsKept mobile (with_link mobile sapi link)
-IsKept-with_link mobile Zero link = IsKept-same mobile (with_link mobile Zero link) refl refl
-IsKept-with_link mobile Three link = IsKept-same mobile (with_link mobile Three link) refl refl
+is_kept_with_link : (mobile : MobileState) (sapi : Sapi) (link : DataLinkState) → IsKept mobile (with_link mobile sapi link)
+is_kept_with_link mobile Zero link = is_kept_same mobile (with_link mobile Zero link) refl refl
+is_kept_with_link mobile Three link = is_kept_same mobile (with_link mobile Three link) refl refl
 
-IsKept-after_queue : (mobile : MobileState) (sapi : Sapi) (message : List ℕ) → IsKept mobile (after_queue mobile sapi message)
-IsKept-after_queue mobile sapi message =
+is_kept_after_queue : (mobile : MobileState) (sapi : Sapi) (message : List ℕ) → IsKept mobile (after_queue mobile sapi message)
+is_kept_after_queue mobile sapi message =
     cond_both (is_flow_message message) (after_number mobile message) (with_link mobile sapi (waits (link_of mobile sapi) message)) (IsKept mobile)
     (λ flow. record { modulus = refl; more = message ∷ []; sent = refl })
-    (λ apart. IsKept-with_link mobile sapi (waits (link_of mobile sapi) message))
+    (λ apart. is_kept_with_link mobile sapi (waits (link_of mobile sapi) message))
 
-IsKept-connect : (mobile : MobileState) (initial : Option (List ℕ)) → IsKept mobile (unless_refused (refusal_of_connect initial) mobile (after_connect mobile initial))
-IsKept-connect mobile None = IsKept-same mobile (after_connect mobile None) refl refl
-IsKept-connect mobile (Some initial) =
-    unless_refused-by (IsKept mobile) (is_initial initial) None mobile (after_connect mobile (Some initial)) (IsKept-same mobile mobile refl refl)
-    (λ lawful. let queued = IsKept-after_queue mobile Zero initial in record { modulus = queued.modulus; more = queued.more; sent = queued.sent })
+is_kept_connect : (mobile : MobileState) (initial : Option (List ℕ)) → IsKept mobile (unless_refused (refusal_of_connect initial) mobile (after_connect mobile initial))
+is_kept_connect mobile None = is_kept_same mobile (after_connect mobile None) refl refl
+is_kept_connect mobile (Some initial) =
+    unless_refused_by (IsKept mobile) (is_initial initial) None mobile (after_connect mobile (Some initial)) (is_kept_same mobile mobile refl refl)
+    (λ lawful. let queued = is_kept_after_queue mobile Zero initial in record { modulus = queued.modulus; more = queued.more; sent = queued.sent })
 
-IsKept-frame : (stage : Stage) (place : Place) (mobile : MobileState) (sapi : Sapi) → IsKept mobile (after_frame_at stage place mobile sapi)
-IsKept-frame New place mobile sapi = IsKept-same mobile mobile refl refl
-IsKept-frame Connected Moving mobile sapi = IsKept-same mobile mobile refl refl
-IsKept-frame Connected OnChannel mobile sapi = IsKept-with_link mobile sapi _
+is_kept_frame : (stage : Stage) (place : Place) (mobile : MobileState) (sapi : Sapi) → IsKept mobile (after_frame_at stage place mobile sapi)
+is_kept_frame New place mobile sapi = is_kept_same mobile mobile refl refl
+is_kept_frame Connected Moving mobile sapi = is_kept_same mobile mobile refl refl
+is_kept_frame Connected OnChannel mobile sapi = is_kept_with_link mobile sapi _
 
-IsKept-acked : (place : Place) (mobile : MobileState) (sapi : Sapi) → IsKept mobile (after_acked_at place mobile sapi)
-IsKept-acked Moving mobile sapi = IsKept-same mobile mobile refl refl
-IsKept-acked OnChannel mobile sapi = IsKept-with_link mobile sapi _
+is_kept_acked : (place : Place) (mobile : MobileState) (sapi : Sapi) → IsKept mobile (after_acked_at place mobile sapi)
+is_kept_acked Moving mobile sapi = is_kept_same mobile mobile refl refl
+is_kept_acked OnChannel mobile sapi = is_kept_with_link mobile sapi _
 
-IsKept-arrival : (mobile : MobileState) (control : List ℕ) → IsKept mobile (cond (may_arrive mobile control) (after_arrival mobile control) mobile)
-IsKept-arrival mobile control =
+is_kept_arrival : (mobile : MobileState) (control : List ℕ) → IsKept mobile (cond (may_arrive mobile control) (after_arrival mobile control) mobile)
+is_kept_arrival mobile control =
     cond_both (may_arrive mobile control) (after_arrival mobile control) mobile (IsKept mobile)
-    (λ _. IsKept-same mobile (after_arrival mobile control) refl refl) (λ _. IsKept-same mobile mobile refl refl)
+    (λ _. is_kept_same mobile (after_arrival mobile control) refl refl) (λ _. is_kept_same mobile mobile refl refl)
 
-IsKept-call : (mobile : MobileState) (call : Call) → IsKept mobile (after_call mobile call)
-IsKept-call mobile (connects initial) = unless_connected-by (IsKept mobile) mobile.stage mobile _ (IsKept-same mobile mobile refl refl) (IsKept-connect mobile initial)
-IsKept-call mobile (sends sapi message) =
-    unless_refused-by (IsKept mobile) (is_sendable sapi message) (refusal_before_connect mobile.stage) mobile (after_queue mobile sapi message)
-    (IsKept-same mobile mobile refl refl) (λ _. IsKept-after_queue mobile sapi message)
-IsKept-call mobile (frames sapi) = IsKept-frame mobile.stage mobile.place mobile sapi
-IsKept-call mobile (acknowledges sapi) = IsKept-acked mobile.place mobile sapi
-IsKept-call mobile leaves = record { modulus = refl; more = []; sent = sym (append-nil mobile.sent) }
-IsKept-call mobile (arrives complete) = IsKept-arrival mobile complete
-IsKept-call mobile (gives_up failure) = IsKept-arrival mobile failure
+is_kept_call : (mobile : MobileState) (call : Call) → IsKept mobile (after_call mobile call)
+is_kept_call mobile (connects initial) = unless_connected_by (IsKept mobile) mobile.stage mobile _ (is_kept_same mobile mobile refl refl) (is_kept_connect mobile initial)
+is_kept_call mobile (sends sapi message) =
+    unless_refused_by (IsKept mobile) (is_sendable sapi message) (refusal_before_connect mobile.stage) mobile (after_queue mobile sapi message)
+    (is_kept_same mobile mobile refl refl) (λ _. is_kept_after_queue mobile sapi message)
+is_kept_call mobile (frames sapi) = is_kept_frame mobile.stage mobile.place mobile sapi
+is_kept_call mobile (acknowledges sapi) = is_kept_acked mobile.place mobile sapi
+is_kept_call mobile leaves = record { modulus = refl; more = []; sent = sym (append-nil mobile.sent) }
+is_kept_call mobile (arrives complete) = is_kept_arrival mobile complete
+is_kept_call mobile (gives_up failure) = is_kept_arrival mobile failure
 
 pub IsKept-calls : (mobile : MobileState) (calls : List Call) → IsKept mobile (after_calls mobile calls)
-IsKept-calls mobile [] = IsKept-same mobile mobile refl refl
-IsKept-calls mobile (call ∷ calls) = IsKept-then (IsKept-call mobile call) (IsKept-calls (after_call mobile call) calls)
+IsKept-calls mobile [] = is_kept_same mobile mobile refl refl
+IsKept-calls mobile (call ∷ calls) = is_kept_then (is_kept_call mobile call) (IsKept-calls (after_call mobile call) calls)
 
 -- the last message that was taken, after each call
-IsLastTaken-lent_message : (waiting : List (List ℕ)) (air : Air) (taken : List (List ℕ)) → IsLastTaken air taken → let link : DataLinkState = record { waiting = waiting; air = air } in IsLastTaken (after_lending link).air (taken ++ option_to_list (lent_message link))
-IsLastTaken-lent_message [] Empty taken last = tt
-IsLastTaken-lent_message (first ∷ others) Empty taken last = (taken, refl)
-IsLastTaken-lent_message waiting (Given message) taken last = (taken, refl)
-IsLastTaken-lent_message waiting (Reached message) taken last = (last.0, append-nil taken ∙ last.1)
+is_last_taken_lent_message : (waiting : List (List ℕ)) (air : Air) (taken : List (List ℕ)) → IsLastTaken air taken → let link : DataLinkState = record { waiting = waiting; air = air } in IsLastTaken (after_lending link).air (taken ++ option_to_list (lent_message link))
+is_last_taken_lent_message [] Empty taken last = tt
+is_last_taken_lent_message (first ∷ others) Empty taken last = (taken, refl)
+is_last_taken_lent_message waiting (Given message) taken last = (taken, refl)
+is_last_taken_lent_message waiting (Reached message) taken last = (last.0, append-nil taken ∙ last.1)
 
-IsLastTaken-freed : (air : Air) (taken : List (List ℕ)) → IsLastTaken (after_ack air) taken
-IsLastTaken-freed Empty taken = tt
-IsLastTaken-freed (Given message) taken = tt
-IsLastTaken-freed (Reached message) taken = tt
+is_last_taken_freed : (air : Air) (taken : List (List ℕ)) → IsLastTaken (after_ack air) taken
+is_last_taken_freed Empty taken = tt
+is_last_taken_freed (Given message) taken = tt
+is_last_taken_freed (Reached message) taken = tt
 
-IsLastTaken-after_queue : (mobile : MobileState) (taken : List (List ℕ)) (sapi : Sapi) (message : List ℕ) → IsLastTaken mobile.zero.air taken → IsLastTaken (after_queue mobile sapi message).zero.air taken
-IsLastTaken-after_queue mobile taken sapi message last =
+is_last_taken_after_queue : (mobile : MobileState) (taken : List (List ℕ)) (sapi : Sapi) (message : List ℕ) → IsLastTaken mobile.zero.air taken → IsLastTaken (after_queue mobile sapi message).zero.air taken
+is_last_taken_after_queue mobile taken sapi message last =
     cond_both (is_flow_message message) (after_number mobile message) (with_link mobile sapi (waits (link_of mobile sapi) message))
     (λ (new : MobileState). IsLastTaken new.zero.air taken) (λ _. last) (λ _. waiting sapi)
   where
@@ -131,74 +131,74 @@ IsLastTaken-after_queue mobile taken sapi message last =
     waiting Zero = last
     waiting Three = last
 
-IsGoing-after_queue : (m : ℕ) (before : List (List ℕ)) (mobile : MobileState) (taken : List (List ℕ)) (sapi : Sapi) (message : List ℕ) → has_clear_number message ≡ true → IsGoing m before mobile taken → IsGoing m before (after_queue mobile sapi message) taken
-IsGoing-after_queue m before mobile taken sapi message clear going = record {
+is_going_after_queue : (m : ℕ) (before : List (List ℕ)) (mobile : MobileState) (taken : List (List ℕ)) (sapi : Sapi) (message : List ℕ) → has_clear_number message ≡ true → IsGoing m before mobile taken → IsGoing m before (after_queue mobile sapi message) taken
+is_going_after_queue m before mobile taken sapi message clear going = record {
   numbered = IsNumbered-after_queue before mobile taken sapi message clear going.numbered;
-  last = IsLastTaken-after_queue mobile taken sapi message going.last;
-  modulus = (IsKept-after_queue mobile sapi message).modulus ∙ going.modulus;
+  last = is_last_taken_after_queue mobile taken sapi message going.last;
+  modulus = (is_kept_after_queue mobile sapi message).modulus ∙ going.modulus;
 }
 
-IsGoing-connect : (m : ℕ) (before : List (List ℕ)) (mobile : MobileState) (taken : List (List ℕ)) (initial : Option (List ℕ)) → IsGoing m before mobile taken → IsGoing m before (unless_refused (refusal_of_connect initial) mobile (after_connect mobile initial)) taken
-IsGoing-connect m before mobile taken None going =
+is_going_connect : (m : ℕ) (before : List (List ℕ)) (mobile : MobileState) (taken : List (List ℕ)) (initial : Option (List ℕ)) → IsGoing m before mobile taken → IsGoing m before (unless_refused (refusal_of_connect initial) mobile (after_connect mobile initial)) taken
+is_going_connect m before mobile taken None going =
     let numbered = going.numbered in
     record { numbered = record { after = numbered.after; parts = numbered.parts; numbers = numbered.numbers; clear = numbered.clear }; last = going.last; modulus = going.modulus }
-IsGoing-connect m before mobile taken (Some initial) going =
-    unless_refused-by (λ new. IsGoing m before new taken) (is_initial initial) None mobile (after_connect mobile (Some initial)) going
+is_going_connect m before mobile taken (Some initial) going =
+    unless_refused_by (λ new. IsGoing m before new taken) (is_initial initial) None mobile (after_connect mobile (Some initial)) going
     (λ lawful.
-    let queued = IsGoing-after_queue m before mobile taken Zero initial (is_initial-clear initial lawful) going in
+    let queued = is_going_after_queue m before mobile taken Zero initial (is_initial-clear initial lawful) going in
     let numbered = queued.numbered in
     record { numbered = record { after = numbered.after; parts = numbered.parts; numbers = numbered.numbers; clear = numbered.clear }; last = queued.last; modulus = queued.modulus })
 
 -- what a frame of SAPI 3 or an acknowledgement changes isn't seen on SAPI 0
-IsGoing-frame_three : (m : ℕ) (before : List (List ℕ)) (stage : Stage) (place : Place) (mobile : MobileState) (taken : List (List ℕ)) → IsGoing m before mobile taken → IsGoing m before (after_frame_at stage place mobile Three) taken
-IsGoing-frame_three m before New place mobile taken going = going
-IsGoing-frame_three m before Connected Moving mobile taken going = going
-IsGoing-frame_three m before Connected OnChannel mobile taken going =
+is_going_frame_three : (m : ℕ) (before : List (List ℕ)) (stage : Stage) (place : Place) (mobile : MobileState) (taken : List (List ℕ)) → IsGoing m before mobile taken → IsGoing m before (after_frame_at stage place mobile Three) taken
+is_going_frame_three m before New place mobile taken going = going
+is_going_frame_three m before Connected Moving mobile taken going = going
+is_going_frame_three m before Connected OnChannel mobile taken going =
     let numbered = going.numbered in
     record { numbered = record { after = numbered.after; parts = numbered.parts; numbers = numbered.numbers; clear = numbered.clear }; last = going.last; modulus = going.modulus }
 
-IsLastTaken-acked : (place : Place) (mobile : MobileState) (taken : List (List ℕ)) (sapi : Sapi) → IsLastTaken mobile.zero.air taken → IsLastTaken (after_acked_at place mobile sapi).zero.air taken
-IsLastTaken-acked Moving mobile taken sapi last = last
-IsLastTaken-acked OnChannel mobile taken Zero last = IsLastTaken-freed mobile.zero.air taken
-IsLastTaken-acked OnChannel mobile taken Three last = last
+is_last_taken_acked : (place : Place) (mobile : MobileState) (taken : List (List ℕ)) (sapi : Sapi) → IsLastTaken mobile.zero.air taken → IsLastTaken (after_acked_at place mobile sapi).zero.air taken
+is_last_taken_acked Moving mobile taken sapi last = last
+is_last_taken_acked OnChannel mobile taken Zero last = is_last_taken_freed mobile.zero.air taken
+is_last_taken_acked OnChannel mobile taken Three last = last
 
-IsLastTaken-frame : (stage : Stage) (place : Place) (mobile : MobileState) (taken : List (List ℕ)) → IsLastTaken mobile.zero.air taken → IsLastTaken (after_frame_at stage place mobile Zero).zero.air (taken ++ frame_lent (frame_answer_at stage place (lent_message mobile.zero)))
-IsLastTaken-frame New place mobile taken last = subst (λ (xs : List (List ℕ)). IsLastTaken mobile.zero.air xs) (sym (append-nil taken)) last
-IsLastTaken-frame Connected Moving mobile taken last = subst (λ (xs : List (List ℕ)). IsLastTaken mobile.zero.air xs) (sym (append-nil taken)) last
-IsLastTaken-frame Connected OnChannel mobile taken last = IsLastTaken-lent_message mobile.zero.waiting mobile.zero.air taken last
+is_last_taken_frame : (stage : Stage) (place : Place) (mobile : MobileState) (taken : List (List ℕ)) → IsLastTaken mobile.zero.air taken → IsLastTaken (after_frame_at stage place mobile Zero).zero.air (taken ++ frame_lent (frame_answer_at stage place (lent_message mobile.zero)))
+is_last_taken_frame New place mobile taken last = subst (λ (xs : List (List ℕ)). IsLastTaken mobile.zero.air xs) (sym (append-nil taken)) last
+is_last_taken_frame Connected Moving mobile taken last = subst (λ (xs : List (List ℕ)). IsLastTaken mobile.zero.air xs) (sym (append-nil taken)) last
+is_last_taken_frame Connected OnChannel mobile taken last = is_last_taken_lent_message mobile.zero.waiting mobile.zero.air taken last
 
 -- a call that takes nothing
 nothing_taken : (m : ℕ) (before : List (List ℕ)) (mobile : MobileState) (taken : List (List ℕ)) → IsGoing m before mobile taken → IsGoing m before mobile (taken ++ [])
 nothing_taken m before mobile taken going = subst (λ (xs : List (List ℕ)). IsGoing m before mobile xs) (sym (append-nil taken)) going
 
 -- an arrival that doesn't come about changes nothing
-IsGoing-refused : (m : ℕ) (before : List (List ℕ)) (mobile : MobileState) (taken : List (List ℕ)) (control : List ℕ) → may_arrive mobile control ≡ false → IsGoing m before mobile taken → IsGoing m before (cond (may_arrive mobile control) (after_arrival mobile control) mobile) taken
-IsGoing-refused m before mobile taken control not_so going =
+is_going_refused : (m : ℕ) (before : List (List ℕ)) (mobile : MobileState) (taken : List (List ℕ)) (control : List ℕ) → may_arrive mobile control ≡ false → IsGoing m before mobile taken → IsGoing m before (cond (may_arrive mobile control) (after_arrival mobile control) mobile) taken
+is_going_refused m before mobile taken control not_so going =
     subst (λ (new : MobileState). IsGoing m before new taken) (sym (cond-false (may_arrive mobile control) (after_arrival mobile control) mobile not_so)) going
 
 -- each call in an establishment
-IsGoing-call : (m : ℕ) (before : List (List ℕ)) (mobile : MobileState) (taken : List (List ℕ)) (call : Call) → begins mobile call ≡ false → IsGoing m before mobile taken → IsGoing m before (after_call mobile call) (taken ++ taken_by_call mobile call)
-IsGoing-call m before mobile taken (connects initial) doesnt going =
-    nothing_taken m before _ taken (unless_connected-by (λ new. IsGoing m before new taken) mobile.stage mobile _ going (IsGoing-connect m before mobile taken initial going))
-IsGoing-call m before mobile taken (sends sapi message) doesnt going =
-    nothing_taken m before _ taken (unless_refused-by (λ new. IsGoing m before new taken) (is_sendable sapi message) (refusal_before_connect mobile.stage) mobile (after_queue mobile sapi message) going
-    (λ lawful. IsGoing-after_queue m before mobile taken sapi message (is_sendable-clear sapi message lawful) going))
-IsGoing-call m before mobile taken (frames Zero) doesnt going = record {
+is_going_call : (m : ℕ) (before : List (List ℕ)) (mobile : MobileState) (taken : List (List ℕ)) (call : Call) → begins mobile call ≡ false → IsGoing m before mobile taken → IsGoing m before (after_call mobile call) (taken ++ taken_by_call mobile call)
+is_going_call m before mobile taken (connects initial) doesnt going =
+    nothing_taken m before _ taken (unless_connected_by (λ new. IsGoing m before new taken) mobile.stage mobile _ going (is_going_connect m before mobile taken initial going))
+is_going_call m before mobile taken (sends sapi message) doesnt going =
+    nothing_taken m before _ taken (unless_refused_by (λ new. IsGoing m before new taken) (is_sendable sapi message) (refusal_before_connect mobile.stage) mobile (after_queue mobile sapi message) going
+    (λ lawful. is_going_after_queue m before mobile taken sapi message (is_sendable-clear sapi message lawful) going))
+is_going_call m before mobile taken (frames Zero) doesnt going = record {
   numbered = IsNumbered-frame before mobile.stage mobile.place mobile taken going.numbered;
-  last = IsLastTaken-frame mobile.stage mobile.place mobile taken going.last;
-  modulus = (IsKept-frame mobile.stage mobile.place mobile Zero).modulus ∙ going.modulus;
+  last = is_last_taken_frame mobile.stage mobile.place mobile taken going.last;
+  modulus = (is_kept_frame mobile.stage mobile.place mobile Zero).modulus ∙ going.modulus;
 }
-IsGoing-call m before mobile taken (frames Three) doesnt going = nothing_taken m before _ taken (IsGoing-frame_three m before mobile.stage mobile.place mobile taken going)
-IsGoing-call m before mobile taken (acknowledges sapi) doesnt going = nothing_taken m before _ taken (record {
+is_going_call m before mobile taken (frames Three) doesnt going = nothing_taken m before _ taken (is_going_frame_three m before mobile.stage mobile.place mobile taken going)
+is_going_call m before mobile taken (acknowledges sapi) doesnt going = nothing_taken m before _ taken (record {
   numbered = IsNumbered-acked before mobile.place mobile taken sapi going.numbered;
-  last = IsLastTaken-acked mobile.place mobile taken sapi going.last;
-  modulus = (IsKept-acked mobile.place mobile sapi).modulus ∙ going.modulus;
+  last = is_last_taken_acked mobile.place mobile taken sapi going.last;
+  modulus = (is_kept_acked mobile.place mobile sapi).modulus ∙ going.modulus;
 })
-IsGoing-call m before mobile taken leaves doesnt going =
+is_going_call m before mobile taken leaves doesnt going =
     let numbered = going.numbered in
     nothing_taken m before _ taken (record { numbered = record { after = numbered.after; parts = numbered.parts; numbers = numbered.numbers; clear = numbered.clear }; last = going.last; modulus = going.modulus })
-IsGoing-call m before mobile taken (arrives complete) doesnt going = nothing_taken m before _ taken (IsGoing-refused m before mobile taken complete doesnt going)
-IsGoing-call m before mobile taken (gives_up failure) doesnt going = nothing_taken m before _ taken (IsGoing-refused m before mobile taken failure doesnt going)
+is_going_call m before mobile taken (arrives complete) doesnt going = nothing_taken m before _ taken (is_going_refused m before mobile taken complete doesnt going)
+is_going_call m before mobile taken (gives_up failure) doesnt going = nothing_taken m before _ taken (is_going_refused m before mobile taken failure doesnt going)
 
 -- the establishments after a call that begins one, and after any other
 begun : (m : ℕ) (sent : List (List ℕ)) (b : ℕ) (mobile : MobileState) (taken : List (List ℕ)) (call : Call) (calls : List Call) → begins mobile call ≡ true → OneRepeat m sent b (taken ∷ establishments (after_call mobile call) [] calls) → OneRepeat m sent b (establishments mobile taken (call ∷ calls))
@@ -212,11 +212,11 @@ went_on m sent b mobile taken call calls doesnt rule =
     (sym (cond-false (begins mobile call) (taken ∷ establishments (after_call mobile call) [] calls) (establishments (after_call mobile call) (taken ++ taken_by_call mobile call) calls) doesnt)) rule
 
 -- a slice, and then the slices of the channel that the mobile arrives on
-OneRepeat-cut : (m : ℕ) (before sent more taken unsent : List (List ℕ)) (others : List (List (List ℕ))) (cut : IsCut m before sent taken unsent) → OneRepeat m (sent ++ more) (length cut.next) others → OneRepeat m (sent ++ more) (length before) (taken ∷ others)
-OneRepeat-cut m before sent more taken unsent others cut rule =
+one_repeat_cut : (m : ℕ) (before sent more taken unsent : List (List ℕ)) (others : List (List (List ℕ))) (cut : IsCut m before sent taken unsent) → OneRepeat m (sent ++ more) (length cut.next) others → OneRepeat m (sent ++ more) (length before) (taken ∷ others)
+one_repeat_cut m before sent more taken unsent others cut rule =
     elim cut.begins [
-      | inl same ↦ goes_on (IsSlice-grow m sent more (length before) (length cut.next) taken (IsSlice-of_parts m sent before cut.part cut.rest taken (length cut.next) cut.parts cut.taken_is same)) rule
-      | inr last ↦ repeats last.1 (IsSlice-grow m sent more (length before) (length cut.next + 1) taken (IsSlice-of_parts m sent before cut.part cut.rest taken (length cut.next + 1) cut.parts cut.taken_is last.0)) rule
+      | inl same ↦ goes_on (is_slice_grow m sent more (length before) (length cut.next) taken (is_slice_of_parts m sent before cut.part cut.rest taken (length cut.next) cut.parts cut.taken_is same)) rule
+      | inr last ↦ repeats last.1 (is_slice_grow m sent more (length before) (length cut.next + 1) taken (is_slice_of_parts m sent before cut.part cut.rest taken (length cut.next + 1) cut.parts cut.taken_is last.0)) rule
     ]
 
 -- a call that begins an establishment is an arrival
@@ -232,36 +232,36 @@ arrival_of mobile control call does is = record {
   arrived = is ∙ cond-true (may_arrive mobile control) (after_arrival mobile control) mobile does;
 }
 
-IsArrival-begins : (mobile : MobileState) (call : Call) → begins mobile call ≡ true → IsArrival mobile call
-IsArrival-begins mobile (arrives complete) does = arrival_of mobile complete (arrives complete) does refl
-IsArrival-begins mobile (gives_up failure) does = arrival_of mobile failure (gives_up failure) does refl
-IsArrival-begins mobile (connects initial) does = absurd cc
-IsArrival-begins mobile (sends sapi message) does = absurd cc
-IsArrival-begins mobile (frames sapi) does = absurd cc
-IsArrival-begins mobile (acknowledges sapi) does = absurd cc
-IsArrival-begins mobile leaves does = absurd cc
+is_arrival_begins : (mobile : MobileState) (call : Call) → begins mobile call ≡ true → IsArrival mobile call
+is_arrival_begins mobile (arrives complete) does = arrival_of mobile complete (arrives complete) does refl
+is_arrival_begins mobile (gives_up failure) does = arrival_of mobile failure (gives_up failure) does refl
+is_arrival_begins mobile (connects initial) does = absurd cc
+is_arrival_begins mobile (sends sapi message) does = absurd cc
+is_arrival_begins mobile (frames sapi) does = absurd cc
+is_arrival_begins mobile (acknowledges sapi) does = absurd cc
+is_arrival_begins mobile leaves does = absurd cc
 
 -- the slices from an establishment on
 pub OneRepeat-calls : (m : ℕ) (before : List (List ℕ)) (mobile : MobileState) (taken : List (List ℕ)) (calls : List Call) → IsGoing m before mobile taken → OneRepeat m (after_calls mobile calls).sent (length before) (establishments mobile taken calls)
 OneRepeat-calls m before mobile taken [] going =
-    let cut = arrival-cut m before mobile taken going in
+    let cut = arrival_cut m before mobile taken going in
     subst (λ (xs : List (List ℕ)). OneRepeat m xs (length before) (taken ∷ [])) (append-nil mobile.sent)
-    (OneRepeat-cut m before mobile.sent [] taken _ [] cut (over (length cut.next)))
+    (one_repeat_cut m before mobile.sent [] taken _ [] cut (over (length cut.next)))
 OneRepeat-calls m before mobile taken (call ∷ calls) going =
     elim (cases_Bool (begins mobile call)) [
       | inl does ↦
-          let arrival = IsArrival-begins mobile call does in
-          let cut = arrival-cut m before mobile taken going in
+          let arrival = is_arrival_begins mobile call does in
+          let cut = arrival_cut m before mobile taken going in
           let next : IsGoing m cut.next (after_call mobile call) [] =
-          subst (λ (new : MobileState). IsGoing m cut.next new []) (sym arrival.arrived) (arrival-going m before mobile taken arrival.control arrival.is_one going) in
+          subst (λ (new : MobileState). IsGoing m cut.next new []) (sym arrival.arrived) (arrival_going m before mobile taken arrival.control arrival.is_one going) in
           let later = OneRepeat-calls m cut.next (after_call mobile call) [] calls next in
-          let kept = IsKept-then (IsKept-call mobile call) (IsKept-calls (after_call mobile call) calls) in
+          let kept = is_kept_then (is_kept_call mobile call) (IsKept-calls (after_call mobile call) calls) in
           begun m (after_calls mobile (call ∷ calls)).sent (length before) mobile taken call calls does
           (subst (λ (xs : List (List ℕ)). OneRepeat m xs (length before) (taken ∷ establishments (after_call mobile call) [] calls)) (sym kept.sent)
-          (OneRepeat-cut m before mobile.sent kept.more taken _ _ cut (subst (λ (xs : List (List ℕ)). OneRepeat m xs (length cut.next) (establishments (after_call mobile call) [] calls)) kept.sent later)))
+          (one_repeat_cut m before mobile.sent kept.more taken _ _ cut (subst (λ (xs : List (List ℕ)). OneRepeat m xs (length cut.next) (establishments (after_call mobile call) [] calls)) kept.sent later)))
       | inr doesnt ↦
           went_on m (after_calls mobile (call ∷ calls)).sent (length before) mobile taken call calls doesnt
-          (OneRepeat-calls m before (after_call mobile call) (taken ++ taken_by_call mobile call) calls (IsGoing-call m before mobile taken call doesnt going))
+          (OneRepeat-calls m before (after_call mobile call) (taken ++ taken_by_call mobile call) calls (is_going_call m before mobile taken call doesnt going))
     ]
 
 -- nothing was taken of a mobile that never sent

@@ -54,16 +54,16 @@ IsClear-flow (first ∷ second ∷ rest) clear flow =
     record { is_flow = flow; cleared = ap (λ (octet : ℕ). first ∷ octet ∷ rest) low }
 
 -- one more message of the flow
-numbers-flow : (m b : ℕ) (front after : List (List ℕ)) (message : List ℕ) → is_flow_message message ≡ true → filter is_flow_message front ≡ with_numbers_from m b after → filter is_flow_message (front ++ with_number ((b + length after) % m) message ∷ []) ≡ with_numbers_from m b (after ++ message ∷ [])
-numbers-flow m b front after message flow is =
+numbers_flow : (m b : ℕ) (front after : List (List ℕ)) (message : List ℕ) → is_flow_message message ≡ true → filter is_flow_message front ≡ with_numbers_from m b after → filter is_flow_message (front ++ with_number ((b + length after) % m) message ∷ []) ≡ with_numbers_from m b (after ++ message ∷ [])
+numbers_flow m b front after message flow is =
     let last : List ℕ = with_number ((b + length after) % m) message in
     let kept : filter is_flow_message (last ∷ []) ≡ last ∷ [] = cond-true (is_flow_message last) (last ∷ []) [] (is_flow-with_number ((b + length after) % m) message ∙ flow) in
     filter-append is_flow_message front (last ∷ []) ∙ ap (λ (xs : List (List ℕ)). xs ++ filter is_flow_message (last ∷ [])) is
     ∙ ap (λ (ys : List (List ℕ)). with_numbers_from m b after ++ ys) kept ∙ sym (with_numbers_from-append m b after (message ∷ []))
 
 -- one more message of another protocol
-numbers-other : (front numbers : List (List ℕ)) (message : List ℕ) → is_flow_message message ≡ false → filter is_flow_message front ≡ numbers → filter is_flow_message (front ++ message ∷ []) ≡ numbers
-numbers-other front numbers message apart is =
+numbers_other : (front numbers : List (List ℕ)) (message : List ℕ) → is_flow_message message ≡ false → filter is_flow_message front ≡ numbers → filter is_flow_message (front ++ message ∷ []) ≡ numbers
+numbers_other front numbers message apart is =
     let left_out : filter is_flow_message (message ∷ []) ≡ [] = cond-false (is_flow_message message) (message ∷ []) [] apart in
     filter-append is_flow_message front (message ∷ []) ∙ ap (λ (ys : List (List ℕ)). filter is_flow_message front ++ ys) left_out
     ∙ append-nil (filter is_flow_message front) ∙ is
@@ -77,10 +77,10 @@ pub record IsNumbered (before : List (List ℕ)) (mobile : MobileState) (taken :
   pub clear : AreClear mobile.sent
 
 -- a message of the flow that waits
-IsNumbered-after_number : (before : List (List ℕ)) (mobile : MobileState) (taken : List (List ℕ)) (message : List ℕ) → IsClear message → IsNumbered before mobile taken → IsNumbered before (after_number mobile message) taken
-IsNumbered-after_number before mobile taken message clear so_far =
+is_numbered_after_number : (before : List (List ℕ)) (mobile : MobileState) (taken : List (List ℕ)) (message : List ℕ) → IsClear message → IsNumbered before mobile taken → IsNumbered before (after_number mobile message) taken
+is_numbered_after_number before mobile taken message clear so_far =
     let place : length before + length so_far.after ≡ length mobile.sent = sym (length-append before so_far.after) ∙ ap length so_far.parts in
-    let one_more = numbers-flow mobile.modulus (length before) (taken ++ to_be_taken mobile.zero) so_far.after message clear.is_flow so_far.numbers in
+    let one_more = numbers_flow mobile.modulus (length before) (taken ++ to_be_taken mobile.zero) so_far.after message clear.is_flow so_far.numbers in
     record {
       after = so_far.after ++ message ∷ [];
       parts = sym (append_assoc before so_far.after (message ∷ [])) ∙ ap (λ (xs : List (List ℕ)). xs ++ message ∷ []) so_far.parts;
@@ -92,22 +92,22 @@ IsNumbered-after_number before mobile taken message clear so_far =
     }
 
 -- a message of another protocol that waits
-IsNumbered-waiting : (before : List (List ℕ)) (mobile : MobileState) (taken : List (List ℕ)) (sapi : Sapi) (message : List ℕ) → is_flow_message message ≡ false → IsNumbered before mobile taken → IsNumbered before (with_link mobile sapi (waits (link_of mobile sapi) message)) taken
-IsNumbered-waiting before mobile taken Zero message apart so_far = record {
+is_numbered_waiting : (before : List (List ℕ)) (mobile : MobileState) (taken : List (List ℕ)) (sapi : Sapi) (message : List ℕ) → is_flow_message message ≡ false → IsNumbered before mobile taken → IsNumbered before (with_link mobile sapi (waits (link_of mobile sapi) message)) taken
+is_numbered_waiting before mobile taken Zero message apart so_far = record {
   after = so_far.after;
   parts = so_far.parts;
-  numbers = ap (filter is_flow_message) (to_be_taken-one_more taken mobile.zero message) ∙ numbers-other (taken ++ to_be_taken mobile.zero) _ message apart so_far.numbers;
+  numbers = ap (filter is_flow_message) (to_be_taken-one_more taken mobile.zero message) ∙ numbers_other (taken ++ to_be_taken mobile.zero) _ message apart so_far.numbers;
   clear = so_far.clear;
 }
-IsNumbered-waiting before mobile taken Three message apart so_far = record { after = so_far.after; parts = so_far.parts; numbers = so_far.numbers; clear = so_far.clear }
+is_numbered_waiting before mobile taken Three message apart so_far = record { after = so_far.after; parts = so_far.parts; numbers = so_far.numbers; clear = so_far.clear }
 
 -- a message that waits leaves what the station took, and what it can take, numbered
 pub IsNumbered-after_queue : (before : List (List ℕ)) (mobile : MobileState) (taken : List (List ℕ)) (sapi : Sapi) (message : List ℕ) → has_clear_number message ≡ true → IsNumbered before mobile taken → IsNumbered before (after_queue mobile sapi message) taken
 IsNumbered-after_queue before mobile taken sapi message clear so_far =
     cond_both (is_flow_message message) (after_number mobile message) (with_link mobile sapi (waits (link_of mobile sapi) message))
     (λ (new : MobileState). IsNumbered before new taken)
-    (λ flow. IsNumbered-after_number before mobile taken message (IsClear-flow message clear flow) so_far)
-    (λ apart. IsNumbered-waiting before mobile taken sapi message apart so_far)
+    (λ flow. is_numbered_after_number before mobile taken message (IsClear-flow message clear flow) so_far)
+    (λ apart. is_numbered_waiting before mobile taken sapi message apart so_far)
 
 -- a frame that the station takes is the first of those that it can take
 pub IsNumbered-frame : (before : List (List ℕ)) (stage : Stage) (place : Place) (mobile : MobileState) (taken : List (List ℕ)) → IsNumbered before mobile taken → IsNumbered before (after_frame_at stage place mobile Zero) (taken ++ frame_lent (frame_answer_at stage place (lent_message mobile.zero)))

@@ -19,7 +19,7 @@ use Rattle.mobile_end.specs.DataLinkState.{DataLinkState}
 use Rattle.mobile_end.specs.Lawful.{is_initial, is_sendable}
 use Rattle.mobile_end.specs.Mobile.{after_acked_at, after_arrival, after_connect, after_frame_at, after_number, after_queue, frame_answer_at, link_of, refusal_before_connect, refusal_of_connect, with_link}
 use Rattle.mobile_end.specs.MobileState.{MobileState}
-use Rattle.mobile_end.proofs.Lives.{unless_connected-by, unless_refused-by}
+use Rattle.mobile_end.proofs.Lives.{unless_connected_by, unless_refused_by}
 
 -- none of these messages is of the flow
 abbrev NoFlow : List (List ℕ) → Type 0
@@ -78,7 +78,7 @@ queued mobile sapi message none =
 connected : (mobile : MobileState) (initial : Option (List ℕ)) → HasNoFlow mobile → HasNoFlow (unless_refused (refusal_of_connect initial) mobile (after_connect mobile initial))
 connected mobile None none = none
 connected mobile (Some initial) none =
-    unless_refused-by HasNoFlow (is_initial initial) None mobile (after_connect mobile (Some initial)) none (λ _. queued mobile Zero initial none)
+    unless_refused_by HasNoFlow (is_initial initial) None mobile (after_connect mobile (Some initial)) none (λ _. queued mobile Zero initial none)
 
 framed : (stage : Stage) (place : Place) (mobile : MobileState) (sapi : Sapi) → HasNoFlow mobile → HasNoFlow (after_frame_at stage place mobile sapi)
 framed New place mobile sapi none = none
@@ -96,9 +96,9 @@ arrived mobile control none =
     cond_both (may_arrive mobile control) (after_arrival mobile control) mobile HasNoFlow (λ _. repeated mobile.three.waiting mobile.three.air none) (λ _. none)
 
 keeps : (mobile : MobileState) (call : Call) → HasNoFlow mobile → HasNoFlow (after_call mobile call)
-keeps mobile (connects initial) none = unless_connected-by HasNoFlow mobile.stage mobile _ none (connected mobile initial none)
+keeps mobile (connects initial) none = unless_connected_by HasNoFlow mobile.stage mobile _ none (connected mobile initial none)
 keeps mobile (sends sapi message) none =
-    unless_refused-by HasNoFlow (is_sendable sapi message) (refusal_before_connect mobile.stage) mobile (after_queue mobile sapi message) none (λ _. queued mobile sapi message none)
+    unless_refused_by HasNoFlow (is_sendable sapi message) (refusal_before_connect mobile.stage) mobile (after_queue mobile sapi message) none (λ _. queued mobile sapi message none)
 keeps mobile (frames sapi) none = framed mobile.stage mobile.place mobile sapi none
 keeps mobile (acknowledges sapi) none = was_acknowledged mobile.place mobile sapi none
 keeps mobile leaves none = none

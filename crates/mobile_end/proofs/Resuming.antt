@@ -39,14 +39,14 @@ without_control-flow (x ∷ xs) =
     ]
 
 -- numbers in two parts number two parts
-pub with_numbers_from-split : (m k : ℕ) (zs xs ys : List (List ℕ)) → xs ++ ys ≡ with_numbers_from m k zs → (first : List (List ℕ)) × (rest : List (List ℕ)) × (first ++ rest ≡ zs) × (xs ≡ with_numbers_from m k first) × (ys ≡ with_numbers_from m (k + length first) rest)
-with_numbers_from-split m k zs [] ys is =
+pub with_numbers_from_split : (m k : ℕ) (zs xs ys : List (List ℕ)) → xs ++ ys ≡ with_numbers_from m k zs → (first : List (List ℕ)) × (rest : List (List ℕ)) × (first ++ rest ≡ zs) × (xs ≡ with_numbers_from m k first) × (ys ≡ with_numbers_from m (k + length first) rest)
+with_numbers_from_split m k zs [] ys is =
     let here : k ≡ k + 0 = omega arith in
     ([], zs, refl, refl, is ∙ ap (λ (n : ℕ). with_numbers_from m n zs) here)
-with_numbers_from-split m k [] (x ∷ xs) ys is = absurd cc
-with_numbers_from-split m k (z ∷ zs) (x ∷ xs) ys is =
+with_numbers_from_split m k [] (x ∷ xs) ys is = absurd cc
+with_numbers_from_split m k (z ∷ zs) (x ∷ xs) ys is =
     let behind : xs ++ ys ≡ with_numbers_from m (k + 1) zs = cc in
-    let parts = with_numbers_from-split m (k + 1) zs xs ys behind in
+    let parts = with_numbers_from_split m (k + 1) zs xs ys behind in
     let first_is : x ≡ with_number (k % m) z = cc in
     let here : k + 1 + length parts.0 ≡ k + length (z ∷ parts.0) = omega arith in (
       z ∷ parts.0,
@@ -81,9 +81,9 @@ pub record IsCut (m : ℕ) (before : List (List ℕ)) (sent taken unsent : List 
   pub begins : (length next ≡ length before + length part) ⊎ ((length next + 1 ≡ length before + length part) × (length before ≤ length next))
 
 -- where all that was taken is acknowledged, the next slice begins where this one ends
-cut-after : (m : ℕ) (before after sent taken unsent : List (List ℕ)) → before ++ after ≡ sent → filter is_flow_message (taken ++ unsent) ≡ with_numbers_from m (length before) after → IsCut m before sent taken unsent
-cut-after m before after sent taken unsent parts numbers =
-    let halves = with_numbers_from-split m (length before) after (filter is_flow_message taken) (filter is_flow_message unsent) (sym (filter-append is_flow_message taken unsent) ∙ numbers) in
+cut_after : (m : ℕ) (before after sent taken unsent : List (List ℕ)) → before ++ after ≡ sent → filter is_flow_message (taken ++ unsent) ≡ with_numbers_from m (length before) after → IsCut m before sent taken unsent
+cut_after m before after sent taken unsent parts numbers =
+    let halves = with_numbers_from_split m (length before) after (filter is_flow_message taken) (filter is_flow_message unsent) (sym (filter-append is_flow_message taken unsent) ∙ numbers) in
     let whole : before ++ (halves.0 ++ halves.1) ≡ sent = ap (λ (xs : List (List ℕ)). before ++ xs) halves.2 ∙ parts in
     record {
       part = halves.0;
@@ -109,12 +109,12 @@ one_number m k x (z ∷ y ∷ zs) is = absurd cc
 
 -- where the last one that was taken is of the flow and wasn't acknowledged, the next slice begins
 -- at it
-cut-at_last : (m : ℕ) (before after sent others waiting : List (List ℕ)) (x : List ℕ) → is_flow_message x ≡ true → before ++ after ≡ sent → filter is_flow_message ((others ++ x ∷ []) ++ waiting) ≡ with_numbers_from m (length before) after → IsCut m before sent (others ++ x ∷ []) (x ∷ waiting)
-cut-at_last m before after sent others waiting x flow parts numbers =
+cut_at_last : (m : ℕ) (before after sent others waiting : List (List ℕ)) (x : List ℕ) → is_flow_message x ≡ true → before ++ after ≡ sent → filter is_flow_message ((others ++ x ∷ []) ++ waiting) ≡ with_numbers_from m (length before) after → IsCut m before sent (others ++ x ∷ []) (x ∷ waiting)
+cut_at_last m before after sent others waiting x flow parts numbers =
     let alone : filter is_flow_message (x ∷ []) ≡ x ∷ [] = cond-true (is_flow_message x) (x ∷ []) [] flow in
-    let earlier = with_numbers_from-split m (length before) after (filter is_flow_message others) (filter is_flow_message (x ∷ waiting))
+    let earlier = with_numbers_from_split m (length before) after (filter is_flow_message others) (filter is_flow_message (x ∷ waiting))
     (sym (filter-append is_flow_message others (x ∷ waiting)) ∙ ap (filter is_flow_message) (sym (append_assoc others (x ∷ []) waiting)) ∙ numbers) in
-    let later = with_numbers_from-split m (length before + length earlier.0) earlier.1 (filter is_flow_message (x ∷ [])) (filter is_flow_message waiting)
+    let later = with_numbers_from_split m (length before + length earlier.0) earlier.1 (filter is_flow_message (x ∷ [])) (filter is_flow_message waiting)
     (sym (filter-append is_flow_message (x ∷ []) waiting) ∙ earlier.4) in
     let one : length later.0 ≡ 1 = one_number m (length before + length earlier.0) x later.0 (sym alone ∙ later.3) in
     let joined : (before ++ earlier.0) ++ earlier.1 ≡ sent = append_assoc before earlier.0 earlier.1 ∙ ap (λ (xs : List (List ℕ)). before ++ xs) earlier.2 ∙ parts in
@@ -137,31 +137,31 @@ cut-at_last m before after sent others waiting x flow parts numbers =
     }
 
 -- the two cases of the message in the air
-cut-by : (m : ℕ) (before after sent taken waiting : List (List ℕ)) (air : Air) → before ++ after ≡ sent → IsLastTaken air taken → filter is_flow_message (taken ++ (option_to_list (offered_message air) ++ waiting)) ≡ with_numbers_from m (length before) after → IsCut m before sent taken (option_to_list (message_in air) ++ waiting)
-cut-by m before after sent taken waiting Empty parts last numbers = cut-after m before after sent taken waiting parts numbers
-cut-by m before after sent taken waiting (Given x) parts last numbers = cut-after m before after sent taken (x ∷ waiting) parts numbers
-cut-by m before after sent taken waiting (Reached x) parts last numbers =
+cut_by : (m : ℕ) (before after sent taken waiting : List (List ℕ)) (air : Air) → before ++ after ≡ sent → IsLastTaken air taken → filter is_flow_message (taken ++ (option_to_list (offered_message air) ++ waiting)) ≡ with_numbers_from m (length before) after → IsCut m before sent taken (option_to_list (message_in air) ++ waiting)
+cut_by m before after sent taken waiting Empty parts last numbers = cut_after m before after sent taken waiting parts numbers
+cut_by m before after sent taken waiting (Given x) parts last numbers = cut_after m before after sent taken (x ∷ waiting) parts numbers
+cut_by m before after sent taken waiting (Reached x) parts last numbers =
     elim (cases_Bool (is_flow_message x)) [
       | inl flow ↦
-          let at_last = cut-at_last m before after sent last.0 waiting x flow parts (ap (λ (xs : List (List ℕ)). filter is_flow_message (xs ++ waiting)) (sym last.1) ∙ numbers) in
+          let at_last = cut_at_last m before after sent last.0 waiting x flow parts (ap (λ (xs : List (List ℕ)). filter is_flow_message (xs ++ waiting)) (sym last.1) ∙ numbers) in
           subst (λ (xs : List (List ℕ)). IsCut m before sent xs (x ∷ waiting)) (sym last.1) at_last
       | inr apart ↦
           let passed : filter is_flow_message (taken ++ (x ∷ waiting)) ≡ with_numbers_from m (length before) after =
           filter-append is_flow_message taken (x ∷ waiting) ∙ ap (λ (xs : List (List ℕ)). filter is_flow_message taken ++ xs) (filter-apart x waiting apart)
           ∙ sym (filter-append is_flow_message taken waiting) ∙ numbers in
-          cut-after m before after sent taken (x ∷ waiting) parts passed
+          cut_after m before after sent taken (x ∷ waiting) parts passed
     ]
 
 -- the cut that a change of channel makes
-pub arrival-cut : (m : ℕ) (before : List (List ℕ)) (mobile : MobileState) (taken : List (List ℕ)) → IsGoing m before mobile taken → IsCut m before mobile.sent taken (outstanding_messages mobile.zero)
-arrival-cut m before mobile taken going =
-    cut-by m before going.numbered.after mobile.sent taken mobile.zero.waiting mobile.zero.air going.numbered.parts going.last
+pub arrival_cut : (m : ℕ) (before : List (List ℕ)) (mobile : MobileState) (taken : List (List ℕ)) → IsGoing m before mobile taken → IsCut m before mobile.sent taken (outstanding_messages mobile.zero)
+arrival_cut m before mobile taken going =
+    cut_by m before going.numbered.after mobile.sent taken mobile.zero.waiting mobile.zero.air going.numbered.parts going.last
     (going.numbered.numbers ∙ ap (λ (n : ℕ). with_numbers_from n (length before) going.numbered.after) going.modulus)
 
 -- and what is known of the mobile on the new channel
-pub arrival-going : (m : ℕ) (before : List (List ℕ)) (mobile : MobileState) (taken : List (List ℕ)) (control : List ℕ) → is_control control ≡ true → (going : IsGoing m before mobile taken) → IsGoing m (arrival-cut m before mobile taken going).next (after_arrival mobile control) []
-arrival-going m before mobile taken control is going =
-    let cut = arrival-cut m before mobile taken going in
+pub arrival_going : (m : ℕ) (before : List (List ℕ)) (mobile : MobileState) (taken : List (List ℕ)) (control : List ℕ) → is_control control ≡ true → (going : IsGoing m before mobile taken) → IsGoing m (arrival_cut m before mobile taken going).next (after_arrival mobile control) []
+arrival_going m before mobile taken control is going =
+    let cut = arrival_cut m before mobile taken going in
     record {
       numbered = record {
         after = cut.others;

@@ -7,8 +7,8 @@ use Rattle.dtap_codec.specs.Places.{with_numbers_from}
 use Rattle.mobile_end.specs.OneRepeat.{IsSlice}
 
 -- a part of the sent list, as a slice
-pub IsSlice-of_parts : (m : ℕ) (sent before part rest xs : List (List ℕ)) (e : ℕ) → before ++ (part ++ rest) ≡ sent → filter is_flow_message xs ≡ with_numbers_from m (length before) part → e ≡ length before + length part → IsSlice m sent (length before) e xs
-IsSlice-of_parts m sent before part rest xs e parts taken end =
+pub is_slice_of_parts : (m : ℕ) (sent before part rest xs : List (List ℕ)) (e : ℕ) → before ++ (part ++ rest) ≡ sent → filter is_flow_message xs ≡ with_numbers_from m (length before) part → e ≡ length before + length part → IsSlice m sent (length before) e xs
+is_slice_of_parts m sent before part rest xs e parts taken end =
     let whole : length sent ≡ length before + (length part + length rest) = sym (ap length parts) ∙ length-append before (part ++ rest) ∙ ap (λ (n : ℕ). length before + n) (length-append part rest) in
     let long : length part ≡ e - length before = omega arith in
     let behind : drop (length before) sent ≡ part ++ rest = ap (drop (length before)) (sym parts) ∙ drop_at before (part ++ rest) (length before) refl in
@@ -32,11 +32,11 @@ slice_parts sent b e slice =
     (whole, before, omega (arith, before, rest, all, begins, ends))
 
 -- a slice stays when more is sent
-pub IsSlice-grow : (m : ℕ) (sent more : List (List ℕ)) (b e : ℕ) (xs : List (List ℕ)) → IsSlice m sent b e xs → IsSlice m (sent ++ more) b e xs
-IsSlice-grow m sent more b e xs slice =
+pub is_slice_grow : (m : ℕ) (sent more : List (List ℕ)) (b e : ℕ) (xs : List (List ℕ)) → IsSlice m sent b e xs → IsSlice m (sent ++ more) b e xs
+is_slice_grow m sent more b e xs slice =
     let halves = slice_parts sent b e slice in
     let longer : take b sent ++ (slice_range sent b e ++ (drop e sent ++ more)) ≡ sent ++ more =
     ap (λ (ys : List (List ℕ)). take b sent ++ ys) (sym (append_assoc (slice_range sent b e) (drop e sent) more))
     ∙ sym (append_assoc (take b sent) (slice_range sent b e ++ drop e sent) more) ∙ ap (λ (ys : List (List ℕ)). ys ++ more) halves.0 in
-    let grown = IsSlice-of_parts m (sent ++ more) (take b sent) (slice_range sent b e) (drop e sent ++ more) xs e longer (slice.taken ∙ ap (λ (k : ℕ). with_numbers_from m k (slice_range sent b e)) (sym halves.1)) (halves.2 ∙ ap (λ (k : ℕ). k + length (slice_range sent b e)) (sym halves.1)) in
+    let grown = is_slice_of_parts m (sent ++ more) (take b sent) (slice_range sent b e) (drop e sent ++ more) xs e longer (slice.taken ∙ ap (λ (k : ℕ). with_numbers_from m k (slice_range sent b e)) (sym halves.1)) (halves.2 ∙ ap (λ (k : ℕ). k + length (slice_range sent b e)) (sym halves.1)) in
     subst (λ (k : ℕ). IsSlice m (sent ++ more) k e xs) halves.1 grown

@@ -24,8 +24,8 @@ verdict_on-carried {m} {p} progress two c =
     ap (option_map (judgement m progress)) (ap (number_in m) c.carries ∙ number_in-with_number m (p % m) c.message (mod-lt p (omega arith)) c.is_clear.is_flow)
 
 -- two places next to each other have different numbers
-mod-suc_differs : (m p : ℕ) → 2 ≤ m → p % m ≡ (p + 1) % m → ⊥
-mod-suc_differs m p two same =
+mod_suc_differs : (m p : ℕ) → 2 ≤ m → p % m ≡ (p + 1) % m → ⊥
+mod_suc_differs m p two same =
     let rest : p % m < m = mod-lt p (omega arith) in
     let step : (p % m + 1) % m ≡ (p + 1) % m = mod-add-mod p m 1 in
     let within : p % m + 1 ≤ m = omega arith in
@@ -45,7 +45,7 @@ verdict_on-next {m} {n} two c = verdict_on-carried (Some n) two c ∙ ap Some (c
 -- the message at the place before the next one is a duplicate
 pub verdict_on-again : {m n p : ℕ} {sent : List (List ℕ)} {x : List ℕ} → 2 ≤ m → n ≡ p + 1 → Carries m sent p x → verdict_on m (Some n) x ≡ Some Duplicate
 verdict_on-again {m} {n} {p} two e c =
-    let differs : nat_eq (p % m) (n % m) ≡ false = ne_eqb (p % m) (n % m) (λ same. mod-suc_differs m p two (same ∙ ap (λ (k : ℕ). k % m) e)) in
+    let differs : nat_eq (p % m) (n % m) ≡ false = ne_eqb (p % m) (n % m) (λ same. mod_suc_differs m p two (same ∙ ap (λ (k : ℕ). k % m) e)) in
     let sum : n + (m - 1) ≡ p + m = omega arith in
     let before : p % m ≡ (n + (m - 1)) % m = sym (ap (λ (k : ℕ). k % m) sum ∙ add-mod_right p m) in
     verdict_on-carried (Some n) two c ∙ ap Some (cond-false (nat_eq (p % m) (n % m)) _ _ differs ∙ cond-true (nat_eq (p % m) ((n + (m - 1)) % m)) _ _ (eq-eqb (p % m) ((n + (m - 1)) % m) before))

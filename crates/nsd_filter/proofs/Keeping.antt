@@ -46,8 +46,8 @@ not_of_the_flow-push taken message b is =
     ∙ ap (λ (b : Bool). not_of_the_flow taken ++ filter (λ _. not b) (message ∷ [])) is
 
 -- a message of the flow was judged
-pub IsKept-numbered : (m : ℕ) (old new : FilterState) (taken accepted others : List (List ℕ)) (message : List ℕ) (number : ℕ) (verdict : Verdict) → number_in m message ≡ Some number → IsKept m old taken accepted others → ((p : Option ℕ) → StandsFor old p → verdict ≡ judgement old.modulus p number) → ((p : Option ℕ) → StandsFor old p → StandsFor new (progress_after old.modulus p number)) → new.modulus ≡ old.modulus → IsKept m new (taken ++ message ∷ []) (accepted ++ delivery_by verdict (without_number message)) others
-IsKept-numbered m old new taken accepted others message number verdict is kept judges goes_on same_modulus =
+pub is_kept_numbered : (m : ℕ) (old new : FilterState) (taken accepted others : List (List ℕ)) (message : List ℕ) (number : ℕ) (verdict : Verdict) → number_in m message ≡ Some number → IsKept m old taken accepted others → ((p : Option ℕ) → StandsFor old p → verdict ≡ judgement old.modulus p number) → ((p : Option ℕ) → StandsFor old p → StandsFor new (progress_after old.modulus p number)) → new.modulus ≡ old.modulus → IsKept m new (taken ++ message ∷ []) (accepted ++ delivery_by verdict (without_number message)) others
+is_kept_numbered m old new taken accepted others message number verdict is kept judges goes_on same_modulus =
     let judged : verdict ≡ judgement m (progress m taken) number = judges (progress m taken) kept.stands ∙ ap (λ (n : ℕ). judgement n (progress m taken) number) kept.modulus in
     let stands : StandsFor new (progress_after m (progress m taken) number) = subst (λ (n : ℕ). StandsFor new (progress_after n (progress m taken) number)) kept.modulus (goes_on (progress m taken) kept.stands) in
     let on : verdict_on m (progress m taken) message ≡ Some (judgement m (progress m taken) number) = ap (option_map (judgement m (progress m taken))) is in
@@ -62,8 +62,8 @@ IsKept-numbered m old new taken accepted others message number verdict is kept j
     }
 
 -- a message without a number was passed on
-pub IsKept-unnumbered : (m : ℕ) (state : FilterState) (taken accepted others : List (List ℕ)) (message : List ℕ) → number_in m message ≡ None → IsKept m state taken accepted others → IsKept m state (taken ++ message ∷ []) accepted (others ++ message ∷ [])
-IsKept-unnumbered m state taken accepted others message is kept =
+pub is_kept_unnumbered : (m : ℕ) (state : FilterState) (taken accepted others : List (List ℕ)) (message : List ℕ) → number_in m message ≡ None → IsKept m state taken accepted others → IsKept m state (taken ++ message ∷ []) accepted (others ++ message ∷ [])
+is_kept_unnumbered m state taken accepted others message is kept =
     let on : verdict_on m (progress m taken) message ≡ None = ap (option_map (judgement m (progress m taken))) is in
     record {
       modulus = kept.modulus;

@@ -35,16 +35,16 @@ pub by-read : (at : Place) (source : ℕ) (what : What) → brings_by at source 
 by-read at source (whats.Frame frame) = if-read at.number (source == at.station) (rsl_in frame)
 by-read at source whats.Down = refl
 
-pub inbox-read : (at : Place) (items : List Item) → flat_map (brings_in at) items ≡ flat_map (brings at.number) (flat_map (read_of at.station) items)
-inbox-read at [] = refl
-inbox-read at (item ∷ items) =
+pub inbox_read : (at : Place) (items : List Item) → flat_map (brings_in at) items ≡ flat_map (brings at.number) (flat_map (read_of at.station) items)
+inbox_read at [] = refl
+inbox_read at (item ∷ items) =
     ap (λ (xs : List Brought). xs ++ flat_map (brings_in at) items) (by-read at item.source item.what)
-    ∙ ap (λ (xs : List Brought). flat_map (brings at.number) (read_of at.station item) ++ xs) (inbox-read at items)
+    ∙ ap (λ (xs : List Brought). flat_map (brings at.number) (read_of at.station item) ++ xs) (inbox_read at items)
     ∙ sym (flat_map-append (brings at.number) (read_of at.station item) (flat_map (read_of at.station) items))
 
 pub coming-read : (w : Actors) (at : Place) → coming_up w at ≡ flat_map (brings at.number) (messages_up w at.station)
 coming-read w at =
-    ap (λ (xs : List Brought). xs ++ flat_map (brings at.number) (base_of w at.station).messages) (inbox-read at w.inbox)
+    ap (λ (xs : List Brought). xs ++ flat_map (brings at.number) (base_of w at.station).messages) (inbox_read at w.inbox)
     ∙ sym (flat_map-append (brings at.number) (flat_map (read_of at.station) w.inbox) (base_of w at.station).messages)
 
 -- ---- one message
@@ -55,83 +55,83 @@ unbound k m ms is = cond-false _ (m ∷ acknowledgements k ms) (acknowledgements
 pub bound : (k : ℕ) (m : Rsl) (ms : List Rsl) → is_bound_of k m ≡ true → acknowledgements k (m ∷ ms) ≡ m ∷ acknowledgements k ms
 bound k m ms is = cond-true _ (m ∷ acknowledgements k ms) (acknowledgements k ms) is
 
-pub brought-unbound : (k : ℕ) (m : Rsl) → is_brought_on k m ≡ true → is_bound_of k m ≡ false
-brought-unbound k (rsl.EstablishIndication e) is = refl
-brought-unbound k (rsl.DataIndication d) is = refl
-brought-unbound k _ is = absurd (false≢true is)
+pub brought_unbound : (k : ℕ) (m : Rsl) → is_brought_on k m ≡ true → is_bound_of k m ≡ false
+brought_unbound k (rsl.EstablishIndication e) is = refl
+brought_unbound k (rsl.DataIndication d) is = refl
+brought_unbound k _ is = absurd (false≢true is)
 
 -- messages alone, before others
 Leads : List Brought → Type 0
 Leads first = (rest : List Brought) → (EndsLast rest → EndsLast (first ++ rest)) × (is_ended (first ++ rest) ≡ is_ended rest)
 
-leads-none : Leads []
+leads_none : Leads []
 unfolding Leads
-leads-none rest = ((λ last. last), refl)
+leads_none rest = ((λ last. last), refl)
 
-leads-main : (o : Option Sapi) (message : List ℕ) → Leads (of_main o message)
+leads_main : (o : Option Sapi) (message : List ℕ) → Leads (of_main o message)
 unfolding Leads
-leads-main (Some Zero) message rest = ((λ last. last), refl)
-leads-main (Some Three) message rest = ((λ last. last), refl)
-leads-main None message rest = ((λ last. last), refl)
+leads_main (Some Zero) message rest = ((λ last. last), refl)
+leads_main (Some Three) message rest = ((λ last. last), refl)
+leads_main None message rest = ((λ last. last), refl)
 
-leads-establishment : (o : Option Sapi) (initial : Option (List ℕ)) → Leads (of_establishment o initial)
-leads-establishment o None = leads-none
-leads-establishment o (Some message) = leads-main o message
+leads_establishment : (o : Option Sapi) (initial : Option (List ℕ)) → Leads (of_establishment o initial)
+leads_establishment o None = leads_none
+leads_establishment o (Some message) = leads_main o message
 
-leads-if : (b : Bool) (first : List Brought) → Leads first → Leads (if b then first else [])
-leads-if true first leads = leads
-leads-if false first leads = leads-none
+leads_if : (b : Bool) (first : List Brought) → Leads first → Leads (if b then first else [])
+leads_if true first leads = leads
+leads_if false first leads = leads_none
 
 -- all but an RF CHANNEL RELEASE ACK of the channel bring messages alone
-leads-of : (k : ℕ) (m : Rsl) → is_release_ack m ≡ false → Leads (brings k m)
-leads-of k (rsl.EstablishIndication e) is = leads-if (e.channel == k) (of_establishment (sapi_of e.link) e.l3) (leads-establishment (sapi_of e.link) e.l3)
-leads-of k (rsl.DataIndication d) is = leads-if (d.channel == k) (of_main (sapi_of d.link) d.l3) (leads-main (sapi_of d.link) d.l3)
-leads-of k (rsl.RfChannelReleaseAck channel) is = absurd (false≢true (sym is))
-leads-of k _ is = leads-none
+leads_of : (k : ℕ) (m : Rsl) → is_release_ack m ≡ false → Leads (brings k m)
+leads_of k (rsl.EstablishIndication e) is = leads_if (e.channel == k) (of_establishment (sapi_of e.link) e.l3) (leads_establishment (sapi_of e.link) e.l3)
+leads_of k (rsl.DataIndication d) is = leads_if (d.channel == k) (of_main (sapi_of d.link) d.l3) (leads_main (sapi_of d.link) d.l3)
+leads_of k (rsl.RfChannelReleaseAck channel) is = absurd (false≢true (sym is))
+leads_of k _ is = leads_none
 
-brought-leads : (k : ℕ) (m : Rsl) → is_brought_on k m ≡ true → Leads (brings k m)
-brought-leads k (rsl.EstablishIndication e) is = leads-of k (rsl.EstablishIndication e) refl
-brought-leads k (rsl.DataIndication d) is = leads-of k (rsl.DataIndication d) refl
-brought-leads k _ is = absurd (false≢true is)
+brought_leads : (k : ℕ) (m : Rsl) → is_brought_on k m ≡ true → Leads (brings k m)
+brought_leads k (rsl.EstablishIndication e) is = leads_of k (rsl.EstablishIndication e) refl
+brought_leads k (rsl.DataIndication d) is = leads_of k (rsl.DataIndication d) refl
+brought_leads k _ is = absurd (false≢true is)
 
-pub apart-brings : (k : ℕ) (m : Rsl) → is_brought_on k m ≡ false → is_bound_of k m ≡ false → brings k m ≡ []
-apart-brings k (rsl.EstablishIndication e) is not_bound = cond-false _ (of_establishment (sapi_of e.link) e.l3) [] is
-apart-brings k (rsl.DataIndication d) is not_bound = cond-false _ (of_main (sapi_of d.link) d.l3) [] is
-apart-brings k (rsl.RfChannelReleaseAck channel) is not_bound = cond-false _ (released ∷ []) [] not_bound
-apart-brings k _ is not_bound = refl
+pub apart_brings : (k : ℕ) (m : Rsl) → is_brought_on k m ≡ false → is_bound_of k m ≡ false → brings k m ≡ []
+apart_brings k (rsl.EstablishIndication e) is not_bound = cond-false _ (of_establishment (sapi_of e.link) e.l3) [] is
+apart_brings k (rsl.DataIndication d) is not_bound = cond-false _ (of_main (sapi_of d.link) d.l3) [] is
+apart_brings k (rsl.RfChannelReleaseAck channel) is not_bound = cond-false _ (released ∷ []) [] not_bound
+apart_brings k _ is not_bound = refl
 
 -- ---- what acknowledgements tell
 
 -- outside a tenure nothing comes before the next ACTIVATION ACK
-pub nothing-outside : {end : Bool} (k : ℕ) (ms : List Rsl) → Tenures k false ms end → acknowledgements k ms ≡ [] → flat_map (brings k) ms ≡ []
-nothing-outside k [] (over within) none = refl
-nothing-outside k (m ∷ ms) (begins t) none = absurd (let some : m ∷ acknowledgements k ms ≡ [] = sym (bound k m ms (eq-eqb k k refl)) ∙ none in cc)
-nothing-outside k (m ∷ ms) (ends t) none = absurd (let some : m ∷ acknowledgements k ms ≡ [] = sym (bound k m ms (eq-eqb k k refl)) ∙ none in cc)
-nothing-outside k (m ∷ ms) (apart not_brought not_bound t) none =
-    ap (λ (xs : List Brought). xs ++ flat_map (brings k) ms) (apart-brings k m not_brought not_bound) ∙ nothing-outside k ms t (sym (unbound k m ms not_bound) ∙ none)
+pub nothing_outside : {end : Bool} (k : ℕ) (ms : List Rsl) → Tenures k false ms end → acknowledgements k ms ≡ [] → flat_map (brings k) ms ≡ []
+nothing_outside k [] (over within) none = refl
+nothing_outside k (m ∷ ms) (begins t) none = absurd (let some : m ∷ acknowledgements k ms ≡ [] = sym (bound k m ms (eq-eqb k k refl)) ∙ none in cc)
+nothing_outside k (m ∷ ms) (ends t) none = absurd (let some : m ∷ acknowledgements k ms ≡ [] = sym (bound k m ms (eq-eqb k k refl)) ∙ none in cc)
+nothing_outside k (m ∷ ms) (apart not_brought not_bound t) none =
+    ap (λ (xs : List Brought). xs ++ flat_map (brings k) ms) (apart_brings k m not_brought not_bound) ∙ nothing_outside k ms t (sym (unbound k m ms not_bound) ∙ none)
 
-released-alone : (k : ℕ) (rest : List Brought) → rest ≡ [] → EndsLast (brings k (rsl.RfChannelReleaseAck k) ++ rest)
-released-alone k rest none = subst (λ (b : Bool). EndsLast ((if b then released ∷ [] else []) ++ rest)) (sym (eq-eqb k k refl)) none
+released_alone : (k : ℕ) (rest : List Brought) → rest ≡ [] → EndsLast (brings k (rsl.RfChannelReleaseAck k) ++ rest)
+released_alone k rest none = subst (λ (b : Bool). EndsLast ((if b then released ∷ [] else []) ++ rest)) (sym (eq-eqb k k refl)) none
 
-ends-last : {within end : Bool} (k : ℕ) (ms : List Rsl) → Tenures k within ms end → ReleasesLast (acknowledgements k ms) → EndsLast (flat_map (brings k) ms)
+ends_last : {within end : Bool} (k : ℕ) (ms : List Rsl) → Tenures k within ms end → ReleasesLast (acknowledgements k ms) → EndsLast (flat_map (brings k) ms)
 unfolding Leads
-ends-last k [] (over within) last = tt
-ends-last k (m ∷ ms) (begins t) last = ends-last k ms t (subst ReleasesLast (bound k m ms (eq-eqb k k refl)) last).1
-ends-last k (m ∷ ms) (tenure_brings is t) last =
-    (brought-leads k m is (flat_map (brings k) ms)).0 (ends-last k ms t (subst ReleasesLast (unbound k m ms (brought-unbound k m is)) last))
-ends-last k (m ∷ ms) (ends t) last = released-alone k (flat_map (brings k) ms) (nothing-outside k ms t ((subst ReleasesLast (bound k m ms (eq-eqb k k refl)) last).0 refl))
-ends-last k (m ∷ ms) (apart not_brought not_bound t) last =
-    subst (λ (xs : List Brought). EndsLast (xs ++ flat_map (brings k) ms)) (sym (apart-brings k m not_brought not_bound)) (ends-last k ms t (subst ReleasesLast (unbound k m ms not_bound) last))
+ends_last k [] (over within) last = tt
+ends_last k (m ∷ ms) (begins t) last = ends_last k ms t (subst ReleasesLast (bound k m ms (eq-eqb k k refl)) last).1
+ends_last k (m ∷ ms) (tenure_brings is t) last =
+    (brought_leads k m is (flat_map (brings k) ms)).0 (ends_last k ms t (subst ReleasesLast (unbound k m ms (brought_unbound k m is)) last))
+ends_last k (m ∷ ms) (ends t) last = released_alone k (flat_map (brings k) ms) (nothing_outside k ms t ((subst ReleasesLast (bound k m ms (eq-eqb k k refl)) last).0 refl))
+ends_last k (m ∷ ms) (apart not_brought not_bound t) last =
+    subst (λ (xs : List Brought). EndsLast (xs ++ flat_map (brings k) ms)) (sym (apart_brings k m not_brought not_bound)) (ends_last k ms t (subst ReleasesLast (unbound k m ms not_bound) last))
 
 -- without an RF CHANNEL RELEASE ACK of the channel
-tail-none : (b : Bool) (m : Rsl) (ms : List Rsl) → NoneReleases (if b then m ∷ ms else ms) → NoneReleases ms
-tail-none true m ms none = none.1
-tail-none false m ms none = none
+tail_none : (b : Bool) (m : Rsl) (ms : List Rsl) → NoneReleases (if b then m ∷ ms else ms) → NoneReleases ms
+tail_none true m ms none = none.1
+tail_none false m ms none = none
 
-goes-on : (k : ℕ) (ms : List Rsl) → NoneReleases (acknowledgements k ms) → is_ended (flat_map (brings k) ms) ≡ false
+goes_on : (k : ℕ) (ms : List Rsl) → NoneReleases (acknowledgements k ms) → is_ended (flat_map (brings k) ms) ≡ false
 unfolding Leads
-goes-on k [] none = refl
-goes-on k (m ∷ ms) none = by m none (goes-on k ms (tail-none (is_bound_of k m) m (acknowledgements k ms) none)) where
+goes_on k [] none = refl
+goes_on k (m ∷ ms) none = by m none (goes_on k ms (tail_none (is_bound_of k m) m (acknowledgements k ms) none)) where
   releases : (b : Bool) (channel : ℕ) → NoneReleases (if b then rsl.RfChannelReleaseAck channel ∷ acknowledgements k ms else acknowledgements k ms) → is_ended (flat_map (brings k) ms) ≡ false
       → is_ended ((if b then released ∷ [] else []) ++ flat_map (brings k) ms) ≡ false
   releases true channel all rest = absurd (false≢true (sym all.0))
@@ -139,31 +139,31 @@ goes-on k (m ∷ ms) none = by m none (goes-on k ms (tail-none (is_bound_of k m)
 
   by : (x : Rsl) → NoneReleases (acknowledgements k (x ∷ ms)) → is_ended (flat_map (brings k) ms) ≡ false → is_ended (brings k x ++ flat_map (brings k) ms) ≡ false
   by (rsl.RfChannelReleaseAck channel) all rest = releases (channel == k) channel all rest
-  by x all rest = (leads-of k x refl (flat_map (brings k) ms)).1 ∙ rest
+  by x all rest = (leads_of k x refl (flat_map (brings k) ms)).1 ∙ rest
 
 -- ---- what stations gave is what is read of the inbox
 
-same-if : (b : Bool) → [] ≡ (let xs : List Rsl = if b then [] else [] in xs)
-same-if true = refl
-same-if false = refl
+same_if : (b : Bool) → [] ≡ (let xs : List Rsl = if b then [] else [] in xs)
+same_if true = refl
+same_if false = refl
 
 station-read : (station source : ℕ) (messages : List Rsl) → AllByRecursion IsSound messages →
     flat_map (read_of station) (map (station_item source) (option_to_list (first_of_messages messages))) ≡ (if source == station then option_to_list (first_of_messages messages) else [])
-station-read station source [] sound = same-if (source == station)
+station-read station source [] sound = same_if (source == station)
 station-read station source (first ∷ others) sound =
     append-nil (read_of station (station_item source first)) ∙ ap (λ (r : Result Rsl _). if source == station then option_to_list (result_ok r) else []) (sound-read first sound.0)
 
-pub of-other : (station source : ℕ) (what : What) → source == station ≡ false → read_by station source what ≡ []
-of-other station source (whats.Frame frame) other = cond-false _ (option_to_list (rsl_in frame)) [] other
-of-other station source whats.Down other = refl
+pub of_other : (station source : ℕ) (what : What) → source == station ≡ false → read_by station source what ≡ []
+of_other station source (whats.Frame frame) other = cond-false _ (option_to_list (rsl_in frame)) [] other
+of_other station source whats.Down other = refl
 
 switch-read : (station : ℕ) (made : List Sccp) → station ≢ SWITCH_LINK → flat_map (read_of station) (map switch_item (first_of made)) ≡ []
 switch-read station [] other = refl
 switch-read station (first ∷ others) other =
-    append-nil (read_of station (switch_item first)) ∙ of-other station SWITCH_LINK (switch_item first).what (ne_eqb SWITCH_LINK station (λ same. other (sym same)))
+    append-nil (read_of station (switch_item first)) ∙ of_other station SWITCH_LINK (switch_item first).what (ne_eqb SWITCH_LINK station (λ same. other (sym same)))
 
-own-first : (w : Actors) (station source : ℕ) → (if source == station then option_to_list (first_message (base_of w source)) else []) ≡ given station w (BasePush source)
-own-first w station source = elim (cases_Bool (nat_eq source station)) [
+own_first : (w : Actors) (station source : ℕ) → (if source == station then option_to_list (first_message (base_of w source)) else []) ≡ given station w (BasePush source)
+own_first w station source = elim (cases_Bool (nat_eq source station)) [
   | inl same ↦ ap (λ (n : ℕ). if source == station then option_to_list (first_message (base_of w n)) else []) (eqb-true source station same)
   | inr other ↦ cond-false _ (option_to_list (first_message (base_of w source))) [] other ∙ sym (cond-false _ (option_to_list (first_message (base_of w station))) [] other)
 ]
@@ -177,7 +177,7 @@ pushed-read station w (BasePush source) other good = elim (cases_Bool (nat_eq so
   | inr of_station ↦
       ap (flat_map (read_of station)) (cond-false _ (map switch_item (first_of w.switch_made)) (map (station_item source) (option_to_list (first_message (base_of w source)))) of_station)
       ∙ station-read station source (base_of w source).messages (end-of w source good).made
-      ∙ own-first w station source
+      ∙ own_first w station source
 ]
 pushed-read station w (BaseDown source) other good = by (is_up w source) where
   by : (b : Bool) → flat_map (read_of station) (if b then record { source = source; what = whats.Down } ∷ [] else []) ≡ []
@@ -209,8 +209,8 @@ behind k (x ∷ xs) ys (tenure_brings is t) = behind k xs ys t
 behind k (x ∷ xs) ys (ends t) = behind k xs ys t
 behind k (x ∷ xs) ys (apart not_brought not_bound t) = behind k xs ys t
 
-pub AllAcksTell-new : (settings : Parameters) (events : List Event) → AllAcksTell settings events
-AllAcksTell-new settings events at other =
+pub all_acks_tell_new : (settings : Parameters) (events : List Event) → AllAcksTell settings events
+all_acks_tell_new settings events at other =
     let w : Actors = world settings events in
     let taken : List Rsl = flat_map (read_of at.station) (all_popped (new_actors settings) events) in
     let honest = AreHonest-new settings events at.station other at.number in
@@ -218,12 +218,12 @@ AllAcksTell-new settings events at other =
     (subst (λ (ms : List Rsl). Tenures at.number false ms honest.0)
     (ap (λ (ms : List Rsl). ms ++ (base_of w at.station).messages) (given-read settings events at.station other) ∙ append_assoc taken (flat_map (read_of at.station) w.inbox) (base_of w at.station).messages) honest.1) in
     record {
-      last = λ releases. subst EndsLast (sym (coming-read w at)) (ends-last at.number (messages_up w at.station) up.1 releases);
-      none = λ releases. ap is_ended (coming-read w at) ∙ goes-on at.number (messages_up w at.station) releases;
+      last = λ releases. subst EndsLast (sym (coming-read w at)) (ends_last at.number (messages_up w at.station) up.1 releases);
+      none = λ releases. ap is_ended (coming-read w at) ∙ goes_on at.number (messages_up w at.station) releases;
     }
 
-pub AcksFlow-new : (settings : Parameters) (events : List Event) → AcksFlow settings events
-AcksFlow-new settings events at least most up =
+pub acks_flow_new : (settings : Parameters) (events : List Event) → AcksFlow settings events
+acks_flow_new settings events at least most up =
     let w : Actors = world settings events in
     let taken : List Rsl = flat_map (read_of at.station) (all_popped (new_actors settings) events) in
     let came : List Rsl = flat_map (read_of at.station) w.inbox in

@@ -9,8 +9,8 @@ use Rattle.world_laws.specs.AcksBegin.{AcksBegin}
 use Rattle.world_laws.proofs.Acknowledged.{given-read}
 use Rattle.world_laws.proofs.Events.{world}
 
-pub AcksBegin-new : (settings : Parameters) (events : List Event) → AcksBegin settings events
-AcksBegin-new settings events at least most =
+pub acks_begin_new : (settings : Parameters) (events : List Event) → AcksBegin settings events
+acks_begin_new settings events at least most =
     let w : Actors = world settings events in
     let taken : List Rsl = flat_map (read_of at.station) (all_popped (new_actors settings) events) in
     let came : List Rsl = flat_map (read_of at.station) w.inbox in

@@ -12,7 +12,7 @@ use Rattle.world_laws.specs.LineUp.Places.{Item, Tenure, Seat, LineUp, with_item
 use Rattle.world_laws.specs.LineUp.Places.Item.{brought}
 use Rattle.world_laws.specs.LineUp.Places.Seat.{on_serving, on_target}
 use Rattle.world_laws.specs.LineUp.MobileStep.MobileStep.{taken_on_serving, taken_on_target}
-use Rattle.world_laws.proofs.LineUp.Moving.{Alive-mobile}
+use Rattle.world_laws.proofs.LineUp.Moving.{alive_mobile}
 use Rattle.link_model.specs.Base.{after_up}
 use Rattle.mobile_end.specs.declared.mobile_end.Place.TheVariants as places
 use Rattle.mobile_end.specs.Mobile.{frame_answer_at}
@@ -22,13 +22,13 @@ use Rattle.world_laws.specs.GoingDown.{going_down}
 use Rattle.world_laws.specs.LineUps.{seat_from, remembered, old_tenures, serving_hold, serving_tenure, commanded_target, target_tenure}
 use Rattle.world_laws.specs.LineUps.{waiting_of, taken_of, assembled, line_up}
 use Rattle.world_laws.specs.Seated.{Sits, Leads, NoneOn, LinedUp}
-use Rattle.world_laws.proofs.Apart.{all-both, is_at-station, target-in, OnServing, OnTarget, on-serving, on-target, SitsOn, sits-on}
+use Rattle.world_laws.proofs.Apart.{all_both, is_at_station, target-in, OnServing, OnTarget, is_on_serving, is_on_target, SitsOn, sits_on_tenure}
 use Rattle.world_laws.proofs.Apart.SitsOn.{serves, arrived}
-use Rattle.world_laws.proofs.Framing.{AreSame, all-left, all-right, old-same, serving-same, target-same, assembled-same}
-use Rattle.world_laws.proofs.Projecting.{active-there, coming-told}
+use Rattle.world_laws.proofs.Framing.{AreSame, all_left, all_right, old-same, serving-same, target-same, assembled-same}
+use Rattle.world_laws.proofs.Projecting.{active_there, coming-told}
 use Rattle.world_laws.proofs.Quiet.{down-with_base}
 use Rattle.world_laws.proofs.Spots.{tenure-with_base}
-use Rattle.world_laws.proofs.Seeing.{SameTenures, Sits-same, Leads-same}
+use Rattle.world_laws.proofs.Seeing.{SameTenures, sits_same, leads_same}
 
 -- ---- the frame
 
@@ -36,8 +36,8 @@ pub record Lent (e : MobileState) (frame : List ℕ) : Type 0 where
   pub lent : lent_message e.zero ≡ Some frame
   pub after : after_frame e Zero ≡ record e { zero = after_lending e.zero }
 
-pub frame-lent : (e : MobileState) (frame : List ℕ) → frame_in (frame_answer e Zero) ≡ Some frame → Lent e frame
-frame-lent e frame is = by_state e.stage e.place refl refl where
+pub frame_lent : (e : MobileState) (frame : List ℕ) → frame_in (frame_answer e Zero) ≡ Some frame → Lent e frame
+frame_lent e frame is = by_state e.stage e.place refl refl where
   by_state : (stage : Stage) (place : Whereabouts) → e.stage ≡ stage → e.place ≡ place → Lent e frame
   by_state New place a b = absurd (none-some _ (sym (ap (λ (stage : Stage). frame_in (frame_answer_at stage e.place (lent_message e.zero))) a) ∙ is))
   by_state Connected places.Moving a b = absurd (none-some _ (sym (ap (λ (stage : Stage). frame_in (frame_answer_at stage e.place (lent_message e.zero))) a ∙ ap (λ (place : Whereabouts). frame_in (frame_answer_at Connected place (lent_message e.zero))) b) ∙ is))
@@ -51,9 +51,9 @@ frame-lent e frame is = by_state e.stage e.place refl refl where
 comes : Place → List ℕ → Channel → List Item
 comes at frame c = if is_at at c then brought frame ∷ [] else []
 
-air_up-coming : (w : Actors) (p : Mobile) (tenure : ChannelTenure) (frame : List ℕ) (c : Channel) → is_reached w tenure ≡ true → c.station ≢ SWITCH_LINK → coming_up (brought_in_world w p tenure.at Zero frame) (place_of c) ≡ coming_up w (place_of c) ++ comes tenure.at frame c
+air_up_coming : (w : Actors) (p : Mobile) (tenure : ChannelTenure) (frame : List ℕ) (c : Channel) → is_reached w tenure ≡ true → c.station ≢ SWITCH_LINK → coming_up (brought_in_world w p tenure.at Zero frame) (place_of c) ≡ coming_up w (place_of c) ++ comes tenure.at frame c
 unfolding comes
-air_up-coming w p tenure frame c reached c_is = by_opening p.opens where
+air_up_coming w p tenure frame c reached c_is = by_opening p.opens where
   base : BaseState
   base = base_of w tenure.at.station
 
@@ -65,7 +65,7 @@ air_up-coming w p tenure frame c reached c_is = by_opening p.opens where
   telling : (base_after : BaseState) (message : Rsl) → base_after.messages ≡ base.messages ++ message ∷ [] → made_of c.number (message ∷ []) ≡ (if tenure.at.number == c.number then brought frame ∷ [] else []) ++ []
       → coming_up (with_base tenure.at.station base_after w) (place_of c) ≡ coming_up w (place_of c) ++ (if is_at tenure.at c then brought frame ∷ [] else [])
   telling base_after message told is =
-      coming-told w w tenure.at.station (place_of c) base_after (message ∷ []) c_is (reached-up w tenure reached).0 (λ k. refl) refl told (inl (active-there w tenure.at (reached-up w tenure reached).1))
+      coming-told w w tenure.at.station (place_of c) base_after (message ∷ []) c_is (reached-up w tenure reached).0 (λ k. refl) refl told (inl (active_there w tenure.at (reached-up w tenure reached).1))
       ∙ ap (λ (items : List Item). coming_up w (place_of c) ++ (if tenure.at.station == c.station then items else [])) is
       ∙ ap (λ (items : List Item). coming_up w (place_of c) ++ items) (two (tenure.at.station == c.station) (tenure.at.number == c.number))
 
@@ -76,15 +76,15 @@ air_up-coming w p tenure frame c reached c_is = by_opening p.opens where
 coming-other : (w : Actors) (p : Mobile) (tenure : ChannelTenure) (frame : List ℕ) (c : Channel) → is_reached w tenure ≡ true → c.station ≢ SWITCH_LINK → is_at tenure.at c ≡ false → coming_up (brought_in_world w p tenure.at Zero frame) (place_of c) ≡ coming_up w (place_of c)
 unfolding comes
 coming-other w p tenure frame c reached c_is other =
-    air_up-coming w p tenure frame c reached c_is ∙ ap (λ (b : Bool). coming_up w (place_of c) ++ cond b (brought frame ∷ []) []) other ∙ append-nil (coming_up w (place_of c))
+    air_up_coming w p tenure frame c reached c_is ∙ ap (λ (b : Bool). coming_up w (place_of c) ++ cond b (brought frame ∷ []) []) other ∙ append-nil (coming_up w (place_of c))
 
 coming-there : (w : Actors) (p : Mobile) (tenure : ChannelTenure) (frame : List ℕ) (c : Channel) → is_reached w tenure ≡ true → c.station ≢ SWITCH_LINK → is_at tenure.at c ≡ true → coming_up (brought_in_world w p tenure.at Zero frame) (place_of c) ≡ coming_up w (place_of c) ++ brought frame ∷ []
 unfolding comes
-coming-there w p tenure frame c reached c_is there = air_up-coming w p tenure frame c reached c_is ∙ ap (λ (b : Bool). coming_up w (place_of c) ++ cond b (brought frame ∷ []) []) there
+coming-there w p tenure frame c reached c_is there = air_up_coming w p tenure frame c reached c_is ∙ ap (λ (b : Bool). coming_up w (place_of c) ++ cond b (brought frame ∷ []) []) there
 
-pub all-other : (w : Actors) (p : Mobile) (tenure : ChannelTenure) (frame : List ℕ) (cs : List Channel) → is_reached w tenure ≡ true → AllByRecursion (λ c. c.station ≢ SWITCH_LINK) cs → AreAway tenure.at cs → AreSame (coming_up (brought_in_world w p tenure.at Zero frame)) (coming_up w) cs
-all-other w p tenure frame cs reached placed others =
-    all-both (λ c. c.station ≢ SWITCH_LINK) (λ c. is_at tenure.at c ≡ false) (λ c. coming_up (brought_in_world w p tenure.at Zero frame) (place_of c) ≡ coming_up w (place_of c)) cs (λ c c_is other. coming-other w p tenure frame c reached c_is other) placed others
+pub all_other : (w : Actors) (p : Mobile) (tenure : ChannelTenure) (frame : List ℕ) (cs : List Channel) → is_reached w tenure ≡ true → AllByRecursion (λ c. c.station ≢ SWITCH_LINK) cs → AreAway tenure.at cs → AreSame (coming_up (brought_in_world w p tenure.at Zero frame)) (coming_up w) cs
+all_other w p tenure frame cs reached placed others =
+    all_both (λ c. c.station ≢ SWITCH_LINK) (λ c. is_at tenure.at c ≡ false) (λ c. coming_up (brought_in_world w p tenure.at Zero frame) (place_of c) ≡ coming_up w (place_of c)) cs (λ c c_is other. coming-other w p tenure frame c reached c_is other) placed others
 
 -- ---- the mobile of the connection
 
@@ -92,11 +92,11 @@ all-other w p tenure frame cs reached placed others =
 heard : Mobile → Mobile
 heard p = record (framed p Zero) { opens = false }
 
-lined-rest : {m : ℕ} {w : Actors} {p : Mobile} {s : Connection} (tenure : ChannelTenure) (frame : List ℕ) → LinedUp m w p s → Alive m (line_up (brought_in_world w p tenure.at Zero frame) (heard p) s) → LinedUp m (brought_in_world w p tenure.at Zero frame) (heard p) s
+lined_rest : {m : ℕ} {w : Actors} {p : Mobile} {s : Connection} (tenure : ChannelTenure) (frame : List ℕ) → LinedUp m w p s → Alive m (line_up (brought_in_world w p tenure.at Zero frame) (heard p) s) → LinedUp m (brought_in_world w p tenure.at Zero frame) (heard p) s
 unfolding heard SameTenures
-lined-rest {m} {w} {p} {s} tenure frame lined alive = record {
+lined_rest {m} {w} {p} {s} tenure frame lined alive = record {
   alive = alive;
-  sits = Sits-same (λ at. tenure-with_base w tenure.at.station _ at) lined.sits;
+  sits = sits_same (λ at. tenure-with_base w tenure.at.station _ at) lined.sits;
   led = subst (AllByRecursion (λ a. Leads (brought_in_world w p tenure.at Zero frame) a (commanded_target s.state))) (sym (down-with_base w tenure.at.station _ (place_of s.serving)))
       (by_all (going_down w (place_of s.serving)) lined.led);
   none_on_target = by_target (commanded_target s.state) lined.none_on_target;
@@ -108,15 +108,15 @@ lined-rest {m} {w} {p} {s} tenure frame lined alive = record {
 
   by_all : (entries : List AirMessage) → AllByRecursion (λ a. Leads w a (commanded_target s.state)) entries → AllByRecursion (λ a. Leads v a (commanded_target s.state)) entries
   by_all [] all = tt
-  by_all (a ∷ others) all = (Leads-same (λ at. tenure-with_base w tenure.at.station _ at) all.0, by_all others all.1)
+  by_all (a ∷ others) all = (leads_same (λ at. tenure-with_base w tenure.at.station _ at) all.0, by_all others all.1)
 
   by_target : (target : Option Target) → NoneOn w target → NoneOn v target
   by_target None none = none
   by_target (Some t) none = down-with_base w tenure.at.station _ (place_of t.channel) ∙ none
 
-serving-alive : {m : ℕ} {w : Actors} {p : Mobile} {s : Connection} (tenure : ChannelTenure) (command : Option Command) (frame : List ℕ) → p.seat ≡ On tenure command → Lent p.end frame → is_reached w tenure ≡ true → OnServing tenure.at s → LinedUp m w p s → Alive m (line_up (brought_in_world w p tenure.at Zero frame) (heard p) s)
+serving_alive : {m : ℕ} {w : Actors} {p : Mobile} {s : Connection} (tenure : ChannelTenure) (command : Option Command) (frame : List ℕ) → p.seat ≡ On tenure command → Lent p.end frame → is_reached w tenure ≡ true → OnServing tenure.at s → LinedUp m w p s → Alive m (line_up (brought_in_world w p tenure.at Zero frame) (heard p) s)
 unfolding heard
-serving-alive {m} {w} {p} {s} tenure command frame seat lent reached on lined = subst (Alive m) (sym now) (Alive-mobile (taken_on_serving before frame lent.lent whole) (subst (Alive m) was lined.alive)) where
+serving_alive {m} {w} {p} {s} tenure command frame seat lent reached on lined = subst (Alive m) (sym now) (alive_mobile (taken_on_serving before frame lent.lent whole) (subst (Alive m) was lined.alive)) where
   v : Actors
   v = brought_in_world w p tenure.at Zero frame
 
@@ -142,25 +142,25 @@ serving-alive {m} {w} {p} {s} tenure command frame seat lent reached on lined = 
   was = ap (λ (sits : Seat). assembled p.end.sent p.end.zero sits s.state commands old serving (target sits) (flow (waiting_of w s.number)) (flow (taken_of w s.number))) sits_on
 
   at_channel : tenure.at.station ≡ s.serving.station
-  at_channel = is_at-station tenure.at s.serving on.at_serving
+  at_channel = is_at_station tenure.at s.serving on.at_serving
 
   whole : serving.is_lost ≡ false
   whole = ap (λ (n : ℕ). not (is_station_up w n)) (sym at_channel) ∙ ap not (reached-up w tenure reached).0
 
   placed_rest : AllByRecursion (λ c. c.station ≢ SWITCH_LINK) (s.serving ∷ target_in s.state)
-  placed_rest = all-right (λ c. c.station ≢ SWITCH_LINK) (undone s.draining) (s.serving ∷ target_in s.state) lined.placed
+  placed_rest = all_right (λ c. c.station ≢ SWITCH_LINK) (undone s.draining) (s.serving ∷ target_in s.state) lined.placed
 
   now : line_up v (heard p) s ≡ assembled p.end.sent (after_lending p.end.zero) on_serving s.state commands old (with_items serving (serving.items ++ brought frame ∷ [])) (target on_serving) (flow (waiting_of w s.number)) (flow (taken_of w s.number))
   now = assembled-same s.state (ap (λ (e : MobileState). e.sent) lent.after) (ap (λ (e : MobileState). e.zero) lent.after) sits_on
       (ap (λ (entries : List AirMessage). length entries + remembered p.seat) (down-with_base w tenure.at.station _ (place_of s.serving)))
-      (old-same (coming_up v) (coming_up w) (is_station_up w) (is_station_up w) s.draining s.up.tenures (λ n. refl) (all-other w p tenure frame (undone s.draining) reached (all-left (λ c. c.station ≢ SWITCH_LINK) (undone s.draining) (s.serving ∷ target_in s.state) lined.placed) on.old))
+      (old-same (coming_up v) (coming_up w) (is_station_up w) (is_station_up w) s.draining s.up.tenures (λ n. refl) (all_other w p tenure frame (undone s.draining) reached (all_left (λ c. c.station ≢ SWITCH_LINK) (undone s.draining) (s.serving ∷ target_in s.state) lined.placed) on.old))
       (ap (λ (items : List Item). with_items serving items) (coming-there w p tenure frame s.serving reached placed_rest.0 on.at_serving))
-      (target-same (coming_up v) (coming_up w) (is_station_up w) (is_station_up w) (seat_from s.serving p.seat) s.state (λ n. refl) (all-other w p tenure frame (target_in s.state) reached placed_rest.1 on.target) ∙ ap target sits_on)
+      (target-same (coming_up v) (coming_up w) (is_station_up w) (is_station_up w) (seat_from s.serving p.seat) s.state (λ n. refl) (all_other w p tenure frame (target_in s.state) reached placed_rest.1 on.target) ∙ ap target sits_on)
       refl refl
 
-target-alive : {m : ℕ} {w : Actors} {p : Mobile} {s : Connection} (t : Target) (tenure : ChannelTenure) (command : Option Command) (frame : List ℕ) → p.seat ≡ On tenure command → commanded_target s.state ≡ Some t → Lent p.end frame → is_reached w tenure ≡ true → OnTarget tenure.at s t → LinedUp m w p s → Alive m (line_up (brought_in_world w p tenure.at Zero frame) (heard p) s)
+target_alive : {m : ℕ} {w : Actors} {p : Mobile} {s : Connection} (t : Target) (tenure : ChannelTenure) (command : Option Command) (frame : List ℕ) → p.seat ≡ On tenure command → commanded_target s.state ≡ Some t → Lent p.end frame → is_reached w tenure ≡ true → OnTarget tenure.at s t → LinedUp m w p s → Alive m (line_up (brought_in_world w p tenure.at Zero frame) (heard p) s)
 unfolding heard
-target-alive {m} {w} {p} {s} t tenure command frame seat to lent reached on lined = subst (Alive m) (sym now) (Alive-mobile (taken_on_target before frame lent.lent whole) (subst (Alive m) was lined.alive)) where
+target_alive {m} {w} {p} {s} t tenure command frame seat to lent reached on lined = subst (Alive m) (sym now) (alive_mobile (taken_on_target before frame lent.lent whole) (subst (Alive m) was lined.alive)) where
   v : Actors
   v = brought_in_world w p tenure.at Zero frame
 
@@ -188,24 +188,24 @@ target-alive {m} {w} {p} {s} t tenure command frame seat to lent reached on line
       ∙ ap (λ (o : Option Target). assembled p.end.sent p.end.zero on_target s.state commands old serving (target_tenure (coming_up w) (is_station_up w) on_target o) (flow (waiting_of w s.number)) (flow (taken_of w s.number))) to
 
   whole : target.is_lost ≡ false
-  whole = ap (λ (n : ℕ). not (is_station_up w n) && true) (sym (is_at-station tenure.at t.channel on.at_target)) ∙ ap (λ (b : Bool). not b && true) (reached-up w tenure reached).0
+  whole = ap (λ (n : ℕ). not (is_station_up w n) && true) (sym (is_at_station tenure.at t.channel on.at_target)) ∙ ap (λ (b : Bool). not b && true) (reached-up w tenure reached).0
 
   placed_rest : AllByRecursion (λ c. c.station ≢ SWITCH_LINK) (s.serving ∷ t.channel ∷ [])
-  placed_rest = subst (λ (cs : List Channel). AllByRecursion (λ c. c.station ≢ SWITCH_LINK) (s.serving ∷ cs)) (target-in s.state t to) (all-right (λ c. c.station ≢ SWITCH_LINK) (undone s.draining) (s.serving ∷ target_in s.state) lined.placed)
+  placed_rest = subst (λ (cs : List Channel). AllByRecursion (λ c. c.station ≢ SWITCH_LINK) (s.serving ∷ cs)) (target-in s.state t to) (all_right (λ c. c.station ≢ SWITCH_LINK) (undone s.draining) (s.serving ∷ target_in s.state) lined.placed)
 
   now : line_up v (heard p) s ≡ assembled p.end.sent (after_lending p.end.zero) on_target s.state commands old serving (with_items target (target.items ++ brought frame ∷ [])) (flow (waiting_of w s.number)) (flow (taken_of w s.number))
   now = assembled-same s.state (ap (λ (e : MobileState). e.sent) lent.after) (ap (λ (e : MobileState). e.zero) lent.after) sits_on
       (ap (λ (entries : List AirMessage). length entries + remembered p.seat) (down-with_base w tenure.at.station _ (place_of s.serving)))
-      (old-same (coming_up v) (coming_up w) (is_station_up w) (is_station_up w) s.draining s.up.tenures (λ n. refl) (all-other w p tenure frame (undone s.draining) reached (all-left (λ c. c.station ≢ SWITCH_LINK) (undone s.draining) (s.serving ∷ target_in s.state) lined.placed) on.old))
+      (old-same (coming_up v) (coming_up w) (is_station_up w) (is_station_up w) s.draining s.up.tenures (λ n. refl) (all_other w p tenure frame (undone s.draining) reached (all_left (λ c. c.station ≢ SWITCH_LINK) (undone s.draining) (s.serving ∷ target_in s.state) lined.placed) on.old))
       (serving-same (coming_up v) (coming_up w) (is_station_up w) (is_station_up w) s.serving (serving_hold s.draining s.up.tenures) (λ n. refl) (coming-other w p tenure frame s.serving reached placed_rest.0 on.serving))
       (ap (λ (sits : Seat). target_tenure (coming_up v) (is_station_up w) sits (commanded_target s.state)) sits_on ∙ ap (target_tenure (coming_up v) (is_station_up w) on_target) to
       ∙ ap (λ (items : List Item). with_items target items) (coming-there w p tenure frame t.channel reached placed_rest.1.0 on.at_target))
       refl refl
 
-pub own-air_up : {m : ℕ} {w : Actors} {p : Mobile} {s : Connection} (tenure : ChannelTenure) (command : Option Command) (frame : List ℕ) → p.seat ≡ On tenure command → frame_in (frame_answer p.end Zero) ≡ Some frame → is_reached w tenure ≡ true → LinedUp m w p s
+pub own_air_up : {m : ℕ} {w : Actors} {p : Mobile} {s : Connection} (tenure : ChannelTenure) (command : Option Command) (frame : List ℕ) → p.seat ≡ On tenure command → frame_in (frame_answer p.end Zero) ≡ Some frame → is_reached w tenure ≡ true → LinedUp m w p s
     → LinedUp m (brought_in_world w p tenure.at Zero frame) (record (framed p Zero) { opens = false }) s
 unfolding heard
-own-air_up {m} {w} {p} {s} tenure command frame seat lent reached lined = lined-rest tenure frame lined (by_sits (sits-on tenure command (subst (Sits w s.serving (commanded_target s.state)) seat lined.sits))) where
+own_air_up {m} {w} {p} {s} tenure command frame seat lent reached lined = lined_rest tenure frame lined (by_sits (sits_on_tenure tenure command (subst (Sits w s.serving (commanded_target s.state)) seat lined.sits))) where
   by_sits : SitsOn w s.serving (commanded_target s.state) tenure command → Alive m (line_up (brought_in_world w p tenure.at Zero frame) (heard p) s)
-  by_sits (serves is remembers) = serving-alive tenure command frame seat (frame-lent p.end frame lent) reached (on-serving s tenure.at lined.apart (ap (λ (t : ChannelTenure). t.at) is)) lined
-  by_sits (arrived t to is none) = target-alive t tenure command frame seat to (frame-lent p.end frame lent) reached (on-target s t tenure.at lined.apart to (ap (λ (t : ChannelTenure). t.at) is)) lined
+  by_sits (serves is remembers) = serving_alive tenure command frame seat (frame_lent p.end frame lent) reached (is_on_serving s tenure.at lined.apart (ap (λ (t : ChannelTenure). t.at) is)) lined
+  by_sits (arrived t to is none) = target_alive t tenure command frame seat to (frame_lent p.end frame lent) reached (is_on_target s t tenure.at lined.apart to (ap (λ (t : ChannelTenure). t.at) is)) lined

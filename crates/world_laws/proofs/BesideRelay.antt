@@ -23,26 +23,26 @@ use Rattle.world_model.proofs.Mobility.{MobilesLive-new}
 use Rattle.world_laws.specs.ComingUp.{coming_up}
 use Rattle.world_laws.specs.LineUps.{is_of_peer, taken_in, taken_of}
 use Rattle.world_laws.specs.Staying.{AreLinedUp, is_beside_relay, MobilesKeepLineUps}
-use Rattle.world_laws.proofs.Apart.{all-both}
-use Rattle.world_laws.proofs.MobileEvents.{Before, quiet-stays, upper-stays, ack-stays, frame-stays, heard-stays, lost-stays, move-stays}
-use Rattle.world_laws.proofs.MobileEvents.{arrive-stays, return-stays, connect-stays, touch-stays, report-stays}
+use Rattle.world_laws.proofs.Apart.{all_both}
+use Rattle.world_laws.proofs.MobileEvents.{Before, quiet_stays, upper_stays, ack_stays, frame_stays, heard_stays, lost_stays, move_stays}
+use Rattle.world_laws.proofs.MobileEvents.{arrive_stays, return_stays, connect_stays, touch_stays, report_stays}
 use Rattle.world_laws.proofs.Projecting.{coming-pushed, coming-of_switch}
-use Rattle.world_laws.proofs.Quiet.{down-with_base, all-of}
+use Rattle.world_laws.proofs.Quiet.{down-with_base, all_of}
 use Rattle.world_laws.proofs.Seeing.{SameTenures, SeesSame}
 use Rattle.world_laws.proofs.Spots.{tenure-with_base}
 use Rattle.world_laws.proofs.Events.{world}
 
 -- ---- the first message that a station made goes to the inbox
 
-pub first-read : (messages : List Rsl) (message : Rsl) → AllByRecursion IsSound messages → first_of_messages messages ≡ Some message → rsl_reading (rsl_text message) ≡ Ok message
-first-read [] message all is = absurd cc
-first-read (first ∷ others) message all is = sound-read message (subst IsSound (same_Some _ _ is) all.0)
+pub first_read : (messages : List Rsl) (message : Rsl) → AllByRecursion IsSound messages → first_of_messages messages ≡ Some message → rsl_reading (rsl_text message) ≡ Ok message
+first_read [] message all is = absurd cc
+first_read (first ∷ others) message all is = sound-read message (subst IsSound (same_Some _ _ is) all.0)
 
-sees-pushed : {w : Actors} {s : Connection} (station : ℕ) (message : Rsl) → AllByRecursion (λ c. c.station ≢ SWITCH_LINK) (used_channels s) → station ≢ SWITCH_LINK → first_message (base_of w station) ≡ Some message → rsl_reading (rsl_text message) ≡ Ok message
+sees_pushed : {w : Actors} {s : Connection} (station : ℕ) (message : Rsl) → AllByRecursion (λ c. c.station ≢ SWITCH_LINK) (used_channels s) → station ≢ SWITCH_LINK → first_message (base_of w station) ≡ Some message → rsl_reading (rsl_text message) ≡ Ok message
     → SeesSame w (with_item (station_item station message) (with_base station (after_next (base_of w station)) w)) s
 unfolding SameTenures
-sees-pushed {w} {s} station message placed station_is first read = record {
-  coming = all-both (λ c. c.station ≢ SWITCH_LINK) (λ c. c.station ≢ SWITCH_LINK) (λ c. coming_up (with_item (station_item station message) (with_base station (after_next (base_of w station)) w)) (place_of c) ≡ coming_up w (place_of c)) (used_channels s)
+sees_pushed {w} {s} station message placed station_is first read = record {
+  coming = all_both (λ c. c.station ≢ SWITCH_LINK) (λ c. c.station ≢ SWITCH_LINK) (λ c. coming_up (with_item (station_item station message) (with_base station (after_next (base_of w station)) w)) (place_of c) ≡ coming_up w (place_of c)) (used_channels s)
       (λ c c_is _. coming-pushed w station message (place_of c) c_is station_is first read) placed placed;
   up = λ n. refl;
   serving = down-with_base w station (after_next (base_of w station)) (place_of s.serving);
@@ -53,10 +53,10 @@ sees-pushed {w} {s} station message placed station_is first read = record {
 }
 
 -- what the switch made is of no station
-sees-switch_pushed : {w : Actors} {s : Connection} (first : Sccp) (others : List Sccp) → SeesSame w (with_item (switch_item first) (record w { switch_made = others })) s
+sees_switch_pushed : {w : Actors} {s : Connection} (first : Sccp) (others : List Sccp) → SeesSame w (with_item (switch_item first) (record w { switch_made = others })) s
 unfolding SameTenures
-sees-switch_pushed {w} {s} first others = record {
-  coming = all-of (λ c. coming_up (with_item (switch_item first) (record w { switch_made = others })) (place_of c) ≡ coming_up w (place_of c)) (used_channels s) (λ c. coming-of_switch w first others (place_of c));
+sees_switch_pushed {w} {s} first others = record {
+  coming = all_of (λ c. coming_up (with_item (switch_item first) (record w { switch_made = others })) (place_of c) ≡ coming_up w (place_of c)) (used_channels s) (λ c. coming-of_switch w first others (place_of c));
   up = λ n. refl;
   serving = refl;
   target = λ t is. refl;
@@ -65,16 +65,16 @@ sees-switch_pushed {w} {s} first others = record {
   taken = refl;
 }
 
-push-stays : {m : ℕ} {w : Actors} {mobile : ℕ} {p : Mobile} {s : Connection} (source : ℕ) → Good w → Before m w mobile p s → OfTaken (λ v. AreLinedUp m v mobile s) (after_base_push w source)
+push_stays : {m : ℕ} {w : Actors} {mobile : ℕ} {p : Mobile} {s : Connection} (source : ℕ) → Good w → Before m w mobile p s → OfTaken (λ v. AreLinedUp m v mobile s) (after_base_push w source)
 unfolding OfTaken
-push-stays {m} {w} {mobile} {p} {s} source good h = by_source (nat_eq source SWITCH_LINK) refl where
+push_stays {m} {w} {mobile} {p} {s} source good h = by_source (nat_eq source SWITCH_LINK) refl where
   of_switch : (made : List Sccp) → OfTaken (λ v. AreLinedUp m v mobile s) (pushed_by_switch made w)
   of_switch [] = tt
-  of_switch (first ∷ others) = quiet-stays w (with_item (switch_item first) (record w { switch_made = others })) mobile p h.found refl (sees-switch_pushed first others) h.lined
+  of_switch (first ∷ others) = quiet_stays w (with_item (switch_item first) (record w { switch_made = others })) mobile p h.found refl (sees_switch_pushed first others) h.lined
 
   of_station : source ≢ SWITCH_LINK → (o : Option Rsl) → first_message (base_of w source) ≡ o → OfTaken (λ v. AreLinedUp m v mobile s) (pushed_by_station source o w)
   of_station is None first = tt
-  of_station is (Some message) first = quiet-stays w _ mobile p h.found refl (sees-pushed source message h.lined.placed is first (first-read (base_of w source).messages message (end-of w source good).made first)) h.lined
+  of_station is (Some message) first = quiet_stays w _ mobile p h.found refl (sees_pushed source message h.lined.placed is first (first_read (base_of w source).messages message (end-of w source good).made first)) h.lined
 
   by_source : (b : Bool) → nat_eq source SWITCH_LINK ≡ b → OfTaken (λ v. AreLinedUp m v mobile s) (if b then pushed_by_switch w.switch_made w else pushed_by_station source (first_message (base_of w source)) w)
   by_source true is = of_switch w.switch_made
@@ -83,13 +83,13 @@ push-stays {m} {w} {mobile} {p} {s} source good h = by_source (nat_eq source SWI
 -- ---- the switch acts of its own
 
 -- clearing leaves what it took
-cleared-same : (number n : ℕ) (cs : List SwitchConnection) (c : SwitchConnection) → slice_get cs n ≡ Some c → taken_in (find (is_of_peer number) (slice_set cs n (with_stage c Clearing))) ≡ taken_in (find (is_of_peer number) cs)
-cleared-same number n [] c is = absurd cc
-cleared-same number zero (x ∷ cs) c is = subst (λ (y : SwitchConnection). taken_in (find (is_of_peer number) (with_stage y Clearing ∷ cs)) ≡ taken_in (find (is_of_peer number) (x ∷ cs))) (same_Some _ _ is) (by_peer (is_of_peer number x)) where
+cleared_same : (number n : ℕ) (cs : List SwitchConnection) (c : SwitchConnection) → slice_get cs n ≡ Some c → taken_in (find (is_of_peer number) (slice_set cs n (with_stage c Clearing))) ≡ taken_in (find (is_of_peer number) cs)
+cleared_same number n [] c is = absurd cc
+cleared_same number zero (x ∷ cs) c is = subst (λ (y : SwitchConnection). taken_in (find (is_of_peer number) (with_stage y Clearing ∷ cs)) ≡ taken_in (find (is_of_peer number) (x ∷ cs))) (same_Some _ _ is) (by_peer (is_of_peer number x)) where
   by_peer : (b : Bool) → taken_in (cond b (Some (with_stage x Clearing)) (find (is_of_peer number) cs)) ≡ taken_in (cond b (Some x) (find (is_of_peer number) cs))
   by_peer true = refl
   by_peer false = refl
-cleared-same number (suc n) (x ∷ cs) c is = by_peer (is_of_peer number x) (cleared-same number n cs c is) where
+cleared_same number (suc n) (x ∷ cs) c is = by_peer (is_of_peer number x) (cleared_same number n cs c is) where
   by_peer : (b : Bool) → taken_in (find (is_of_peer number) (slice_set cs n (with_stage c Clearing))) ≡ taken_in (find (is_of_peer number) cs) → taken_in (cond b (Some x) (find (is_of_peer number) (slice_set cs n (with_stage c Clearing)))) ≡ taken_in (cond b (Some x) (find (is_of_peer number) cs))
   by_peer true others = refl
   by_peer false others = others
@@ -98,16 +98,16 @@ pub clear-same : (number n : ℕ) (cs : List SwitchConnection) → taken_in (fin
 clear-same number n cs = by_number (nat_eq n 0) where
   by_connection : (o : Option SwitchConnection) → slice_get cs (n - 1) ≡ o → taken_in (find (is_of_peer number) (connections_after_clear cs n o)) ≡ taken_in (find (is_of_peer number) cs)
   by_connection None is = refl
-  by_connection (Some c) is = cleared-same number (n - 1) cs c is
+  by_connection (Some c) is = cleared_same number (n - 1) cs c is
 
   by_number : (b : Bool) → taken_in (find (is_of_peer number) (connections_after_clear cs n (if b then None else slice_get cs (n - 1)))) ≡ taken_in (find (is_of_peer number) cs)
   by_number true = refl
   by_number false = by_connection (slice_get cs (n - 1)) refl
 
-sees-switch_does : {w : Actors} {s : Connection} (next : SwitchState) (made : List Sccp) → taken_in (find (is_of_peer s.number) next.connections) ≡ taken_of w s.number → SeesSame w (record w { switch = next; switch_made = made }) s
+sees_switch_does : {w : Actors} {s : Connection} (next : SwitchState) (made : List Sccp) → taken_in (find (is_of_peer s.number) next.connections) ≡ taken_of w s.number → SeesSame w (record w { switch = next; switch_made = made }) s
 unfolding SameTenures
-sees-switch_does {w} {s} next made taken = record {
-  coming = all-of (λ c. coming_up w (place_of c) ≡ coming_up w (place_of c)) (used_channels s) (λ c. refl);
+sees_switch_does {w} {s} next made taken = record {
+  coming = all_of (λ c. coming_up w (place_of c) ≡ coming_up w (place_of c)) (used_channels s) (λ c. refl);
   up = λ n. refl;
   serving = refl;
   target = λ t is. refl;
@@ -116,13 +116,13 @@ sees-switch_does {w} {s} next made taken = record {
   taken = taken;
 }
 
-does-stays : {m : ℕ} {w : Actors} {mobile : ℕ} {p : Mobile} {s : Connection} (action : SwitchAction) → Before m w mobile p s → OfTaken (λ v. AreLinedUp m v mobile s) (after_switch_does w action)
+does_stays : {m : ℕ} {w : Actors} {mobile : ℕ} {p : Mobile} {s : Connection} (action : SwitchAction) → Before m w mobile p s → OfTaken (λ v. AreLinedUp m v mobile s) (after_switch_does w action)
 unfolding OfTaken
-does-stays {m} {w} {mobile} {p} {s} action h = by_action action where
+does_stays {m} {w} {mobile} {p} {s} action h = by_action action where
   on : (connection : ℕ) (message : Bssap) (next : SwitchState) → taken_in (find (is_of_peer s.number) next.connections) ≡ taken_of w s.number → OfTaken (λ v. AreLinedUp m v mobile s) (sent_on w connection message next)
   on connection message next taken = by_open (may_send_on w connection) where
     by_open : (b : Bool) → OfTaken (λ v. AreLinedUp m v mobile s) (if b then Some (record w { switch = next; switch_made = w.switch_made ++ data_forms_on (connection_of w.switch.connections connection) message }) else None)
-    by_open true = quiet-stays w _ mobile p h.found refl (sees-switch_does next (w.switch_made ++ data_forms_on (connection_of w.switch.connections connection) message) taken) h.lined
+    by_open true = quiet_stays w _ mobile p h.found refl (sees_switch_does next (w.switch_made ++ data_forms_on (connection_of w.switch.connections connection) message) taken) h.lined
     by_open false = tt
 
   by_action : (action : SwitchAction) → OfTaken (λ v. AreLinedUp m v mobile s) (after_switch_does w action)
@@ -135,34 +135,34 @@ does-stays {m} {w} {mobile} {p} {s} action h = by_action action where
 
 -- ---- each event
 
-beside-stays : {m : ℕ} {w : Actors} {mobile : ℕ} {p : Mobile} {s : Connection} (event : Event) → is_beside_relay event ≡ true → Good w → Before m w mobile p s → OfTaken (λ v. AreLinedUp m v mobile s) (event_after w event)
+beside_stays : {m : ℕ} {w : Actors} {mobile : ℕ} {p : Mobile} {s : Connection} (event : Event) → is_beside_relay event ≡ true → Good w → Before m w mobile p s → OfTaken (λ v. AreLinedUp m v mobile s) (event_after w event)
 unfolding event_after
-beside-stays (Upper number sapi message) beside good h = upper-stays number sapi message h
-beside-stays (Connect number station initial accepts) beside good h = connect-stays number station initial accepts h
-beside-stays (AirUp number sapi) beside good h = frame-stays number sapi h
-beside-stays (AirAck number sapi) beside good h = ack-stays number sapi h
-beside-stays (AirDown number) beside good h = heard-stays number h
-beside-stays (AirDownLost number) beside good h = lost-stays number h
-beside-stays (Move number) beside good h = move-stays number h
-beside-stays (Touch number) beside good h = touch-stays number h
-beside-stays (Arrive number) beside good h = arrive-stays number h
-beside-stays (Return number) beside good h = return-stays number h
-beside-stays (BasePush source) beside good h = push-stays source good h
-beside-stays (SwitchDoes action) beside good h = does-stays action h
-beside-stays (Report number report) beside good h = report-stays number report h
-beside-stays (BaseTakes station) beside good h = absurd cc
-beside-stays Handle beside good h = absurd cc
-beside-stays SwitchTakes beside good h = absurd cc
-beside-stays (Tick ms) beside good h = absurd cc
-beside-stays (BaseDown source) beside good h = absurd cc
+beside_stays (Upper number sapi message) beside good h = upper_stays number sapi message h
+beside_stays (Connect number station initial accepts) beside good h = connect_stays number station initial accepts h
+beside_stays (AirUp number sapi) beside good h = frame_stays number sapi h
+beside_stays (AirAck number sapi) beside good h = ack_stays number sapi h
+beside_stays (AirDown number) beside good h = heard_stays number h
+beside_stays (AirDownLost number) beside good h = lost_stays number h
+beside_stays (Move number) beside good h = move_stays number h
+beside_stays (Touch number) beside good h = touch_stays number h
+beside_stays (Arrive number) beside good h = arrive_stays number h
+beside_stays (Return number) beside good h = return_stays number h
+beside_stays (BasePush source) beside good h = push_stays source good h
+beside_stays (SwitchDoes action) beside good h = does_stays action h
+beside_stays (Report number report) beside good h = report_stays number report h
+beside_stays (BaseTakes station) beside good h = absurd cc
+beside_stays Handle beside good h = absurd cc
+beside_stays SwitchTakes beside good h = absurd cc
+beside_stays (Tick ms) beside good h = absurd cc
+beside_stays (BaseDown source) beside good h = absurd cc
 
-pub MobilesKeepLineUps-new : (settings : Parameters) (events : List Event) (event : Event) → MobilesKeepLineUps settings events event
-MobilesKeepLineUps-new settings events event mobile s beside alone lined =
+pub mobiles_keep_line_ups_new : (settings : Parameters) (events : List Event) (event : Event) → MobilesKeepLineUps settings events event
+mobiles_keep_line_ups_new settings events event mobile s beside alone lined =
     let w : Actors = world settings events in
     let calls : List Call = all_calls (new_actors settings) events mobile in
     let lives : Lives (modulus_in settings) calls lined.one = MobilesLive-new settings events mobile lined.one lined.found in
     after-taken (λ v. AreLinedUp (modulus_in settings) v mobile s) (event_after w event) w
-    (beside-stays event beside (good-all (new_actors settings) events (good-new settings)) (record {
+    (beside_stays event beside (good-all (new_actors settings) events (good-new settings)) (record {
       found = lined.found;
       modulus = ap (λ (e : MobileState). e.modulus) lives.is ∙ (IsKept-calls (new_mobile (modulus_in settings)) calls).modulus;
       lined = lined.lined;

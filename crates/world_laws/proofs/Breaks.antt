@@ -16,7 +16,7 @@ use Rattle.world_laws.specs.LineUp.Alive.Stands.{waits, leaves, arrives, returns
 use Rattle.world_laws.specs.LineUp.ChangeStep.{ended}
 use Rattle.world_laws.specs.LineUp.Places.{Item, Seat, flow, messages_in, controls_in, texts_in}
 use Rattle.world_laws.specs.LineUp.Places.Item.{brought, released}
-use Rattle.world_laws.proofs.LineUp.Lines.{messages_in-append, controls-front, texts-front}
+use Rattle.world_laws.proofs.LineUp.Lines.{messages_in-append, controls_front, texts_front}
 use Rattle.ruled_relay.specs.declared.item.What.TheVariants as whats
 use Rattle.world_model.specs.Life.{event_after}
 use Rattle.world_laws.specs.ComingUp.{brings_in, made_of, coming_up}
@@ -27,13 +27,13 @@ use Rattle.world_laws.specs.LineUps.{line_up}
 use Rattle.world_laws.specs.Seated.{Leads, NoneOn, LinedUp}
 use Rattle.world_laws.specs.Staying.{AreLinedUp, EndsLast, StationBreaksKeepLineUps}
 use Rattle.world_laws.proofs.Apart.{target-in}
-use Rattle.world_laws.proofs.Cutting.{Cuts, AllCut, cuts-itself, Alive-cut}
+use Rattle.world_laws.proofs.Cutting.{Cuts, AllCut, cuts_itself, alive_cut}
 use Rattle.world_laws.proofs.Cutting.Cuts.{whole, breaks}
-use Rattle.world_laws.proofs.Framing.{all-left, all-right, lined-same}
-use Rattle.world_laws.proofs.Quiet.{all-of, ArePlaced, down-with_base}
-use Rattle.world_laws.proofs.Seeing.{SameTenures, Sits-same, Leads-same}
+use Rattle.world_laws.proofs.Framing.{all_left, all_right, lined-same}
+use Rattle.world_laws.proofs.Quiet.{all_of, ArePlaced, down-with_base}
+use Rattle.world_laws.proofs.Seeing.{SameTenures, sits_same, leads_same}
 use Rattle.world_laws.proofs.Spots.{set-apart, tenure-with_base}
-use Rattle.world_laws.proofs.Sublists.{Sub, sub-itself, sub-none, sub-append, sub-flat_map, sub-length, sub-all, sub-nothing, set-related}
+use Rattle.world_laws.proofs.Sublists.{Sub, sub_itself, sub_none, sub_append, sub_flat_map, sub_length, sub_all, sub_nothing, set_related}
 use Rattle.world_laws.proofs.Events.{world}
 
 -- ---- what is on its way up from one channel
@@ -44,35 +44,35 @@ pub data Breaks (up now_up : Bool) (was now : List Item) : Type 0 where
   drops : (dropped : List Item) → up ≡ true → now_up ≡ false → was ≡ now ++ dropped → Breaks up now_up was now
 
 -- behind an RF CHANNEL RELEASE ACK nothing was
-none-behind : (items dropped : List Item) → is_ended items ≡ true → EndsLast (items ++ dropped) → dropped ≡ []
-none-behind [] dropped is last = absurd cc
-none-behind (released ∷ []) dropped is last = last
-none-behind (released ∷ item ∷ items) dropped is last = absurd cc
-none-behind (brought message ∷ items) dropped is last = none-behind items dropped is last
+none_behind : (items dropped : List Item) → is_ended items ≡ true → EndsLast (items ++ dropped) → dropped ≡ []
+none_behind [] dropped is last = absurd cc
+none_behind (released ∷ []) dropped is last = last
+none_behind (released ∷ item ∷ items) dropped is last = absurd cc
+none_behind (brought message ∷ items) dropped is last = none_behind items dropped is last
 
-draining-breaks : (up now_up : Bool) (was now : List Item) (hold : List (List ℕ)) → EndsLast was → Breaks up now_up was now → Cuts (draining_tenure up was hold) (draining_tenure now_up now hold)
-draining-breaks up now_up was now hold last (stays is same) = subst (λ (b : Bool). Cuts (draining_tenure up was hold) (draining_tenure b now hold)) (sym is) (subst (λ (items : List Item). Cuts (draining_tenure up was hold) (draining_tenure up items hold)) (sym same) (cuts-itself (draining_tenure up was hold)))
-draining-breaks up now_up was now hold last (drops dropped is down parts) = by_end (is_ended now) refl where
+draining_breaks : (up now_up : Bool) (was now : List Item) (hold : List (List ℕ)) → EndsLast was → Breaks up now_up was now → Cuts (draining_tenure up was hold) (draining_tenure now_up now hold)
+draining_breaks up now_up was now hold last (stays is same) = subst (λ (b : Bool). Cuts (draining_tenure up was hold) (draining_tenure b now hold)) (sym is) (subst (λ (items : List Item). Cuts (draining_tenure up was hold) (draining_tenure up items hold)) (sym same) (cuts_itself (draining_tenure up was hold)))
+draining_breaks up now_up was now hold last (drops dropped is down parts) = by_end (is_ended now) refl where
   by_end : (b : Bool) → is_ended now ≡ b → Cuts (draining_tenure up was hold) (draining_tenure now_up now hold)
   by_end false none = breaks (messages_in dropped) refl (ap messages_in parts ∙ messages_in-append now dropped) (ap (λ (b : Bool). not b && not (is_ended now)) down ∙ ap not none)
   by_end true some =
-      let all : was ≡ now = parts ∙ ap (λ (xs : List Item). now ++ xs) (none-behind now dropped some (subst EndsLast parts last)) ∙ append-nil now in
+      let all : was ≡ now = parts ∙ ap (λ (xs : List Item). now ++ xs) (none_behind now dropped some (subst EndsLast parts last)) ∙ append-nil now in
       whole refl (sym (ap (λ (items : List Item). flow (messages_in items)) all)) (let same = ap controls_in all in omega arith)
       (ap (λ (b : Bool). not b && not (is_ended now)) down ∙ ap not some ∙ sym (ap (λ (b : Bool). not b && not (is_ended was)) is))
 
-serving-breaks : (up now_up : Bool) (was now : List Item) (hold : List (List ℕ)) → Breaks up now_up was now → Cuts (record { hold = hold; items = was; is_lost = not up; is_done = false }) (record { hold = hold; items = now; is_lost = not now_up; is_done = false })
-serving-breaks up now_up was now hold (stays is same) = whole refl (ap (λ (items : List Item). flow (messages_in items)) same) (let equal = ap controls_in same in omega arith) (ap not is)
-serving-breaks up now_up was now hold (drops dropped is down parts) = breaks (messages_in dropped) refl (ap messages_in parts ∙ messages_in-append now dropped) (ap not down)
+serving_breaks : (up now_up : Bool) (was now : List Item) (hold : List (List ℕ)) → Breaks up now_up was now → Cuts (record { hold = hold; items = was; is_lost = not up; is_done = false }) (record { hold = hold; items = now; is_lost = not now_up; is_done = false })
+serving_breaks up now_up was now hold (stays is same) = whole refl (ap (λ (items : List Item). flow (messages_in items)) same) (let equal = ap controls_in same in omega arith) (ap not is)
+serving_breaks up now_up was now hold (drops dropped is down parts) = breaks (messages_in dropped) refl (ap messages_in parts ∙ messages_in-append now dropped) (ap not down)
 
 -- of a target that the mobile didn't come to nothing was on its way
-target-breaks : (up now_up : Bool) (was now : List Item) (there : Bool) → (there ≡ false → texts_in was ≡ 0) → Breaks up now_up was now → Cuts (record { hold = []; items = was; is_lost = not up && there; is_done = false }) (record { hold = []; items = now; is_lost = not now_up && there; is_done = false })
-target-breaks up now_up was now there none (stays is same) = whole refl (ap (λ (items : List Item). flow (messages_in items)) same) (let equal = ap controls_in same in omega arith) (ap (λ (b : Bool). not b && there) is)
-target-breaks up now_up was now true none (drops dropped is down parts) = breaks (messages_in dropped) refl (ap messages_in parts ∙ messages_in-append now dropped) (ap (λ (b : Bool). not b && true) down)
-target-breaks up now_up was now false none (drops dropped is down parts) =
-    let fewer = texts-front now dropped in
+target_breaks : (up now_up : Bool) (was now : List Item) (there : Bool) → (there ≡ false → texts_in was ≡ 0) → Breaks up now_up was now → Cuts (record { hold = []; items = was; is_lost = not up && there; is_done = false }) (record { hold = []; items = now; is_lost = not now_up && there; is_done = false })
+target_breaks up now_up was now there none (stays is same) = whole refl (ap (λ (items : List Item). flow (messages_in items)) same) (let equal = ap controls_in same in omega arith) (ap (λ (b : Bool). not b && there) is)
+target_breaks up now_up was now true none (drops dropped is down parts) = breaks (messages_in dropped) refl (ap messages_in parts ∙ messages_in-append now dropped) (ap (λ (b : Bool). not b && true) down)
+target_breaks up now_up was now false none (drops dropped is down parts) =
+    let fewer = texts_front now dropped in
     let all = ap texts_in parts in
     let zero_before = none refl in
-    whole refl (no-length (flow (messages_in now)) (omega arith) ∙ sym (no-length (flow (messages_in was)) zero_before)) (let counts = ap controls_in parts in let front = controls-front now dropped in omega arith)
+    whole refl (no-length (flow (messages_in now)) (omega arith) ∙ sym (no-length (flow (messages_in was)) zero_before)) (let counts = ap controls_in parts in let front = controls_front now dropped in omega arith)
     (ap (λ (b : Bool). not b && false) down ∙ sym (ap (λ (b : Bool). not b && false) is))
 
 -- ---- all tenures
@@ -83,41 +83,41 @@ AllBreak before after up now_up cs = AllByRecursion (λ c. Breaks (up c.station)
 AllEndLast : (Place → List Item) → List Channel → Type 0
 AllEndLast before cs = AllByRecursion (λ c. EndsLast (before (place_of c))) cs
 
-one-breaks : (before after : Place → List Item) (up now_up : ℕ → Bool) (d : Drain) (ds : List Drain) (hold : List (List ℕ)) → AllBreak before after up now_up (undone (d ∷ ds)) → AllEndLast before (undone (d ∷ ds))
+one_breaks : (before after : Place → List Item) (up now_up : ℕ → Bool) (d : Drain) (ds : List Drain) (hold : List (List ℕ)) → AllBreak before after up now_up (undone (d ∷ ds)) → AllEndLast before (undone (d ∷ ds))
     → Cuts (old_tenure before up d hold) (old_tenure after now_up d hold) × (AllBreak before after up now_up (undone ds) × AllEndLast before (undone ds))
 unfolding AllBreak AllEndLast
-one-breaks before after up now_up d ds hold broken last = by_done d.is_done broken last where
+one_breaks before after up now_up d ds hold broken last = by_done d.is_done broken last where
   by_done : (b : Bool) → AllBreak before after up now_up (if b then undone ds else d.channel ∷ undone ds) → AllEndLast before (if b then undone ds else d.channel ∷ undone ds)
       → Cuts (if b then ended hold else draining_tenure (up d.channel.station) (before (place_of d.channel)) hold) (if b then ended hold else draining_tenure (now_up d.channel.station) (after (place_of d.channel)) hold) × (AllBreak before after up now_up (undone ds) × AllEndLast before (undone ds))
-  by_done true all last = (cuts-itself (ended hold), (all, last))
-  by_done false all last = (draining-breaks (up d.channel.station) (now_up d.channel.station) (before (place_of d.channel)) (after (place_of d.channel)) hold last.0 all.0, (all.1, last.1))
+  by_done true all last = (cuts_itself (ended hold), (all, last))
+  by_done false all last = (draining_breaks (up d.channel.station) (now_up d.channel.station) (before (place_of d.channel)) (after (place_of d.channel)) hold last.0 all.0, (all.1, last.1))
 
-old-breaks : (before after : Place → List Item) (up now_up : ℕ → Bool) (ds : List Drain) (holds : List Held) → AllBreak before after up now_up (undone ds) → AllEndLast before (undone ds) → AllCut (old_tenures before up ds holds) (old_tenures after now_up ds holds)
-old-breaks before after up now_up [] holds broken last = tt
-old-breaks before after up now_up (d ∷ ds) [] broken last = let a = one-breaks before after up now_up d ds [] broken last in (a.0, old-breaks before after up now_up ds [] a.1.0 a.1.1)
-old-breaks before after up now_up (d ∷ ds) (held ∷ others) broken last = let a = one-breaks before after up now_up d ds held.zero broken last in (a.0, old-breaks before after up now_up ds others a.1.0 a.1.1)
+old_breaks : (before after : Place → List Item) (up now_up : ℕ → Bool) (ds : List Drain) (holds : List Held) → AllBreak before after up now_up (undone ds) → AllEndLast before (undone ds) → AllCut (old_tenures before up ds holds) (old_tenures after now_up ds holds)
+old_breaks before after up now_up [] holds broken last = tt
+old_breaks before after up now_up (d ∷ ds) [] broken last = let a = one_breaks before after up now_up d ds [] broken last in (a.0, old_breaks before after up now_up ds [] a.1.0 a.1.1)
+old_breaks before after up now_up (d ∷ ds) (held ∷ others) broken last = let a = one_breaks before after up now_up d ds held.zero broken last in (a.0, old_breaks before after up now_up ds others a.1.0 a.1.1)
 
 -- nothing came of a target that the mobile didn't come to
-no-texts : {opening : Bool} {commands serving texts target link : ℕ} {seat : Seat} → came seat ≡ false → Stands opening true commands seat serving texts target link → texts ≡ 0
-no-texts away (waits here few none) = omega arith
-no-texts away (leaves none) = omega arith
-no-texts away (arrives remains none few) = absurd cc
-no-texts away (arrives left none few) = absurd cc
-no-texts away (returns here none few) = omega arith
+no_texts : {opening : Bool} {commands serving texts target link : ℕ} {seat : Seat} → came seat ≡ false → Stands opening true commands seat serving texts target link → texts ≡ 0
+no_texts away (waits here few none) = omega arith
+no_texts away (leaves none) = omega arith
+no_texts away (arrives remains none few) = absurd cc
+no_texts away (arrives left none few) = absurd cc
+no_texts away (returns here none few) = omega arith
 
 target-bare : (f : Place → List Item) (up : ℕ → Bool) (seat : Seat) (o : Option Target) {opening : Bool} {commands serving target link : ℕ} → Stands opening (is_changing o) commands seat serving (texts_in (target_tenure f up seat o).items) target link → came seat ≡ false → texts_in (target_tenure f up seat o).items ≡ 0
 target-bare f up seat None stands away = refl
-target-bare f up seat (Some t) stands away = no-texts away stands
+target-bare f up seat (Some t) stands away = no_texts away stands
 
-target-breaks-in : (before after : Place → List Item) (up now_up : ℕ → Bool) (seat : Seat) (o : Option Target) → ((t : Target) → o ≡ Some t → Breaks (up t.channel.station) (now_up t.channel.station) (before (place_of t.channel)) (after (place_of t.channel)))
+target_breaks_in : (before after : Place → List Item) (up now_up : ℕ → Bool) (seat : Seat) (o : Option Target) → ((t : Target) → o ≡ Some t → Breaks (up t.channel.station) (now_up t.channel.station) (before (place_of t.channel)) (after (place_of t.channel)))
     → (came seat ≡ false → texts_in (target_tenure before up seat o).items ≡ 0) → Cuts (target_tenure before up seat o) (target_tenure after now_up seat o)
-target-breaks-in before after up now_up seat None broken none = cuts-itself (target_tenure before up seat None)
-target-breaks-in before after up now_up seat (Some t) broken none = target-breaks (up t.channel.station) (now_up t.channel.station) (before (place_of t.channel)) (after (place_of t.channel)) (came seat) none (broken t refl)
+target_breaks_in before after up now_up seat None broken none = cuts_itself (target_tenure before up seat None)
+target_breaks_in before after up now_up seat (Some t) broken none = target_breaks (up t.channel.station) (now_up t.channel.station) (before (place_of t.channel)) (after (place_of t.channel)) (came seat) none (broken t refl)
 
 -- a target is lost only where its mobile came
-pub target-came : (after : Place → List Item) (now_up : ℕ → Bool) (seat : Seat) (o : Option Target) → (target_tenure after now_up seat o).is_lost ≡ true → came seat ≡ true
-target-came after now_up seat None is = absurd cc
-target-came after now_up seat (Some t) is = and-right (not (now_up t.channel.station)) (came seat) is
+pub target_came : (after : Place → List Item) (now_up : ℕ → Bool) (seat : Seat) (o : Option Target) → (target_tenure after now_up seat o).is_lost ≡ true → came seat ≡ true
+target_came after now_up seat None is = absurd cc
+target_came after now_up seat (Some t) is = and-right (not (now_up t.channel.station)) (came seat) is
 
 -- ---- the world
 
@@ -129,8 +129,8 @@ set-itself [] n = refl
 set-itself (link ∷ links) zero = refl
 set-itself (link ∷ links) (suc n) = set-itself links n
 
-nothing-made : (w : Actors) (station : ℕ) → (base_of (broken_world w station) station).messages ≡ []
-nothing-made w station = elim (base-there (with_link station broken_link w) station (after_take_down (base_of w station))) [
+nothing_made : (w : Actors) (station : ℕ) → (base_of (broken_world w station) station).messages ≡ []
+nothing_made w station = elim (base-there (with_link station broken_link w) station (after_take_down (base_of w station))) [
   | inl is ↦ ap (λ (b : BaseState). b.messages) is
   | inr nowhere ↦ ap (λ (b : BaseState). b.messages) nowhere.0
 ]
@@ -138,8 +138,8 @@ nothing-made w station = elim (base-there (with_link station broken_link w) stat
 inbox-broken : (w : Actors) (station : ℕ) (at : Place) → flat_map (brings_in at) (broken_world w station).inbox ≡ flat_map (brings_in at) w.inbox
 inbox-broken w station at = flat_map-append (brings_in at) w.inbox (record { source = station; what = whats.Down } ∷ []) ∙ append-nil (flat_map (brings_in at) w.inbox)
 
-coming-broken : (w : Actors) (station : ℕ) (c : Channel) → c.station ≢ SWITCH_LINK → station ≢ SWITCH_LINK → is_up w station ≡ true → Breaks (is_station_up w c.station) (is_station_up (broken_world w station) c.station) (coming_up w (place_of c)) (coming_up (broken_world w station) (place_of c))
-coming-broken w station c c_is station_is up =
+coming_broken : (w : Actors) (station : ℕ) (c : Channel) → c.station ≢ SWITCH_LINK → station ≢ SWITCH_LINK → is_up w station ≡ true → Breaks (is_station_up w c.station) (is_station_up (broken_world w station) c.station) (coming_up w (place_of c)) (coming_up (broken_world w station) (place_of c))
+coming_broken w station c c_is station_is up =
     elim (cases_Bool (nat_eq c.station station)) [
       | inl here ↦ drops (made_of c.number (base_of w c.station).messages) (is_there (eqb-true c.station station here)) (goes_down (eqb-true c.station station here)) (parts (eqb-true c.station station here))
       | inr other ↦ stays (ap (λ (link : Link). not (c.station == SWITCH_LINK) && link.up) (set-apart w.links broken_link station c.station broken_link (eqb-false c.station station other)))
@@ -155,33 +155,33 @@ coming-broken w station c c_is station_is up =
       parts : c.station ≡ station → coming_up w (place_of c) ≡ coming_up (broken_world w station) (place_of c) ++ made_of c.number (base_of w c.station).messages
       parts is = sym (ap (λ (xs : List Item). (xs ++ made_of c.number (base_of (broken_world w station) c.station).messages) ++ made_of c.number (base_of w c.station).messages) (inbox-broken w station (place_of c))
           ∙ ap (λ (n : ℕ). (flat_map (brings_in (place_of c)) w.inbox ++ made_of c.number (base_of (broken_world w station) n).messages) ++ made_of c.number (base_of w c.station).messages) is
-          ∙ ap (λ (ms : List _). (flat_map (brings_in (place_of c)) w.inbox ++ made_of c.number ms) ++ made_of c.number (base_of w c.station).messages) (nothing-made w station)
+          ∙ ap (λ (ms : List _). (flat_map (brings_in (place_of c)) w.inbox ++ made_of c.number ms) ++ made_of c.number (base_of w c.station).messages) (nothing_made w station)
           ∙ ap (λ (xs : List Item). xs ++ made_of c.number (base_of w c.station).messages) (append-nil (flat_map (brings_in (place_of c)) w.inbox)))
 
-all-broken : (w : Actors) (station : ℕ) (cs : List Channel) → ArePlaced cs → station ≢ SWITCH_LINK → is_up w station ≡ true → AllBreak (coming_up w) (coming_up (broken_world w station)) (is_station_up w) (is_station_up (broken_world w station)) cs
+all_broken : (w : Actors) (station : ℕ) (cs : List Channel) → ArePlaced cs → station ≢ SWITCH_LINK → is_up w station ≡ true → AllBreak (coming_up w) (coming_up (broken_world w station)) (is_station_up w) (is_station_up (broken_world w station)) cs
 unfolding AllBreak
-all-broken w station [] placed station_is up = tt
-all-broken w station (c ∷ cs) placed station_is up = (coming-broken w station c placed.0 station_is up, all-broken w station cs placed.1 station_is up)
+all_broken w station [] placed station_is up = tt
+all_broken w station (c ∷ cs) placed station_is up = (coming_broken w station c placed.0 station_is up, all_broken w station cs placed.1 station_is up)
 
-down-broken : (w : Actors) (station : ℕ) (at : Place) → Sub (going_down (broken_world w station) at) (going_down w at)
-down-broken w station at =
+down_broken : (w : Actors) (station : ℕ) (at : Place) → Sub (going_down (broken_world w station) at) (going_down w at)
+down_broken w station at =
     subst (λ (entries : List AirMessage). Sub entries (going_down w at)) (sym (down-with_base (with_link station broken_link w) station (after_take_down (base_of w station)) at))
-    (sub-append (sub-itself (flat_map leading_from_air (spot_at w at).air)) (sub-flat_map (leading_from_outbox at.number)
-    (set-related (λ (a b : Link). Sub a.outbox b.outbox) (λ link. sub-itself link.outbox) w.links broken_link station at.station broken_link (sub-none (outbox_of w station)))))
+    (sub_append (sub_itself (flat_map leading_from_air (spot_at w at).air)) (sub_flat_map (leading_from_outbox at.number)
+    (set_related (λ (a b : Link). Sub a.outbox b.outbox) (λ link. sub_itself link.outbox) w.links broken_link station at.station broken_link (sub_none (outbox_of w station)))))
 
-keeps-broken : {m : ℕ} {w : Actors} {s : Connection} (p : Mobile) (station : ℕ) → station ≢ SWITCH_LINK → is_up w station ≡ true → AllByRecursion (λ c. EndsLast (coming_up w (place_of c))) (undone s.draining) → LinedUp m w p s → LinedUp m (broken_world w station) p s
+keeps_broken : {m : ℕ} {w : Actors} {s : Connection} (p : Mobile) (station : ℕ) → station ≢ SWITCH_LINK → is_up w station ≡ true → AllByRecursion (λ c. EndsLast (coming_up w (place_of c))) (undone s.draining) → LinedUp m w p s → LinedUp m (broken_world w station) p s
 unfolding SameTenures AllBreak AllEndLast
-keeps-broken {m} {w} {s} p station station_is up last kept = record {
+keeps_broken {m} {w} {s} p station station_is up last kept = record {
   alive = subst (Alive m) (sym now)
-      (Alive-cut p.end.sent p.end.zero sits s.state (length (going_down w (place_of s.serving)) + remembered p.seat) commands (old_tenures (coming_up w) (is_station_up w) s.draining s.up.tenures) (old_tenures (coming_up v) (is_station_up v) s.draining s.up.tenures)
+      (alive_cut p.end.sent p.end.zero sits s.state (length (going_down w (place_of s.serving)) + remembered p.seat) commands (old_tenures (coming_up w) (is_station_up w) s.draining s.up.tenures) (old_tenures (coming_up v) (is_station_up v) s.draining s.up.tenures)
       (serving_tenure (coming_up w) (is_station_up w) s.serving hold) (serving_tenure (coming_up v) (is_station_up v) s.serving hold) (target_tenure (coming_up w) (is_station_up w) sits (commanded_target s.state)) (target_tenure (coming_up v) (is_station_up v) sits (commanded_target s.state))
-      (flow (waiting_of w s.number)) (flow (taken_of w s.number)) (let fewer = sub-length (down-broken w station (place_of s.serving)) in omega arith)
-      (old-breaks (coming_up w) (coming_up v) (is_station_up w) (is_station_up v) s.draining s.up.tenures (all-left (λ c. Breaks (is_station_up w c.station) (is_station_up v c.station) (coming_up w (place_of c)) (coming_up v (place_of c))) (undone s.draining) (s.serving ∷ target_in s.state) broken) last)
-      (serving-breaks (is_station_up w s.serving.station) (is_station_up v s.serving.station) (coming_up w (place_of s.serving)) (coming_up v (place_of s.serving)) hold rest.0)
-      (target-breaks-in (coming_up w) (coming_up v) (is_station_up w) (is_station_up v) sits (commanded_target s.state) of_target (target-bare (coming_up w) (is_station_up w) sits (commanded_target s.state) kept.alive.stands))
-      (target-came (coming_up v) (is_station_up v) sits (commanded_target s.state)) kept.alive);
-  sits = Sits-same same_tenures kept.sits;
-  led = AllByRecursion-so (λ a. Leads w a (commanded_target s.state)) (λ a. Leads v a (commanded_target s.state)) (λ a. Leads-same same_tenures) (going_down v (place_of s.serving)) (sub-all (λ a. Leads w a (commanded_target s.state)) (down-broken w station (place_of s.serving)) kept.led);
+      (flow (waiting_of w s.number)) (flow (taken_of w s.number)) (let fewer = sub_length (down_broken w station (place_of s.serving)) in omega arith)
+      (old_breaks (coming_up w) (coming_up v) (is_station_up w) (is_station_up v) s.draining s.up.tenures (all_left (λ c. Breaks (is_station_up w c.station) (is_station_up v c.station) (coming_up w (place_of c)) (coming_up v (place_of c))) (undone s.draining) (s.serving ∷ target_in s.state) broken) last)
+      (serving_breaks (is_station_up w s.serving.station) (is_station_up v s.serving.station) (coming_up w (place_of s.serving)) (coming_up v (place_of s.serving)) hold rest.0)
+      (target_breaks_in (coming_up w) (coming_up v) (is_station_up w) (is_station_up v) sits (commanded_target s.state) of_target (target-bare (coming_up w) (is_station_up w) sits (commanded_target s.state) kept.alive.stands))
+      (target_came (coming_up v) (is_station_up v) sits (commanded_target s.state)) kept.alive);
+  sits = sits_same same_tenures kept.sits;
+  led = AllByRecursion-so (λ a. Leads w a (commanded_target s.state)) (λ a. Leads v a (commanded_target s.state)) (λ a. leads_same same_tenures) (going_down v (place_of s.serving)) (sub_all (λ a. Leads w a (commanded_target s.state)) (down_broken w station (place_of s.serving)) kept.led);
   none_on_target = none_on (commanded_target s.state) kept.none_on_target;
   apart = kept.apart;
   placed = kept.placed;
@@ -202,26 +202,26 @@ keeps-broken {m} {w} {s} p station station_is up last kept = record {
   same_tenures at = tenure-with_base (with_link station broken_link w) station (after_take_down (base_of w station)) at
 
   broken : AllBreak (coming_up w) (coming_up v) (is_station_up w) (is_station_up v) (used_channels s)
-  broken = all-broken w station (used_channels s) kept.placed station_is up
+  broken = all_broken w station (used_channels s) kept.placed station_is up
 
   rest : AllBreak (coming_up w) (coming_up v) (is_station_up w) (is_station_up v) (s.serving ∷ target_in s.state)
-  rest = all-right (λ c. Breaks (is_station_up w c.station) (is_station_up v c.station) (coming_up w (place_of c)) (coming_up v (place_of c))) (undone s.draining) (s.serving ∷ target_in s.state) broken
+  rest = all_right (λ c. Breaks (is_station_up w c.station) (is_station_up v c.station) (coming_up w (place_of c)) (coming_up v (place_of c))) (undone s.draining) (s.serving ∷ target_in s.state) broken
 
   of_target : (t : Target) → commanded_target s.state ≡ Some t → Breaks (is_station_up w t.channel.station) (is_station_up v t.channel.station) (coming_up w (place_of t.channel)) (coming_up v (place_of t.channel))
   of_target t is = (subst (AllBreak (coming_up w) (coming_up v) (is_station_up w) (is_station_up v)) (target-in s.state t is) rest.1).0
 
   none_on : (o : Option Target) → NoneOn w o → NoneOn v o
   none_on None none = none
-  none_on (Some t) none = sub-nothing (subst (Sub (going_down v (place_of t.channel))) none (down-broken w station (place_of t.channel)))
+  none_on (Some t) none = sub_nothing (subst (Sub (going_down v (place_of t.channel))) none (down_broken w station (place_of t.channel)))
 
   now : line_up v p s ≡ assembled p.end.sent p.end.zero sits s.state commands (old_tenures (coming_up v) (is_station_up v) s.draining s.up.tenures) (serving_tenure (coming_up v) (is_station_up v) s.serving hold) (target_tenure (coming_up v) (is_station_up v) sits (commanded_target s.state)) (flow (waiting_of w s.number)) (flow (taken_of w s.number))
   now = lined-same (coming_up v) (coming_up v) (is_station_up v) (is_station_up v) (going_down v (place_of s.serving)) (going_down v (place_of s.serving)) (waiting_of v s.number) (waiting_of w s.number) (taken_of v s.number) (taken_of w s.number) p p s
-      (all-of (λ c. coming_up v (place_of c) ≡ coming_up v (place_of c)) (used_channels s) (λ c. refl)) (λ n. refl) refl
+      (all_of (λ c. coming_up v (place_of c) ≡ coming_up v (place_of c)) (used_channels s) (λ c. refl)) (λ n. refl) refl
       (ap (λ (link : Link). map (λ f. f.message) (forwarded (map (λ entry. entry.out) link.outbox) s.number)) (set-apart w.links broken_link station SWITCH_LINK broken_link (λ is. station_is (sym is)))) refl refl refl refl
 
-pub StationBreaksKeepLineUps-new : (settings : Parameters) (events : List Event) (station : ℕ) → StationBreaksKeepLineUps settings events station
+pub station_breaks_keep_line_ups_new : (settings : Parameters) (events : List Event) (station : ℕ) → StationBreaksKeepLineUps settings events station
 unfolding event_after
-StationBreaksKeepLineUps-new settings events station mobile s station_is last lined =
+station_breaks_keep_line_ups_new settings events station mobile s station_is last lined =
     let w : Actors = world settings events in
     after-taken (λ v. AreLinedUp (modulus_in settings) v mobile s) (after_break w station) w
-    (broken-leads (λ v. AreLinedUp (modulus_in settings) v mobile s) w station (λ up is. absurd (station_is is)) (λ up _. record { one = lined.one; found = lined.found; lined = keeps-broken lined.one station station_is up last lined.lined })) lined
+    (broken-leads (λ v. AreLinedUp (modulus_in settings) v mobile s) w station (λ up is. absurd (station_is is)) (λ up _. record { one = lined.one; found = lined.found; lined = keeps_broken lined.one station station_is up last lined.lined })) lined

@@ -7,9 +7,9 @@ use Rattle.world_laws.specs.LineUp.Alive.Stays.{remains}
 use Rattle.world_laws.specs.LineUp.Alive.Condition.{sound, left_the_cell, lost_old, lost_serving, lost_target}
 use Rattle.world_laws.specs.LineUp.Places.{Tenure, Seat, flow, messages_in, part_of, parts_of, controls_of, controls_in, texts_in}
 use Rattle.world_laws.specs.LineUp.Places.Seat.{on_serving, on_target, moving, gone}
-use Rattle.world_laws.proofs.LineUp.Following.{Follows-line, Follows-front}
+use Rattle.world_laws.proofs.LineUp.Following.{follows_line, follows_front}
 use Rattle.world_laws.proofs.LineUp.Lines.{flow-append, controls-append}
-use Rattle.world_laws.proofs.LineUp.Standing.{Stands-fewer}
+use Rattle.world_laws.proofs.LineUp.Standing.{stands_fewer}
 use Rattle.world_laws.specs.LineUps.{came, is_gone, is_confirmed, is_intact, assembled}
 
 -- ---- tenures
@@ -24,24 +24,24 @@ AllCut [] [] = Unit {0}
 AllCut (t ∷ ts) (u ∷ us) = Cuts t u × AllCut ts us
 AllCut _ _ = ⊥
 
-pub cuts-itself : (t : Tenure) → Cuts t t
-cuts-itself t = whole refl refl (omega arith) refl
+pub cuts_itself : (t : Tenure) → Cuts t t
+cuts_itself t = whole refl refl (omega arith) refl
 
-cuts-hold : {t u : Tenure} → Cuts t u → u.hold ≡ t.hold
-cuts-hold (whole hold messages controls lost) = hold
-cuts-hold (breaks dropped hold messages lost) = hold
+cuts_hold : {t u : Tenure} → Cuts t u → u.hold ≡ t.hold
+cuts_hold (whole hold messages controls lost) = hold
+cuts_hold (breaks dropped hold messages lost) = hold
 
 -- counts of a list and of its front
-front-controls : (xs ys : List (List ℕ)) → controls_of xs ≤ controls_of (xs ++ ys)
-front-controls xs ys = let both = controls-append xs ys in omega arith
+front_controls : (xs ys : List (List ℕ)) → controls_of xs ≤ controls_of (xs ++ ys)
+front_controls xs ys = let both = controls-append xs ys in omega arith
 
-pub cuts-controls : {t u : Tenure} → Cuts t u → controls_in u.items ≤ controls_in t.items
-cuts-controls (whole hold messages controls lost) = controls
-cuts-controls {t} {u} (breaks dropped hold messages lost) = subst (λ (ms : List (List ℕ)). controls_of (messages_in u.items) ≤ controls_of ms) (sym messages) (front-controls (messages_in u.items) dropped)
+pub cuts_controls : {t u : Tenure} → Cuts t u → controls_in u.items ≤ controls_in t.items
+cuts_controls (whole hold messages controls lost) = controls
+cuts_controls {t} {u} (breaks dropped hold messages lost) = subst (λ (ms : List (List ℕ)). controls_of (messages_in u.items) ≤ controls_of ms) (sym messages) (front_controls (messages_in u.items) dropped)
 
-pub cuts-texts : {t u : Tenure} → Cuts t u → texts_in u.items ≤ texts_in t.items
-cuts-texts (whole hold messages controls lost) = let same = ap length messages in omega arith
-cuts-texts {t} {u} (breaks dropped hold messages lost) =
+pub cuts_texts : {t u : Tenure} → Cuts t u → texts_in u.items ≤ texts_in t.items
+cuts_texts (whole hold messages controls lost) = let same = ap length messages in omega arith
+cuts_texts {t} {u} (breaks dropped hold messages lost) =
     let all = ap (λ (ms : List (List ℕ)). length (flow ms)) messages ∙ ap length (flow-append (messages_in u.items) dropped) ∙ length-append (flow (messages_in u.items)) (flow dropped) in
     omega arith
 
@@ -56,11 +56,11 @@ pub record CutLine (ts us : List Tenure) : Type 0 where
 part-whole : (t u : Tenure) → u.hold ≡ t.hold → flow (messages_in u.items) ≡ flow (messages_in t.items) → part_of t ≡ part_of u
 part-whole t u hold messages = ap (λ (h : List (List ℕ)). flow h ++ flow (messages_in t.items)) (sym hold) ∙ ap (λ (ms : List (List ℕ)). flow u.hold ++ ms) (sym messages)
 
-pub cut-line : (ts us : List Tenure) → AllCut ts us → CutLine ts us
-cut-line [] [] all = record { more = []; parts = refl; none = λ is. (refl, refl) }
-cut-line [] (u ∷ us) all = elim all [ ]
-cut-line (t ∷ ts) [] all = elim all [ ]
-cut-line (t ∷ ts) (u ∷ us) all = by_cut all.0 (cut-line ts us all.1) where
+pub cut_line : (ts us : List Tenure) → AllCut ts us → CutLine ts us
+cut_line [] [] all = record { more = []; parts = refl; none = λ is. (refl, refl) }
+cut_line [] (u ∷ us) all = elim all [ ]
+cut_line (t ∷ ts) [] all = elim all [ ]
+cut_line (t ∷ ts) (u ∷ us) all = by_cut all.0 (cut_line ts us all.1) where
   by_cut : Cuts t u → CutLine ts us → CutLine (t ∷ ts) (u ∷ us)
   by_cut (breaks dropped hold messages lost) rest = record {
     more = flow dropped ++ (if t.is_lost then [] else parts_of ts);
@@ -90,35 +90,35 @@ cut-line (t ∷ ts) (u ∷ us) all = by_cut all.0 (cut-line ts us all.1) where
           (behind.0, ap (λ (x : Bool). x || some_lost ts) is ∙ behind.1);
     }
 
-pub behind-cut : (ts us xs ys : List Tenure) → AllCut ts us → AllCut xs ys → AllCut (ts ++ xs) (us ++ ys)
-behind-cut [] [] xs ys all more = more
-behind-cut (t ∷ ts) (u ∷ us) xs ys all more = (all.0, behind-cut ts us xs ys all.1 more)
-behind-cut [] (u ∷ us) xs ys all more = elim all [ ]
-behind-cut (t ∷ ts) [] xs ys all more = elim all [ ]
+pub behind_cut : (ts us xs ys : List Tenure) → AllCut ts us → AllCut xs ys → AllCut (ts ++ xs) (us ++ ys)
+behind_cut [] [] xs ys all more = more
+behind_cut (t ∷ ts) (u ∷ us) xs ys all more = (all.0, behind_cut ts us xs ys all.1 more)
+behind_cut [] (u ∷ us) xs ys all more = elim all [ ]
+behind_cut (t ∷ ts) [] xs ys all more = elim all [ ]
 
-first-cut : (confirmed : Bool) (ts us : List Tenure) (hold hold2 : List (List ℕ)) → AllCut ts us → hold2 ≡ hold → FirstRelays confirmed ts hold → FirstRelays confirmed us hold2
-first-cut confirmed [] [] hold hold2 all same first = λ is. same ∙ first is
-first-cut confirmed (t ∷ ts) (u ∷ us) hold hold2 all same first = cuts-hold all.0 ∙ first
-first-cut confirmed [] (u ∷ us) hold hold2 all same first = elim all [ ]
-first-cut confirmed (t ∷ ts) [] hold hold2 all same first = elim all [ ]
+first_cut : (confirmed : Bool) (ts us : List Tenure) (hold hold2 : List (List ℕ)) → AllCut ts us → hold2 ≡ hold → FirstRelays confirmed ts hold → FirstRelays confirmed us hold2
+first_cut confirmed [] [] hold hold2 all same first = λ is. same ∙ first is
+first_cut confirmed (t ∷ ts) (u ∷ us) hold hold2 all same first = cuts_hold all.0 ∙ first
+first_cut confirmed [] (u ∷ us) hold hold2 all same first = elim all [ ]
+first_cut confirmed (t ∷ ts) [] hold hold2 all same first = elim all [ ]
 
 -- ---- conditions
 
 -- by what is lost
-pub condition-of : (seat : Seat) (old serving target : Bool) → (target ≡ true → came seat ≡ true) → Condition seat old serving target (not (is_gone seat) && not old && not serving && not target)
-condition-of gone old serving target there = left_the_cell
-condition-of on_serving true serving target there = lost_old
-condition-of on_serving false true target there = lost_serving
-condition-of on_serving false false true there = absurd (false≢true (there refl))
-condition-of on_serving false false false there = sound
-condition-of on_target true serving target there = lost_old
-condition-of on_target false true target there = lost_serving
-condition-of on_target false false true there = lost_target remains
-condition-of on_target false false false there = sound
-condition-of moving true serving target there = lost_old
-condition-of moving false true target there = lost_serving
-condition-of moving false false true there = absurd (false≢true (there refl))
-condition-of moving false false false there = sound
+pub condition_of : (seat : Seat) (old serving target : Bool) → (target ≡ true → came seat ≡ true) → Condition seat old serving target (not (is_gone seat) && not old && not serving && not target)
+condition_of gone old serving target there = left_the_cell
+condition_of on_serving true serving target there = lost_old
+condition_of on_serving false true target there = lost_serving
+condition_of on_serving false false true there = absurd (false≢true (there refl))
+condition_of on_serving false false false there = sound
+condition_of on_target true serving target there = lost_old
+condition_of on_target false true target there = lost_serving
+condition_of on_target false false true there = lost_target remains
+condition_of on_target false false false there = sound
+condition_of moving true serving target there = lost_old
+condition_of moving false true target there = lost_serving
+condition_of moving false false true there = absurd (false≢true (there refl))
+condition_of moving false false false there = sound
 
 -- of the whole line
 some-behind : (ts us : List Tenure) → some_lost (ts ++ us) ≡ (some_lost ts || some_lost us)
@@ -139,17 +139,17 @@ intact-line seat old serving target = by_all (not (is_gone seat)) (some_lost old
 
 -- ---- the line-up
 
-pub Alive-cut : {m : ℕ} (sent : List (List ℕ)) (link : DataLinkState) (seat : Seat) (state : State) (commands commands2 : ℕ) (old old2 : List Tenure) (serving serving2 target target2 : Tenure) (out taken : List (List ℕ)) → commands2 ≤ commands → AllCut old old2 → Cuts serving serving2 → Cuts target target2
+pub alive_cut : {m : ℕ} (sent : List (List ℕ)) (link : DataLinkState) (seat : Seat) (state : State) (commands commands2 : ℕ) (old old2 : List Tenure) (serving serving2 target target2 : Tenure) (out taken : List (List ℕ)) → commands2 ≤ commands → AllCut old old2 → Cuts serving serving2 → Cuts target target2
     → (target2.is_lost ≡ true → came seat ≡ true) → Alive m (assembled sent link seat state commands old serving target out taken) → Alive m (assembled sent link seat state commands2 old2 serving2 target2 out taken)
-Alive-cut {m} sent link seat state commands commands2 old old2 serving serving2 target target2 out taken fewer all cut_serving cut_target there alive = record {
+alive_cut {m} sent link seat state commands commands2 old old2 serving serving2 target target2 out taken fewer all cut_serving cut_target there alive = record {
   follows = by_intact (is_intact seat old2 serving2 target2) refl;
-  first = first-cut (is_confirmed state) old old2 serving.hold serving2.hold all (cuts-hold cut_serving) alive.first;
-  stands = Stands-fewer fewer (cuts-controls cut_serving) (cuts-texts cut_target) (cuts-controls cut_target) (omega arith) alive.stands;
-  condition = condition-of seat (some_lost old2) serving2.is_lost target2.is_lost there;
-  bare = cuts-hold cut_target ∙ alive.bare;
+  first = first_cut (is_confirmed state) old old2 serving.hold serving2.hold all (cuts_hold cut_serving) alive.first;
+  stands = stands_fewer fewer (cuts_controls cut_serving) (cuts_texts cut_target) (cuts_controls cut_target) (omega arith) alive.stands;
+  condition = condition_of seat (some_lost old2) serving2.is_lost target2.is_lost there;
+  bare = cuts_hold cut_target ∙ alive.bare;
 } where
   whole_line : CutLine (old ++ serving ∷ target ∷ []) (old2 ++ serving2 ∷ target2 ∷ [])
-  whole_line = cut-line (old ++ serving ∷ target ∷ []) (old2 ++ serving2 ∷ target2 ∷ []) (behind-cut old old2 (serving ∷ target ∷ []) (serving2 ∷ target2 ∷ []) all (cut_serving, (cut_target, tt)))
+  whole_line = cut_line (old ++ serving ∷ target ∷ []) (old2 ++ serving2 ∷ target2 ∷ []) (behind_cut old old2 (serving ∷ target ∷ []) (serving2 ∷ target2 ∷ []) all (cut_serving, (cut_target, tt)))
 
   front : List (List ℕ)
   front = flow taken ++ flow out
@@ -170,9 +170,9 @@ Alive-cut {m} sent link seat state commands commands2 old old2 serving serving2 
   not_is true is = absurd cc
 
   by_intact : (b : Bool) → is_intact seat old2 serving2 target2 ≡ b → Follows m sent now link b
-  by_intact false is = Follows-front now whole_line.more was alive.follows
+  by_intact false is = follows_front now whole_line.more was alive.follows
   by_intact true is =
       let both = right (not (is_gone seat)) (not (some_lost (old2 ++ serving2 ∷ target2 ∷ []))) (sym (intact-line seat old2 serving2 target2) ∙ is) in
       let none = whole_line.none (not_is (some_lost (old2 ++ serving2 ∷ target2 ∷ [])) both.1) in
       let intact : is_intact seat old serving target ≡ true = intact-line seat old serving target ∙ ap (λ (b : Bool). not (is_gone seat) && not b) none.1 ∙ ap (λ (b : Bool). b && true) both.0 in
-      subst (Follows m sent now link) intact (Follows-line (was ∙ ap (λ (xs : List (List ℕ)). now ++ xs) none.0 ∙ append-nil now) alive.follows)
+      subst (Follows m sent now link) intact (follows_line (was ∙ ap (λ (xs : List (List ℕ)). now ++ xs) none.0 ∙ append-nil now) alive.follows)

@@ -10,13 +10,13 @@ use Rattle.world_laws.specs.LineUps.{commanded_target, target_tenure, assembled,
 
 -- ---- all of a list
 
-pub all-left : {X : Type 0} (P : X → Type 0) (xs ys : List X) → AllByRecursion P (xs ++ ys) → AllByRecursion P xs
-all-left P [] ys all = tt
-all-left P (x ∷ xs) ys all = (all.0, all-left P xs ys all.1)
+pub all_left : {X : Type 0} (P : X → Type 0) (xs ys : List X) → AllByRecursion P (xs ++ ys) → AllByRecursion P xs
+all_left P [] ys all = tt
+all_left P (x ∷ xs) ys all = (all.0, all_left P xs ys all.1)
 
-pub all-right : {X : Type 0} (P : X → Type 0) (xs ys : List X) → AllByRecursion P (xs ++ ys) → AllByRecursion P ys
-all-right P [] ys all = all
-all-right P (x ∷ xs) ys all = all-right P xs ys all.1
+pub all_right : {X : Type 0} (P : X → Type 0) (xs ys : List X) → AllByRecursion P (xs ++ ys) → AllByRecursion P ys
+all_right P [] ys all = all
+all_right P (x ∷ xs) ys all = all_right P xs ys all.1
 
 -- ---- tenures
 
@@ -28,8 +28,8 @@ AreSame f g channels = AllByRecursion (λ c. f (place_of c) ≡ g (place_of c)) 
 abbrev pub AreUp : (ℕ → Bool) → (ℕ → Bool) → Type 0
 AreUp up up2 = (n : ℕ) → up n ≡ up2 n
 
-one-same : (f g : Place → List Item) (up up2 : ℕ → Bool) (d : Drain) (ds : List Drain) (hold : List (List ℕ)) → AreUp up up2 → AreSame f g (undone (d ∷ ds)) → (old_tenure f up d hold ≡ old_tenure g up2 d hold) × AreSame f g (undone ds)
-one-same f g up up2 d ds hold ups same = by_done d.is_done same where
+one_same : (f g : Place → List Item) (up up2 : ℕ → Bool) (d : Drain) (ds : List Drain) (hold : List (List ℕ)) → AreUp up up2 → AreSame f g (undone (d ∷ ds)) → (old_tenure f up d hold ≡ old_tenure g up2 d hold) × AreSame f g (undone ds)
+one_same f g up up2 d ds hold ups same = by_done d.is_done same where
   by_done : (b : Bool) → AreSame f g (if b then undone ds else d.channel ∷ undone ds)
       → ((if b then ended hold else draining_tenure (up d.channel.station) (f (place_of d.channel)) hold) ≡ (if b then ended hold else draining_tenure (up2 d.channel.station) (g (place_of d.channel)) hold)) × AreSame f g (undone ds)
   by_done true all = (refl, all)
@@ -38,10 +38,10 @@ one-same f g up up2 d ds hold ups same = by_done d.is_done same where
 pub old-same : (f g : Place → List Item) (up up2 : ℕ → Bool) (ds : List Drain) (holds : List Held) → AreUp up up2 → AreSame f g (undone ds) → old_tenures f up ds holds ≡ old_tenures g up2 ds holds
 old-same f g up up2 [] holds ups same = refl
 old-same f g up up2 (d ∷ ds) [] ups same =
-    let a = one-same f g up up2 d ds [] ups same in
+    let a = one_same f g up up2 d ds [] ups same in
     ap (λ (t : Tenure). t ∷ old_tenures f up ds []) a.0 ∙ ap (λ (ts : List Tenure). old_tenure g up2 d [] ∷ ts) (old-same f g up up2 ds [] ups a.1)
 old-same f g up up2 (d ∷ ds) (held ∷ others) ups same =
-    let a = one-same f g up up2 d ds held.zero ups same in
+    let a = one_same f g up up2 d ds held.zero ups same in
     ap (λ (t : Tenure). t ∷ old_tenures f up ds others) a.0 ∙ ap (λ (ts : List Tenure). old_tenure g up2 d held.zero ∷ ts) (old-same f g up up2 ds others ups a.1)
 
 pub serving-same : (f g : Place → List Item) (up up2 : ℕ → Bool) (c : Channel) (hold : List (List ℕ)) → AreUp up up2 → f (place_of c) ≡ g (place_of c) → serving_tenure f up c hold ≡ serving_tenure g up2 c hold
@@ -64,8 +64,8 @@ assembled-same state a b c d e f g h i = rw (a, b, c, d, e, f, g, h, i) refl
 pub lined-same : (f g : Place → List Item) (up up2 : ℕ → Bool) (commands commands2 : List AirMessage) (out out2 taken taken2 : List (List ℕ)) (p q : Mobile) (s : Connection) → AreSame f g (used_channels s) → AreUp up up2 → commands ≡ commands2 → out ≡ out2 → taken ≡ taken2
     → p.end.sent ≡ q.end.sent → p.end.zero ≡ q.end.zero → p.seat ≡ q.seat → lined f up commands out taken p s ≡ lined g up2 commands2 out2 taken2 q s
 lined-same f g up up2 commands commands2 out out2 taken taken2 p q s same ups same_commands same_out same_taken sent zero seat =
-    let rest : AreSame f g (s.serving ∷ target_in s.state) = all-right (λ c. f (place_of c) ≡ g (place_of c)) (undone s.draining) (s.serving ∷ target_in s.state) same in
+    let rest : AreSame f g (s.serving ∷ target_in s.state) = all_right (λ c. f (place_of c) ≡ g (place_of c)) (undone s.draining) (s.serving ∷ target_in s.state) same in
     assembled-same s.state sent zero (ap (seat_from s.serving) seat) (ap (λ (entries : List AirMessage). length entries + remembered p.seat) same_commands ∙ ap (λ (seat : MobileSeat). length commands2 + remembered seat) seat)
-    (old-same f g up up2 s.draining s.up.tenures ups (all-left (λ c. f (place_of c) ≡ g (place_of c)) (undone s.draining) (s.serving ∷ target_in s.state) same))
+    (old-same f g up up2 s.draining s.up.tenures ups (all_left (λ c. f (place_of c) ≡ g (place_of c)) (undone s.draining) (s.serving ∷ target_in s.state) same))
     (serving-same f g up up2 s.serving (serving_hold s.draining s.up.tenures) ups rest.0)
     (target-same f g up up2 (seat_from s.serving p.seat) s.state ups rest.1 ∙ ap (λ (seat : MobileSeat). target_tenure g up2 (seat_from s.serving seat) (commanded_target s.state)) seat) (ap flow same_out) (ap flow same_taken)

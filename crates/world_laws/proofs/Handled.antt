@@ -18,63 +18,63 @@ use Rattle.world_laws.specs.OwnHandle.{AreInOrder}
 use Rattle.world_laws.specs.Seated.{NoneOn}
 use Rattle.world_laws.specs.Staying.{EndsLast}
 use Rattle.world_laws.specs.ToCome.{AreLayer3, texts_of}
-use Rattle.world_laws.proofs.Acknowledged.{AllAcksTell-new}
-use Rattle.world_laws.proofs.Apart.{all-both}
-use Rattle.world_laws.proofs.Framing.{all-left, all-right}
-use Rattle.world_laws.proofs.OwnFrameLaw.{FrameIsHandled-new}
-use Rattle.world_laws.proofs.OwnHandled.{HandleKeepsLineUps-new}
-use Rattle.world_laws.proofs.Quiet.{all-of}
-use Rattle.world_laws.proofs.Standing.{ConnectionsStand-new}
-use Rattle.world_laws.proofs.Whole.{MessagesAreWhole-new}
+use Rattle.world_laws.proofs.Acknowledged.{all_acks_tell_new}
+use Rattle.world_laws.proofs.Apart.{all_both}
+use Rattle.world_laws.proofs.Framing.{all_left, all_right}
+use Rattle.world_laws.proofs.OwnFrameLaw.{frame_is_handled_new}
+use Rattle.world_laws.proofs.OwnHandled.{handle_keeps_line_ups_new}
+use Rattle.world_laws.proofs.Quiet.{all_of}
+use Rattle.world_laws.proofs.Standing.{connections_stand_new}
+use Rattle.world_laws.proofs.Whole.{messages_are_whole_new}
 use Rattle.world_laws.proofs.Events.{world}
 
 -- ---- it is one of the controller's connections
 
-held-there : (c : Controller) (state : ChannelState) (e : Entry) → option_and_then (entry_of c) (holder state) ≡ Some e → (n : ℕ) × (entry_of c n ≡ Some e)
-held-there c Free e found = absurd cc
-held-there c (InUse n) e found = (n, found)
-held-there c (Releasing n) e found = (n, found)
+held_there : (c : Controller) (state : ChannelState) (e : Entry) → option_and_then (entry_of c) (holder state) ≡ Some e → (n : ℕ) × (entry_of c n ≡ Some e)
+held_there c Free e found = absurd cc
+held_there c (InUse n) e found = (n, found)
+held_there c (Releasing n) e found = (n, found)
 
-there-by : (c : Controller) (n : ℕ) (e : Entry) (s : Connection) → entry_of c n ≡ Some e → e.connection ≡ s → connection_of c n ≡ Some s
-there-by c n e s found is = ap (option_map (λ (x : Entry). x.connection)) found ∙ ap (λ (x : Connection). let o : Option Connection = Some x in o) is
+there_by : (c : Controller) (n : ℕ) (e : Entry) (s : Connection) → entry_of c n ≡ Some e → e.connection ≡ s → connection_of c n ≡ Some s
+there_by c n e s found is = ap (option_map (λ (x : Entry). x.connection)) found ∙ ap (λ (x : Connection). let o : Option Connection = Some x in o) is
 
-said-there : {c : Controller} {word : Word} {s : Connection} {input : Input} {offer : Option Channel} → IsSaidTo c word s input offer → (n : ℕ) × (connection_of c n ≡ Some s)
-said-there {c} {s = s} (on_channel at input e word_is found is) = let held = held-there c (channel_state c at) e found in (held.0, there-by c held.0 e s held.1 is)
-said-there {c} {s = s} (on_connection number input e word_is found is) = (number, there-by c number e s found is)
+said_there : {c : Controller} {word : Word} {s : Connection} {input : Input} {offer : Option Channel} → IsSaidTo c word s input offer → (n : ℕ) × (connection_of c n ≡ Some s)
+said_there {c} {s = s} (on_channel at input e word_is found is) = let held = held_there c (channel_state c at) e found in (held.0, there_by c held.0 e s held.1 is)
+said_there {c} {s = s} (on_connection number input e word_is found is) = (number, there_by c number e s found is)
 
 -- ---- its channels
 
-whole-texts : (items : List Item) → AreLayer3 (messages_in items) → AreLayer3 (texts_of items)
-whole-texts items whole = AllByRecursion-filter IsLayer3 (λ message. not (is_control message)) (messages_in items) whole
+whole_texts : (items : List Item) → AreLayer3 (messages_in items) → AreLayer3 (texts_of items)
+whole_texts items whole = AllByRecursion-filter IsLayer3 (λ message. not (is_control message)) (messages_in items) whole
 
 -- no COMMAND is on its way on a target, whether the mobile is commanded there or not
-none-on-target : (w : Actors) (state : State) → NoneOn w (commanded_target state) → AllByRecursion (λ c. going_down w (place_of c) ≡ []) (awaited_in state) → AllByRecursion (λ c. going_down w (place_of c) ≡ []) (target_in state)
-none-on-target w (Live reference (Changing target)) none awaited = (none, tt)
-none-on-target w (Live reference (Preparing target)) none awaited = awaited
-none-on-target w (Live reference Active) none awaited = tt
-none-on-target w (Live reference Draining) none awaited = tt
-none-on-target w WaitActivation none awaited = tt
-none-on-target w WaitEstablish none awaited = tt
-none-on-target w WaitConfirm none awaited = tt
-none-on-target w (Closed clearing) none awaited = tt
-none-on-target w Removed none awaited = tt
+none_on_any_target : (w : Actors) (state : State) → NoneOn w (commanded_target state) → AllByRecursion (λ c. going_down w (place_of c) ≡ []) (awaited_in state) → AllByRecursion (λ c. going_down w (place_of c) ≡ []) (target_in state)
+none_on_any_target w (Live reference (Changing target)) none awaited = (none, tt)
+none_on_any_target w (Live reference (Preparing target)) none awaited = awaited
+none_on_any_target w (Live reference Active) none awaited = tt
+none_on_any_target w (Live reference Draining) none awaited = tt
+none_on_any_target w WaitActivation none awaited = tt
+none_on_any_target w WaitEstablish none awaited = tt
+none_on_any_target w WaitConfirm none awaited = tt
+none_on_any_target w (Closed clearing) none awaited = tt
+none_on_any_target w Removed none awaited = tt
 
-pub FramesKeepLineUps-new : (settings : Parameters) (events : List Event) → FramesKeepLineUps settings events
-FramesKeepLineUps-new settings events mobile s item items input offer r stood comes ready read lined =
+pub frames_keep_line_ups_new : (settings : Parameters) (events : List Event) → FramesKeepLineUps settings events
+frames_keep_line_ups_new settings events mobile s item items input offer r stood comes ready read lined =
     let w : Actors = world settings events in
-    let there = said-there comes.said in
-    let handled = FrameIsHandled-new w item s input offer r comes in
+    let there = said_there comes.said in
+    let handled = frame_is_handled_new w item s input offer r comes in
     let placed = lined.lined.placed in
-    let tells = AllAcksTell-new settings events in
+    let tells = all_acks_tell_new settings events in
     let order : AreInOrder w s input = record {
-      stands = ConnectionsStand-new settings events there.0 s there.1;
+      stands = connections_stand_new settings events there.0 s there.1;
       switch_up = ready.switch_up;
-      old_end = all-both (λ c. c.station ≢ SWITCH_LINK) (λ c. ReleasesLast (acknowledgements_up w (place_of c))) (λ c. EndsLast (coming_up w (place_of c))) (undone s.draining) (λ c is releases. (tells (place_of c) is).last releases)
-          (all-left (λ c. c.station ≢ SWITCH_LINK) (undone s.draining) (s.serving ∷ target_in s.state) placed) ready.old_end;
-      others_go_on = all-both (λ c. c.station ≢ SWITCH_LINK) (λ c. NoneReleases (acknowledgements_up w (place_of c))) (λ c. is_ended (coming_up w (place_of c)) ≡ false) (s.serving ∷ target_in s.state) (λ c is releases. (tells (place_of c) is).none releases)
-          (all-right (λ c. c.station ≢ SWITCH_LINK) (undone s.draining) (s.serving ∷ target_in s.state) placed) ready.others_go_on;
+      old_end = all_both (λ c. c.station ≢ SWITCH_LINK) (λ c. ReleasesLast (acknowledgements_up w (place_of c))) (λ c. EndsLast (coming_up w (place_of c))) (undone s.draining) (λ c is releases. (tells (place_of c) is).last releases)
+          (all_left (λ c. c.station ≢ SWITCH_LINK) (undone s.draining) (s.serving ∷ target_in s.state) placed) ready.old_end;
+      others_go_on = all_both (λ c. c.station ≢ SWITCH_LINK) (λ c. NoneReleases (acknowledgements_up w (place_of c))) (λ c. is_ended (coming_up w (place_of c)) ≡ false) (s.serving ∷ target_in s.state) (λ c is releases. (tells (place_of c) is).none releases)
+          (all_right (λ c. c.station ≢ SWITCH_LINK) (undone s.draining) (s.serving ∷ target_in s.state) placed) ready.others_go_on;
       silent = ready.silent;
-      uncommanded = none-on-target w s.state lined.lined.none_on_target ready.uncommanded;
-      whole = all-of (λ c. AreLayer3 (texts_of (coming_up w (place_of c)))) (used_channels s) (λ c. whole-texts (coming_up w (place_of c)) (MessagesAreWhole-new settings events (place_of c)));
+      uncommanded = none_on_any_target w s.state lined.lined.none_on_target ready.uncommanded;
+      whole = all_of (λ c. AreLayer3 (texts_of (coming_up w (place_of c)))) (used_channels s) (λ c. whole_texts (coming_up w (place_of c)) (messages_are_whole_new settings events (place_of c)));
     } in
-    HandleKeepsLineUps-new settings events mobile s item items input offer r handled.0 stood handled.1 order read lined
+    handle_keeps_line_ups_new settings events mobile s item items input offer r handled.0 stood handled.1 order read lined

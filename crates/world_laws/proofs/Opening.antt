@@ -8,20 +8,20 @@ use Rattle.world_laws.specs.LineUp.Alive.Stands.{rests}
 use Rattle.world_laws.specs.LineUp.Alive.Stays.{remains}
 use Rattle.world_laws.specs.LineUp.Places.{Item, fresh, flow, messages_in, with_items, controls_of, controls_in}
 use Rattle.world_laws.specs.LineUp.Places.Seat.{on_serving}
-use Rattle.world_laws.proofs.LineUp.Following.{Follows-line}
+use Rattle.world_laws.proofs.LineUp.Following.{follows_line}
 use Rattle.world_laws.proofs.LineUp.Lines.{flow-cons}
 use Rattle.mobile_end.specs.GoesOn.{GoesOn}
 use Rattle.world_laws.specs.LineUps.{serving_tenure, assembled}
 use Rattle.world_laws.specs.OwnRow.{over, OpeningLinesUp}
-use Rattle.world_laws.proofs.Cutting.{Cuts, cuts-itself, Alive-cut}
+use Rattle.world_laws.proofs.Cutting.{Cuts, cuts_itself, alive_cut}
 use Rattle.world_laws.proofs.Cutting.Cuts.{breaks}
 use Rattle.world_laws.proofs.OwnRow.{flow-twice}
 
 -- the mobile's link goes on behind the initial message and what is on its way up behind it
-whole-opening : {m : ℕ} (sent : List (List ℕ)) (link : DataLinkState) (initial : List ℕ) (items : List Item) → GoesOn m sent (flow (initial ∷ messages_in items)) link → controls_in items + controls_of (to_be_taken link) ≡ 0
+whole_opening : {m : ℕ} (sent : List (List ℕ)) (link : DataLinkState) (initial : List ℕ) (items : List Item) → GoesOn m sent (flow (initial ∷ messages_in items)) link → controls_in items + controls_of (to_be_taken link) ≡ 0
     → Alive m (assembled sent link on_serving WaitConfirm 0 [] (with_items fresh items) fresh (flow (initial ∷ [])) [])
-whole-opening {m} sent link initial items goes none = record {
-  follows = Follows-line (flow-cons initial (messages_in items) ∙ ap (λ (xs : List (List ℕ)). xs ++ flow (messages_in items)) (sym (flow-twice (initial ∷ []))) ∙ ap (λ (xs : List (List ℕ)). flow (flow (initial ∷ [])) ++ xs) (sym (append-nil (flow (messages_in items))))) (goes_on goes);
+whole_opening {m} sent link initial items goes none = record {
+  follows = follows_line (flow-cons initial (messages_in items) ∙ ap (λ (xs : List (List ℕ)). xs ++ flow (messages_in items)) (sym (flow-twice (initial ∷ []))) ∙ ap (λ (xs : List (List ℕ)). flow (flow (initial ∷ [])) ++ xs) (sym (append-nil (flow (messages_in items))))) (goes_on goes);
   first = λ is. refl;
   stands = rests remains (omega arith);
   condition = sound;
@@ -29,14 +29,14 @@ whole-opening {m} sent link initial items goes none = record {
 }
 
 -- its station's link may be down by then
-cuts-fresh : (up : Bool) (items : List Item) → Cuts (with_items fresh items) (record { hold = []; items = items; is_lost = not up; is_done = false })
-cuts-fresh true items = cuts-itself (with_items fresh items)
-cuts-fresh false items = breaks [] refl (sym (append-nil (messages_in items))) refl
+cuts_fresh : (up : Bool) (items : List Item) → Cuts (with_items fresh items) (record { hold = []; items = items; is_lost = not up; is_done = false })
+cuts_fresh true items = cuts_itself (with_items fresh items)
+cuts_fresh false items = breaks [] refl (sym (append-nil (messages_in items))) refl
 
-pub OpeningLinesUp-new : (m : ℕ) → OpeningLinesUp m
-OpeningLinesUp-new m sent link initial coming up s opens =
+pub opening_lines_up_new : (m : ℕ) → OpeningLinesUp m
+opening_lines_up_new m sent link initial coming up s opens =
     subst (Alive m) (sym reads)
-    (Alive-cut sent link on_serving WaitConfirm 0 0 [] [] (with_items fresh (coming (place_of s.serving))) (serving_tenure coming up s.serving []) fresh fresh (flow (initial ∷ [])) [] (omega arith) tt (cuts-fresh (up s.serving.station) (coming (place_of s.serving))) (cuts-itself fresh) (λ is. absurd (false≢true is))
-    (whole-opening sent link initial (coming (place_of s.serving)) opens.goes_on opens.no_control)) where
+    (alive_cut sent link on_serving WaitConfirm 0 0 [] [] (with_items fresh (coming (place_of s.serving))) (serving_tenure coming up s.serving []) fresh fresh (flow (initial ∷ [])) [] (omega arith) tt (cuts_fresh (up s.serving.station) (coming (place_of s.serving))) (cuts_itself fresh) (λ is. absurd (false≢true is))
+    (whole_opening sent link initial (coming (place_of s.serving)) opens.goes_on opens.no_control)) where
       reads : over coming up s sent link on_serving 0 (flow (initial ∷ [])) [] ≡ assembled sent link on_serving WaitConfirm 0 [] (serving_tenure coming up s.serving []) fresh (flow (initial ∷ [])) []
       reads = rw (opens.awaits, opens.none_drains, opens.none_held) refl

@@ -11,7 +11,7 @@ use Rattle.conn_rules.specs.declared.input.Input.TheVariants as inputs
 use Rattle.conn_rules.specs.Table.{row_of}
 use Rattle.rsl_codec.specs.declared.common_channel.ImmediateAssignment.{ImmediateAssignment as Assignment}
 use Rattle.rsl_codec.specs.declared.rsl.Rsl.TheVariants as rsl
-use Rattle.world_laws.proofs.OrderTexts.{assignment_apart, read-of, said-other, said-own}
+use Rattle.world_laws.proofs.OrderTexts.{assignment_apart, read_of, said-other, said-own}
 
 -- a DATA REQUEST on the channel is of the connection that uses it, and the channel p too
 pub record LeadsUser (at p : Place) (c : Controller) : Type 0 where
@@ -25,68 +25,68 @@ abbrev pub LeadsOut : Place → Place → Controller → Out → Type 0
 LeadsOut at p c out = (d : DataMessage) → said_to at out ≡ Some (rsl.DataRequest d) → d.channel ≡ at.number → LeadsUser at p c
 
 -- an assignment is no DATA REQUEST
-pub no-request : {X : Type 0} (at : Place) (n station : ℕ) (i : Assignment) (d : DataMessage) → IsSent (out_of n (Station station (rsl.ImmediateAssignCommand i)))
+pub no_request : {X : Type 0} (at : Place) (n station : ℕ) (i : Assignment) (d : DataMessage) → IsSent (out_of n (Station station (rsl.ImmediateAssignCommand i)))
     → said_to at (out_of n (Station station (rsl.ImmediateAssignCommand i))) ≡ Some (rsl.DataRequest d) → X
-no-request at n station i d sent is = elim (cases_Bool (station == at.station)) [
+no_request at n station i d sent is = elim (cases_Bool (station == at.station)) [
   | inr miss ↦ absurd (none-some _ (sym (said-other at n station (rsl.ImmediateAssignCommand i) miss) ∙ is))
   | inl hit ↦
-      let read = read-of n station (rsl.ImmediateAssignCommand i) sent in
+      let read = read_of n station (rsl.ImmediateAssignCommand i) sent in
       let said : read.0 ≡ rsl.DataRequest d = (let both : Some read.0 ≡ Some (rsl.DataRequest d) = sym (said-own at n station (rsl.ImmediateAssignCommand i) read.0 hit read.1) ∙ is in cc) in
       absurd (assignment_apart i d (read.1.text ∙ ap rsl_text said))
 ]
 
-assignment-leads : (at p : Place) (c : Controller) (n station : ℕ) (i : Assignment) → IsSent (out_of n (Station station (rsl.ImmediateAssignCommand i))) → LeadsOut at p c (out_of n (Station station (rsl.ImmediateAssignCommand i)))
-assignment-leads at p c n station i sent d is same = no-request at n station i d sent is
+assignment_leads : (at p : Place) (c : Controller) (n station : ℕ) (i : Assignment) → IsSent (out_of n (Station station (rsl.ImmediateAssignCommand i))) → LeadsOut at p c (out_of n (Station station (rsl.ImmediateAssignCommand i)))
+assignment_leads at p c n station i sent d is same = no_request at n station i d sent is
 
 -- a DATA REQUEST is of the channel that it names
-pub request-place : (at : Place) (n : ℕ) (serving : Channel) (r d : DataMessage) → r.channel ≡ serving.number → IsSent (out_of n (Station serving.station (rsl.DataRequest r)))
+pub request_place : (at : Place) (n : ℕ) (serving : Channel) (r d : DataMessage) → r.channel ≡ serving.number → IsSent (out_of n (Station serving.station (rsl.DataRequest r)))
     → said_to at (out_of n (Station serving.station (rsl.DataRequest r))) ≡ Some (rsl.DataRequest d) → d.channel ≡ at.number → place_of serving ≡ at
-request-place at n serving r d on sent is same = elim (cases_Bool (serving.station == at.station)) [
+request_place at n serving r d on sent is same = elim (cases_Bool (serving.station == at.station)) [
   | inr miss ↦ absurd (none-some _ (sym (said-other at n serving.station (rsl.DataRequest r) miss) ∙ is))
   | inl hit ↦
-      let read = read-of n serving.station (rsl.DataRequest r) sent in
+      let read = read_of n serving.station (rsl.DataRequest r) sent in
       let said : read.0 ≡ rsl.DataRequest d = (let both : Some read.0 ≡ Some (rsl.DataRequest d) = sym (said-own at n serving.station (rsl.DataRequest r) read.0 hit read.1) ∙ is in cc) in
       let channel : r.channel ≡ d.channel = same_channel r d (read.1.text ∙ ap rsl_text said) in
       ap (λ (s : ℕ). record { station = s; number = serving.number }) (eqb-true serving.station at.station hit) ∙ ap (λ (k : ℕ). record { station = at.station; number = k }) (sym on ∙ channel ∙ same)
 ]
 
 -- a COMMAND on the serving channel
-command-leads : (at p : Place) (c : Controller) (n m : ℕ) (serving : Channel) (r : DataMessage) → r.channel ≡ serving.number → channel_state c (place_of serving) ≡ InUse n → channel_state c p ≡ InUse n → asker c n ≡ Some m → IsSent (out_of n (Station serving.station (rsl.DataRequest r))) → LeadsOut at p c (out_of n (Station serving.station (rsl.DataRequest r)))
-command-leads at p c n m serving r on used there asks sent d is same =
-    let place = request-place at n serving r d on sent is same in
+command_leads : (at p : Place) (c : Controller) (n m : ℕ) (serving : Channel) (r : DataMessage) → r.channel ≡ serving.number → channel_state c (place_of serving) ≡ InUse n → channel_state c p ≡ InUse n → asker c n ≡ Some m → IsSent (out_of n (Station serving.station (rsl.DataRequest r))) → LeadsOut at p c (out_of n (Station serving.station (rsl.DataRequest r)))
+command_leads at p c n m serving r on used there asks sent d is same =
+    let place = request_place at n serving r d on sent is same in
     record { number = n; mobile = m; here = ap (state_in c.channels) (sym place) ∙ used; there = there; asks = asks }
 
 abbrev AllLead : Place → Place → Controller → ℕ → Row → Type 0
 AllLead at p c n r = AllByRecursion IsSent (outs_of n r.outs) → AllByRecursion (LeadsOut at p c) (outs_of n r.outs)
 
-ack-row : (at p : Place) (c : Controller) (n m : ℕ) (state : State) (s : Connection) (r : Row) → s.state ≡ state → on_activation_ack state s p ≡ Some r → (IsOpen state → AreIn c.channels (InUse n) (s.serving ∷ target_channels (target_role state))) → asker c n ≡ Some m → AllLead at p c n r
-ack-row at p c n m WaitActivation s r is fits used asks =
+ack_row : (at p : Place) (c : Controller) (n m : ℕ) (state : State) (s : Connection) (r : Row) → s.state ≡ state → on_activation_ack state s p ≡ Some r → (IsOpen state → AreIn c.channels (InUse n) (s.serving ∷ target_channels (target_role state))) → asker c n ≡ Some m → AllLead at p c n r
+ack_row at p c n m WaitActivation s r is fits used asks =
     let parts = if_is (is_at p s.serving) (assign_immediately s) r fits in
-    subst (AllLead at p c n) parts.1 (λ sent. (assignment-leads at p c n s.serving.station _ sent.0, tt))
-ack-row at p c n m (Live reference (Preparing target)) s r is fits used asks =
+    subst (AllLead at p c n) parts.1 (λ sent. (assignment_leads at p c n s.serving.station _ sent.0, tt))
+ack_row at p c n m (Live reference (Preparing target)) s r is fits used asks =
     let parts = if_is (is_at p target.channel) (command_to reference target s) r fits in
     let all = used tt in
-    subst (AllLead at p c n) parts.1 (λ sent. (command-leads at p c n m s.serving _ refl all.0 (ap (state_in c.channels) (place-is p target.channel parts.0) ∙ all.1.0) asks sent.0, tt))
-ack-row at p c n m (Live reference Active) s r is fits used asks = absurd cc
-ack-row at p c n m (Live reference Draining) s r is fits used asks = absurd cc
-ack-row at p c n m (Live reference (Changing target)) s r is fits used asks = absurd cc
-ack-row at p c n m WaitEstablish s r is fits used asks = absurd cc
-ack-row at p c n m WaitConfirm s r is fits used asks = absurd cc
-ack-row at p c n m (Closed clearing) s r is fits used asks = absurd cc
-ack-row at p c n m Removed s r is fits used asks = absurd cc
+    subst (AllLead at p c n) parts.1 (λ sent. (command_leads at p c n m s.serving _ refl all.0 (ap (state_in c.channels) (place-is p target.channel parts.0) ∙ all.1.0) asks sent.0, tt))
+ack_row at p c n m (Live reference Active) s r is fits used asks = absurd cc
+ack_row at p c n m (Live reference Draining) s r is fits used asks = absurd cc
+ack_row at p c n m (Live reference (Changing target)) s r is fits used asks = absurd cc
+ack_row at p c n m WaitEstablish s r is fits used asks = absurd cc
+ack_row at p c n m WaitConfirm s r is fits used asks = absurd cc
+ack_row at p c n m (Closed clearing) s r is fits used asks = absurd cc
+ack_row at p c n m Removed s r is fits used asks = absurd cc
 
-ack-fitting : (at p : Place) (c : Controller) (k : ℕ) (e : Entry) (o : Option Row) → row_in c e.connection (inputs.ActivationAck p) ≡ o → entry_of c k ≡ Some e → Ready c → AllByRecursion IsSent (by_fitting (ignoring c) e o c).outs → AllByRecursion (LeadsOut at p c) (by_fitting (ignoring c) e o c).outs
+ack_fitting : (at p : Place) (c : Controller) (k : ℕ) (e : Entry) (o : Option Row) → row_in c e.connection (inputs.ActivationAck p) ≡ o → entry_of c k ≡ Some e → Ready c → AllByRecursion IsSent (by_fitting (ignoring c) e o c).outs → AllByRecursion (LeadsOut at p c) (by_fitting (ignoring c) e o c).outs
 unfolding row_of
-ack-fitting at p c k e None is there ready sent = tt
-ack-fitting at p c k e (Some r) is there ready sent =
+ack_fitting at p c k e None is there ready sent = tt
+ack_fitting at p c k e (Some r) is there ready sent =
     let own = here_of c k e ready there in
-    ack-row at p c e.connection.number e.connection.request.access e.connection.state e.connection r refl is (λ is_open. (owns_entry c.links c e own.there ready.holds is_open).using) (ap (option_map (λ (x : Entry). x.connection.request.access)) own.there) sent
+    ack_row at p c e.connection.number e.connection.request.access e.connection.state e.connection r refl is (λ is_open. (owns_entry c.links c e own.there ready.holds is_open).using) (ap (option_map (λ (x : Entry). x.connection.request.access)) own.there) sent
 
-ack-concerning : (at p : Place) (c : Controller) (k : ℕ) (o : Option Entry) → entry_of c k ≡ o → Ready c → AllByRecursion IsSent (concerning (inputs.ActivationAck p) c o).outs → AllByRecursion (LeadsOut at p c) (concerning (inputs.ActivationAck p) c o).outs
-ack-concerning at p c k None there ready sent = tt
-ack-concerning at p c k (Some e) there ready sent = ack-fitting at p c k e (row_in c e.connection (inputs.ActivationAck p)) refl there ready sent
+ack_concerning : (at p : Place) (c : Controller) (k : ℕ) (o : Option Entry) → entry_of c k ≡ o → Ready c → AllByRecursion IsSent (concerning (inputs.ActivationAck p) c o).outs → AllByRecursion (LeadsOut at p c) (concerning (inputs.ActivationAck p) c o).outs
+ack_concerning at p c k None there ready sent = tt
+ack_concerning at p c k (Some e) there ready sent = ack_fitting at p c k e (row_in c e.connection (inputs.ActivationAck p)) refl there ready sent
 
-pub ack-leads : (at p : Place) (c : Controller) (state : ChannelState) → Ready c → AllByRecursion IsSent (on_state state p (inputs.ActivationAck p) c (entry_at c state)).outs → AllByRecursion (LeadsOut at p c) (on_state state p (inputs.ActivationAck p) c (entry_at c state)).outs
-ack-leads at p c Free ready sent = tt
-ack-leads at p c (InUse k) ready sent = ack-concerning at p c k (entry_of c k) refl ready sent
-ack-leads at p c (Releasing k) ready sent = ack-concerning at p c k (entry_of c k) refl ready sent
+pub ack_leads : (at p : Place) (c : Controller) (state : ChannelState) → Ready c → AllByRecursion IsSent (on_state state p (inputs.ActivationAck p) c (entry_at c state)).outs → AllByRecursion (LeadsOut at p c) (on_state state p (inputs.ActivationAck p) c (entry_at c state)).outs
+ack_leads at p c Free ready sent = tt
+ack_leads at p c (InUse k) ready sent = ack_concerning at p c k (entry_of c k) refl ready sent
+ack_leads at p c (Releasing k) ready sent = ack_concerning at p c k (entry_of c k) refl ready sent

@@ -28,39 +28,39 @@ use Rattle.world_laws.proofs.Others.{entry-out}
 is-up-at : (links : List Bool) (link : ℕ) → is_link_up links link ≡ slice_index_or links link false
 is-up-at links link = unwrap_or-slice_get links link false
 
-was-at : (links : List Bool) (source link : ℕ) → slice_index_or (set links source false) link false ≡ true → slice_index_or links link false ≡ true
-was-at [] source link up = up
-was-at (b ∷ links) zero zero up = absurd cc
-was-at (b ∷ links) zero (suc link) up = up
-was-at (b ∷ links) (suc source) zero up = up
-was-at (b ∷ links) (suc source) (suc link) up = was-at links source link up
+was_at : (links : List Bool) (source link : ℕ) → slice_index_or (set links source false) link false ≡ true → slice_index_or links link false ≡ true
+was_at [] source link up = up
+was_at (b ∷ links) zero zero up = absurd cc
+was_at (b ∷ links) zero (suc link) up = up
+was_at (b ∷ links) (suc source) zero up = up
+was_at (b ∷ links) (suc source) (suc link) up = was_at links source link up
 
-down-at : (links : List Bool) (source : ℕ) → slice_index_or (set links source false) source false ≡ false
-down-at [] source = refl
-down-at (b ∷ links) zero = refl
-down-at (b ∷ links) (suc source) = down-at links source
+down_at : (links : List Bool) (source : ℕ) → slice_index_or (set links source false) source false ≡ false
+down_at [] source = refl
+down_at (b ∷ links) zero = refl
+down_at (b ∷ links) (suc source) = down_at links source
 
-pub broken-down : (links : List Bool) (source : ℕ) → is_link_up (set links source false) source ≡ false
-broken-down links source = is-up-at (set links source false) source ∙ down-at links source
+pub broken_down : (links : List Bool) (source : ℕ) → is_link_up (set links source false) source ≡ false
+broken_down links source = is-up-at (set links source false) source ∙ down_at links source
 
-heard-with : (up : Bool) (source : ℕ) (what : What) (c : Controller) (link : ℕ) → is_link_up (links_with up source what c) link ≡ true → is_link_up c.links link ≡ true
-heard-with true source whats.Down c link up = is-up-at c.links link ∙ was-at c.links source link (sym (is-up-at (set c.links source false) link) ∙ up)
-heard-with true source (whats.Frame frame) c link up = up
-heard-with false source whats.Down c link up = up
-heard-with false source (whats.Frame frame) c link up = up
+heard_with : (up : Bool) (source : ℕ) (what : What) (c : Controller) (link : ℕ) → is_link_up (links_with up source what c) link ≡ true → is_link_up c.links link ≡ true
+heard_with true source whats.Down c link up = is-up-at c.links link ∙ was_at c.links source link (sym (is-up-at (set c.links source false) link) ∙ up)
+heard_with true source (whats.Frame frame) c link up = up
+heard_with false source whats.Down c link up = up
+heard_with false source (whats.Frame frame) c link up = up
 
-pub heard-before : (c : Controller) (s : Step) (link : ℕ) → hears (step c s).next link ≡ true → hears c link ≡ true
-heard-before c (Take item) link up = heard-with (hears c item.source) item.source item.what c link (ap (λ (links : List Bool). is_link_up links link) (sym (step_goes c (Take item)).links_are) ∙ up)
-heard-before c (Tick ms) link up = ap (λ (links : List Bool). is_link_up links link) (sym (step_goes c (Tick ms)).links_are) ∙ up
+pub heard_before : (c : Controller) (s : Step) (link : ℕ) → hears (step c s).next link ≡ true → hears c link ≡ true
+heard_before c (Take item) link up = heard_with (hears c item.source) item.source item.what c link (ap (λ (links : List Bool). is_link_up links link) (sym (step_goes c (Take item)).links_are) ∙ up)
+heard_before c (Tick ms) link up = ap (λ (links : List Bool). is_link_up links link) (sym (step_goes c (Tick ms)).links_are) ∙ up
 
 -- ---- what is put goes to links that are up
 
-pub none-to : (next : Controller) (at : Place) (target : Option Tenure) (outs : List Out) → AllByRecursion (λ out. hears next out.to ≡ true) outs → hears next at.station ≡ false → entries_to at target outs ≡ []
-none-to next at target [] all down = refl
-none-to next at target (out ∷ outs) all down =
+pub none_to : (next : Controller) (at : Place) (target : Option Tenure) (outs : List Out) → AllByRecursion (λ out. hears next out.to ≡ true) outs → hears next at.station ≡ false → entries_to at target outs ≡ []
+none_to next at target [] all down = refl
+none_to next at target (out ∷ outs) all down =
     ap (λ (o : Out). cond (nat_eq o.to at.station) (outbox_entry target out ∷ entries_to at target outs) (entries_to at target outs)) (entry-out target out)
     ∙ ap (λ (b : Bool). cond b (outbox_entry target out ∷ entries_to at target outs) (entries_to at target outs)) (other (cases_Bool (out.to == at.station)))
-    ∙ none-to next at target outs all.1 down
+    ∙ none_to next at target outs all.1 down
   where
     other : ((out.to == at.station) ≡ true) ⊎ ((out.to == at.station) ≡ false) → (out.to == at.station) ≡ false
     other (inr miss) = miss
@@ -75,29 +75,29 @@ pub record Lawful (c : Controller) (s : Step) : Type 0 where
   pub up : GoesToUp c s
   pub names : (number : ℕ) → 1 ≤ number → NamesItsMobile number c s
 
-same-access : (o now : Option Entry) (mobile : ℕ) → SameRequest (option_map (λ (e : Entry). e.connection) o) (option_map (λ (e : Entry). e.connection) now) → option_map (λ (e : Entry). e.connection.request.access) now ≡ Some mobile → (o ≡ None → ⊥) → option_map (λ (e : Entry). e.connection.request.access) o ≡ Some mobile
-same-access None now mobile same is there = absurd (there refl)
-same-access (Some e) None mobile same is there = absurd cc
-same-access (Some e) (Some x) mobile same is there = ap (λ (r : _). Some r.access) (sym same) ∙ is
+same_access : (o now : Option Entry) (mobile : ℕ) → SameRequest (option_map (λ (e : Entry). e.connection) o) (option_map (λ (e : Entry). e.connection) now) → option_map (λ (e : Entry). e.connection.request.access) now ≡ Some mobile → (o ≡ None → ⊥) → option_map (λ (e : Entry). e.connection.request.access) o ≡ Some mobile
+same_access None now mobile same is there = absurd (there refl)
+same_access (Some e) None mobile same is there = absurd cc
+same_access (Some e) (Some x) mobile same is there = ap (λ (r : _). Some r.access) (sym same) ∙ is
 
-users-of : (c : Controller) (s : Step) (at : Place) (number mobile : ℕ) → Lawful c s → asker (step c s).next number ≡ Some mobile → channel_state c at ≡ InUse number → asker c number ≡ Some mobile
-users-of c s at number mobile laws asks used = by number asks (laws.used.using at number).0 used where
+users_of : (c : Controller) (s : Step) (at : Place) (number mobile : ℕ) → Lawful c s → asker (step c s).next number ≡ Some mobile → channel_state c at ≡ InUse number → asker c number ≡ Some mobile
+users_of c s at number mobile laws asks used = by number asks (laws.used.using at number).0 used where
   by : (number : ℕ) → asker (step c s).next number ≡ Some mobile → (channel_state c at ≡ InUse number → Contains (used_places (connection_of c number)) at) → channel_state c at ≡ InUse number → asker c number ≡ Some mobile
   by zero asks uses used =
       let none : entry_of c 0 ≡ None = find_above 0 c.entries laws.ready.numbered.above in
       absurd (contains_none at (subst (λ (o : Option Entry). Contains (used_places (option_map (λ (e : Entry). e.connection) o)) at) none (uses used)))
   by (suc n) asks uses used =
-      same-access (entry_of c (suc n)) (entry_of (step c s).next (suc n)) mobile (laws.names (suc n) (omega arith)).stays asks
+      same_access (entry_of c (suc n)) (entry_of (step c s).next (suc n)) mobile (laws.names (suc n) (omega arith)).stays asks
       (λ none. contains_none at (subst (λ (o : Option Entry). Contains (used_places (option_map (λ (e : Entry). e.connection) o)) at) none (uses used)))
 
 -- ---- what is put fits the tenures
 
-pub use-free : (heard : List Rsl) (state : ChannelState) (number : ℕ) → state ≡ InUse number → hear heard state ≡ Free → ⊥
-use-free [] state number used free = absurd (let both : InUse number ≡ Free = sym used ∙ free in cc)
-use-free (rsl.RfChannelReleaseAck channel ∷ rest) (Releasing m) number used free = absurd cc
-use-free (rsl.RfChannelReleaseAck channel ∷ rest) Free number used free = absurd cc
-use-free (rsl.RfChannelReleaseAck channel ∷ rest) (InUse m) number used free = absurd cc
-use-free (_ ∷ rest) state number used free = absurd (let both : InUse number ≡ Free = sym used ∙ free in cc)
+pub use_free : (heard : List Rsl) (state : ChannelState) (number : ℕ) → state ≡ InUse number → hear heard state ≡ Free → ⊥
+use_free [] state number used free = absurd (let both : InUse number ≡ Free = sym used ∙ free in cc)
+use_free (rsl.RfChannelReleaseAck channel ∷ rest) (Releasing m) number used free = absurd cc
+use_free (rsl.RfChannelReleaseAck channel ∷ rest) Free number used free = absurd cc
+use_free (rsl.RfChannelReleaseAck channel ∷ rest) (InUse m) number used free = absurd cc
+use_free (_ ∷ rest) state number used free = absurd (let both : InUse number ≡ Free = sym used ∙ free in cc)
 
 -- a command leads to a tenure of the mobile whose connection uses the channel
 abbrev pub LeadsOwn : (Tenure → ℕ) → Actors → Place → Option Tenure → Out → Type 0
@@ -115,7 +115,7 @@ module _ (owner : Tenure → ℕ) (w : Actors) (at : Place) (heard : List Rsl) (
   assigns-fit number which (Ok (ImmediateAssignment channel request advance)) names = λ is. by (names is) which where
     by : (n : ℕ) × (state ≡ InUse n) × (asker w.controller n ≡ Some (slice_index_or request 0 0)) → Which number → owner (record { at = at; number = number }) ≡ slice_index_or request 0 0
     by (n, used, asks) (inl same) = ap (λ (k : ℕ). owner (record { at = at; number = k })) same ∙ agrees.own n (slice_index_or request 0 0) hearing used asks (λ down silent. true≢false (sym up ∙ down))
-    by (n, used, asks) (inr free) = absurd (use-free heard state n used free)
+    by (n, used, asks) (inr free) = absurd (use_free heard state n used free)
   assigns-fit number which (Ok _) names = tt
   assigns-fit number which (Err fault) names = tt
 
@@ -131,7 +131,7 @@ module _ (owner : Tenure → ℕ) (w : Actors) (at : Place) (heard : List Rsl) (
     by : (b : Bool) → (n : ℕ) × (state ≡ InUse n) × (owner tenure ≡ owner (tenure_behind w at)) → Which number → LeadsBy owner (record { at = at; number = number }) (if b then Some tenure else None)
     by false own which = tt
     by true (n, used, own) (inl now) = own ∙ ap (λ (k : ℕ). owner (record { at = at; number = k })) (sym now)
-    by true (n, used, own) (inr free) = absurd (use-free heard state n used free)
+    by true (n, used, own) (inr free) = absurd (use_free heard state n used free)
 
   fit-all : (target : Option Tenure) (outs : List Out) → AllByRecursion (NamesOut at w.controller) outs → AllByRecursion (LeadsOwn owner w at target) outs → FitAll owner at target (tenure_behind w at).number (hear heard state) outs
   fit-all target [] names leads = λ number which. tt
@@ -142,13 +142,13 @@ module _ (owner : Tenure → ℕ) (w : Actors) (at : Place) (heard : List Rsl) (
 
 -- ---- so it serves the channel
 
-pub serves-by : (owner : Tenure → ℕ) (w : Actors) (at : Place) (least : 1 ≤ at.station) (target : Option Tenure) (s : Step) (heard : List Rsl) → Agrees owner w at → Lawful w.controller s
+pub serves_by : (owner : Tenure → ℕ) (w : Actors) (at : Place) (least : 1 ≤ at.station) (target : Option Tenure) (s : Step) (heard : List Rsl) → Agrees owner w at → Lawful w.controller s
     → (hears (step w.controller s).next at.station ≡ true → Serving at least w.controller (hear heard (channel_state w.controller at)) (step w.controller s))
     → (hears (step w.controller s).next at.station ≡ true → is_up w at.station ≡ true → AllByRecursion (LeadsOwn owner w at target) (step w.controller s).outs) → Serves owner w at target (step w.controller s) heard
-serves-by owner w at least target s heard agrees laws serving leads = record {
-  hearing = heard-before w.controller s at.station;
-  silent = none-to (step w.controller s).next at target (step w.controller s).outs laws.up;
+serves_by owner w at least target s heard agrees laws serving leads = record {
+  hearing = heard_before w.controller s at.station;
+  silent = none_to (step w.controller s).next at target (step w.controller s).outs laws.up;
   goes = λ hearing. (serving hearing laws.sent).0;
-  fits = λ hearing up. fit-all owner w at heard agrees up (heard-before w.controller s at.station hearing) target (step w.controller s).outs (serving hearing laws.sent).1 (leads hearing up);
-  users = λ number mobile asks used. users-of w.controller s at number mobile laws asks used;
+  fits = λ hearing up. fit-all owner w at heard agrees up (heard_before w.controller s at.station hearing) target (step w.controller s).outs (serving hearing laws.sent).1 (leads hearing up);
+  users = λ number mobile asks used. users_of w.controller s at number mobile laws asks used;
 }

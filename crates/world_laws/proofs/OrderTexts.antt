@@ -85,17 +85,17 @@ pub record ReadAs (x y : Rsl) : Type 0 where
   pub text : rsl_text x ≡ rsl_text y
   pub reading : rsl_reading (rsl_text x) ≡ Ok y
 
-read-message : (n station : ℕ) (x : Rsl) (m : Message) → out_of n (Station station x) ≡ out_of n m → IsReadOf n m (rsl_text x) → (y : Rsl) × ReadAs x y
+read_message : (n station : ℕ) (x : Rsl) (m : Message) → out_of n (Station station x) ≡ out_of n m → IsReadOf n m (rsl_text x) → (y : Rsl) × ReadAs x y
 unfolding out_of
-read-message n station x (Station station' y) same read = (y, record { text = ap (λ (o : Out). o.frame.body) same; reading = read })
-read-message n station x (Request message) same read = absurd (apart 0 0xfd refl (ap (λ (o : Out). o.frame.stream) same))
-read-message n station x (Data d message) same read = absurd (apart 0 0xfd refl (ap (λ (o : Out). o.frame.stream) same))
-read-message n station x (ReleaseComplete d) same read = absurd (apart 0 0xfd refl (ap (λ (o : Out). o.frame.stream) same))
+read_message n station x (Station station' y) same read = (y, record { text = ap (λ (o : Out). o.frame.body) same; reading = read })
+read_message n station x (Request message) same read = absurd (apart 0 0xfd refl (ap (λ (o : Out). o.frame.stream) same))
+read_message n station x (Data d message) same read = absurd (apart 0 0xfd refl (ap (λ (o : Out). o.frame.stream) same))
+read_message n station x (ReleaseComplete d) same read = absurd (apart 0 0xfd refl (ap (λ (o : Out). o.frame.stream) same))
 
-pub read-of : (n station : ℕ) (x : Rsl) → IsSent (out_of n (Station station x)) → (y : Rsl) × ReadAs x y
+pub read_of : (n station : ℕ) (x : Rsl) → IsSent (out_of n (Station station x)) → (y : Rsl) × ReadAs x y
 unfolding out_of
-read-of n station x sent = elim sent.is [
-  | inl message ↦ read-message n station x message.message message.put message.read
+read_of n station x sent = elim sent.is [
+  | inl message ↦ read_message n station x message.message message.put message.read
   | inr pong ↦ absurd (apart 0 0xfe refl (ap (λ (o : Out). o.frame.stream) pong))
 ]
 
@@ -109,42 +109,42 @@ said-other at n station x miss = ap (λ (b : Bool). if b then rsl_in (out_of n (
 
 -- ---- what passes a channel by
 
-read-passes : (at : Place) (station : ℕ) (x y : Rsl) → station ≡ at.station → rsl_text x ≡ rsl_text y → Avoids at (Station station x) → Passes at.number (Some y)
-read-passes at station x (rsl.ChannelActivation b) same text avoids =
+read_passes : (at : Place) (station : ℕ) (x y : Rsl) → station ≡ at.station → rsl_text x ≡ rsl_text y → Avoids at (Station station x) → Passes at.number (Some y)
+read_passes at station x (rsl.ChannelActivation b) same text avoids =
     let found = activation_back x b text in
     let away : record { station = station; number = found.0.channel } ≢ at = subst (λ (z : Rsl). Avoids at (Station station z)) found.1 avoids in
     λ is. away (ap (λ (s : ℕ). record { station = s; number = found.0.channel }) same ∙ ap (λ (k : ℕ). record { station = at.station; number = k }) (found.2 ∙ is))
-read-passes at station x (rsl.RfChannelRelease channel) same text avoids =
+read_passes at station x (rsl.RfChannelRelease channel) same text avoids =
     let away : record { station = station; number = channel } ≢ at = subst (λ (z : Rsl). Avoids at (Station station z)) (release_back x channel text) avoids in
     λ is. away (ap (λ (s : ℕ). record { station = s; number = channel }) same ∙ ap (λ (k : ℕ). record { station = at.station; number = k }) is)
-read-passes at station x _ same text avoids = tt
+read_passes at station x _ same text avoids = tt
 
-pub no-switch : (at : Place) → 1 ≤ at.station → (SWITCH_LINK == at.station) ≡ false
-no-switch at least = elim (cases_Bool (SWITCH_LINK == at.station)) [
+pub no_switch : (at : Place) → 1 ≤ at.station → (SWITCH_LINK == at.station) ≡ false
+no_switch at least = elim (cases_Bool (SWITCH_LINK == at.station)) [
   | inr miss ↦ miss
   | inl hit ↦ absurd (let same : SWITCH_LINK ≡ at.station = eqb-true SWITCH_LINK at.station hit in omega (arith, same, least))
 ]
 
-pub seen-avoids : (n : ℕ) (m : Message) (at : Place) → 1 ≤ at.station → IsSent (out_of n m) → Avoids at m → Passes at.number (said_to at (out_of n m))
+pub seen_avoids : (n : ℕ) (m : Message) (at : Place) → 1 ≤ at.station → IsSent (out_of n m) → Avoids at m → Passes at.number (said_to at (out_of n m))
 unfolding out_of
-seen-avoids n (Station station x) at least sent avoids = elim (cases_Bool (station == at.station)) [
+seen_avoids n (Station station x) at least sent avoids = elim (cases_Bool (station == at.station)) [
   | inl hit ↦
-      let read = read-of n station x sent in
-      subst (Passes at.number) (sym (said-own at n station x read.0 hit read.1)) (read-passes at station x read.0 (eqb-true station at.station hit) read.1.text avoids)
+      let read = read_of n station x sent in
+      subst (Passes at.number) (sym (said-own at n station x read.0 hit read.1)) (read_passes at station x read.0 (eqb-true station at.station hit) read.1.text avoids)
   | inr miss ↦ subst (Passes at.number) (sym (said-other at n station x miss)) tt
 ]
-seen-avoids n (Request message) at least sent avoids = subst (Passes at.number) (sym (ap (λ (b : Bool). if b then rsl_in (out_of n (Request message)).frame else None) (no-switch at least))) tt
-seen-avoids n (Data destination message) at least sent avoids = subst (Passes at.number) (sym (ap (λ (b : Bool). if b then rsl_in (out_of n (Data destination message)).frame else None) (no-switch at least))) tt
-seen-avoids n (ReleaseComplete destination) at least sent avoids = subst (Passes at.number) (sym (ap (λ (b : Bool). if b then rsl_in (out_of n (ReleaseComplete destination)).frame else None) (no-switch at least))) tt
+seen_avoids n (Request message) at least sent avoids = subst (Passes at.number) (sym (ap (λ (b : Bool). if b then rsl_in (out_of n (Request message)).frame else None) (no_switch at least))) tt
+seen_avoids n (Data destination message) at least sent avoids = subst (Passes at.number) (sym (ap (λ (b : Bool). if b then rsl_in (out_of n (Data destination message)).frame else None) (no_switch at least))) tt
+seen_avoids n (ReleaseComplete destination) at least sent avoids = subst (Passes at.number) (sym (ap (λ (b : Bool). if b then rsl_in (out_of n (ReleaseComplete destination)).frame else None) (no_switch at least))) tt
 
-pub seen-release : (n : ℕ) (at : Place) → IsSent (out_of n (Station at.station (rsl.RfChannelRelease at.number))) → said_to at (out_of n (Station at.station (rsl.RfChannelRelease at.number))) ≡ Some (rsl.RfChannelRelease at.number)
-seen-release n at sent =
-    let read = read-of n at.station (rsl.RfChannelRelease at.number) sent in
+pub seen_release : (n : ℕ) (at : Place) → IsSent (out_of n (Station at.station (rsl.RfChannelRelease at.number))) → said_to at (out_of n (Station at.station (rsl.RfChannelRelease at.number))) ≡ Some (rsl.RfChannelRelease at.number)
+seen_release n at sent =
+    let read = read_of n at.station (rsl.RfChannelRelease at.number) sent in
     said-own at n at.station (rsl.RfChannelRelease at.number) read.0 (eq-eqb at.station at.station refl) read.1
     ∙ ap (λ (y : Rsl). Some y) (release_back read.0 at.number (sym read.1.text))
 
-pub seen-activation : (n : ℕ) (at : Place) (a : Activation) → IsSent (out_of n (Station at.station (rsl.ChannelActivation a))) → (b : Activation) × (said_to at (out_of n (Station at.station (rsl.ChannelActivation a))) ≡ Some (rsl.ChannelActivation b)) × (b.channel ≡ a.channel)
-seen-activation n at a sent =
-    let read = read-of n at.station (rsl.ChannelActivation a) sent in
+pub seen_activation : (n : ℕ) (at : Place) (a : Activation) → IsSent (out_of n (Station at.station (rsl.ChannelActivation a))) → (b : Activation) × (said_to at (out_of n (Station at.station (rsl.ChannelActivation a))) ≡ Some (rsl.ChannelActivation b)) × (b.channel ≡ a.channel)
+seen_activation n at a sent =
+    let read = read_of n at.station (rsl.ChannelActivation a) sent in
     let back = activation_back read.0 a (sym read.1.text) in
     (back.0, said-own at n at.station (rsl.ChannelActivation a) read.0 (eq-eqb at.station at.station refl) read.1 ∙ ap (λ (y : Rsl). Some y) back.1, back.2)

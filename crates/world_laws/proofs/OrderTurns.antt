@@ -19,27 +19,27 @@ use Rattle.controller_model.proofs.LifeLaws.UsingWords.{IsNoNack}
 use Rattle.controller_model.specs.Channels.{kind_of}
 use Rattle.dtap_codec.specs.declared.report.Report.{Report}
 use Rattle.controller_model.specs.Decision.TheVariants.{Move}
-use Rattle.world_laws.proofs.OrderNames.{NamesIn, NamesOut, no-assignments, row-names}
-use Rattle.world_laws.proofs.OrderRows.{IsFreeThere, IsOf, States, Touches, place-or, row-touches, station-activates, touches-goes}
+use Rattle.world_laws.proofs.OrderNames.{NamesIn, NamesOut, no_assignments, row_names}
+use Rattle.world_laws.proofs.OrderRows.{IsFreeThere, IsOf, States, Touches, place_or, row_touches, station_activates, touches_goes}
 use Rattle.world_laws.proofs.OrderRows.OneOrder.{here}
 use Rattle.world_laws.proofs.OrderRows.Touches.{begins_it, leaves_it}
 
 -- ---- the channels of a connection
 
-apart-behind : (cs : List Channel) (serving target : Channel) → AreApart (cs ++ serving ∷ target ∷ []) → place_of target ≢ place_of serving
-apart-behind [] serving target all same = true≢false (sym both ∙ all.0.0) where
+apart_behind : (cs : List Channel) (serving target : Channel) → AreApart (cs ++ serving ∷ target ∷ []) → place_of target ≢ place_of serving
+apart_behind [] serving target all same = true≢false (sym both ∙ all.0.0) where
   both : (serving.station == target.station) && (serving.number == target.number) ≡ true
   both = ap (λ (b : Bool). b && (serving.number == target.number)) (eq-eqb serving.station target.station (sym (ap (λ (p : Place). p.station) same))) ∙ eq-eqb serving.number target.number (sym (ap (λ (p : Place). p.number) same))
-apart-behind (c ∷ cs) serving target all same = apart-behind cs serving target all.1 same
+apart_behind (c ∷ cs) serving target all same = apart_behind cs serving target all.1 same
 
-apart-target : (roles : Roles) (t : TargetRole) → roles.target ≡ Some t → AreApart (used_in roles) → place_of t.target.channel ≢ place_of roles.serving
-apart-target roles t is all = apart-behind (undone roles.draining) roles.serving t.target.channel (subst (λ (o : Option TargetRole). AreApart (undone roles.draining ++ roles.serving ∷ target_channels o)) is all)
+apart_target : (roles : Roles) (t : TargetRole) → roles.target ≡ Some t → AreApart (used_in roles) → place_of t.target.channel ≢ place_of roles.serving
+apart_target roles t is all = apart_behind (undone roles.draining) roles.serving t.target.channel (subst (λ (o : Option TargetRole). AreApart (undone roles.draining ++ roles.serving ∷ target_channels o)) is all)
 
-pub of-owns : (channels : States) (links : List Bool) (n : ℕ) (roles : Roles) → Owns channels links n roles → IsOf n channels roles
-of-owns channels links n roles owns = record { using = owns.using; apart = λ t is. apart-target roles t is owns.apart }
+pub of_owns : (channels : States) (links : List Bool) (n : ℕ) (roles : Roles) → Owns channels links n roles → IsOf n channels roles
+of_owns channels links n roles owns = record { using = owns.using; apart = λ t is. apart_target roles t is owns.apart }
 
-free-offer : (p : Parameters) (channels : States) (links : List Bool) (d : Channel) → IsShaped p channels → IsOffered channels links d → IsFreeThere channels (place_of d)
-free-offer p channels links d shaped offered = record {
+free_offer : (p : Parameters) (channels : States) (links : List Bool) (d : Channel) → IsShaped p channels → IsOffered channels links d → IsFreeThere channels (place_of d)
+free_offer p channels links d shaped offered = record {
   free = offered.is_free;
   is_in = offered.is_in;
   few = subst (λ (l : ℕ). d.number < l) (all_at IsRow channels d.station [] offered.is_in.station shaped.rows) offered.is_in.number;
@@ -72,8 +72,8 @@ module _ (at : Place) (least : 1 ≤ at.station) where
   fitting-serves c d otherwise e input offer None is fits same = same
   fitting-serves c d otherwise e input offer (Some r) is fits same = λ sent.
       let changes = changes_of e.connection input offer r fits.stands is in (
-        touches-goes e.connection.number at d.channels r.outs least sent (row-touches e.connection.number at d.channels e.connection input offer r changes fits.of fits.free),
-        row-names at c e.connection.number e.connection input offer r least sent is changes fits.used fits.asks,
+        touches_goes e.connection.number at d.channels r.outs least sent (row_touches e.connection.number at d.channels e.connection input offer r changes fits.of fits.free),
+        row_names at c e.connection.number e.connection input offer r least sent is changes fits.used fits.asks,
       )
 
   asks-of : (c : Controller) (e : Entry) → entry_of c e.connection.number ≡ Some e → asker c e.connection.number ≡ Some e.connection.request.access
@@ -92,8 +92,8 @@ module _ (at : Place) (least : 1 ≤ at.station) where
       fitting-serves c c (ignoring c) e input (request_offer c e.connection input) (row_in c e.connection input) refl
       (record {
         stands = own.stands;
-        of = λ is_open. of-owns c.channels c.links e.connection.number (roles_of e.connection) (owns_entry c.links c e own.there ready.holds is_open);
-        free = λ is_open f is. free-offer c.settings c.channels c.links f ready.holds.shaped (assignment_offers c (serving_after e.connection (row_of e.connection input None)) f ready.holds.shaped is);
+        of = λ is_open. of_owns c.channels c.links e.connection.number (roles_of e.connection) (owns_entry c.links c e own.there ready.holds is_open);
+        free = λ is_open f is. free_offer c.settings c.channels c.links f ready.holds.shaped (assignment_offers c (serving_after e.connection (row_of e.connection input None)) f ready.holds.shaped is);
         used = used-of c e own.there ready.holds;
         asks = asks-of c e own.there;
       }) (ignoring-serves c)
@@ -111,9 +111,9 @@ module _ (at : Place) (least : 1 ≤ at.station) where
             let owns = owns_entry c.links c e own.there ready.holds is_open in
             record {
               using = still_in c.channels p Free (InUse e.connection.number) (e.connection.serving ∷ target_channels (roles_of e.connection).target) (λ same. release≢use k e.connection.number (sym was ∙ same)) owns.using;
-              apart = λ t is. apart-target (roles_of e.connection) t is owns.apart;
+              apart = λ t is. apart_target (roles_of e.connection) t is owns.apart;
             };
-        free = λ is_open f is. free-offer c.settings (with_state p Free c.channels) c.links f shaped (assignment_offers (freed p c) (serving_after e.connection (row_of e.connection input None)) f shaped is);
+        free = λ is_open f is. free_offer c.settings (with_state p Free c.channels) c.links f shaped (assignment_offers (freed p c) (serving_after e.connection (row_of e.connection input None)) f shaped is);
         used = used-of c e own.there ready.holds;
         asks = asks-of c e own.there;
       }) (quiet-serves c (freed p c) (channel_state (freed p c) at) refl)
@@ -172,12 +172,12 @@ module _ (at : Place) (least : 1 ≤ at.station) where
   given-serves : (c : Controller) (source : ℕ) (request : RequestReference) (delay : ℕ) (o : Option Channel) → access_channel c source ≡ o → Ready c → Serving c (channel_state c at) (given c request delay o)
   given-serves c source request delay None is ready = ignoring-serves c
   given-serves c source request delay (Some channel) is ready = λ sent. (
-    touches-goes c.next_number at c.channels (access_activation channel ∷ []) least sent (touches (place-or at (place_of channel))),
-    no-assignments at c c.next_number (access_activation channel ∷ []) least sent (tt, tt),
+    touches_goes c.next_number at c.channels (access_activation channel ∷ []) least sent (touches (place_or at (place_of channel))),
+    no_assignments at c c.next_number (access_activation channel ∷ []) least sent (tt, tt),
   ) where
     touches : (place_of channel ≡ at) ⊎ (place_of channel ≢ at) → Touches c.next_number at c.channels (access_activation channel ∷ [])
-    touches (inl same) = begins_it (subst (IsFreeThere c.channels) same (free-offer c.settings c.channels c.links channel ready.holds.shaped (offered_free c c.links source 0 Sdcch channel refl ready.holds.shaped is)))
-        (here (station-activates at channel.station _ (ap (λ (p : Place). p.station) same) (ap (λ (p : Place). p.number) same)) tt)
+    touches (inl same) = begins_it (subst (IsFreeThere c.channels) same (free_offer c.settings c.channels c.links channel ready.holds.shaped (offered_free c c.links source 0 Sdcch channel refl ready.holds.shaped is)))
+        (here (station_activates at channel.station _ (ap (λ (p : Place). p.station) same) (ap (λ (p : Place). p.number) same)) tt)
     touches (inr differ) = leaves_it (differ, tt)
 
   if-serves : (b : Bool) (c : Controller) (t : Turn) → (b ≡ true → Serving c (channel_state c at) t) → Serving c (channel_state c at) (if b then t else ignoring c)
@@ -194,8 +194,8 @@ module _ (at : Place) (least : 1 ≤ at.station) where
       fitting-serves c d (turn [] d) put inputs.Move (handover_offer d put.connection.serving cell) (row_of put.connection inputs.Move (handover_offer d put.connection.serving cell)) refl
       (record {
         stands = subst Stands (sym same) own.stands;
-        of = subst (λ (s : Connection). IsOpen s.state → IsOf s.number c.channels (roles_of s)) (sym same) (λ is_open. of-owns c.channels c.links e.connection.number (roles_of e.connection) (owns_entry c.links c e own.there ready.holds is_open));
-        free = λ is_open f is. free-offer c.settings c.channels c.links f ready.holds.shaped (offered_free d c.links cell c.handovers (kind_of put.connection.serving.number) f refl ready.holds.shaped is);
+        of = subst (λ (s : Connection). IsOpen s.state → IsOf s.number c.channels (roles_of s)) (sym same) (λ is_open. of_owns c.channels c.links e.connection.number (roles_of e.connection) (owns_entry c.links c e own.there ready.holds is_open));
+        free = λ is_open f is. free_offer c.settings c.channels c.links f ready.holds.shaped (offered_free d c.links cell c.handovers (kind_of put.connection.serving.number) f refl ready.holds.shaped is);
         used = subst (λ (s : Connection). IsOpen s.state → place_of s.serving ≡ at → channel_state c at ≡ InUse s.number) (sym same) (used-of c e own.there ready.holds);
         asks = subst (λ (s : Connection). asker c s.number ≡ Some s.request.access) (sym same) (asks-of c e own.there);
       }) (quiet-serves c d (channel_state c at) refl)

@@ -16,8 +16,8 @@ use Rattle.world_laws.specs.GoingDown.{leading_from_air, leading_from_outbox, go
 use Rattle.world_laws.specs.LineUps.{commanded_target}
 use Rattle.world_laws.specs.Seated.{commanded_channels}
 use Rattle.world_laws.specs.Staying.{AreLinedUp, carried_for, IsForOthers, BringsNothing, IsOthers, RelayLeavesOthers, TimeLeavesOthers}
-use Rattle.world_laws.proofs.Quiet.{sees-itself}
-use Rattle.world_laws.proofs.Seeing.{SameTenures, SeesSame, LinedUp-same}
+use Rattle.world_laws.proofs.Quiet.{sees_itself}
+use Rattle.world_laws.proofs.Seeing.{SameTenures, SeesSame, lined_up_same}
 use Rattle.world_laws.proofs.Spots.{set-same, set-apart}
 use Rattle.world_laws.proofs.SwitchTakes.{forwarded-first}
 use Rattle.world_laws.proofs.SwitchTook.{waiting_in}
@@ -45,8 +45,8 @@ waiting-same entries target out number none =
 
 -- ---- one output
 
-pub joined-link : (u : Actors) (target : Option Tenure) (out : Out) (n : ℕ) {X : Type 0} (f : List OutboxEntry → X) → (out.to ≡ n → f (outbox_of u out.to ++ entry_of target out ∷ []) ≡ f (outbox_of u out.to)) → f (outbox_of (with_outbox out.to (outbox_of u out.to ++ entry_of target out ∷ []) u) n) ≡ f (outbox_of u n)
-joined-link u target out n f same =
+pub joined_link : (u : Actors) (target : Option Tenure) (out : Out) (n : ℕ) {X : Type 0} (f : List OutboxEntry → X) → (out.to ≡ n → f (outbox_of u out.to ++ entry_of target out ∷ []) ≡ f (outbox_of u out.to)) → f (outbox_of (with_outbox out.to (outbox_of u out.to ++ entry_of target out ∷ []) u) n) ≡ f (outbox_of u n)
+joined_link u target out n f same =
     elim (cases_Bool (nat_eq n out.to)) [
       | inl here ↦ set-same (λ (link : Link). f link.outbox) u.links broken_link out.to n (record (link_of u out.to) { outbox = outbox_of u out.to ++ entry_of target out ∷ [] }) (same (sym (eqb-true n out.to here)))
       | inr other ↦ ap (λ (link : Link). f link.outbox) (set-apart u.links broken_link out.to n (record (link_of u out.to) { outbox = outbox_of u out.to ++ entry_of target out ∷ [] }) (eqb-false n out.to other))
@@ -55,12 +55,12 @@ joined-link u target out n f same =
 pub down-joined : (u : Actors) (target : Option Tenure) (out : Out) (c : Channel) → (out.to ≡ c.station → leading_from_outbox c.number (entry_of target out) ≡ []) → going_down (with_outbox out.to (outbox_of u out.to ++ entry_of target out ∷ []) u) (place_of c) ≡ going_down u (place_of c)
 down-joined u target out c none =
     ap (λ (as_led : List AirMessage). flat_map leading_from_air (spot_at u (place_of c)).air ++ as_led)
-    (joined-link u target out c.station (flat_map (leading_from_outbox c.number)) (λ is. flat_map-append (leading_from_outbox c.number) (outbox_of u out.to) (entry_of target out ∷ [])
+    (joined_link u target out c.station (flat_map (leading_from_outbox c.number)) (λ is. flat_map-append (leading_from_outbox c.number) (outbox_of u out.to) (entry_of target out ∷ [])
     ∙ ap (λ (as_led : List AirMessage). flat_map (leading_from_outbox c.number) (outbox_of u out.to) ++ as_led) (append-nil (leading_from_outbox c.number (entry_of target out)) ∙ none is) ∙ append-nil (flat_map (leading_from_outbox c.number) (outbox_of u out.to))))
 
-sees-joined : {w u : Actors} {s : Connection} (target : Option Tenure) (out : Out) → IsForOthers target s out → SeesSame w u s → SeesSame w (joined_by target u out) s
+sees_joined : {w u : Actors} {s : Connection} (target : Option Tenure) (out : Out) → IsForOthers target s out → SeesSame w u s → SeesSame w (joined_by target u out) s
 unfolding SameTenures
-sees-joined {w} {u} {s} target out others sees = by_link (is_up u out.to) where
+sees_joined {w} {u} {s} target out others sees = by_link (is_up u out.to) where
   v : Actors
   v = with_outbox out.to (outbox_of u out.to ++ entry_of target out ∷ []) u
 
@@ -72,7 +72,7 @@ sees-joined {w} {u} {s} target out others sees = by_link (is_up u out.to) where
     serving = down-joined u target out s.serving others.leads.0 ∙ sees.serving;
     target = λ t is. down-joined u target out t.channel (of_target t is) ∙ sees.target t is;
     tenures = sees.tenures;
-    waiting = joined-link u target out SWITCH_LINK (λ (entries : List OutboxEntry). map (λ f. f.message) (forwarded (map (λ entry. entry.out) entries) s.number)) (λ is. waiting_same) ∙ sees.waiting;
+    waiting = joined_link u target out SWITCH_LINK (λ (entries : List OutboxEntry). map (λ f. f.message) (forwarded (map (λ entry. entry.out) entries) s.number)) (λ is. waiting_same) ∙ sees.waiting;
     taken = sees.taken;
   } where
     of_target : (t : Target) → commanded_target s.state ≡ Some t → out.to ≡ t.channel.station → leading_from_outbox t.channel.number (entry_of target out) ≡ []
@@ -81,29 +81,29 @@ sees-joined {w} {u} {s} target out others sees = by_link (is_up u out.to) where
     waiting_same : map (λ f. f.message) (forwarded (map (λ entry. entry.out) (outbox_of u out.to ++ entry_of target out ∷ [])) s.number) ≡ map (λ f. f.message) (forwarded (map (λ entry. entry.out) (outbox_of u out.to)) s.number)
     waiting_same = waiting-same (outbox_of u out.to) target out s.number others.carries
 
-sees-all : {w : Actors} {s : Connection} (target : Option Tenure) (outs : List Out) (u : Actors) → AllByRecursion (IsForOthers target s) outs → SeesSame w u s → SeesSame w (fold (joined_by target) u outs) s
-sees-all target [] u others sees = sees
-sees-all target (out ∷ outs) u others sees = sees-all target outs (joined_by target u out) others.1 (sees-joined target out others.0 sees)
+sees_all : {w : Actors} {s : Connection} (target : Option Tenure) (outs : List Out) (u : Actors) → AllByRecursion (IsForOthers target s) outs → SeesSame w u s → SeesSame w (fold (joined_by target) u outs) s
+sees_all target [] u others sees = sees
+sees_all target (out ∷ outs) u others sees = sees_all target outs (joined_by target u out) others.1 (sees_joined target out others.0 sees)
 
 -- ---- the controller's turn
 
-sees-turn : {w u : Actors} {s : Connection} (target : Option Tenure) (t : Turn) → AllByRecursion (IsForOthers target s) t.outs → SeesSame w u s → SeesSame w (with_turn target t u) s
+sees_turn : {w u : Actors} {s : Connection} (target : Option Tenure) (t : Turn) → AllByRecursion (IsForOthers target s) t.outs → SeesSame w u s → SeesSame w (with_turn target t u) s
 unfolding SameTenures
-sees-turn {w} {u} {s} target t others sees =
-    sees-all target t.outs (record u { controller = t.next }) others (record { coming = sees.coming; up = sees.up; serving = sees.serving; target = sees.target; tenures = sees.tenures; waiting = sees.waiting; taken = sees.taken })
+sees_turn {w} {u} {s} target t others sees =
+    sees_all target t.outs (record u { controller = t.next }) others (record { coming = sees.coming; up = sees.up; serving = sees.serving; target = sees.target; tenures = sees.tenures; waiting = sees.waiting; taken = sees.taken })
 
 -- the mobiles are as before
-pub turn-mobiles : (target : Option Tenure) (outs : List Out) (u : Actors) → (fold (joined_by target) u outs).mobiles ≡ u.mobiles
-turn-mobiles target [] u = refl
-turn-mobiles target (out ∷ outs) u = turn-mobiles target outs (joined_by target u out) ∙ one (is_up u out.to) where
+pub turn_mobiles : (target : Option Tenure) (outs : List Out) (u : Actors) → (fold (joined_by target) u outs).mobiles ≡ u.mobiles
+turn_mobiles target [] u = refl
+turn_mobiles target (out ∷ outs) u = turn_mobiles target outs (joined_by target u out) ∙ one (is_up u out.to) where
   one : (b : Bool) → (if b then with_outbox out.to (outbox_of u out.to ++ entry_of target out ∷ []) u else u).mobiles ≡ u.mobiles
   one true = refl
   one false = refl
 
 -- an item that brings nothing is handled
-sees-handled : {w : Actors} {s : Connection} (item : RelayItem) (items : List RelayItem) → w.inbox ≡ item ∷ items → BringsNothing s item → SeesSame w (record w { inbox = items }) s
+sees_handled : {w : Actors} {s : Connection} (item : RelayItem) (items : List RelayItem) → w.inbox ≡ item ∷ items → BringsNothing s item → SeesSame w (record w { inbox = items }) s
 unfolding SameTenures
-sees-handled {w} {s} item items stood nothing = record {
+sees_handled {w} {s} item items stood nothing = record {
   coming = AllByRecursion-so (λ c. brings_in (place_of c) item ≡ []) (λ c. coming_up (record w { inbox = items }) (place_of c) ≡ coming_up w (place_of c)) (λ c none. gone c none) (used_channels s) nothing;
   up = λ n. refl;
   serving = refl;
@@ -116,19 +116,19 @@ sees-handled {w} {s} item items stood nothing = record {
   gone c none = ap (λ (xs : List Item). (xs ++ flat_map (brings_in (place_of c)) items) ++ made_of c.number (base_of w c.station).messages) (sym none) ∙ ap (λ (xs : List RelayItem). flat_map (brings_in (place_of c)) xs ++ made_of c.number (base_of w c.station).messages) (sym stood)
 
 leaves : {m : ℕ} {w v : Actors} {mobile : ℕ} {s : Connection} → AreLinedUp m w mobile s → v.mobiles ≡ w.mobiles → SeesSame w v s → AreLinedUp m v mobile s
-leaves {mobile} lined same sees = record { one = lined.one; found = ap (λ (ms : List _). find (has_number mobile) ms) same ∙ lined.found; lined = LinedUp-same lined.one lined.one sees refl refl refl lined.lined }
+leaves {mobile} lined same sees = record { one = lined.one; found = ap (λ (ms : List _). find (has_number mobile) ms) same ∙ lined.found; lined = lined_up_same lined.one lined.one sees refl refl refl lined.lined }
 
-pub RelayLeavesOthers-new : (settings : Parameters) (events : List Event) → RelayLeavesOthers settings events
+pub relay_leaves_others_new : (settings : Parameters) (events : List Event) → RelayLeavesOthers settings events
 unfolding event_after
-RelayLeavesOthers-new settings events mobile s others lined =
+relay_leaves_others_new settings events mobile s others lined =
     let w : Actors = world settings events in
     after-taken (λ v. AreLinedUp (modulus_in settings) v mobile s) (after_handle w) w
     (handle-leads (λ v. AreLinedUp (modulus_in settings) v mobile s) w (λ item items stood.
     let both : BringsNothing s item × AllByRecursion (IsForOthers (target_in w item.source item.what) s) (take item w.controller).outs = subst (IsOthers w s) stood others in
-    leaves lined (turn-mobiles (target_in w item.source item.what) (take item w.controller).outs _) (sees-turn (target_in w item.source item.what) (take item w.controller) both.1 (sees-handled item items stood both.0)))) lined
+    leaves lined (turn_mobiles (target_in w item.source item.what) (take item w.controller).outs _) (sees_turn (target_in w item.source item.what) (take item w.controller) both.1 (sees_handled item items stood both.0)))) lined
 
-pub TimeLeavesOthers-new : (settings : Parameters) (events : List Event) (ms : ℕ) → TimeLeavesOthers settings events ms
+pub time_leaves_others_new : (settings : Parameters) (events : List Event) (ms : ℕ) → TimeLeavesOthers settings events ms
 unfolding event_after
-TimeLeavesOthers-new settings events ms mobile s others lined =
+time_leaves_others_new settings events ms mobile s others lined =
     let w : Actors = world settings events in
-    leaves lined (turn-mobiles None (tick ms w.controller).outs _) (sees-turn None (tick ms w.controller) others (sees-itself w s))
+    leaves lined (turn_mobiles None (tick ms w.controller).outs _) (sees_turn None (tick ms w.controller) others (sees_itself w s))

@@ -10,9 +10,9 @@ use Rattle.world_laws.specs.LineUps.{is_ended}
 use Rattle.world_laws.specs.OwnItem.{said_by, IsRead, IsBesideTarget}
 use Rattle.world_laws.specs.Staying.{EndsLast}
 use Rattle.world_laws.specs.ToCome.{AreLayer3, mark, texts_of, AsOld, AsServing}
-use Rattle.world_laws.proofs.Framing.{all-right}
-use Rattle.world_laws.proofs.RolesAfter.{both-false}
-use Rattle.world_laws.proofs.OwnFuture.{texts-append, ended-append, from-said, ended-said}
+use Rattle.world_laws.proofs.Framing.{all_right}
+use Rattle.world_laws.proofs.RolesAfter.{both_false}
+use Rattle.world_laws.proofs.OwnFuture.{texts-append, ended-append, from-said, ended_said}
 
 -- ---- the target beside which an input comes
 
@@ -34,10 +34,10 @@ passes-apart (inputs.ActivationAck at) targets c apart = is_one-apart targets c 
 passes-apart (inputs.Failure at change cause) targets c apart = is_one-apart targets c apart
 passes-apart _ targets c apart = refl
 
-pub passes-beside : (input : Input) (targets : List Channel) (place : Place) → passes_target input targets place ≡ true → IsBesideTarget input
-passes-beside (inputs.ActivationAck at) targets place is = tt
-passes-beside (inputs.Failure at change cause) targets place is = tt
-passes-beside _ targets place is = absurd cc
+pub passes_beside : (input : Input) (targets : List Channel) (place : Place) → passes_target input targets place ≡ true → IsBesideTarget input
+passes_beside (inputs.ActivationAck at) targets place is = tt
+passes_beside (inputs.Failure at change cause) targets place is = tt
+passes_beside _ targets place is = absurd cc
 
 -- ---- what may still come
 
@@ -54,84 +54,84 @@ pub record IsHeard (input : Input) (text : List ℕ) (targets : List Channel) (b
   pub passes_not : passes_target input targets (place_of c) ≡ false
   pub whole : AreLayer3 (texts_of (before (place_of c)))
 
-either-false : (a b : Bool) → a ≡ false → b ≡ false → a || b ≡ false
-either-false false b none other = other
-either-false true b none other = absurd cc
+either_false : (a b : Bool) → a ≡ false → b ≡ false → a || b ≡ false
+either_false false b none other = other
+either_false true b none other = absurd cc
 
-and-true : (a : Bool) → a && true ≡ a
-and-true true = refl
-and-true false = refl
+and_true : (a : Bool) → a && true ≡ a
+and_true true = refl
+and_true false = refl
 
-pub and-false : (a : Bool) → a && false ≡ false
-and-false true = refl
-and-false false = refl
+pub and_false : (a : Bool) → a && false ≡ false
+and_false true = refl
+and_false false = refl
 
-heard-after : (input : Input) (text : List ℕ) (targets : List Channel) (after : Place → List Item) (up : ℕ → Bool) (place : Place) → is_ended (said_by input text place) ≡ false → passes_target input targets place ≡ false
+heard_after : (input : Input) (text : List ℕ) (targets : List Channel) (after : Place → List Item) (up : ℕ → Bool) (place : Place) → is_ended (said_by input text place) ≡ false → passes_target input targets place ≡ false
     → to_come input text targets after up place ≡ texts_of (after place) ++ mark (not (up place.station) && not (is_ended (after place)))
-heard-after input text targets after up place goes_on passes_not =
-    cond-false (is_silent input text targets place) [] (texts_of (after place) ++ mark (not (up place.station) && not (is_ended (after place)))) (either-false (is_ended (said_by input text place)) (passes_target input targets place) goes_on passes_not)
+heard_after input text targets after up place goes_on passes_not =
+    cond-false (is_silent input text targets place) [] (texts_of (after place) ++ mark (not (up place.station) && not (is_ended (after place)))) (either_false (is_ended (said_by input text place)) (passes_target input targets place) goes_on passes_not)
 
 -- an end that wasn't brought now is still on its way
 pub ended-same : (input : Input) (text : List ℕ) (before after : Place → List Item) (place : Place) → before place ≡ said_by input text place ++ after place → is_ended (said_by input text place) ≡ false → is_ended (before place) ≡ is_ended (after place)
 ended-same input text before after place first goes_on = ap is_ended first ∙ ended-append (said_by input text place) (after place) ∙ ap (λ (b : Bool). b || is_ended (after place)) goes_on
 
-heard-before : (input : Input) (text : List ℕ) (targets : List Channel) (before after : Place → List Item) (up : ℕ → Bool) (place : Place) → IsRead input text → before place ≡ said_by input text place ++ after place → is_ended (said_by input text place) ≡ false → passes_target input targets place ≡ false
+heard_before : (input : Input) (text : List ℕ) (targets : List Channel) (before after : Place → List Item) (up : ℕ → Bool) (place : Place) → IsRead input text → before place ≡ said_by input text place ++ after place → is_ended (said_by input text place) ≡ false → passes_target input targets place ≡ false
     → from_input Zero input (to_come input text targets after up) place ≡ texts_of (before place) ++ mark (not (up place.station) && not (is_ended (before place)))
-heard-before input text targets before after up place read first goes_on passes_not =
+heard_before input text targets before after up place read first goes_on passes_not =
     from-said input text (to_come input text targets after up) place read
-    ∙ ap (λ (xs : List (List ℕ)). texts_of (said_by input text place) ++ xs) (heard-after input text targets after up place goes_on passes_not)
+    ∙ ap (λ (xs : List (List ℕ)). texts_of (said_by input text place) ++ xs) (heard_after input text targets after up place goes_on passes_not)
     ∙ sym (append_assoc (texts_of (said_by input text place)) (texts_of (after place)) (mark (not (up place.station) && not (is_ended (after place)))))
     ∙ ap (λ (xs : List (List ℕ)). xs ++ mark (not (up place.station) && not (is_ended (after place)))) (sym (texts-append (said_by input text place) (after place)) ∙ ap texts_of (sym first))
     ∙ ap (λ (b : Bool). texts_of (before place) ++ mark (not (up place.station) && not b)) (sym (ended-same input text before after place first goes_on))
 
 -- what is left of whole messages is whole
-pub whole-after : (input : Input) (text : List ℕ) (before after : Place → List Item) (place : Place) → before place ≡ said_by input text place ++ after place → AreLayer3 (texts_of (before place)) → AreLayer3 (texts_of (after place))
-whole-after input text before after place first whole =
-    all-right _ (texts_of (said_by input text place)) (texts_of (after place)) (subst AreLayer3 (ap texts_of first ∙ texts-append (said_by input text place) (after place)) whole)
+pub whole_after : (input : Input) (text : List ℕ) (before after : Place → List Item) (place : Place) → before place ≡ said_by input text place ++ after place → AreLayer3 (texts_of (before place)) → AreLayer3 (texts_of (after place))
+whole_after input text before after place first whole =
+    all_right _ (texts_of (said_by input text place)) (texts_of (after place)) (subst AreLayer3 (ap texts_of first ∙ texts-append (said_by input text place) (after place)) whole)
 
 -- ---- on each channel
 
-pub old-after : (input : Input) (text : List ℕ) (targets : List Channel) (before after : Place → List Item) (up : ℕ → Bool) (c : Channel) → before (place_of c) ≡ said_by input text (place_of c) ++ after (place_of c) → IsHeard input text targets before c → AsOld (to_come input text targets after up) after up c
-old-after input text targets before after up c first heard = (heard-after input text targets after up (place_of c) heard.goes_on heard.passes_not, whole-after input text before after (place_of c) first heard.whole)
+pub old_after : (input : Input) (text : List ℕ) (targets : List Channel) (before after : Place → List Item) (up : ℕ → Bool) (c : Channel) → before (place_of c) ≡ said_by input text (place_of c) ++ after (place_of c) → IsHeard input text targets before c → AsOld (to_come input text targets after up) after up c
+old_after input text targets before after up c first heard = (heard_after input text targets after up (place_of c) heard.goes_on heard.passes_not, whole_after input text before after (place_of c) first heard.whole)
 
 -- what ended now is silent from now on
-ends-now : (input : Input) (text : List ℕ) (targets : List Channel) (before after : Place → List Item) (up : ℕ → Bool) (place : Place) → IsRead input text → before place ≡ said_by input text place ++ after place → is_ended (said_by input text place) ≡ true → EndsLast (before place)
+ends_now : (input : Input) (text : List ℕ) (targets : List Channel) (before after : Place → List Item) (up : ℕ → Bool) (place : Place) → IsRead input text → before place ≡ said_by input text place ++ after place → is_ended (said_by input text place) ≡ true → EndsLast (before place)
     → from_input Zero input (to_come input text targets after up) place ≡ texts_of (before place) ++ mark (not (up place.station) && not (is_ended (before place)))
-ends-now input text targets before after up place read first ends last =
-    let said : said_by input text place ≡ released ∷ [] = ended-said input text place ends in
+ends_now input text targets before after up place read first ends last =
+    let said : said_by input text place ≡ released ∷ [] = ended_said input text place ends in
     let here : before place ≡ released ∷ after place = first ∙ ap (λ (xs : List Item). xs ++ after place) said in
     let nothing : after place ≡ [] = subst EndsLast here last in
     let alone : before place ≡ released ∷ [] = here ∙ ap (λ (xs : List Item). released ∷ xs) nothing in
     from-said input text (to_come input text targets after up) place read
     ∙ ap (λ (xs : List Item). texts_of xs ++ to_come input text targets after up place) said
     ∙ ap (λ (b : Bool). if (b || passes_target input targets place) then [] else texts_of (after place) ++ mark (not (up place.station) && not (is_ended (after place)))) ends
-    ∙ ap mark (sym (and-false (not (up place.station))))
+    ∙ ap mark (sym (and_false (not (up place.station))))
     ∙ ap (λ (xs : List Item). texts_of xs ++ mark (not (up place.station) && not (is_ended xs))) (sym alone)
 
-pub old-before : (input : Input) (text : List ℕ) (targets : List Channel) (before after : Place → List Item) (up : ℕ → Bool) (c : Channel) → IsRead input text → before (place_of c) ≡ said_by input text (place_of c) ++ after (place_of c) → EndsLast (before (place_of c)) → passes_target input targets (place_of c) ≡ false
+pub old_before : (input : Input) (text : List ℕ) (targets : List Channel) (before after : Place → List Item) (up : ℕ → Bool) (c : Channel) → IsRead input text → before (place_of c) ≡ said_by input text (place_of c) ++ after (place_of c) → EndsLast (before (place_of c)) → passes_target input targets (place_of c) ≡ false
     → AreLayer3 (texts_of (before (place_of c))) → AsOld (from_input Zero input (to_come input text targets after up)) before up c
-old-before input text targets before after up c read first last passes_not whole = (
+old_before input text targets before after up c read first last passes_not whole = (
   elim (cases_Bool (is_ended (said_by input text (place_of c)))) [
-    | inl ends ↦ ends-now input text targets before after up (place_of c) read first ends last
-    | inr goes_on ↦ heard-before input text targets before after up (place_of c) read first goes_on passes_not
+    | inl ends ↦ ends_now input text targets before after up (place_of c) read first ends last
+    | inr goes_on ↦ heard_before input text targets before after up (place_of c) read first goes_on passes_not
   ],
   whole,
 )
 
 -- an RF CHANNEL RELEASE ACK doesn't come of it
-pub goes-on : (input : Input) (text : List ℕ) (before after : Place → List Item) (place : Place) → before place ≡ said_by input text place ++ after place → is_ended (before place) ≡ false → (is_ended (said_by input text place) ≡ false) × (is_ended (after place) ≡ false)
-goes-on input text before after place first none = both-false (is_ended (said_by input text place)) (is_ended (after place)) (sym (ended-append (said_by input text place) (after place)) ∙ ap is_ended (sym first) ∙ none)
+pub goes_on_behind : (input : Input) (text : List ℕ) (before after : Place → List Item) (place : Place) → before place ≡ said_by input text place ++ after place → is_ended (before place) ≡ false → (is_ended (said_by input text place) ≡ false) × (is_ended (after place) ≡ false)
+goes_on_behind input text before after place first none = both_false (is_ended (said_by input text place)) (is_ended (after place)) (sym (ended-append (said_by input text place) (after place)) ∙ ap is_ended (sym first) ∙ none)
 
-pub serving-before : (input : Input) (text : List ℕ) (targets : List Channel) (before after : Place → List Item) (up : ℕ → Bool) (c : Channel) → IsRead input text → before (place_of c) ≡ said_by input text (place_of c) ++ after (place_of c) → is_ended (before (place_of c)) ≡ false → IsHeard input text targets before c
+pub serving_before : (input : Input) (text : List ℕ) (targets : List Channel) (before after : Place → List Item) (up : ℕ → Bool) (c : Channel) → IsRead input text → before (place_of c) ≡ said_by input text (place_of c) ++ after (place_of c) → is_ended (before (place_of c)) ≡ false → IsHeard input text targets before c
     → AsServing (from_input Zero input (to_come input text targets after up)) before up c
-serving-before input text targets before after up c read first none heard =
-    (heard-before input text targets before after up (place_of c) read first heard.goes_on heard.passes_not ∙ ap (λ (b : Bool). texts_of (before (place_of c)) ++ mark (not (up c.station) && not b)) none ∙ ap (λ (b : Bool). texts_of (before (place_of c)) ++ mark b) (and-true (not (up c.station))), heard.whole)
+serving_before input text targets before after up c read first none heard =
+    (heard_before input text targets before after up (place_of c) read first heard.goes_on heard.passes_not ∙ ap (λ (b : Bool). texts_of (before (place_of c)) ++ mark (not (up c.station) && not b)) none ∙ ap (λ (b : Bool). texts_of (before (place_of c)) ++ mark b) (and_true (not (up c.station))), heard.whole)
 
-pub serving-after : (input : Input) (text : List ℕ) (targets : List Channel) (before after : Place → List Item) (up : ℕ → Bool) (c : Channel) → before (place_of c) ≡ said_by input text (place_of c) ++ after (place_of c) → is_ended (before (place_of c)) ≡ false → IsHeard input text targets before c
+pub serving_after : (input : Input) (text : List ℕ) (targets : List Channel) (before after : Place → List Item) (up : ℕ → Bool) (c : Channel) → before (place_of c) ≡ said_by input text (place_of c) ++ after (place_of c) → is_ended (before (place_of c)) ≡ false → IsHeard input text targets before c
     → AsServing (to_come input text targets after up) after up c
-serving-after input text targets before after up c first none heard = (
-  heard-after input text targets after up (place_of c) heard.goes_on heard.passes_not ∙ ap (λ (b : Bool). texts_of (after (place_of c)) ++ mark (not (up c.station) && not b)) (goes-on input text before after (place_of c) first none).1 ∙ ap (λ (b : Bool). texts_of (after (place_of c)) ++ mark b) (and-true (not (up c.station))),
-  whole-after input text before after (place_of c) first heard.whole,
+serving_after input text targets before after up c first none heard = (
+  heard_after input text targets after up (place_of c) heard.goes_on heard.passes_not ∙ ap (λ (b : Bool). texts_of (after (place_of c)) ++ mark (not (up c.station) && not b)) (goes_on_behind input text before after (place_of c) first none).1 ∙ ap (λ (b : Bool). texts_of (after (place_of c)) ++ mark b) (and_true (not (up c.station))),
+  whole_after input text before after (place_of c) first heard.whole,
 )
 
 -- ---- on the target
@@ -147,10 +147,10 @@ pub record IsTarget (input : Input) (text : List ℕ) (targets : List Channel) (
   pub silent : IsBesideTarget input → messages_in (before (place_of c)) ≡ []
   pub whole : AreLayer3 (texts_of (before (place_of c)))
 
-silent-texts : {input : Input} {text : List ℕ} {targets : List Channel} {before after : Place → List Item} {c : Channel} → IsTarget input text targets before after c → passes_target input targets (place_of c) ≡ true
+silent_texts : {input : Input} {text : List ℕ} {targets : List Channel} {before after : Place → List Item} {c : Channel} → IsTarget input text targets before after c → passes_target input targets (place_of c) ≡ true
     → (texts_of (before (place_of c)) ≡ []) × (texts_of (said_by input text (place_of c)) ≡ []) × (texts_of (after (place_of c)) ≡ [])
-silent-texts {input} {text} {targets} {before} {after} {c} t passes =
-    let none : texts_of (before (place_of c)) ≡ [] = ap without_control (t.silent (passes-beside input targets (place_of c) passes)) in
+silent_texts {input} {text} {targets} {before} {after} {c} t passes =
+    let none : texts_of (before (place_of c)) ≡ [] = ap without_control (t.silent (passes_beside input targets (place_of c) passes)) in
     let both = Both-empty (texts_of (said_by input text (place_of c))) (texts_of (after (place_of c))) (sym (sym (texts-append (said_by input text (place_of c)) (after (place_of c))) ∙ ap texts_of (sym t.first) ∙ none)) in
     (none, both.0, both.1)
 
@@ -161,16 +161,16 @@ passed input text targets after up place passes =
       or-true true = refl
       or-true false = refl
 
-pub target-before : (input : Input) (text : List ℕ) (targets : List Channel) (before after : Place → List Item) (up : ℕ → Bool) (c : Channel) → IsTarget input text targets before after c → MayCome (from_input Zero input (to_come input text targets after up)) before c
-target-before input text targets before after up c t = elim (cases_Bool (passes_target input targets (place_of c))) [
-  | inl passes ↦ let none = silent-texts t passes in
+pub target_before : (input : Input) (text : List ℕ) (targets : List Channel) (before after : Place → List Item) (up : ℕ → Bool) (c : Channel) → IsTarget input text targets before after c → MayCome (from_input Zero input (to_come input text targets after up)) before c
+target_before input text targets before after up c t = elim (cases_Bool (passes_target input targets (place_of c))) [
+  | inl passes ↦ let none = silent_texts t passes in
       (false, from-said input text (to_come input text targets after up) (place_of c) t.read ∙ ap (λ (xs : List (List ℕ)). xs ++ to_come input text targets after up (place_of c)) none.1 ∙ passed input text targets after up (place_of c) passes ∙ ap (λ (xs : List (List ℕ)). xs ++ []) (sym none.0), t.whole)
-  | inr passes_not ↦ (not (up c.station) && not (is_ended (before (place_of c))), heard-before input text targets before after up (place_of c) t.read t.first (goes-on input text before after (place_of c) t.first t.goes_on).0 passes_not, t.whole)
+  | inr passes_not ↦ (not (up c.station) && not (is_ended (before (place_of c))), heard_before input text targets before after up (place_of c) t.read t.first (goes_on_behind input text before after (place_of c) t.first t.goes_on).0 passes_not, t.whole)
 ]
 
-pub target-after : (input : Input) (text : List ℕ) (targets : List Channel) (before after : Place → List Item) (up : ℕ → Bool) (c : Channel) → IsTarget input text targets before after c → MayCome (to_come input text targets after up) after c
-target-after input text targets before after up c t = elim (cases_Bool (passes_target input targets (place_of c))) [
-  | inl passes ↦ let none = silent-texts t passes in
-      (false, passed input text targets after up (place_of c) passes ∙ ap (λ (xs : List (List ℕ)). xs ++ []) (sym none.2), whole-after input text before after (place_of c) t.first t.whole)
-  | inr passes_not ↦ (not (up c.station) && not (is_ended (after (place_of c))), heard-after input text targets after up (place_of c) (goes-on input text before after (place_of c) t.first t.goes_on).0 passes_not, whole-after input text before after (place_of c) t.first t.whole)
+pub target_after : (input : Input) (text : List ℕ) (targets : List Channel) (before after : Place → List Item) (up : ℕ → Bool) (c : Channel) → IsTarget input text targets before after c → MayCome (to_come input text targets after up) after c
+target_after input text targets before after up c t = elim (cases_Bool (passes_target input targets (place_of c))) [
+  | inl passes ↦ let none = silent_texts t passes in
+      (false, passed input text targets after up (place_of c) passes ∙ ap (λ (xs : List (List ℕ)). xs ++ []) (sym none.2), whole_after input text before after (place_of c) t.first t.whole)
+  | inr passes_not ↦ (not (up c.station) && not (is_ended (after (place_of c))), heard_after input text targets after up (place_of c) (goes_on_behind input text before after (place_of c) t.first t.goes_on).0 passes_not, whole_after input text before after (place_of c) t.first t.whole)
 ]

@@ -13,36 +13,36 @@ use Rattle.world_laws.specs.LineUps.{is_ended}
 use Rattle.world_laws.specs.OwnItem.{said_by, IsBesideTarget, Finds}
 use Rattle.world_laws.specs.Staying.{EndsLast}
 use Rattle.world_laws.specs.ToCome.{AreLayer3, texts_of, AsOld, AsServing, AsTarget, AreHeld, StandsFor}
-use Rattle.world_laws.proofs.Apart.{all-both}
-use Rattle.world_laws.proofs.Framing.{all-left, all-right}
-use Rattle.world_laws.proofs.OwnChannels.{passes_target, passes-apart, to_come, IsHeard, MayCome, IsTarget, old-before, old-after}
-use Rattle.world_laws.proofs.OwnChannels.{serving-before, serving-after, target-before, target-after, goes-on}
+use Rattle.world_laws.proofs.Apart.{all_both}
+use Rattle.world_laws.proofs.Framing.{all_left, all_right}
+use Rattle.world_laws.proofs.OwnChannels.{passes_target, passes-apart, to_come, IsHeard, MayCome, IsTarget, old_before, old_after}
+use Rattle.world_laws.proofs.OwnChannels.{serving_before, serving_after, target_before, target_after, goes_on_behind}
 use Rattle.world_laws.proofs.RolesAfter.{commanded_of, commanded-role, ChannelsAfter}
 
 -- ---- lists
 
-pub all-under : {X A : Type 0} (P : X → Type 0) (xs : List X) → (A → AllByRecursion P xs) → AllByRecursion (λ x. A → P x) xs
-all-under P [] h = tt
-all-under P (x ∷ xs) h = (λ a. (h a).0, all-under P xs (λ a. (h a).1))
+pub all_under : {X A : Type 0} (P : X → Type 0) (xs : List X) → (A → AllByRecursion P xs) → AllByRecursion (λ x. A → P x) xs
+all_under P [] h = tt
+all_under P (x ∷ xs) h = (λ a. (h a).0, all_under P xs (λ a. (h a).1))
 
 -- each of the first is apart from all others
-pub apart-from : (xs ys : List Channel) → AreApart (xs ++ ys) → AllByRecursion (λ c. AllByRecursion (IsApart c) ys) xs
-apart-from [] ys apart = tt
-apart-from (x ∷ xs) ys apart = (all-right (IsApart x) xs ys apart.0, apart-from xs ys apart.1)
+pub apart_from : (xs ys : List Channel) → AreApart (xs ++ ys) → AllByRecursion (λ c. AllByRecursion (IsApart c) ys) xs
+apart_from [] ys apart = tt
+apart_from (x ∷ xs) ys apart = (all_right (IsApart x) xs ys apart.0, apart_from xs ys apart.1)
 
 -- ---- what is held
 
-held-all : (ds : List Drain) (ts : List Held) → length ts ≡ length ds + 1 → AllByRecursion IsHeldTenure ts → AreHeld ds ts
-held-all ds [] many held = absurd (none (length ds) many) where
+held_all : (ds : List Drain) (ts : List Held) → length ts ≡ length ds + 1 → AllByRecursion IsHeldTenure ts → AreHeld ds ts
+held_all ds [] many held = absurd (none (length ds) many) where
   none : (n : ℕ) → 0 ≡ n + 1 → ⊥
   none n is = omega arith
-held-all [] (t ∷ ts) many held = held.0.0
-held-all (d ∷ ds) (t ∷ ts) many held = (held.0.0, held-all ds ts (one_less (length ts) (length ds) many) held.1) where
+held_all [] (t ∷ ts) many held = held.0.0
+held_all (d ∷ ds) (t ∷ ts) many held = (held.0.0, held_all ds ts (one_less (length ts) (length ds) many) held.1) where
   one_less : (a b : ℕ) → suc a ≡ suc b + 1 → a ≡ b + 1
   one_less a b is = omega arith
 
-pub are-held : (s : Connection) → Stands s → AreHeld s.draining s.up.tenures
-are-held s stands = held-all s.draining s.up.tenures (many s.state stands.state) stands.up_messages where
+pub are_held : (s : Connection) → Stands s → AreHeld s.draining s.up.tenures
+are_held s stands = held_all s.draining s.up.tenures (many s.state stands.state) stands.up_messages where
   none-drains : (ds : List Drain) (n : ℕ) → ds ≡ [] → n ≡ 1 → n ≡ length ds + 1
   none-drains ds n none one = one ∙ ap (λ (xs : List Drain). length xs + 1) (sym none)
 
@@ -60,83 +60,83 @@ pub record IsKnown (input : Input) (text : List ℕ) (before after : Place → L
   pub finds : Finds input text before after s
   pub apart : AreApart (used_channels s)
 
-pub passes-old : {input : Input} {text : List ℕ} {before after : Place → List Item} {s : Connection} → IsKnown input text before after s → AllByRecursion (λ c. passes_target input (target_in s.state) (place_of c) ≡ false) (undone s.draining)
-passes-old {input} {s = s} known =
-    AllByRecursion-so (λ c. AllByRecursion (IsApart c) (s.serving ∷ target_in s.state)) (λ c. passes_target input (target_in s.state) (place_of c) ≡ false) (λ c apart. passes-apart input (target_in s.state) c apart.1) (undone s.draining) (apart-from (undone s.draining) (s.serving ∷ target_in s.state) known.apart)
+pub passes_old : {input : Input} {text : List ℕ} {before after : Place → List Item} {s : Connection} → IsKnown input text before after s → AllByRecursion (λ c. passes_target input (target_in s.state) (place_of c) ≡ false) (undone s.draining)
+passes_old {input} {s = s} known =
+    AllByRecursion-so (λ c. AllByRecursion (IsApart c) (s.serving ∷ target_in s.state)) (λ c. passes_target input (target_in s.state) (place_of c) ≡ false) (λ c apart. passes-apart input (target_in s.state) c apart.1) (undone s.draining) (apart_from (undone s.draining) (s.serving ∷ target_in s.state) known.apart)
 
-pub whole-old : {input : Input} {text : List ℕ} {before after : Place → List Item} {s : Connection} → IsKnown input text before after s → AllByRecursion (λ c. AreLayer3 (texts_of (before (place_of c)))) (undone s.draining)
-whole-old {before = before} {s = s} known = all-left (λ c. AreLayer3 (texts_of (before (place_of c)))) (undone s.draining) (s.serving ∷ target_in s.state) known.finds.whole
+pub whole_old : {input : Input} {text : List ℕ} {before after : Place → List Item} {s : Connection} → IsKnown input text before after s → AllByRecursion (λ c. AreLayer3 (texts_of (before (place_of c)))) (undone s.draining)
+whole_old {before = before} {s = s} known = all_left (λ c. AreLayer3 (texts_of (before (place_of c)))) (undone s.draining) (s.serving ∷ target_in s.state) known.finds.whole
 
-pub whole-rest : {input : Input} {text : List ℕ} {before after : Place → List Item} {s : Connection} → IsKnown input text before after s → AllByRecursion (λ c. AreLayer3 (texts_of (before (place_of c)))) (s.serving ∷ target_in s.state)
-whole-rest {before = before} {s = s} known = all-right (λ c. AreLayer3 (texts_of (before (place_of c)))) (undone s.draining) (s.serving ∷ target_in s.state) known.finds.whole
+pub whole_rest : {input : Input} {text : List ℕ} {before after : Place → List Item} {s : Connection} → IsKnown input text before after s → AllByRecursion (λ c. AreLayer3 (texts_of (before (place_of c)))) (s.serving ∷ target_in s.state)
+whole_rest {before = before} {s = s} known = all_right (λ c. AreLayer3 (texts_of (before (place_of c)))) (undone s.draining) (s.serving ∷ target_in s.state) known.finds.whole
 
-pub serving-heard : {input : Input} {text : List ℕ} {before after : Place → List Item} {s : Connection} → IsKnown input text before after s → IsHeard input text (target_in s.state) before s.serving
-serving-heard {input} {text} {before} {after} {s} known = record {
-  goes_on = (goes-on input text before after (place_of s.serving) (known.finds.first (place_of s.serving)) known.finds.others_go_on.0).0;
+pub serving_heard : {input : Input} {text : List ℕ} {before after : Place → List Item} {s : Connection} → IsKnown input text before after s → IsHeard input text (target_in s.state) before s.serving
+serving_heard {input} {text} {before} {after} {s} known = record {
+  goes_on = (goes_on_behind input text before after (place_of s.serving) (known.finds.first (place_of s.serving)) known.finds.others_go_on.0).0;
   passes_not = passes-apart input (target_in s.state) s.serving (apart_behind (undone s.draining) (s.serving ∷ target_in s.state) known.apart).0;
-  whole = (whole-rest known).0;
+  whole = (whole_rest known).0;
 }
 
-pub are-targets : {input : Input} {text : List ℕ} {before after : Place → List Item} {s : Connection} → IsKnown input text before after s → AllByRecursion (IsTarget input text (target_in s.state) before after) (target_in s.state)
-are-targets {input} {text} {before} {after} {s} known =
-    all-both (λ c. is_ended (before (place_of c)) ≡ false) (λ c. (IsBesideTarget input → messages_in (before (place_of c)) ≡ []) × AreLayer3 (texts_of (before (place_of c)))) (IsTarget input text (target_in s.state) before after) (target_in s.state)
+pub are_targets : {input : Input} {text : List ℕ} {before after : Place → List Item} {s : Connection} → IsKnown input text before after s → AllByRecursion (IsTarget input text (target_in s.state) before after) (target_in s.state)
+are_targets {input} {text} {before} {after} {s} known =
+    all_both (λ c. is_ended (before (place_of c)) ≡ false) (λ c. (IsBesideTarget input → messages_in (before (place_of c)) ≡ []) × AreLayer3 (texts_of (before (place_of c)))) (IsTarget input text (target_in s.state) before after) (target_in s.state)
     (λ c none rest. record { read = known.finds.read; first = known.finds.first (place_of c); goes_on = none; silent = rest.0; whole = rest.1 }) known.finds.others_go_on.1
-    (all-both (λ c. IsBesideTarget input → messages_in (before (place_of c)) ≡ []) (λ c. AreLayer3 (texts_of (before (place_of c)))) (λ c. (IsBesideTarget input → messages_in (before (place_of c)) ≡ []) × AreLayer3 (texts_of (before (place_of c)))) (target_in s.state) (λ c a b. (a, b))
-    (all-under (λ c. messages_in (before (place_of c)) ≡ []) (target_in s.state) known.finds.silent) (whole-rest known).1)
+    (all_both (λ c. IsBesideTarget input → messages_in (before (place_of c)) ≡ []) (λ c. AreLayer3 (texts_of (before (place_of c)))) (λ c. (IsBesideTarget input → messages_in (before (place_of c)) ≡ []) × AreLayer3 (texts_of (before (place_of c)))) (target_in s.state) (λ c a b. (a, b))
+    (all_under (λ c. messages_in (before (place_of c)) ≡ []) (target_in s.state) known.finds.silent) (whole_rest known).1)
 
-of-role : (future : Future) (coming : Place → List Item) (o : Option TargetRole) → AllByRecursion (MayCome future coming) (target_channels o) → AsTarget future coming (commanded_of o)
+of_role : (future : Future) (coming : Place → List Item) (o : Option TargetRole) → AllByRecursion (MayCome future coming) (target_channels o) → AsTarget future coming (commanded_of o)
 unfolding commanded_of
-of-role future coming None all = tt
-of-role future coming (Some t) all = by t.is_commanded where
+of_role future coming None all = tt
+of_role future coming (Some t) all = by t.is_commanded where
   by : (b : Bool) → AsTarget future coming (if b then Some t.target else None)
   by true = all.0
   by false = tt
 
-pub stands-before : {input : Input} {text : List ℕ} {before after : Place → List Item} {s : Connection} (up : ℕ → Bool) → IsKnown input text before after s → Stands s → StandsFor (from_input Zero input (to_come input text (target_in s.state) after up)) before up s
-stands-before {input} {text} {before} {after} {s} up known stands = record {
-  old = all-both (λ c. EndsLast (before (place_of c))) (λ c. (passes_target input (target_in s.state) (place_of c) ≡ false) × AreLayer3 (texts_of (before (place_of c)))) (AsOld (from_input Zero input (to_come input text (target_in s.state) after up)) before up) (undone s.draining)
-      (λ c last rest. old-before input text (target_in s.state) before after up c known.finds.read (known.finds.first (place_of c)) last rest.0 rest.1) known.finds.old_end
-      (all-both (λ c. passes_target input (target_in s.state) (place_of c) ≡ false) (λ c. AreLayer3 (texts_of (before (place_of c)))) (λ c. (passes_target input (target_in s.state) (place_of c) ≡ false) × AreLayer3 (texts_of (before (place_of c)))) (undone s.draining) (λ c a b. (a, b)) (passes-old known) (whole-old known));
-  serving = serving-before input text (target_in s.state) before after up s.serving known.finds.read (known.finds.first (place_of s.serving)) known.finds.others_go_on.0 (serving-heard known);
+pub stands_before : {input : Input} {text : List ℕ} {before after : Place → List Item} {s : Connection} (up : ℕ → Bool) → IsKnown input text before after s → Stands s → StandsFor (from_input Zero input (to_come input text (target_in s.state) after up)) before up s
+stands_before {input} {text} {before} {after} {s} up known stands = record {
+  old = all_both (λ c. EndsLast (before (place_of c))) (λ c. (passes_target input (target_in s.state) (place_of c) ≡ false) × AreLayer3 (texts_of (before (place_of c)))) (AsOld (from_input Zero input (to_come input text (target_in s.state) after up)) before up) (undone s.draining)
+      (λ c last rest. old_before input text (target_in s.state) before after up c known.finds.read (known.finds.first (place_of c)) last rest.0 rest.1) known.finds.old_end
+      (all_both (λ c. passes_target input (target_in s.state) (place_of c) ≡ false) (λ c. AreLayer3 (texts_of (before (place_of c)))) (λ c. (passes_target input (target_in s.state) (place_of c) ≡ false) × AreLayer3 (texts_of (before (place_of c)))) (undone s.draining) (λ c a b. (a, b)) (passes_old known) (whole_old known));
+  serving = serving_before input text (target_in s.state) before after up s.serving known.finds.read (known.finds.first (place_of s.serving)) known.finds.others_go_on.0 (serving_heard known);
   target = subst (AsTarget (from_input Zero input (to_come input text (target_in s.state) after up)) before) (sym (commanded-role s.state))
-      (of-role (from_input Zero input (to_come input text (target_in s.state) after up)) before (target_role s.state) (subst (AllByRecursion (MayCome (from_input Zero input (to_come input text (target_in s.state) after up)) before)) (sym (target_in-role s.state))
-      (AllByRecursion-so (IsTarget input text (target_in s.state) before after) (MayCome (from_input Zero input (to_come input text (target_in s.state) after up)) before) (λ c t. target-before input text (target_in s.state) before after up c t) (target_in s.state) (are-targets known))));
-  held = are-held s stands;
+      (of_role (from_input Zero input (to_come input text (target_in s.state) after up)) before (target_role s.state) (subst (AllByRecursion (MayCome (from_input Zero input (to_come input text (target_in s.state) after up)) before)) (sym (target_in-role s.state))
+      (AllByRecursion-so (IsTarget input text (target_in s.state) before after) (MayCome (from_input Zero input (to_come input text (target_in s.state) after up)) before) (λ c t. target_before input text (target_in s.state) before after up c t) (target_in s.state) (are_targets known))));
+  held = are_held s stands;
 }
 
 -- ---- after it, by the roles
 
-pub old-heard : {input : Input} {text : List ℕ} {before after : Place → List Item} {s : Connection} → IsKnown input text before after s → AllByRecursion (λ c. is_ended (said_by input text (place_of c)) ≡ false) (undone s.draining) → AllByRecursion (IsHeard input text (target_in s.state) before) (undone s.draining)
-old-heard {input} {text} {before} {after} {s} known none_ends =
-    all-both (λ c. is_ended (said_by input text (place_of c)) ≡ false) (λ c. (passes_target input (target_in s.state) (place_of c) ≡ false) × AreLayer3 (texts_of (before (place_of c)))) (IsHeard input text (target_in s.state) before) (undone s.draining)
+pub old_heard : {input : Input} {text : List ℕ} {before after : Place → List Item} {s : Connection} → IsKnown input text before after s → AllByRecursion (λ c. is_ended (said_by input text (place_of c)) ≡ false) (undone s.draining) → AllByRecursion (IsHeard input text (target_in s.state) before) (undone s.draining)
+old_heard {input} {text} {before} {after} {s} known none_ends =
+    all_both (λ c. is_ended (said_by input text (place_of c)) ≡ false) (λ c. (passes_target input (target_in s.state) (place_of c) ≡ false) × AreLayer3 (texts_of (before (place_of c)))) (IsHeard input text (target_in s.state) before) (undone s.draining)
     (λ c a b. record { goes_on = a; passes_not = b.0; whole = b.1 }) none_ends
-    (all-both (λ c. passes_target input (target_in s.state) (place_of c) ≡ false) (λ c. AreLayer3 (texts_of (before (place_of c)))) (λ c. (passes_target input (target_in s.state) (place_of c) ≡ false) × AreLayer3 (texts_of (before (place_of c)))) (undone s.draining) (λ c a b. (a, b)) (passes-old known) (whole-old known))
+    (all_both (λ c. passes_target input (target_in s.state) (place_of c) ≡ false) (λ c. AreLayer3 (texts_of (before (place_of c)))) (λ c. (passes_target input (target_in s.state) (place_of c) ≡ false) × AreLayer3 (texts_of (before (place_of c)))) (undone s.draining) (λ c a b. (a, b)) (passes_old known) (whole_old known))
 
 -- a step leaves no target but that which was there
-pub kept-targets : (P : Channel → Type 0) (step : RoleStep) (roles : Roles) → AllByRecursion P (target_channels roles.target) → AllByRecursion P (target_channels (after_step step roles).target)
-kept-targets P roles_stay roles all = all
-kept-targets P role_commands roles all = by roles.target all where
+pub kept_targets : (P : Channel → Type 0) (step : RoleStep) (roles : Roles) → AllByRecursion P (target_channels roles.target) → AllByRecursion P (target_channels (after_step step roles).target)
+kept_targets P roles_stay roles all = all
+kept_targets P role_commands roles all = by roles.target all where
   by : (o : Option TargetRole) → AllByRecursion P (target_channels o) → AllByRecursion P (target_channels (commanded o))
   by None all = tt
   by (Some t) all = all
-kept-targets P role_completes roles all = by roles.target refl all where
+kept_targets P role_completes roles all = by roles.target refl all where
   by : (o : Option TargetRole) → roles.target ≡ o → AllByRecursion P (target_channels o) → AllByRecursion P (target_channels (completed o roles).target)
   by None is all = subst (λ (o : Option TargetRole). AllByRecursion P (target_channels o)) (sym is) all
   by (Some t) is all = tt
-kept-targets P role_goes_back roles all = tt
-kept-targets P (role_leaves place) roles all = all
+kept_targets P role_goes_back roles all = tt
+kept_targets P (role_leaves place) roles all = all
 
-pub stands-after : {input : Input} {text : List ℕ} {before after : Place → List Item} {s : Connection} (up : ℕ → Bool) (step : RoleStep) (next : Connection) → IsKnown input text before after s → Stands next → ChannelsAfter next (after_step step (roles_of s))
+pub stands_after : {input : Input} {text : List ℕ} {before after : Place → List Item} {s : Connection} (up : ℕ → Bool) (step : RoleStep) (next : Connection) → IsKnown input text before after s → Stands next → ChannelsAfter next (after_step step (roles_of s))
     → AllByRecursion (IsHeard input text (target_in s.state) before) (undone (after_step step (roles_of s)).draining)
     → IsHeard input text (target_in s.state) before (after_step step (roles_of s)).serving → is_ended (before (place_of (after_step step (roles_of s)).serving)) ≡ false
     → StandsFor (to_come input text (target_in s.state) after up) after up next
-stands-after {input} {text} {before} {after} {s} up step next known stands now old serving serving_goes_on = record {
+stands_after {input} {text} {before} {after} {s} up step next known stands now old serving serving_goes_on = record {
   old = subst (λ (ds : List Drain). AllByRecursion (AsOld F after up) (undone ds)) (sym now.draining)
-      (AllByRecursion-so (IsHeard input text (target_in s.state) before) (AsOld F after up) (λ c heard. old-after input text (target_in s.state) before after up c (known.finds.first (place_of c)) heard) (undone (after_step step (roles_of s)).draining) old);
-  serving = subst (AsServing F after up) (sym now.serving) (serving-after input text (target_in s.state) before after up (after_step step (roles_of s)).serving (known.finds.first (place_of (after_step step (roles_of s)).serving)) serving_goes_on serving);
-  target = subst (AsTarget F after) (sym now.target) (of-role F after (after_step step (roles_of s)).target (kept-targets (MayCome F after) step (roles_of s) (subst (AllByRecursion (MayCome F after)) (sym (target_in-role s.state))
-      (AllByRecursion-so (IsTarget input text (target_in s.state) before after) (MayCome F after) (λ c t. target-after input text (target_in s.state) before after up c t) (target_in s.state) (are-targets known)))));
-  held = are-held next stands;
+      (AllByRecursion-so (IsHeard input text (target_in s.state) before) (AsOld F after up) (λ c heard. old_after input text (target_in s.state) before after up c (known.finds.first (place_of c)) heard) (undone (after_step step (roles_of s)).draining) old);
+  serving = subst (AsServing F after up) (sym now.serving) (serving_after input text (target_in s.state) before after up (after_step step (roles_of s)).serving (known.finds.first (place_of (after_step step (roles_of s)).serving)) serving_goes_on serving);
+  target = subst (AsTarget F after) (sym now.target) (of_role F after (after_step step (roles_of s)).target (kept_targets (MayCome F after) step (roles_of s) (subst (AllByRecursion (MayCome F after)) (sym (target_in-role s.state))
+      (AllByRecursion-so (IsTarget input text (target_in s.state) before after) (MayCome F after) (λ c t. target_after input text (target_in s.state) before after up c t) (target_in s.state) (are_targets known)))));
+  held = are_held next stands;
 } where
   F : Future
   F = to_come input text (target_in s.state) after up

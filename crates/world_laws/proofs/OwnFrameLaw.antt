@@ -17,7 +17,7 @@ use Rattle.world_laws.specs.OwnFrame.{IsRequested, freed_for, IsSaidTo, FrameIsH
 use Rattle.world_laws.specs.OwnFrame.IsSaidTo.{on_channel, on_connection}
 use Rattle.world_laws.specs.OwnHandle.{BeginsTenure}
 use Rattle.world_laws.proofs.OwnFrame.{IsPlain, TenureOf}
-use Rattle.world_laws.proofs.OwnFrames.{ReadInput, ReadWord, of-frame}
+use Rattle.world_laws.proofs.OwnFrames.{ReadInput, ReadWord, of_frame}
 
 -- ---- what the controller puts
 
@@ -51,9 +51,9 @@ unrequested (Live reference stage) requested opens = absurd cc
 unrequested _ requested opens = requested
 
 -- no initial message comes any more
-plain-of : (s : Connection) (input : Input) (offer : Option Channel) (r : Row) → IsRequested s.state → row_of s input offer ≡ Some r → IsPlain input
+plain_of : (s : Connection) (input : Input) (offer : Option Channel) (r : Row) → IsRequested s.state → row_of s input offer ≡ Some r → IsPlain input
 unfolding row_of
-plain-of s (inputs.EstablishIndication at Zero (Some initial)) offer r requested fits = absurd (by s.state requested fits) where
+plain_of s (inputs.EstablishIndication at Zero (Some initial)) offer r requested fits = absurd (by s.state requested fits) where
   by : (state : State) → IsRequested state → on_establish_indication state s at Zero (Some initial) ≡ Some r → ⊥
   by WaitConfirm requested fits = absurd cc
   by (Live reference Active) requested fits = absurd cc
@@ -61,7 +61,7 @@ plain-of s (inputs.EstablishIndication at Zero (Some initial)) offer r requested
   by (Live reference (Changing t)) requested fits = absurd cc
   by (Live reference Draining) requested fits = absurd cc
   by _ requested fits = absurd requested
-plain-of s _ offer r requested fits = tt
+plain_of s _ offer r requested fits = tt
 
 -- an ACTIVATION ACK is of the target that waits for it
 record IsAcknowledged (at : Place) (o : Option TargetRole) : Type 0 where
@@ -83,42 +83,42 @@ acked (Live reference (Changing target)) s at r requested fits = absurd cc
 acked (Live reference Draining) s at r requested fits = absurd cc
 acked _ s at r requested fits = absurd requested
 
-begins-of : (w : Actors) (s : Connection) (input : Input) (offer : Option Channel) (r : Row) (tenure : Option Tenure) → IsRequested s.state → row_of s input offer ≡ Some r → TenureOf w input tenure → BeginsTenure w (step_by input (roles_of s)) (target_role s.state) tenure
+begins_of : (w : Actors) (s : Connection) (input : Input) (offer : Option Channel) (r : Row) (tenure : Option Tenure) → IsRequested s.state → row_of s input offer ≡ Some r → TenureOf w input tenure → BeginsTenure w (step_by input (roles_of s)) (target_role s.state) tenure
 unfolding row_of
-begins-of w s (inputs.ActivationAck at) offer r tenure requested fits is =
+begins_of w s (inputs.ActivationAck at) offer r tenure requested fits is =
     let a = acked s.state s at r requested fits in
     let step : step_by (inputs.ActivationAck at) (roles_of s) ≡ role_commands =
     ap (λ (o : Option TargetRole). if awaits_at at o then role_commands else roles_stay) a.is ∙ ap (λ (b : Bool). if (not b && is_at at a.t.target.channel) then role_commands else roles_stay) a.waits ∙ ap (λ (b : Bool). if b then role_commands else roles_stay) a.here in
     subst (λ (x : RoleStep). BeginsTenure w x (target_role s.state) tenure) (sym step)
     (subst (λ (o : Option TargetRole). BeginsTenure w role_commands o tenure) (sym a.is) (is ∙ ap (λ (p : Place). Some (tenure_at w p)) (place-is at a.t.target.channel a.here)))
-begins-of w s (inputs.ActivationNack at) offer r tenure requested fits none = by (awaits_at at (target_role s.state)) where
+begins_of w s (inputs.ActivationNack at) offer r tenure requested fits none = by (awaits_at at (target_role s.state)) where
   by : (b : Bool) → BeginsTenure w (if b then role_goes_back else roles_stay) (target_role s.state) tenure
   by true = none
   by false = none
-begins-of w s (inputs.Complete at change cause) offer r tenure requested fits none = by (is_target_at at (target_role s.state) && changes_by change (target_role s.state)) where
+begins_of w s (inputs.Complete at change cause) offer r tenure requested fits none = by (is_target_at at (target_role s.state) && changes_by change (target_role s.state)) where
   by : (b : Bool) → BeginsTenure w (if b then role_completes else roles_stay) (target_role s.state) tenure
   by true = none
   by false = none
-begins-of w s (inputs.Failure at change cause) offer r tenure requested fits none = by (is_at at s.serving && changes_by change (target_role s.state)) where
+begins_of w s (inputs.Failure at change cause) offer r tenure requested fits none = by (is_at at s.serving && changes_by change (target_role s.state)) where
   by : (b : Bool) → BeginsTenure w (if b then role_goes_back else roles_stay) (target_role s.state) tenure
   by true = none
   by false = none
-begins-of w s (inputs.ReleaseAck at) offer r tenure requested fits none = by (drain_at at s.draining) where
+begins_of w s (inputs.ReleaseAck at) offer r tenure requested fits none = by (drain_at at s.draining) where
   by : (o : Option ℕ) → BeginsTenure w (leaves_at o) (target_role s.state) tenure
   by (Some place) = none
   by None = none
-begins-of w s _ offer r tenure requested fits none = none
+begins_of w s _ offer r tenure requested fits none = none
 
 -- ---- the law
 
-read-of : {c : Controller} {word : Word} {s : Connection} {input : Input} {offer : Option Channel} (source : ℕ) (frame : Frame) → IsSaidTo c word s input offer → ReadWord source (rsl_in frame) word → IsPlain input → ReadInput source (rsl_in frame) input
-read-of source frame (on_channel at input e is found same) read plain = subst (ReadWord source (rsl_in frame)) is read plain
-read-of source frame (on_connection number input e is found same) read plain = subst (ReadWord source (rsl_in frame)) is read
+read_of : {c : Controller} {word : Word} {s : Connection} {input : Input} {offer : Option Channel} (source : ℕ) (frame : Frame) → IsSaidTo c word s input offer → ReadWord source (rsl_in frame) word → IsPlain input → ReadInput source (rsl_in frame) input
+read_of source frame (on_channel at input e is found same) read plain = subst (ReadWord source (rsl_in frame)) is read plain
+read_of source frame (on_connection number input e is found same) read plain = subst (ReadWord source (rsl_in frame)) is read
 
-pub FrameIsHandled-new : (w : Actors) (item : RelayItem) (s : Connection) (input : Input) (offer : Option Channel) (r : Row) → FrameIsHandled w item s input offer r
+pub frame_is_handled_new : (w : Actors) (item : RelayItem) (s : Connection) (input : Input) (offer : Option Channel) (r : Row) → FrameIsHandled w item s input offer r
 unfolding take
-FrameIsHandled-new w item s input offer r frame =
-    let says : ReadInput item.source (rsl_in frame.frame) input = read-of item.source frame.frame frame.said (of-frame item.source frame.frame) (plain-of s input offer r frame.requested frame.fits) in (
+frame_is_handled_new w item s input offer r frame =
+    let says : ReadInput item.source (rsl_in frame.frame) input = read_of item.source frame.frame frame.said (of_frame item.source frame.frame) (plain_of s input offer r frame.requested frame.fits) in (
       says.text,
       record {
         fits = frame.fits;
@@ -128,6 +128,6 @@ FrameIsHandled-new w item s input offer r frame =
         carried = frame.carried;
         read = says.read;
         brings = λ at. ap (brings_by at item.source) frame.is ∙ says.brings_it at;
-        begins = begins-of w s input offer r (tenure_in w item.source item.what) frame.requested frame.fits (subst (TenureOf w input) (sym (ap (tenure_in w item.source) frame.is)) (says.acknowledges w));
+        begins = begins_of w s input offer r (tenure_in w item.source item.what) frame.requested frame.fits (subst (TenureOf w input) (sym (ap (tenure_in w item.source) frame.is)) (says.acknowledges w));
       },
     )

@@ -21,29 +21,29 @@ ended-append [] ys = refl
 ended-append (brought message ∷ xs) ys = ended-append xs ys
 ended-append (released ∷ xs) ys = refl
 
-text-stays : (message : List ℕ) → is_control message ≡ false → texts_of (brought message ∷ []) ≡ message ∷ []
-text-stays message is = cond-true (not (is_control message)) (message ∷ []) [] (ap not is)
+text_stays : (message : List ℕ) → is_control message ≡ false → texts_of (brought message ∷ []) ≡ message ∷ []
+text_stays message is = cond-true (not (is_control message)) (message ∷ []) [] (ap not is)
 
-control-goes : (message : List ℕ) → is_control message ≡ true → texts_of (brought message ∷ []) ≡ []
-control-goes message is = cond-false (not (is_control message)) (message ∷ []) [] (ap not is)
+control_goes : (message : List ℕ) → is_control message ≡ true → texts_of (brought message ∷ []) ≡ []
+control_goes message is = cond-false (not (is_control message)) (message ∷ []) [] (ap not is)
 
 -- what may come from an input on: what it brings, and then what may come
 pub from-said : (input : Input) (text : List ℕ) (future : Future) (place : Place) → IsRead input text → from_input Zero input future place ≡ texts_of (said_by input text place) ++ future place
 from-said (inputs.Dtap at Zero message) text future place read = by (same_place place at) where
   by : (b : Bool) → (if b then message ∷ future place else future place) ≡ texts_of (if b then brought message ∷ [] else []) ++ future place
-  by true = ap (λ (xs : List (List ℕ)). xs ++ future place) (sym (text-stays message read))
+  by true = ap (λ (xs : List (List ℕ)). xs ++ future place) (sym (text_stays message read))
   by false = refl
 from-said (inputs.EstablishIndication at Zero (Some initial)) text future place read = by (same_place place at) where
   by : (b : Bool) → (if b then initial ∷ future place else future place) ≡ texts_of (if b then brought initial ∷ [] else []) ++ future place
-  by true = ap (λ (xs : List (List ℕ)). xs ++ future place) (sym (text-stays initial read))
+  by true = ap (λ (xs : List (List ℕ)). xs ++ future place) (sym (text_stays initial read))
   by false = refl
 from-said (inputs.Complete at change cause) text future place read = by (same_place place at) where
   by : (b : Bool) → future place ≡ texts_of (if b then brought text ∷ [] else []) ++ future place
-  by true = ap (λ (xs : List (List ℕ)). xs ++ future place) (sym (control-goes text read))
+  by true = ap (λ (xs : List (List ℕ)). xs ++ future place) (sym (control_goes text read))
   by false = refl
 from-said (inputs.Failure at change cause) text future place read = by (same_place place at) where
   by : (b : Bool) → future place ≡ texts_of (if b then brought text ∷ [] else []) ++ future place
-  by true = ap (λ (xs : List (List ℕ)). xs ++ future place) (sym (control-goes text read))
+  by true = ap (λ (xs : List (List ℕ)). xs ++ future place) (sym (control_goes text read))
   by false = refl
 from-said (inputs.ReleaseAck at) text future place read = by (same_place place at) where
   by : (b : Bool) → future place ≡ texts_of (if b then released ∷ [] else []) ++ future place
@@ -52,25 +52,25 @@ from-said (inputs.ReleaseAck at) text future place read = by (same_place place a
 from-said _ text future place read = refl
 
 -- an end is an RF CHANNEL RELEASE ACK alone
-pub ended-said : (input : Input) (text : List ℕ) (place : Place) → is_ended (said_by input text place) ≡ true → said_by input text place ≡ released ∷ []
-ended-said (inputs.Dtap at Zero message) text place is = by (same_place place at) is where
+pub ended_said : (input : Input) (text : List ℕ) (place : Place) → is_ended (said_by input text place) ≡ true → said_by input text place ≡ released ∷ []
+ended_said (inputs.Dtap at Zero message) text place is = by (same_place place at) is where
   by : (b : Bool) → is_ended (if b then brought message ∷ [] else []) ≡ true → (if b then brought message ∷ [] else []) ≡ released ∷ []
   by true is = absurd cc
   by false is = absurd cc
-ended-said (inputs.EstablishIndication at Zero (Some initial)) text place is = by (same_place place at) is where
+ended_said (inputs.EstablishIndication at Zero (Some initial)) text place is = by (same_place place at) is where
   by : (b : Bool) → is_ended (if b then brought initial ∷ [] else []) ≡ true → (if b then brought initial ∷ [] else []) ≡ released ∷ []
   by true is = absurd cc
   by false is = absurd cc
-ended-said (inputs.Complete at change cause) text place is = by (same_place place at) is where
+ended_said (inputs.Complete at change cause) text place is = by (same_place place at) is where
   by : (b : Bool) → is_ended (if b then brought text ∷ [] else []) ≡ true → (if b then brought text ∷ [] else []) ≡ released ∷ []
   by true is = absurd cc
   by false is = absurd cc
-ended-said (inputs.Failure at change cause) text place is = by (same_place place at) is where
+ended_said (inputs.Failure at change cause) text place is = by (same_place place at) is where
   by : (b : Bool) → is_ended (if b then brought text ∷ [] else []) ≡ true → (if b then brought text ∷ [] else []) ≡ released ∷ []
   by true is = absurd cc
   by false is = absurd cc
-ended-said (inputs.ReleaseAck at) text place is = by (same_place place at) is where
+ended_said (inputs.ReleaseAck at) text place is = by (same_place place at) is where
   by : (b : Bool) → is_ended (if b then released ∷ [] else []) ≡ true → (if b then released ∷ [] else []) ≡ released ∷ []
   by true is = refl
   by false is = absurd cc
-ended-said _ text place is = absurd cc
+ended_said _ text place is = absurd cc

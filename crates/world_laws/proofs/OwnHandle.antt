@@ -21,11 +21,11 @@ use Rattle.world_laws.specs.Seated.{Leads}
 use Rattle.world_laws.specs.Seated.Leads.{leads}
 use Rattle.world_laws.proofs.Others.{down-joined}
 use Rattle.world_laws.proofs.OwnCommand.{change-read, command-leads}
-use Rattle.world_laws.proofs.OwnInput.{targets-of, Awaits, awaited}
+use Rattle.world_laws.proofs.OwnInput.{targets_of, Awaits, awaited}
 use Rattle.world_laws.proofs.OwnSeats.{Downs}
 use Rattle.world_laws.proofs.OwnSeats.Downs.{same, commanded}
-use Rattle.world_laws.proofs.OwnTurn.{turn-down, commanded-down}
-use Rattle.world_laws.proofs.RolesAfter.{commanded_of, commanded-role, channels-after}
+use Rattle.world_laws.proofs.OwnTurn.{turn_down, commanded_down}
+use Rattle.world_laws.proofs.RolesAfter.{commanded_of, commanded-role, channels_after}
 
 -- ---- the world after it
 
@@ -36,8 +36,8 @@ handling w items t = record w { inbox = items; controller = t.next }
 abbrev pub handled_by : Actors → RelayItem → List RelayItem → Actors
 handled_by w item items = with_turn (tenure_in w item.source item.what) (take item w.controller) (record w { inbox = items })
 
-pub first-coming : (w : Actors) (item : RelayItem) (items : List RelayItem) (at : Place) → w.inbox ≡ item ∷ items → coming_up w at ≡ brings_in at item ++ coming_up (handled_by w item items) at
-first-coming w item items at stood =
+pub first_coming : (w : Actors) (item : RelayItem) (items : List RelayItem) (at : Place) → w.inbox ≡ item ∷ items → coming_up w at ≡ brings_in at item ++ coming_up (handled_by w item items) at
+first_coming w item items at stood =
     ap (λ (xs : List RelayItem). flat_map (brings_in at) xs ++ made_of at.number (base_of w at.station).messages) stood
     ∙ append_assoc (brings_in at item) (flat_map (brings_in at) items) (made_of at.number (base_of w at.station).messages)
     ∙ turn-leads (λ (v : Actors). brings_in at item ++ coming_up (record w { inbox = items }) at ≡ brings_in at item ++ coming_up v at) (tenure_in w item.source item.what) (take item w.controller) (record w { inbox = items }) (λ links. refl)
@@ -45,30 +45,30 @@ first-coming w item items at stood =
 -- ---- what is on its way down
 
 -- a COMMAND is put for a target that was activated alone
-commands-awaits : (input : Input) (roles : Roles) → step_by input roles ≡ role_commands → Awaits roles.target
-commands-awaits (inputs.ActivationAck at) roles is = elim (cases_Bool (awaits_at at roles.target)) [
+commands_awaits : (input : Input) (roles : Roles) → step_by input roles ≡ role_commands → Awaits roles.target
+commands_awaits (inputs.ActivationAck at) roles is = elim (cases_Bool (awaits_at at roles.target)) [
   | inl waits ↦ awaited at roles.target waits
   | inr not_so ↦ absurd (stays-not (sym (ap (λ (b : Bool). if b then role_commands else roles_stay) not_so) ∙ is))
 ] where
   stays-not : roles_stay ≡ role_commands → ⊥
   stays-not is = absurd cc
-commands-awaits (inputs.ActivationNack at) roles is = absurd (by (awaits_at at roles.target) is) where
+commands_awaits (inputs.ActivationNack at) roles is = absurd (by (awaits_at at roles.target) is) where
   by : (b : Bool) → (if b then role_goes_back else roles_stay) ≡ role_commands → ⊥
   by true is = absurd cc
   by false is = absurd cc
-commands-awaits (inputs.Complete at change cause) roles is = absurd (by (is_target_at at roles.target && changes_by change roles.target) is) where
+commands_awaits (inputs.Complete at change cause) roles is = absurd (by (is_target_at at roles.target && changes_by change roles.target) is) where
   by : (b : Bool) → (if b then role_completes else roles_stay) ≡ role_commands → ⊥
   by true is = absurd cc
   by false is = absurd cc
-commands-awaits (inputs.Failure at change cause) roles is = absurd (by (is_at at roles.serving && changes_by change roles.target) is) where
+commands_awaits (inputs.Failure at change cause) roles is = absurd (by (is_at at roles.serving && changes_by change roles.target) is) where
   by : (b : Bool) → (if b then role_goes_back else roles_stay) ≡ role_commands → ⊥
   by true is = absurd cc
   by false is = absurd cc
-commands-awaits (inputs.ReleaseAck at) roles is = absurd (by (drain_at at roles.draining) is) where
+commands_awaits (inputs.ReleaseAck at) roles is = absurd (by (drain_at at roles.draining) is) where
   by : (o : Option ℕ) → leaves_at o ≡ role_commands → ⊥
   by None is = absurd cc
   by (Some place) is = absurd cc
-commands-awaits _ roles is = absurd cc
+commands_awaits _ roles is = absurd cc
 
 -- the COMMAND, on the serving channel
 record Puts (w : Actors) (item : RelayItem) (items : List RelayItem) (s : Connection) (input : Input) (offer : Option Channel) (r : Row) (t : TargetRole) : Type 0 where
@@ -81,10 +81,10 @@ record Puts (w : Actors) (item : RelayItem) (items : List RelayItem) (s : Connec
   read : IsReadOf s.number (change_command s.serving t.target.change t.target.channel) (out_of s.number (change_command s.serving t.target.change t.target.channel)).frame.body
   apart : is_at (place_of s.serving) t.target.channel ≡ false
 
-command-down : {w : Actors} {item : RelayItem} {items : List RelayItem} {s : Connection} {input : Input} {offer : Option Channel} {r : Row} {t : TargetRole} → Puts w item items s input offer r t → Downs w (handled_by w item items) s r.next
+command_down : {w : Actors} {item : RelayItem} {items : List RelayItem} {s : Connection} {input : Input} {offer : Option Channel} {r : Row} {t : TargetRole} → Puts w item items s input offer r t → Downs w (handled_by w item items) s r.next
 unfolding out_of commanded_of
-command-down {w} {item} {items} {s} {input} {offer} {r} {t} put =
-    let now = channels-after role_commands (roles_of s) s.down input offer r put.goes in
+command_down {w} {item} {items} {s} {input} {offer} {r} {t} put =
+    let now = channels_after role_commands (roles_of s) s.down input offer r put.goes in
     commanded (commanded-role s.state ∙ ap commanded_of put.role ∙ ap (λ (b : Bool). if b then Some t.target else None) put.waits) t.target (now.target ∙ ap (λ (o : Option TargetRole). commanded_of (role_commanded o)) put.role) now.serving serving_down.0
     (ap (λ (v : Actors). going_down v (place_of s.serving)) one_out ∙ serving_down.1) (serving_down.2 (λ (xs : List AirMessage). length xs ≤ 1) (omega arith) (omega arith))
     (serving_down.2 (λ (xs : List AirMessage). AllByRecursion (λ a. Leads w a (Some t.target)) xs) tt (leads (change-read t.target.change t.target.channel) refl, tt))
@@ -105,7 +105,7 @@ command-down {w} {item} {items} {s} {input} {offer} {r} {t} put =
       new = record { message = rr_text (command t.target.change t.target.channel); target = Some tenure } ∷ []
 
       serving_down : (more : List AirMessage) × (going_down (joined_by (Some tenure) u out) (place_of s.serving) ≡ going_down u (place_of s.serving) ++ more) × ((P : List AirMessage → Type 0) → P [] → P new → P more)
-      serving_down = commanded-down (Some tenure) u out s.serving new refl
+      serving_down = commanded_down (Some tenure) u out s.serving new refl
           (command-leads s.number s.serving.number s.serving t.target.change t.target.channel tenure put.read ∙ ap (λ (b : Bool). if b then new else []) (eq-eqb s.serving.number s.serving.number refl))
 
       elsewhere : s.serving.station ≡ t.target.channel.station → leading_from_outbox t.target.channel.number (entry_of (Some tenure) out) ≡ []
@@ -117,16 +117,16 @@ command-down {w} {item} {items} {s} {input} {offer} {r} {t} put =
       on_target false = refl
 
 -- no other row has a tenure
-others-down : (w : Actors) (item : RelayItem) (items : List RelayItem) (s next : Connection) → tenure_in w item.source item.what ≡ None → Downs w (handled_by w item items) s next
-others-down w item items s next none = same (λ c. ap (λ (o : Option Tenure). going_down (with_turn o (take item w.controller) (record w { inbox = items })) (place_of c)) none ∙ turn-down (take item w.controller).outs (handling w items (take item w.controller)) c)
+others_down : (w : Actors) (item : RelayItem) (items : List RelayItem) (s next : Connection) → tenure_in w item.source item.what ≡ None → Downs w (handled_by w item items) s next
+others_down w item items s next none = same (λ c. ap (λ (o : Option Tenure). going_down (with_turn o (take item w.controller) (record w { inbox = items })) (place_of c)) none ∙ turn_down (take item w.controller).outs (handling w items (take item w.controller)) c)
 
-pub downs-of : {w : Actors} {item : RelayItem} (items : List RelayItem) {s : Connection} {input : Input} {offer : Option Channel} {r : Row} {text : List ℕ} → HandlesFor w item s input offer r text → IsPutAsRead s r → AreApart (used_channels s) → GoesOn (step_by input (roles_of s)) (roles_of s) s.down input offer r → Downs w (handled_by w item items) s r.next
-downs-of {w} {item} items {s} {input} {offer} {r} handles read apart goes = by (step_by input (roles_of s)) refl handles.begins goes where
+pub downs_of : {w : Actors} {item : RelayItem} (items : List RelayItem) {s : Connection} {input : Input} {offer : Option Channel} {r : Row} {text : List ℕ} → HandlesFor w item s input offer r text → IsPutAsRead s r → AreApart (used_channels s) → GoesOn (step_by input (roles_of s)) (roles_of s) s.down input offer r → Downs w (handled_by w item items) s r.next
+downs_of {w} {item} items {s} {input} {offer} {r} handles read apart goes = by (step_by input (roles_of s)) refl handles.begins goes where
   by : (x : RoleStep) → step_by input (roles_of s) ≡ x → BeginsTenure w x (target_role s.state) (tenure_in w item.source item.what) → GoesOn x (roles_of s) s.down input offer r → Downs w (handled_by w item items) s r.next
   by role_commands is begins goes =
-      let awaits = commands-awaits input (roles_of s) is in
+      let awaits = commands_awaits input (roles_of s) is in
       let puts : r.outs ≡ change_command s.serving awaits.t.target.change awaits.t.target.channel ∷ [] = subst (λ (o : Option TargetRole). IsCommand o s.serving r.outs) awaits.is goes.tells in
-      command-down (record {
+      command_down (record {
         role = awaits.is;
         waits = awaits.waits;
         goes = goes;
@@ -134,9 +134,9 @@ downs-of {w} {item} items {s} {input} {offer} {r} handles read apart goes = by (
         outs = handles.outs;
         puts = puts;
         read = (subst (AllByRecursion (λ m. IsReadOf s.number m (out_of s.number m).frame.body)) puts read.read).0;
-        apart = (subst (AllByRecursion (IsApart s.serving)) (targets-of s awaits.t awaits.is) (apart_behind (undone s.draining) (s.serving ∷ target_in s.state) apart).0).0;
+        apart = (subst (AllByRecursion (IsApart s.serving)) (targets_of s awaits.t awaits.is) (apart_behind (undone s.draining) (s.serving ∷ target_in s.state) apart).0).0;
       })
-  by roles_stay is none goes = others-down w item items s r.next none
-  by role_completes is none goes = others-down w item items s r.next none
-  by role_goes_back is none goes = others-down w item items s r.next none
-  by (role_leaves place) is none goes = others-down w item items s r.next none
+  by roles_stay is none goes = others_down w item items s r.next none
+  by role_completes is none goes = others_down w item items s r.next none
+  by role_goes_back is none goes = others_down w item items s r.next none
+  by (role_leaves place) is none goes = others_down w item items s r.next none

@@ -22,27 +22,27 @@ use Rattle.world_laws.specs.OwnItem.{CommandsAfter, TakesInput, seat_after}
 use Rattle.world_laws.specs.OwnRow.{DoesRow, over}
 use Rattle.world_laws.specs.Seated.{LinedUp, Leads}
 use Rattle.world_laws.specs.Staying.{AreLinedUp}
-use Rattle.world_laws.proofs.Apart.{on-target}
+use Rattle.world_laws.proofs.Apart.{is_on_target}
 use Rattle.world_laws.proofs.Framing.{lined-same}
-use Rattle.world_laws.proofs.Others.{turn-mobiles, TimeLeavesOthers-new}
-use Rattle.world_laws.proofs.OwnDoes.{kept-targets}
-use Rattle.world_laws.proofs.OwnHandle.{handled_by, handling, first-coming, downs-of}
-use Rattle.world_laws.proofs.OwnInput.{does-row, goes-of}
-use Rattle.world_laws.proofs.OwnRowLaw.{RowKeepsLineUp-new, of-row}
-use Rattle.world_laws.proofs.OwnSeats.{OwnRest, own-rest}
-use Rattle.world_laws.proofs.OwnSteps.{stands-counted}
-use Rattle.world_laws.proofs.OwnTurn.{turn-stations, turn-waiting}
-use Rattle.world_laws.proofs.Quiet.{all-of}
-use Rattle.world_laws.proofs.RolesAfter.{commanded_of, channels-after}
-use Rattle.world_laws.proofs.Seeing.{SameTenures, Sits-same, Leads-same}
+use Rattle.world_laws.proofs.Others.{turn_mobiles, time_leaves_others_new}
+use Rattle.world_laws.proofs.OwnDoes.{kept_targets}
+use Rattle.world_laws.proofs.OwnHandle.{handled_by, handling, first_coming, downs_of}
+use Rattle.world_laws.proofs.OwnInput.{does_row, goes_of}
+use Rattle.world_laws.proofs.OwnRowLaw.{row_keeps_line_up_new, of_row}
+use Rattle.world_laws.proofs.OwnSeats.{OwnRest, own_rest}
+use Rattle.world_laws.proofs.OwnSteps.{stands_counted}
+use Rattle.world_laws.proofs.OwnTurn.{turn_stations, turn_waiting}
+use Rattle.world_laws.proofs.Quiet.{all_of}
+use Rattle.world_laws.proofs.RolesAfter.{commanded_of, channels_after}
+use Rattle.world_laws.proofs.Seeing.{SameTenures, sits_same, leads_same}
 use Rattle.world_laws.proofs.Events.{world}
 
 -- ---- the row, in the world
 
 -- whatever commands are on their way
-takes-of : {w : Actors} {item : RelayItem} (items : List RelayItem) {s : Connection} {input : Input} {offer : Option Channel} {r : Row} {text : List ℕ} → w.inbox ≡ item ∷ items → HandlesFor w item s input offer r text → AreInOrder w s input → IsPutAsRead s r → AreApart (used_channels s)
+takes_of : {w : Actors} {item : RelayItem} (items : List RelayItem) {s : Connection} {input : Input} {offer : Option Channel} {r : Row} {text : List ℕ} → w.inbox ≡ item ∷ items → HandlesFor w item s input offer r text → AreInOrder w s input → IsPutAsRead s r → AreApart (used_channels s)
     → TakesInput s input offer r text (coming_up w) (coming_up (handled_by w item items)) 0 0
-takes-of {w} {item} items {s} {input} stood handles order read apart = record {
+takes_of {w} {item} items {s} {input} stood handles order read apart = record {
   fits = handles.fits;
   stays_open = handles.stays_open;
   awaits = handles.awaits;
@@ -51,7 +51,7 @@ takes-of {w} {item} items {s} {input} stood handles order read apart = record {
   apart = apart;
   finds = record {
     read = handles.read;
-    first = λ at. first-coming w item items at stood ∙ ap (λ (xs : List Item). xs ++ coming_up (handled_by w item items) at) (handles.brings at);
+    first = λ at. first_coming w item items at stood ∙ ap (λ (xs : List Item). xs ++ coming_up (handled_by w item items) at) (handles.brings at);
     old_end = order.old_end;
     others_go_on = order.others_go_on;
     silent = order.silent;
@@ -68,23 +68,23 @@ takes-of {w} {item} items {s} {input} stood handles order read apart = record {
   none (role_leaves place) = omega arith
 
 -- no COMMAND is on its way on a target
-of-commanded : (P : Channel → Type 0) (o : Option TargetRole) (t : Target) → commanded_of o ≡ Some t → AllByRecursion P (target_channels o) → P t.channel
+of_commanded : (P : Channel → Type 0) (o : Option TargetRole) (t : Target) → commanded_of o ≡ Some t → AllByRecursion P (target_channels o) → P t.channel
 unfolding commanded_of
-of-commanded P None t is all = absurd cc
-of-commanded P (Some role) t is all = by role.is_commanded is where
+of_commanded P None t is all = absurd cc
+of_commanded P (Some role) t is all = by role.is_commanded is where
   by : (b : Bool) → (if b then Some role.target else None) ≡ Some t → P t.channel
   by true is = subst (λ (o : Option Target). P (unwrap_or o t).channel) is all.0
   by false is = absurd cc
 
-quiet-of : {w : Actors} {s : Connection} {input : Input} {offer : Option Channel} {r : Row} → AreInOrder w s input → GoesOn (step_by input (roles_of s)) (roles_of s) s.down input offer r → (t : Target) → commanded_target r.next.state ≡ Some t → going_down w (place_of t.channel) ≡ []
-quiet-of {w} {s} {input} {offer} {r} order goes t to =
-    of-commanded (λ c. going_down w (place_of c) ≡ []) (after_step (step_by input (roles_of s)) (roles_of s)).target t (sym (channels-after (step_by input (roles_of s)) (roles_of s) s.down input offer r goes).target ∙ to)
-    (kept-targets (λ c. going_down w (place_of c) ≡ []) (step_by input (roles_of s)) (roles_of s) (subst (AllByRecursion (λ c. going_down w (place_of c) ≡ [])) (sym (target_in-role s.state)) order.uncommanded))
+quiet_of : {w : Actors} {s : Connection} {input : Input} {offer : Option Channel} {r : Row} → AreInOrder w s input → GoesOn (step_by input (roles_of s)) (roles_of s) s.down input offer r → (t : Target) → commanded_target r.next.state ≡ Some t → going_down w (place_of t.channel) ≡ []
+quiet_of {w} {s} {input} {offer} {r} order goes t to =
+    of_commanded (λ c. going_down w (place_of c) ≡ []) (after_step (step_by input (roles_of s)) (roles_of s)).target t (sym (channels_after (step_by input (roles_of s)) (roles_of s) s.down input offer r goes).target ∙ to)
+    (kept_targets (λ c. going_down w (place_of c) ≡ []) (step_by input (roles_of s)) (roles_of s) (subst (AllByRecursion (λ c. going_down w (place_of c) ≡ [])) (sym (target_in-role s.state)) order.uncommanded))
 
 -- the same row, whatever commands are on their way
-with-commands : {s : Connection} {input : Input} {offer : Option Channel} {r : Row} {before after : Place → List Item} {up : ℕ → Bool} {seat seat2 : Seat} {w v : Actors} {mobile_seat : _} → DoesRow s input offer r before after up 0 0 seat seat2 → OwnRest w v mobile_seat s r.next before after up seat seat2
+with_commands : {s : Connection} {input : Input} {offer : Option Channel} {r : Row} {before after : Place → List Item} {up : ℕ → Bool} {seat seat2 : Seat} {w v : Actors} {mobile_seat : _} → DoesRow s input offer r before after up 0 0 seat seat2 → OwnRest w v mobile_seat s r.next before after up seat seat2
     → DoesRow s input offer r before after up (length (going_down w (place_of s.serving)) + remembered mobile_seat) (length (going_down v (place_of r.next.serving)) + remembered mobile_seat) seat seat2
-with-commands does rest = record {
+with_commands does rest = record {
   fits = does.fits;
   stays_open = does.stays_open;
   awaits = does.awaits;
@@ -101,13 +101,13 @@ with-commands does rest = record {
 
 -- ---- the connection
 
-own-lined : {m : ℕ} {w : Actors} {p : Mobile} {item : RelayItem} (items : List RelayItem) {s : Connection} {input : Input} {offer : Option Channel} {r : Row} {text : List ℕ} → w.inbox ≡ item ∷ items → HandlesFor w item s input offer r text → AreInOrder w s input → IsPutAsRead s r → LinedUp m w p s
+own_lined : {m : ℕ} {w : Actors} {p : Mobile} {item : RelayItem} (items : List RelayItem) {s : Connection} {input : Input} {offer : Option Channel} {r : Row} {text : List ℕ} → w.inbox ≡ item ∷ items → HandlesFor w item s input offer r text → AreInOrder w s input → IsPutAsRead s r → LinedUp m w p s
     → LinedUp m (handled_by w item items) p r.next
 unfolding SameTenures
-own-lined {m} {w} {p} {item} items {s} {input} {offer} {r} {text} stood handles order read lined = record {
+own_lined {m} {w} {p} {item} items {s} {input} {offer} {r} {text} stood handles order read lined = record {
   alive = alive_now;
-  sits = Sits-same same_tenures rest.sits;
-  led = AllByRecursion-so (λ a. Leads w a (commanded_target r.next.state)) (λ a. Leads v a (commanded_target r.next.state)) (λ a. Leads-same same_tenures) (going_down v (place_of r.next.serving)) rest.led;
+  sits = sits_same same_tenures rest.sits;
+  led = AllByRecursion-so (λ a. Leads w a (commanded_target r.next.state)) (λ a. Leads v a (commanded_target r.next.state)) (λ a. leads_same same_tenures) (going_down v (place_of r.next.serving)) rest.led;
   none_on_target = rest.none;
   apart = read.apart;
   placed = read.placed;
@@ -116,10 +116,10 @@ own-lined {m} {w} {p} {item} items {s} {input} {offer} {r} {text} stood handles 
   v = handled_by w item items
 
   takes : TakesInput s input offer r text (coming_up w) (coming_up v) 0 0
-  takes = takes-of items stood handles order read lined.apart
+  takes = takes_of items stood handles order read lined.apart
 
   goes : GoesOn (step_by input (roles_of s)) (roles_of s) s.down input offer r
-  goes = goes-of (step_by input (roles_of s)) refl takes
+  goes = goes_of (step_by input (roles_of s)) refl takes
 
   same_tenures : SameTenures w v
   same_tenures at = turn-leads (λ (x : Actors). tenure_at x at ≡ tenure_at w at) (tenure_in w item.source item.what) (take item w.controller) (record w { inbox = items }) (λ links. refl)
@@ -128,34 +128,34 @@ own-lined {m} {w} {p} {item} items {s} {input} {offer} {r} {text} stood handles 
   seat2 = seat_after (step_by input (roles_of s)) (seat_from s.serving p.seat)
 
   does : DoesRow s input offer r (coming_up w) (coming_up v) (is_station_up w) 0 0 (seat_from s.serving p.seat) seat2
-  does = does-row s input offer r text (coming_up w) (coming_up v) (is_station_up w) 0 0 (seat_from s.serving p.seat) takes
+  does = does_row s input offer r text (coming_up w) (coming_up v) (is_station_up w) 0 0 (seat_from s.serving p.seat) takes
 
   rest : OwnRest w v p.seat s r.next (coming_up w) (coming_up v) (is_station_up w) (seat_from s.serving p.seat) seat2
-  rest = own-rest (record {
+  rest = own_rest (record {
     seen = refl;
-    stands = stands-counted (coming_up w) (is_station_up w) (seat_from s.serving p.seat) s (controls_of (to_be_taken p.end.zero)) lined.alive.stands;
+    stands = stands_counted (coming_up w) (is_station_up w) (seat_from s.serving p.seat) s (controls_of (to_be_taken p.end.zero)) lined.alive.stands;
     sits = lined.sits;
     led = lined.led;
     none = lined.none_on_target;
-    apart = λ t is. (on-target s t (place_of t.channel) lined.apart is refl).serving;
-  }) (downs-of items handles read lined.apart goes) (λ t idle to. quiet-of order goes t to) does.step
+    apart = λ t is. (is_on_target s t (place_of t.channel) lined.apart is refl).serving;
+  }) (downs_of items handles read lined.apart goes) (λ t idle to. quiet_of order goes t to) does.step
 
   number : r.next.number ≡ s.number
-  number = (of-row (KeepsChannels s offer) handles.fits (keeps_channels s input offer)).number
+  number = (of_row (KeepsChannels s offer) handles.fits (keeps_channels s input offer)).number
 
   taken : taken_of v r.next.number ≡ taken_of w s.number
   taken = ap (taken_of v) number ∙ turn-leads (λ (x : Actors). taken_of x s.number ≡ taken_of w s.number) (tenure_in w item.source item.what) (take item w.controller) (record w { inbox = items }) (λ links. refl)
 
   waits : flow (waiting_of v r.next.number) ≡ flow (waiting_of w s.number) ++ flow (relayed Zero r.outs)
   waits = ap (λ (n : ℕ). flow (waiting_of v n)) number
-      ∙ ap flow (turn-waiting (tenure_in w item.source item.what) (take item w.controller).outs (handling w items (take item w.controller)) s.number order.switch_up)
+      ∙ ap flow (turn_waiting (tenure_in w item.source item.what) (take item w.controller).outs (handling w items (take item w.controller)) s.number order.switch_up)
       ∙ flow-append (waiting_of w s.number) (map (λ f. f.message) (forwarded (take item w.controller).outs s.number))
       ∙ ap (λ (outs : List Out). flow (waiting_of w s.number) ++ flow (map (λ f. f.message) (forwarded outs s.number))) handles.outs
       ∙ ap (λ (xs : List (List ℕ)). flow (waiting_of w s.number) ++ xs) read.forwards
 
   moved : Alive m (over (coming_up v) (is_station_up w) r.next p.end.sent p.end.zero seat2 (length (going_down v (place_of r.next.serving)) + remembered p.seat) (flow (waiting_of w s.number) ++ flow (relayed Zero r.outs)) (flow (taken_of w s.number)))
-  moved = RowKeepsLineUp-new m s input offer r (coming_up w) (coming_up v) (is_station_up w) (length (going_down w (place_of s.serving)) + remembered p.seat) (length (going_down v (place_of r.next.serving)) + remembered p.seat) (seat_from s.serving p.seat) seat2 p.end.sent p.end.zero (flow (waiting_of w s.number)) (flow (taken_of w s.number))
-      (with-commands does rest) lined.alive
+  moved = row_keeps_line_up_new m s input offer r (coming_up w) (coming_up v) (is_station_up w) (length (going_down w (place_of s.serving)) + remembered p.seat) (length (going_down v (place_of r.next.serving)) + remembered p.seat) (seat_from s.serving p.seat) seat2 p.end.sent p.end.zero (flow (waiting_of w s.number)) (flow (taken_of w s.number))
+      (with_commands does rest) lined.alive
 
   seen : Alive m (over (coming_up v) (is_station_up w) r.next p.end.sent p.end.zero (seat_from r.next.serving p.seat) (length (going_down v (place_of r.next.serving)) + remembered p.seat) (flow (waiting_of v r.next.number)) (flow (taken_of v r.next.number)))
   seen = subst (λ (xs : List (List ℕ)). Alive m (over (coming_up v) (is_station_up w) r.next p.end.sent p.end.zero (seat_from r.next.serving p.seat) (length (going_down v (place_of r.next.serving)) + remembered p.seat) (flow (waiting_of v r.next.number)) (flow xs))) (sym taken)
@@ -164,26 +164,26 @@ own-lined {m} {w} {p} {item} items {s} {input} {offer} {r} {text} stood handles 
 
   alive_now : Alive m (line_up v p r.next)
   alive_now = subst (Alive m) (sym (lined-same (coming_up v) (coming_up v) (is_station_up v) (is_station_up w) (going_down v (place_of r.next.serving)) (going_down v (place_of r.next.serving)) (waiting_of v r.next.number) (waiting_of v r.next.number) (taken_of v r.next.number) (taken_of v r.next.number) p p r.next
-      (all-of (λ c. coming_up v (place_of c) ≡ coming_up v (place_of c)) (used_channels r.next) (λ c. refl)) (turn-stations (tenure_in w item.source item.what) (take item w.controller).outs (handling w items (take item w.controller))) refl refl refl refl refl refl)) seen
+      (all_of (λ c. coming_up v (place_of c) ≡ coming_up v (place_of c)) (used_channels r.next) (λ c. refl)) (turn_stations (tenure_in w item.source item.what) (take item w.controller).outs (handling w items (take item w.controller))) refl refl refl refl refl refl)) seen
 
 -- ---- the event
 
-pub HandleKeepsLineUps-new : (settings : Parameters) (events : List Event) → HandleKeepsLineUps settings events
+pub handle_keeps_line_ups_new : (settings : Parameters) (events : List Event) → HandleKeepsLineUps settings events
 unfolding event_after
-HandleKeepsLineUps-new settings events mobile s item items input offer r text stood handles order read lined =
+handle_keeps_line_ups_new settings events mobile s item items input offer r text stood handles order read lined =
     let w : Actors = world settings events in
     let now : AreLinedUp (modulus_in settings) (handled_by w item items) mobile r.next = record {
       one = lined.one;
-      found = ap (λ (ms : List Mobile). find (has_number mobile) ms) (turn-mobiles (tenure_in w item.source item.what) (take item w.controller).outs (handling w items (take item w.controller))) ∙ lined.found;
-      lined = own-lined items stood handles order read lined.lined;
+      found = ap (λ (ms : List Mobile). find (has_number mobile) ms) (turn_mobiles (tenure_in w item.source item.what) (take item w.controller).outs (handling w items (take item w.controller))) ∙ lined.found;
+      lined = own_lined items stood handles order read lined.lined;
     } in
     subst (λ (xs : List RelayItem). AreLinedUp (modulus_in settings) (unwrap_or (handled xs w) w) mobile r.next) (sym stood) now
 
 -- ---- time passes
 
-pub TimeAgesLineUps-new : (settings : Parameters) (events : List Event) (ms : ℕ) → TimeAgesLineUps settings events ms
-TimeAgesLineUps-new settings events ms mobile s others lined =
-    let now = TimeLeavesOthers-new settings events ms mobile s others lined in
+pub time_ages_line_ups_new : (settings : Parameters) (events : List Event) (ms : ℕ) → TimeAgesLineUps settings events ms
+time_ages_line_ups_new settings events ms mobile s others lined =
+    let now = time_leaves_others_new settings events ms mobile s others lined in
     record {
       one = now.one;
       found = now.found;

@@ -9,12 +9,12 @@ use Rattle.world_laws.specs.LineUp.Alive.{Alive, FirstRelays, Follows, Stands, s
 use Rattle.world_laws.specs.LineUp.Alive.Follows.{rises}
 use Rattle.world_laws.specs.LineUp.ChangeStep.{ended}
 use Rattle.world_laws.specs.LineUp.Places.{Item, Seat, flow, parts_of, controls_of, controls_in, texts_in}
-use Rattle.world_laws.proofs.LineUp.Following.{Follows-line, Follows-rise}
+use Rattle.world_laws.proofs.LineUp.Following.{follows_line, follows_rise}
 use Rattle.world_laws.proofs.LineUp.Lines.{flow-append}
 use Rattle.world_laws.specs.LineUps.{draining_tenure, old_tenure, old_tenures, serving_hold, serving_tenure, commanded_target}
 use Rattle.world_laws.specs.LineUps.{target_tenure, is_changing, is_confirmed, is_intact, is_opening, assembled}
-use Rattle.world_laws.proofs.Breaks.{target-came}
-use Rattle.world_laws.proofs.Cutting.{condition-of}
+use Rattle.world_laws.proofs.Breaks.{target_came}
+use Rattle.world_laws.proofs.Cutting.{condition_of}
 
 -- ---- the oldest channel holds nothing
 
@@ -24,25 +24,25 @@ old-hold coming up d hold = by_done d.is_done where
   by_done true = refl
   by_done false = refl
 
-none-held : (draining : List Drain) (tenures : List Held) (coming : Place → List Item) (up : ℕ → Bool) → FirstIsEmpty tenures → FirstRelays true (old_tenures coming up draining tenures) (serving_hold draining tenures)
-none-held draining [] coming up first = elim first [ ]
-none-held [] (t ∷ ts) coming up first = λ _. ap (λ (held : Held). held.zero) first
-none-held (d ∷ ds) (t ∷ ts) coming up first = old-hold coming up d t.zero ∙ ap (λ (held : Held). held.zero) first
+none_held : (draining : List Drain) (tenures : List Held) (coming : Place → List Item) (up : ℕ → Bool) → FirstIsEmpty tenures → FirstRelays true (old_tenures coming up draining tenures) (serving_hold draining tenures)
+none_held draining [] coming up first = elim first [ ]
+none_held [] (t ∷ ts) coming up first = λ _. ap (λ (held : Held). held.zero) first
+none_held (d ∷ ds) (t ∷ ts) coming up first = old-hold coming up d t.zero ∙ ap (λ (held : Held). held.zero) first
 
 -- before CC no channel drains
-none-drains : (tenures : List Held) (coming : Place → List Item) (up : ℕ → Bool) (draining : List Drain) → draining ≡ [] → FirstRelays false (old_tenures coming up draining tenures) (serving_hold draining tenures)
-none-drains tenures coming up [] none = λ is. absurd (false≢true is)
-none-drains tenures coming up (d ∷ ds) none = absurd cc
+no_drain : (tenures : List Held) (coming : Place → List Item) (up : ℕ → Bool) (draining : List Drain) → draining ≡ [] → FirstRelays false (old_tenures coming up draining tenures) (serving_hold draining tenures)
+no_drain tenures coming up [] none = λ is. absurd (false≢true is)
+no_drain tenures coming up (d ∷ ds) none = absurd cc
 
-pub first-relays : (s : Connection) (coming : Place → List Item) (up : ℕ → Bool) → StandsAlone s → FirstRelays (is_confirmed s.state) (old_tenures coming up s.draining s.up.tenures) (serving_hold s.draining s.up.tenures)
-first-relays s coming up stands = by_state s.state stands.state where
+pub first_relays : (s : Connection) (coming : Place → List Item) (up : ℕ → Bool) → StandsAlone s → FirstRelays (is_confirmed s.state) (old_tenures coming up s.draining s.up.tenures) (serving_hold s.draining s.up.tenures)
+first_relays s coming up stands = by_state s.state stands.state where
   by_state : (state : State) → StandsBy state s.draining s.down s.up.tenures s.link s.waits → FirstRelays (is_confirmed state) (old_tenures coming up s.draining s.up.tenures) (serving_hold s.draining s.up.tenures)
-  by_state WaitActivation by = none-drains s.up.tenures coming up s.draining by.0.none_drains
-  by_state WaitEstablish by = none-drains s.up.tenures coming up s.draining by.0.none_drains
-  by_state WaitConfirm by = none-drains s.up.tenures coming up s.draining by.none_drains
-  by_state (Live reference stage) by = none-held s.draining s.up.tenures coming up by.first
-  by_state (Closed clearing) by = none-drains s.up.tenures coming up s.draining by.none_drains
-  by_state Removed by = none-drains s.up.tenures coming up s.draining by.none_drains
+  by_state WaitActivation by = no_drain s.up.tenures coming up s.draining by.0.none_drains
+  by_state WaitEstablish by = no_drain s.up.tenures coming up s.draining by.0.none_drains
+  by_state WaitConfirm by = no_drain s.up.tenures coming up s.draining by.none_drains
+  by_state (Live reference stage) by = none_held s.draining s.up.tenures coming up by.first
+  by_state (Closed clearing) by = no_drain s.up.tenures coming up s.draining by.none_drains
+  by_state Removed by = no_drain s.up.tenures coming up s.draining by.none_drains
 
 -- ---- the line
 
@@ -56,16 +56,16 @@ flow-twice (x ∷ xs) =
       | inr other ↦ ap flow (cond-false (is_flow_message x) (x ∷ flow xs) (flow xs) other) ∙ flow-twice xs ∙ sym (cond-false (is_flow_message x) (x ∷ flow xs) (flow xs) other)
     ]
 
-moved-line : (taken out relayed parts_before parts_after : List (List ℕ)) → parts_before ≡ flow relayed ++ parts_after → (flow taken ++ flow out) ++ parts_before ≡ (flow taken ++ flow (out ++ flow relayed)) ++ parts_after
-moved-line taken out relayed parts_before parts_after is =
+moved_line : (taken out relayed parts_before parts_after : List (List ℕ)) → parts_before ≡ flow relayed ++ parts_after → (flow taken ++ flow out) ++ parts_before ≡ (flow taken ++ flow (out ++ flow relayed)) ++ parts_after
+moved_line taken out relayed parts_before parts_after is =
     ap (λ (xs : List (List ℕ)). (flow taken ++ flow out) ++ xs) is
     ∙ sym (append_assoc (flow taken ++ flow out) (flow relayed) parts_after)
     ∙ ap (λ (xs : List (List ℕ)). xs ++ parts_after) (append_assoc (flow taken) (flow out) (flow relayed)
     ∙ ap (λ (xs : List (List ℕ)). flow taken ++ (flow out ++ xs)) (sym (flow-twice relayed)) ∙ ap (λ (xs : List (List ℕ)). flow taken ++ xs) (sym (flow-append out (flow relayed))))
 
-follows-moved : {m : ℕ} {sent xs ys : List (List ℕ)} {link : DataLinkState} {ok : Bool} (ok2 : Bool) → xs ≡ ys → (ok2 ≡ true → ok ≡ true) → Follows m sent xs link ok → Follows m sent ys link ok2
-follows-moved false same intact follows = let rise = Follows-rise (Follows-line same follows) in rises rise.0 rise.1
-follows-moved {m} {sent} {xs} {ys} {link} true same intact follows = subst (Follows m sent ys link) (intact refl) (Follows-line same follows)
+follows_moved : {m : ℕ} {sent xs ys : List (List ℕ)} {link : DataLinkState} {ok : Bool} (ok2 : Bool) → xs ≡ ys → (ok2 ≡ true → ok ≡ true) → Follows m sent xs link ok → Follows m sent ys link ok2
+follows_moved false same intact follows = let rise = follows_rise (follows_line same follows) in rises rise.0 rise.1
+follows_moved {m} {sent} {xs} {ys} {link} true same intact follows = subst (Follows m sent ys link) (intact refl) (follows_line same follows)
 
 -- ---- the row
 
@@ -78,16 +78,16 @@ pub record Rowed (s next : Connection) (seat seat2 : Seat) (before after : Place
   pub intact : is_intact seat2 (old_tenures after up next.draining next.up.tenures) (serving_tenure after up next.serving (serving_hold next.draining next.up.tenures)) (target_tenure after up seat2 (commanded_target next.state)) ≡ true
       → is_intact seat (old_tenures before up s.draining s.up.tenures) (serving_tenure before up s.serving (serving_hold s.draining s.up.tenures)) (target_tenure before up seat (commanded_target s.state)) ≡ true
 
-pub row-alive : {m : ℕ} (s next : Connection) (sent : List (List ℕ)) (link : DataLinkState) (seat seat2 : Seat) (commands commands2 : ℕ) (before after : Place → List Item) (up : ℕ → Bool) (relayed out taken : List (List ℕ)) → StandsAlone next → Rowed s next seat seat2 before after up relayed
+pub row_alive : {m : ℕ} (s next : Connection) (sent : List (List ℕ)) (link : DataLinkState) (seat seat2 : Seat) (commands commands2 : ℕ) (before after : Place → List Item) (up : ℕ → Bool) (relayed out taken : List (List ℕ)) → StandsAlone next → Rowed s next seat seat2 before after up relayed
     → Stands (is_opening next.state) (is_changing (commanded_target next.state)) commands2 seat2 (controls_in (after (place_of next.serving))) (texts_in (target_tenure after up seat2 (commanded_target next.state)).items) (controls_in (target_tenure after up seat2 (commanded_target next.state)).items) (controls_of (to_be_taken link))
     → Alive m (assembled sent link seat s.state commands (old_tenures before up s.draining s.up.tenures) (serving_tenure before up s.serving (serving_hold s.draining s.up.tenures)) (target_tenure before up seat (commanded_target s.state)) out taken)
     → Alive m (assembled sent link seat2 next.state commands2 (old_tenures after up next.draining next.up.tenures) (serving_tenure after up next.serving (serving_hold next.draining next.up.tenures)) (target_tenure after up seat2 (commanded_target next.state)) (out ++ flow relayed) taken)
-row-alive s next sent link seat seat2 commands commands2 before after up relayed out taken alone rowed stands alive = record {
-  follows = follows-moved (is_intact seat2 (old_tenures after up next.draining next.up.tenures) (serving_tenure after up next.serving (serving_hold next.draining next.up.tenures)) (target_tenure after up seat2 (commanded_target next.state)))
-      (moved-line taken out relayed _ _ rowed.line) rowed.intact alive.follows;
-  first = first-relays next after up alone;
+row_alive s next sent link seat seat2 commands commands2 before after up relayed out taken alone rowed stands alive = record {
+  follows = follows_moved (is_intact seat2 (old_tenures after up next.draining next.up.tenures) (serving_tenure after up next.serving (serving_hold next.draining next.up.tenures)) (target_tenure after up seat2 (commanded_target next.state)))
+      (moved_line taken out relayed _ _ rowed.line) rowed.intact alive.follows;
+  first = first_relays next after up alone;
   stands = stands;
-  condition = condition-of seat2 (some_lost (old_tenures after up next.draining next.up.tenures)) (not (up next.serving.station)) (target_tenure after up seat2 (commanded_target next.state)).is_lost (target-came after up seat2 (commanded_target next.state));
+  condition = condition_of seat2 (some_lost (old_tenures after up next.draining next.up.tenures)) (not (up next.serving.station)) (target_tenure after up seat2 (commanded_target next.state)).is_lost (target_came after up seat2 (commanded_target next.state));
   bare = bare (commanded_target next.state);
 } where
   bare : (o : Option Target) → (target_tenure after up seat2 o).hold ≡ []

@@ -20,68 +20,68 @@ use Rattle.world_laws.proofs.OwnSteps.{StandsWith}
 
 -- ---- where a change stands
 
-none-commanded : {opening : Bool} {c s x t k : ℕ} {seat : Seat} → Stands opening false c seat s x t k → c ≡ 0
-none-commanded (opens here none) = omega arith
-none-commanded (rests here none) = omega arith
+none_commanded : {opening : Bool} {c s x t k : ℕ} {seat : Seat} → Stands opening false c seat s x t k → c ≡ 0
+none_commanded (opens here none) = omega arith
+none_commanded (rests here none) = omega arith
 
-all-arrived : {opening : Bool} {c s x t k : ℕ} {seat : Seat} → 1 ≤ t → Stands opening true c seat s x t k → Stays on_target seat × (c ≡ 0)
-all-arrived more (waits here few none) = absurd (omega arith)
-all-arrived more (leaves none) = absurd (omega arith)
-all-arrived more (arrives here none few) = (here, omega arith)
-all-arrived more (returns here none few) = absurd (omega arith)
+all_arrived : {opening : Bool} {c s x t k : ℕ} {seat : Seat} → 1 ≤ t → Stands opening true c seat s x t k → Stays on_target seat × (c ≡ 0)
+all_arrived more (waits here few none) = absurd (omega arith)
+all_arrived more (leaves none) = absurd (omega arith)
+all_arrived more (arrives here none few) = (here, omega arith)
+all_arrived more (returns here none few) = absurd (omega arith)
 
-all-returned : {opening : Bool} {c s x t k : ℕ} {seat : Seat} → 1 ≤ s → Stands opening true c seat s x t k → Stays on_serving seat × (c ≡ 0)
-all-returned more (waits here few none) = absurd (omega arith)
-all-returned more (leaves none) = absurd (omega arith)
-all-returned more (arrives here none few) = absurd (omega arith)
-all-returned more (returns here none few) = (here, omega arith)
+all_returned : {opening : Bool} {c s x t k : ℕ} {seat : Seat} → 1 ≤ s → Stands opening true c seat s x t k → Stays on_serving seat × (c ≡ 0)
+all_returned more (waits here few none) = absurd (omega arith)
+all_returned more (leaves none) = absurd (omega arith)
+all_returned more (arrives here none few) = absurd (omega arith)
+all_returned more (returns here none few) = (here, omega arith)
 
 -- ---- where the mobile is
 
-not-serving : {seat : Seat} → Stays on_target seat → seat ≡ on_serving → ⊥
-not-serving remains is = absurd cc
-not-serving left is = absurd cc
+not_serving : {seat : Seat} → Stays on_target seat → seat ≡ on_serving → ⊥
+not_serving remains is = absurd cc
+not_serving left is = absurd cc
 
-not-target : {seat : Seat} → Stays on_serving seat → seat ≡ on_target → ⊥
-not-target remains is = absurd cc
-not-target left is = absurd cc
+not_target : {seat : Seat} → Stays on_serving seat → seat ≡ on_target → ⊥
+not_target remains is = absurd cc
+not_target left is = absurd cc
 
-not-moving : {here seat : Seat} → Stays here seat → here ≡ on_serving → seat ≡ moving → ⊥
-not-moving remains is now = absurd (serving_moves (sym is ∙ now)) where
+not_moving : {here seat : Seat} → Stays here seat → here ≡ on_serving → seat ≡ moving → ⊥
+not_moving remains is now = absurd (serving_moves (sym is ∙ now)) where
   serving_moves : on_serving ≡ moving → ⊥
   serving_moves is = absurd cc
-not-moving left is now = absurd cc
+not_moving left is now = absurd cc
 
-not-moving-there : {seat : Seat} → Stays on_target seat → seat ≡ moving → ⊥
-not-moving-there remains is = absurd cc
-not-moving-there left is = absurd cc
+not_moving_there : {seat : Seat} → Stays on_target seat → seat ≡ moving → ⊥
+not_moving_there remains is = absurd cc
+not_moving_there left is = absurd cc
 
-on-itself : (w : Actors) {tenure : Tenure} (c : Channel) → tenure ≡ tenure_at w (place_of c) → is_at tenure.at c ≡ true
-on-itself w c is = ap (λ (t : Tenure). is_at t.at c) is ∙ at-itself c
+on_itself : (w : Actors) {tenure : Tenure} (c : Channel) → tenure ≡ tenure_at w (place_of c) → is_at tenure.at c ≡ true
+on_itself w c is = ap (λ (t : Tenure). is_at t.at c) is ∙ at-itself c
 
-came-over : (b : Bool) → after_complete (if b then on_serving else on_target) ≡ on_serving
-came-over true = refl
-came-over false = refl
+came_over : (b : Bool) → after_complete (if b then on_serving else on_target) ≡ on_serving
+came_over true = refl
+came_over false = refl
 
-sits-completes : {w : Actors} {serving : Channel} {t : Target} {seat : MobileSeat} → Sits w serving (Some t) seat → Stays on_target (seat_from serving seat) → Sits w t.channel None seat × (after_complete (seat_from serving seat) ≡ seat_from t.channel seat)
-sits-completes {w} {serving} (stays is remembers) here = absurd (not-serving here (ap (λ (b : Bool). if b then on_serving else on_target) (on-itself w serving is)))
-sits-completes {w} {serving} {t} (came {tenure = tenure} is) here = (stays is nothing, came-over (is_at tenure.at serving) ∙ ap (λ (b : Bool). if b then on_serving else on_target) (sym (on-itself w t.channel is)))
-sits-completes (between from is) here = absurd (not-moving-there here refl)
-sits-completes gone here = (gone, refl)
+sits_completes : {w : Actors} {serving : Channel} {t : Target} {seat : MobileSeat} → Sits w serving (Some t) seat → Stays on_target (seat_from serving seat) → Sits w t.channel None seat × (after_complete (seat_from serving seat) ≡ seat_from t.channel seat)
+sits_completes {w} {serving} (stays is remembers) here = absurd (not_serving here (ap (λ (b : Bool). if b then on_serving else on_target) (on_itself w serving is)))
+sits_completes {w} {serving} {t} (came {tenure = tenure} is) here = (stays is nothing, came_over (is_at tenure.at serving) ∙ ap (λ (b : Bool). if b then on_serving else on_target) (sym (on_itself w t.channel is)))
+sits_completes (between from is) here = absurd (not_moving_there here refl)
+sits_completes gone here = (gone, refl)
 
-sits-goes_back : {w : Actors} {serving : Channel} {t : Target} {seat : MobileSeat} → Sits w serving (Some t) seat → is_at (place_of t.channel) serving ≡ false → Stays on_serving (seat_from serving seat) → remembered seat ≡ 0 → Sits w serving None seat
-sits-goes_back (stays is nothing) apart here none = stays is nothing
-sits-goes_back (stays is (told by)) apart here none = absurd (omega arith)
-sits-goes_back {serving = serving} (came is) apart here none = absurd (not-target here (ap (λ (b : Bool). if b then on_serving else on_target) (ap (λ (x : Tenure). is_at x.at serving) is ∙ apart)))
-sits-goes_back (between from is) apart here none = absurd (not-moving here refl refl)
-sits-goes_back gone apart here none = gone
+sits_goes_back : {w : Actors} {serving : Channel} {t : Target} {seat : MobileSeat} → Sits w serving (Some t) seat → is_at (place_of t.channel) serving ≡ false → Stays on_serving (seat_from serving seat) → remembered seat ≡ 0 → Sits w serving None seat
+sits_goes_back (stays is nothing) apart here none = stays is nothing
+sits_goes_back (stays is (told by)) apart here none = absurd (omega arith)
+sits_goes_back {serving = serving} (came is) apart here none = absurd (not_target here (ap (λ (b : Bool). if b then on_serving else on_target) (ap (λ (x : Tenure). is_at x.at serving) is ∙ apart)))
+sits_goes_back (between from is) apart here none = absurd (not_moving here refl refl)
+sits_goes_back gone apart here none = gone
 
-sits-tells : {w : Actors} {serving : Channel} {o : Option Target} (t : Target) {seat : MobileSeat} → Sits w serving o seat → o ≡ None → Sits w serving (Some t) seat
-sits-tells t (stays is nothing) none = stays is nothing
-sits-tells t (stays is (told by)) none = absurd cc
-sits-tells t (came is) none = absurd cc
-sits-tells t (between from is) none = absurd cc
-sits-tells t gone none = gone
+sits_tells : {w : Actors} {serving : Channel} {o : Option Target} (t : Target) {seat : MobileSeat} → Sits w serving o seat → o ≡ None → Sits w serving (Some t) seat
+sits_tells t (stays is nothing) none = stays is nothing
+sits_tells t (stays is (told by)) none = absurd cc
+sits_tells t (came is) none = absurd cc
+sits_tells t (between from is) none = absurd cc
+sits_tells t gone none = gone
 
 -- ---- which commands are on their way
 
@@ -108,14 +108,14 @@ pub record OwnBefore (w : Actors) (seat : MobileSeat) (s : Connection) (before :
   pub none : NoneOn w (commanded_target s.state)
   pub apart : (t : Target) → commanded_target s.state ≡ Some t → is_at (place_of t.channel) s.serving ≡ false
 
-some-none : {X : Type 0} {o : Option X} {x : X} → o ≡ None → o ≡ Some x → ⊥
-some-none {X} {o} {x} none some = none-some _ (sym none ∙ some)
+some_none : {X : Type 0} {o : Option X} {x : X} → o ≡ None → o ≡ Some x → ⊥
+some_none {X} {o} {x} none some = none-some _ (sym none ∙ some)
 
 -- the channels have the roles that they had
-rest-stays : {w v : Actors} {seat : MobileSeat} {s next : Connection} {before after : Place → List Item} {up : ℕ → Bool} {seat1 : Seat} {link : ℕ} → OwnBefore w seat s before link seat1 → ((c : Channel) → going_down v (place_of c) ≡ going_down w (place_of c)) → next.serving ≡ s.serving → commanded_target next.state ≡ commanded_target s.state
+rest_stays : {w v : Actors} {seat : MobileSeat} {s next : Connection} {before after : Place → List Item} {up : ℕ → Bool} {seat1 : Seat} {link : ℕ} → OwnBefore w seat s before link seat1 → ((c : Channel) → going_down v (place_of c) ≡ going_down w (place_of c)) → next.serving ≡ s.serving → commanded_target next.state ≡ commanded_target s.state
     → (length (going_down v (place_of next.serving)) + remembered seat ≤ length (going_down w (place_of s.serving)) + remembered seat → OwnStep before after up s next (length (going_down w (place_of s.serving)) + remembered seat) (length (going_down v (place_of next.serving)) + remembered seat) seat1 seat1)
     → OwnRest w v seat s next before after up seat1 seat1
-rest-stays {w} {v} {seat} {s} {next} was downs serving kept step = record {
+rest_stays {w} {v} {seat} {s} {next} was downs serving kept step = record {
   own = step (let counts = ap length same_down in omega arith);
   seen = was.seen ∙ ap (λ (c : Channel). seat_from c seat) (sym serving);
   sits = subst (λ (o : Option Target). Sits w next.serving o seat) (sym kept) (subst (λ (c : Channel). Sits w c (commanded_target s.state) seat) (sym serving) was.sits);
@@ -130,19 +130,19 @@ rest-stays {w} {v} {seat} {s} {next} was downs serving kept step = record {
   by (Some t) none = downs t.channel ∙ none
 
 -- the mobile is commanded
-rest-tells : {w v : Actors} {seat : MobileSeat} {s next : Connection} {before after : Place → List Item} {up : ℕ → Bool} {seat1 : Seat} {link : ℕ} → OwnBefore w seat s before link seat1 → commanded_target s.state ≡ None → next.serving ≡ s.serving → (t : Target) → commanded_target next.state ≡ Some t
+rest_tells : {w v : Actors} {seat : MobileSeat} {s next : Connection} {before after : Place → List Item} {up : ℕ → Bool} {seat1 : Seat} {link : ℕ} → OwnBefore w seat s before link seat1 → commanded_target s.state ≡ None → next.serving ≡ s.serving → (t : Target) → commanded_target next.state ≡ Some t
     → (more : List AirMessage) → going_down v (place_of s.serving) ≡ going_down w (place_of s.serving) ++ more → length more ≤ 1 → AllByRecursion (λ a. Leads w a (Some t)) more → going_down v (place_of t.channel) ≡ []
     → (length (going_down v (place_of next.serving)) + remembered seat ≤ 1 → OwnStep before after up s next (length (going_down w (place_of s.serving)) + remembered seat) (length (going_down v (place_of next.serving)) + remembered seat) seat1 seat1)
     → OwnRest w v seat s next before after up seat1 seat1
-rest-tells {w} {v} {seat} {s} {next} {before} {seat1 = seat1} {link} was idle_before serving t to more downs few leads_there quiet step = record {
+rest_tells {w} {v} {seat} {s} {next} {before} {seat1 = seat1} {link} was idle_before serving t to more downs few leads_there quiet step = record {
   own = step (let counts = ap length now_down in let sum = idle in omega arith);
   seen = was.seen ∙ ap (λ (c : Channel). seat_from c seat) (sym serving);
-  sits = subst (λ (o : Option Target). Sits w next.serving o seat) (sym to) (subst (λ (c : Channel). Sits w c (Some t) seat) (sym serving) (sits-tells t was.sits idle_before));
+  sits = subst (λ (o : Option Target). Sits w next.serving o seat) (sym to) (subst (λ (c : Channel). Sits w c (Some t) seat) (sym serving) (sits_tells t was.sits idle_before));
   led = subst (λ (o : Option Target). AllByRecursion (λ a. Leads w a o) (going_down v (place_of next.serving))) (sym to) (subst (AllByRecursion (λ a. Leads w a (Some t))) (sym now_down) leads_there);
   none = subst (NoneOn v) (sym to) quiet;
 } where
   idle : length (going_down w (place_of s.serving)) + remembered seat ≡ 0
-  idle = none-commanded (subst (λ (o : Option Target). StandsWith (is_opening s.state) o (length (going_down w (place_of s.serving)) + remembered seat) seat1 (controls_in (before (place_of s.serving))) before link) idle_before was.stands)
+  idle = none_commanded (subst (λ (o : Option Target). StandsWith (is_opening s.state) o (length (going_down w (place_of s.serving)) + remembered seat) seat1 (controls_in (before (place_of s.serving))) before link) idle_before was.stands)
 
   none_before : going_down w (place_of s.serving) ≡ []
   none_before = no-length (going_down w (place_of s.serving)) (let both = idle in omega arith)
@@ -151,11 +151,11 @@ rest-tells {w} {v} {seat} {s} {next} {before} {seat1 = seat1} {link} was idle_be
   now_down = ap (λ (c : Channel). going_down v (place_of c)) serving ∙ downs ∙ ap (λ (as_led : List AirMessage). as_led ++ more) none_before
 
 -- COMPLETE came
-rest-completes : {w v : Actors} {seat : MobileSeat} {s next : Connection} {before after : Place → List Item} {up : ℕ → Bool} {seat1 : Seat} {link : ℕ} → OwnBefore w seat s before link seat1 → (t : Target) → commanded_target s.state ≡ Some t → commanded_target next.state ≡ None → next.serving ≡ t.channel
+rest_completes : {w v : Actors} {seat : MobileSeat} {s next : Connection} {before after : Place → List Item} {up : ℕ → Bool} {seat1 : Seat} {link : ℕ} → OwnBefore w seat s before link seat1 → (t : Target) → commanded_target s.state ≡ Some t → commanded_target next.state ≡ None → next.serving ≡ t.channel
     → 1 ≤ controls_in (before (place_of t.channel)) → going_down v (place_of t.channel) ≡ going_down w (place_of t.channel)
     → (length (going_down v (place_of next.serving)) + remembered seat ≤ length (going_down w (place_of s.serving)) + remembered seat → OwnStep before after up s next (length (going_down w (place_of s.serving)) + remembered seat) (length (going_down v (place_of next.serving)) + remembered seat) seat1 (after_complete seat1))
     → OwnRest w v seat s next before after up seat1 (after_complete seat1)
-rest-completes {w} {v} {seat} {s} {next} {before} {seat1 = seat1} {link} was t changed ended serving more downs step = record {
+rest_completes {w} {v} {seat} {s} {next} {before} {seat1 = seat1} {link} was t changed ended serving more downs step = record {
   own = step (let counts = ap length now_down in omega arith);
   seen = ap after_complete was.seen ∙ now_sits.1 ∙ ap (λ (c : Channel). seat_from c seat) (sym serving);
   sits = subst (λ (o : Option Target). Sits w next.serving o seat) (sym ended) (subst (λ (c : Channel). Sits w c None seat) (sym serving) now_sits.0);
@@ -163,29 +163,29 @@ rest-completes {w} {v} {seat} {s} {next} {before} {seat1 = seat1} {link} was t c
   none = subst (NoneOn v) (sym ended) tt;
 } where
   here : Stays on_target seat1
-  here = (all-arrived more (subst (λ (o : Option Target). StandsWith (is_opening s.state) o (length (going_down w (place_of s.serving)) + remembered seat) seat1 (controls_in (before (place_of s.serving))) before link) changed was.stands)).0
+  here = (all_arrived more (subst (λ (o : Option Target). StandsWith (is_opening s.state) o (length (going_down w (place_of s.serving)) + remembered seat) seat1 (controls_in (before (place_of s.serving))) before link) changed was.stands)).0
 
   now_sits : Sits w t.channel None seat × (after_complete (seat_from s.serving seat) ≡ seat_from t.channel seat)
-  now_sits = sits-completes (subst (λ (o : Option Target). Sits w s.serving o seat) changed was.sits) (subst (Stays on_target) was.seen here)
+  now_sits = sits_completes (subst (λ (o : Option Target). Sits w s.serving o seat) changed was.sits) (subst (Stays on_target) was.seen here)
 
   now_down : going_down v (place_of next.serving) ≡ []
   now_down = ap (λ (c : Channel). going_down v (place_of c)) serving ∙ downs ∙ subst (NoneOn w) changed was.none
 
 -- FAILURE came
-rest-goes_back : {w v : Actors} {seat : MobileSeat} {s next : Connection} {before after : Place → List Item} {up : ℕ → Bool} {seat1 : Seat} {link : ℕ} → OwnBefore w seat s before link seat1 → (t : Target) → commanded_target s.state ≡ Some t → commanded_target next.state ≡ None → next.serving ≡ s.serving
+rest_goes_back : {w v : Actors} {seat : MobileSeat} {s next : Connection} {before after : Place → List Item} {up : ℕ → Bool} {seat1 : Seat} {link : ℕ} → OwnBefore w seat s before link seat1 → (t : Target) → commanded_target s.state ≡ Some t → commanded_target next.state ≡ None → next.serving ≡ s.serving
     → 1 ≤ controls_in (before (place_of s.serving)) → going_down v (place_of s.serving) ≡ going_down w (place_of s.serving)
     → (length (going_down v (place_of next.serving)) + remembered seat ≤ length (going_down w (place_of s.serving)) + remembered seat → OwnStep before after up s next (length (going_down w (place_of s.serving)) + remembered seat) (length (going_down v (place_of next.serving)) + remembered seat) seat1 seat1)
     → OwnRest w v seat s next before after up seat1 seat1
-rest-goes_back {w} {v} {seat} {s} {next} {before} {seat1 = seat1} {link} was t changed ended serving more downs step = record {
+rest_goes_back {w} {v} {seat} {s} {next} {before} {seat1 = seat1} {link} was t changed ended serving more downs step = record {
   own = step (let counts = ap length same_down in omega arith);
   seen = was.seen ∙ ap (λ (c : Channel). seat_from c seat) (sym serving);
   sits = subst (λ (o : Option Target). Sits w next.serving o seat) (sym ended) (subst (λ (c : Channel). Sits w c None seat) (sym serving)
-      (sits-goes_back (subst (λ (o : Option Target). Sits w s.serving o seat) changed was.sits) (was.apart t changed) (subst (Stays on_serving) was.seen back.0) (let idle = back.1 in omega arith)));
+      (sits_goes_back (subst (λ (o : Option Target). Sits w s.serving o seat) changed was.sits) (was.apart t changed) (subst (Stays on_serving) was.seen back.0) (let idle = back.1 in omega arith)));
   led = subst (AllByRecursion (λ a. Leads w a (commanded_target next.state))) (sym (same_down ∙ none_before)) tt;
   none = subst (NoneOn v) (sym ended) tt;
 } where
   back : Stays on_serving seat1 × (length (going_down w (place_of s.serving)) + remembered seat ≡ 0)
-  back = all-returned more (subst (λ (o : Option Target). StandsWith (is_opening s.state) o (length (going_down w (place_of s.serving)) + remembered seat) seat1 (controls_in (before (place_of s.serving))) before link) changed was.stands)
+  back = all_returned more (subst (λ (o : Option Target). StandsWith (is_opening s.state) o (length (going_down w (place_of s.serving)) + remembered seat) seat1 (controls_in (before (place_of s.serving))) before link) changed was.stands)
 
   none_before : going_down w (place_of s.serving) ≡ []
   none_before = no-length (going_down w (place_of s.serving)) (let idle = back.1 in omega arith)
@@ -195,15 +195,15 @@ rest-goes_back {w} {v} {seat} {s} {next} {before} {seat1 = seat1} {link} was t c
 
 -- ---- the row
 
-pub own-rest : {w v : Actors} {seat : MobileSeat} {s next : Connection} {before after : Place → List Item} {up : ℕ → Bool} {seat1 seat2 : Seat} {link : ℕ} → OwnBefore w seat s before link seat1 → Downs w v s next → ((t : Target) → commanded_target s.state ≡ None → commanded_target next.state ≡ Some t → going_down w (place_of t.channel) ≡ [])
+pub own_rest : {w v : Actors} {seat : MobileSeat} {s next : Connection} {before after : Place → List Item} {up : ℕ → Bool} {seat1 seat2 : Seat} {link : ℕ} → OwnBefore w seat s before link seat1 → Downs w v s next → ((t : Target) → commanded_target s.state ≡ None → commanded_target next.state ≡ Some t → going_down w (place_of t.channel) ≡ [])
     → OwnStep before after up s next 0 0 seat1 seat2 → OwnRest w v seat s next before after up seat1 seat2
-own-rest was (same downs) quiet (step_stays serving kept fewer texts controls told_now covers) = rest-stays was downs serving kept (λ now. step_stays serving kept fewer texts controls now covers)
-own-rest {w} {v} {s = s} was (same downs) quiet (tells serving idle t to fewer silent told_now covers) =
-    rest-tells was idle serving t to [] (downs s.serving ∙ sym (append-nil (going_down w (place_of s.serving)))) (omega arith) tt (downs t.channel ∙ quiet t idle to) (λ now. tells serving idle t to fewer silent now covers)
-own-rest was (same downs) quiet (completes t changed ended serving more told_now covers) = rest-completes was t changed ended serving (omega arith) (downs t.channel) (λ now. completes t changed ended serving more now covers)
-own-rest {s = s} was (same downs) quiet (goes_back t changed ended serving more told_now covers) = rest-goes_back was t changed ended serving (omega arith) (downs s.serving) (λ now. goes_back t changed ended serving more now covers)
-own-rest was (commanded idle t to serves more downs few leads_there same_there) quiet (step_stays serving kept fewer texts controls told_now covers) = absurd (some-none (kept ∙ idle) to)
-own-rest {w} {v} {next = next} was (commanded idle t to serves more downs few leads_there same_there) quiet (tells serving idle2 t2 to2 fewer silent told_now covers) =
-    rest-tells was idle serving t to more downs few leads_there (same_there ∙ quiet t idle to) (λ now. tells serving idle2 t2 to2 fewer silent now covers)
-own-rest was (commanded idle t to serves more downs few leads_there same_there) quiet (completes t2 changed ended serving fewer told_now covers) = absurd (some-none idle changed)
-own-rest was (commanded idle t to serves more downs few leads_there same_there) quiet (goes_back t2 changed ended serving fewer told_now covers) = absurd (some-none idle changed)
+own_rest was (same downs) quiet (step_stays serving kept fewer texts controls told_now covers) = rest_stays was downs serving kept (λ now. step_stays serving kept fewer texts controls now covers)
+own_rest {w} {v} {s = s} was (same downs) quiet (tells serving idle t to fewer silent told_now covers) =
+    rest_tells was idle serving t to [] (downs s.serving ∙ sym (append-nil (going_down w (place_of s.serving)))) (omega arith) tt (downs t.channel ∙ quiet t idle to) (λ now. tells serving idle t to fewer silent now covers)
+own_rest was (same downs) quiet (completes t changed ended serving more told_now covers) = rest_completes was t changed ended serving (omega arith) (downs t.channel) (λ now. completes t changed ended serving more now covers)
+own_rest {s = s} was (same downs) quiet (goes_back t changed ended serving more told_now covers) = rest_goes_back was t changed ended serving (omega arith) (downs s.serving) (λ now. goes_back t changed ended serving more now covers)
+own_rest was (commanded idle t to serves more downs few leads_there same_there) quiet (step_stays serving kept fewer texts controls told_now covers) = absurd (some_none (kept ∙ idle) to)
+own_rest {w} {v} {next = next} was (commanded idle t to serves more downs few leads_there same_there) quiet (tells serving idle2 t2 to2 fewer silent told_now covers) =
+    rest_tells was idle serving t to more downs few leads_there (same_there ∙ quiet t idle to) (λ now. tells serving idle2 t2 to2 fewer silent now covers)
+own_rest was (commanded idle t to serves more downs few leads_there same_there) quiet (completes t2 changed ended serving fewer told_now covers) = absurd (some_none idle changed)
+own_rest was (commanded idle t to serves more downs few leads_there same_there) quiet (goes_back t2 changed ended serving fewer told_now covers) = absurd (some_none idle changed)

@@ -8,7 +8,7 @@ use Rattle.world_laws.specs.LineUp.Alive.Stays.{remains, left}
 use Rattle.world_laws.specs.LineUp.ChangeStep.{after_complete, ended}
 use Rattle.world_laws.specs.LineUp.Places.{Item, Seat, flow, controls_of, controls_in, texts_in}
 use Rattle.world_laws.specs.LineUp.Places.Seat.{on_serving, on_target, moving, gone}
-use Rattle.world_laws.proofs.LineUp.Standing.{Stands-fewer, Stands-commands, Stands-completes, Stands-goes_back}
+use Rattle.world_laws.proofs.LineUp.Standing.{stands_fewer, stands_commands, stands_completes, stands_goes_back}
 use Rattle.world_laws.specs.OwnStep.{lacks, some_lacks, target_items, OwnStep, StillAwaits}
 use Rattle.world_laws.specs.OwnStep.OwnStep.{stays, tells, completes, goes_back}
 use Rattle.world_laws.specs.LineUps.{is_ended, draining_tenure, old_tenure, old_tenures, came, is_gone, commanded_target, target_tenure}
@@ -16,16 +16,16 @@ use Rattle.world_laws.specs.LineUps.{is_changing, is_opening}
 
 -- ---- whether something is missing, whatever is held
 
-one-lacks : (coming : Place → List Item) (up : ℕ → Bool) (d : Drain) (hold : List (List ℕ)) → (old_tenure coming up d hold).is_lost ≡ lacks coming up d
-one-lacks coming up d hold = by_done d.is_done where
+one_lacks : (coming : Place → List Item) (up : ℕ → Bool) (d : Drain) (hold : List (List ℕ)) → (old_tenure coming up d hold).is_lost ≡ lacks coming up d
+one_lacks coming up d hold = by_done d.is_done where
   by_done : (b : Bool) → (if b then ended hold else draining_tenure (up d.channel.station) (coming (place_of d.channel)) hold).is_lost ≡ (if b then false else (not (up d.channel.station) && not (is_ended (coming (place_of d.channel)))))
   by_done true = refl
   by_done false = refl
 
 pub old-lacks : (coming : Place → List Item) (up : ℕ → Bool) (ds : List Drain) (ts : List Held) → some_lost (old_tenures coming up ds ts) ≡ some_lacks coming up ds
 old-lacks coming up [] ts = refl
-old-lacks coming up (d ∷ ds) [] = ap (λ (b : Bool). b || some_lost (old_tenures coming up ds [])) (one-lacks coming up d []) ∙ ap (λ (b : Bool). lacks coming up d || b) (old-lacks coming up ds [])
-old-lacks coming up (d ∷ ds) (t ∷ ts) = ap (λ (b : Bool). b || some_lost (old_tenures coming up ds ts)) (one-lacks coming up d t.zero) ∙ ap (λ (b : Bool). lacks coming up d || b) (old-lacks coming up ds ts)
+old-lacks coming up (d ∷ ds) [] = ap (λ (b : Bool). b || some_lost (old_tenures coming up ds [])) (one_lacks coming up d []) ∙ ap (λ (b : Bool). lacks coming up d || b) (old-lacks coming up ds [])
+old-lacks coming up (d ∷ ds) (t ∷ ts) = ap (λ (b : Bool). b || some_lost (old_tenures coming up ds ts)) (one_lacks coming up d t.zero) ∙ ap (λ (b : Bool). lacks coming up d || b) (old-lacks coming up ds ts)
 
 -- ---- counts of the target
 
@@ -42,29 +42,29 @@ abbrev pub StandsWith : Bool → Option Target → ℕ → Seat → ℕ → (Pla
 StandsWith opening o commands seat serving coming link = Stands opening (is_changing o) commands seat serving (texts_in (target_items coming o)) (controls_in (target_items coming o)) link
 
 -- while the initial message is to come, no change is under way
-pub opening-unchanging : (state : State) → is_opening state ≡ true → commanded_target state ≡ None
-opening-unchanging WaitEstablish is = refl
-opening-unchanging WaitActivation is = refl
-opening-unchanging WaitConfirm is = refl
-opening-unchanging (Live reference stage) is = absurd cc
-opening-unchanging (Closed clearing) is = refl
-opening-unchanging Removed is = refl
+pub opening_unchanging : (state : State) → is_opening state ≡ true → commanded_target state ≡ None
+opening_unchanging WaitEstablish is = refl
+opening_unchanging WaitActivation is = refl
+opening_unchanging WaitConfirm is = refl
+opening_unchanging (Live reference stage) is = absurd cc
+opening_unchanging (Closed clearing) is = refl
+opening_unchanging Removed is = refl
 
-some-none : {t : Target} {o : Option Target} → o ≡ None → o ≡ Some t → ⊥
-some-none {t} none is = none-some _ (sym none ∙ is)
+some_none : {t : Target} {o : Option Target} → o ≡ None → o ≡ Some t → ⊥
+some_none {t} none is = none-some _ (sym none ∙ is)
 
 -- the COMMAND is put behind the connection request
 commanded : {opening : Bool} {c s x t k : ℕ} {seat : Seat} → (opening ≡ true → ⊥) → Stands opening false c seat s x t k → Stands opening true 1 seat s x t k
-commanded {opening = false} request stands = Stands-commands stands
+commanded {opening = false} request stands = stands_commands stands
 commanded {opening = true} request stands = absurd (request refl)
 
 -- a connection begins to wait for its initial message, or waits on
-awaits-stands : (opening opening2 : Bool) (o : Option Target) {c s x t k : ℕ} {seat : Seat} → (opening ≡ true → opening2 ≡ true) → (opening2 ≡ true → o ≡ None) → Stands opening (is_changing o) c seat s x t k → Stands opening2 (is_changing o) c seat s x t k
-awaits-stands false false o awaits unchanging stands = stands
-awaits-stands true true o awaits unchanging stands = stands
-awaits-stands true false o awaits unchanging stands = absurd (let is = awaits refl in cc)
-awaits-stands false true (Some t) awaits unchanging stands = absurd (some-none (unchanging refl) refl)
-awaits-stands false true None awaits unchanging stands = begins stands where
+awaits_stands : (opening opening2 : Bool) (o : Option Target) {c s x t k : ℕ} {seat : Seat} → (opening ≡ true → opening2 ≡ true) → (opening2 ≡ true → o ≡ None) → Stands opening (is_changing o) c seat s x t k → Stands opening2 (is_changing o) c seat s x t k
+awaits_stands false false o awaits unchanging stands = stands
+awaits_stands true true o awaits unchanging stands = stands
+awaits_stands true false o awaits unchanging stands = absurd (let is = awaits refl in cc)
+awaits_stands false true (Some t) awaits unchanging stands = absurd (some_none (unchanging refl) refl)
+awaits_stands false true None awaits unchanging stands = begins stands where
   begins : {c s x t k : ℕ} {seat : Seat} → Stands false false c seat s x t k → Stands true false c seat s x t k
   begins (rests here zero) = opens here (omega arith)
 
@@ -72,43 +72,43 @@ counted : {opening : Bool} {before after : Place → List Item} {up : ℕ → Bo
     → (opening ≡ true → commanded_target next.state ≡ None) → StandsWith opening (commanded_target s.state) commands seat (controls_in (before (place_of s.serving))) before link → StandsWith opening (commanded_target next.state) commands2 seat2 (controls_in (after (place_of next.serving))) after link
 counted {opening} {before} {after} {s} {next} {commands} {commands2} {seat} link (stays serving same fewer texts controls told covers) unchanging stands =
     subst (λ (o : Option Target). StandsWith opening o commands2 seat (controls_in (after (place_of next.serving))) after link) (sym same)
-    (let moved = ap (λ (c : _). controls_in (after (place_of c))) serving in Stands-fewer told (omega arith) texts controls (omega arith) stands)
+    (let moved = ap (λ (c : _). controls_in (after (place_of c))) serving in stands_fewer told (omega arith) texts controls (omega arith) stands)
 counted {opening} {before} {after} {s} {next} {commands} {commands2} {seat} link (tells serving none t to fewer nothing told covers) unchanging stands =
     subst (λ (o : Option Target). StandsWith opening o commands2 seat (controls_in (after (place_of next.serving))) after link) (sym to)
     (let moved = ap (λ (c : _). controls_in (after (place_of c))) serving in
     let texts = ap (λ (ms : List (List ℕ)). length (flow ms)) nothing in
     let controls = ap controls_of nothing in
-    Stands-fewer told (omega arith) (omega arith) (omega arith) (omega arith) (commanded (λ opens. some-none (unchanging opens) to) (subst (λ (o : Option Target). StandsWith opening o commands seat (controls_in (before (place_of s.serving))) before link) none stands)))
+    stands_fewer told (omega arith) (omega arith) (omega arith) (omega arith) (commanded (λ opens. some_none (unchanging opens) to) (subst (λ (o : Option Target). StandsWith opening o commands seat (controls_in (before (place_of s.serving))) before link) none stands)))
 counted {opening} {before} {after} {s} {next} {commands} {commands2} {seat} link (completes t was now serving more told covers) unchanging stands =
     subst (λ (o : Option Target). StandsWith opening o commands2 (after_complete seat) (controls_in (after (place_of next.serving))) after link) (sym now)
     (let moved = ap (λ (c : _). controls_in (after (place_of c))) serving in
-    Stands-fewer told (omega arith) (omega arith) (omega arith) (omega arith) (Stands-completes more (subst (λ (o : Option Target). StandsWith opening o commands seat (controls_in (before (place_of s.serving))) before link) was stands)))
+    stands_fewer told (omega arith) (omega arith) (omega arith) (omega arith) (stands_completes more (subst (λ (o : Option Target). StandsWith opening o commands seat (controls_in (before (place_of s.serving))) before link) was stands)))
 counted {opening} {before} {after} {s} {next} {commands} {commands2} {seat} link (goes_back t was now serving more told covers) unchanging stands =
     subst (λ (o : Option Target). StandsWith opening o commands2 seat (controls_in (after (place_of next.serving))) after link) (sym now)
     (let moved = ap (λ (c : _). controls_in (after (place_of c))) serving in
-    let back = Stands-goes_back more (subst (λ (o : Option Target). StandsWith opening o commands seat (controls_in (before (place_of s.serving))) before link) was stands) in
-    Stands-fewer told (omega arith) (omega arith) (omega arith) (omega arith) back.1)
+    let back = stands_goes_back more (subst (λ (o : Option Target). StandsWith opening o commands seat (controls_in (before (place_of s.serving))) before link) was stands) in
+    stands_fewer told (omega arith) (omega arith) (omega arith) (omega arith) back.1)
 
-pub step-stands : {before after : Place → List Item} {up : ℕ → Bool} {s next : Connection} {commands commands2 : ℕ} {seat seat2 : Seat} (link : ℕ) → OwnStep before after up s next commands commands2 seat seat2
+pub step_stands : {before after : Place → List Item} {up : ℕ → Bool} {s next : Connection} {commands commands2 : ℕ} {seat seat2 : Seat} (link : ℕ) → OwnStep before after up s next commands commands2 seat seat2
     → StillAwaits s.state next.state → Stands (is_opening s.state) (is_changing (commanded_target s.state)) commands seat (controls_in (before (place_of s.serving))) (texts_in (target_tenure before up seat (commanded_target s.state)).items) (controls_in (target_tenure before up seat (commanded_target s.state)).items) link
     → Stands (is_opening next.state) (is_changing (commanded_target next.state)) commands2 seat2 (controls_in (after (place_of next.serving))) (texts_in (target_tenure after up seat2 (commanded_target next.state)).items) (controls_in (target_tenure after up seat2 (commanded_target next.state)).items) link
-step-stands {before} {after} {up} {s} {next} {seat} {seat2} link step awaits stands =
+step_stands {before} {after} {up} {s} {next} {seat} {seat2} link step awaits stands =
     let a = target-texts before up seat (commanded_target s.state) in
     let b = target-controls before up seat (commanded_target s.state) in
     let c = target-texts after up seat2 (commanded_target next.state) in
     let d = target-controls after up seat2 (commanded_target next.state) in
-    Stands-fewer (omega arith) (omega arith) (omega arith) (omega arith) (omega arith)
-    (awaits-stands (is_opening s.state) (is_opening next.state) (commanded_target next.state) awaits (opening-unchanging next.state)
-    (counted link step (λ opens. opening-unchanging next.state (awaits opens)) (Stands-fewer (omega arith) (omega arith) (omega arith) (omega arith) (omega arith) stands)))
+    stands_fewer (omega arith) (omega arith) (omega arith) (omega arith) (omega arith)
+    (awaits_stands (is_opening s.state) (is_opening next.state) (commanded_target next.state) awaits (opening_unchanging next.state)
+    (counted link step (λ opens. opening_unchanging next.state (awaits opens)) (stands_fewer (omega arith) (omega arith) (omega arith) (omega arith) (omega arith) stands)))
 
 -- the counts of a line-up
-pub stands-counted : {opening : Bool} (coming : Place → List Item) (up : ℕ → Bool) (seat : Seat) (s : Connection) {commands serving : ℕ} (link : ℕ)
+pub stands_counted : {opening : Bool} (coming : Place → List Item) (up : ℕ → Bool) (seat : Seat) (s : Connection) {commands serving : ℕ} (link : ℕ)
     → Stands opening (is_changing (commanded_target s.state)) commands seat serving (texts_in (target_tenure coming up seat (commanded_target s.state)).items) (controls_in (target_tenure coming up seat (commanded_target s.state)).items) link
     → StandsWith opening (commanded_target s.state) commands seat serving coming link
-stands-counted coming up seat s link stands =
+stands_counted coming up seat s link stands =
     let a = target-texts coming up seat (commanded_target s.state) in
     let b = target-controls coming up seat (commanded_target s.state) in
-    Stands-fewer (omega arith) (omega arith) (omega arith) (omega arith) (omega arith) stands
+    stands_fewer (omega arith) (omega arith) (omega arith) (omega arith) (omega arith) stands
 
 -- ---- what is missing
 
@@ -118,8 +118,8 @@ pub record NoneMissing (seat : Seat) (old serving target : Bool) : Type 0 where
   pub serving_none : serving ≡ false
   pub target_none : target ≡ false
 
-pub none-missing : (seat : Seat) (old serving target : Bool) → not (is_gone seat) && not old && not serving && not target ≡ true → NoneMissing seat old serving target
-none-missing seat old serving target is = by_all (is_gone seat) old serving target refl refl refl refl is where
+pub none_missing : (seat : Seat) (old serving target : Bool) → not (is_gone seat) && not old && not serving && not target ≡ true → NoneMissing seat old serving target
+none_missing seat old serving target is = by_all (is_gone seat) old serving target refl refl refl refl is where
   by_all : (g a b c : Bool) → is_gone seat ≡ g → old ≡ a → serving ≡ b → target ≡ c → not g && not a && not b && not c ≡ true → NoneMissing seat old serving target
   by_all false false false false e f h i is = record { here = e; old_none = f; serving_none = h; target_none = i }
   by_all true a b c e f h i is = absurd cc
@@ -127,8 +127,8 @@ none-missing seat old serving target is = by_all (is_gone seat) old serving targ
   by_all false false true c e f h i is = absurd cc
   by_all false false false true e f h i is = absurd cc
 
-pub missing-none : (seat : Seat) (old serving target : Bool) → NoneMissing seat old serving target → not (is_gone seat) && not old && not serving && not target ≡ true
-missing-none seat old serving target none = rw (none.here, none.old_none, none.serving_none, none.target_none) refl
+pub missing_none : (seat : Seat) (old serving target : Bool) → NoneMissing seat old serving target → not (is_gone seat) && not old && not serving && not target ≡ true
+missing_none seat old serving target none = rw (none.here, none.old_none, none.serving_none, none.target_none) refl
 
 -- a target that isn't given up lacks nothing
 target-lost : (coming after : Place → List Item) (up : ℕ → Bool) (seat : Seat) (o : Option Target) → (target_tenure after up seat o).is_lost ≡ (target_tenure coming up seat o).is_lost
@@ -141,14 +141,14 @@ gone-complete on_target = refl
 gone-complete moving = refl
 gone-complete gone = refl
 
-either-false : (a b : Bool) → a ≡ false → a && b ≡ false
-either-false false b is = refl
-either-false true b is = absurd cc
+either_false : (a b : Bool) → a ≡ false → a && b ≡ false
+either_false false b is = refl
+either_false true b is = absurd cc
 
 -- FAILURE comes from the serving channel: the mobile isn't on the target
-not-came : {seat : Seat} → Stays on_serving seat → is_gone seat ≡ false → came seat ≡ false
-not-came remains here = refl
-not-came left here = absurd cc
+not_came : {seat : Seat} → Stays on_serving seat → is_gone seat ≡ false → came seat ≡ false
+not_came remains here = refl
+not_came left here = absurd cc
 
 lost-away : (coming : Place → List Item) (up : ℕ → Bool) (seat : Seat) (o : Option Target) → came seat ≡ false → (target_tenure coming up seat o).is_lost ≡ false
 lost-away coming up seat None away = refl
@@ -157,30 +157,30 @@ lost-away coming up seat (Some t) away = both (not (up t.channel.station)) away 
   both true is = is
   both false is = refl
 
-pub step-intact : {opening : Bool} {before after : Place → List Item} {up : ℕ → Bool} {s next : Connection} {commands commands2 link : ℕ} {seat seat2 : Seat} → OwnStep before after up s next commands commands2 seat seat2
+pub step_intact : {opening : Bool} {before after : Place → List Item} {up : ℕ → Bool} {s next : Connection} {commands commands2 link : ℕ} {seat seat2 : Seat} → OwnStep before after up s next commands commands2 seat seat2
     → StandsWith opening (commanded_target s.state) commands seat (controls_in (before (place_of s.serving))) before link
     → NoneMissing seat2 (some_lacks after up next.draining) (not (up next.serving.station)) (target_tenure after up seat2 (commanded_target next.state)).is_lost → NoneMissing seat (some_lacks before up s.draining) (not (up s.serving.station)) (target_tenure before up seat (commanded_target s.state)).is_lost
-step-intact {opening} {before} {after} {up} {s} {next} {seat} (stays serving same fewer texts controls told covers) stands none = record {
+step_intact {opening} {before} {after} {up} {s} {next} {seat} (stays serving same fewer texts controls told covers) stands none = record {
   here = none.here;
   old_none = covers none.old_none;
   serving_none = ap (λ (c : _). not (up c.station)) (sym serving) ∙ none.serving_none;
   target_none = target-lost after before up seat (commanded_target s.state) ∙ ap (λ (o : Option Target). (target_tenure after up seat o).is_lost) (sym same) ∙ none.target_none;
 }
-step-intact {opening} {before} {up} {s} {seat} (tells serving no_target t to fewer nothing told covers) stands none = record {
+step_intact {opening} {before} {up} {s} {seat} (tells serving no_target t to fewer nothing told covers) stands none = record {
   here = none.here;
   old_none = covers none.old_none;
   serving_none = ap (λ (c : _). not (up c.station)) (sym serving) ∙ none.serving_none;
   target_none = ap (λ (o : Option Target). (target_tenure before up seat o).is_lost) no_target;
 }
-step-intact {opening} {before} {up} {s} {seat} (completes t was now serving more told covers) stands none = record {
+step_intact {opening} {before} {up} {s} {seat} (completes t was now serving more told covers) stands none = record {
   here = sym (gone-complete seat) ∙ none.here;
   old_none = (covers none.old_none).0;
   serving_none = (covers none.old_none).1;
-  target_none = ap (λ (o : Option Target). (target_tenure before up seat o).is_lost) was ∙ either-false (not (up t.channel.station)) (came seat) (ap (λ (c : _). not (up c.station)) (sym serving) ∙ none.serving_none);
+  target_none = ap (λ (o : Option Target). (target_tenure before up seat o).is_lost) was ∙ either_false (not (up t.channel.station)) (came seat) (ap (λ (c : _). not (up c.station)) (sym serving) ∙ none.serving_none);
 }
-step-intact {opening} {before} {up} {s} {commands} {link} {seat} (goes_back t was now serving more told covers) stands none = record {
+step_intact {opening} {before} {up} {s} {commands} {link} {seat} (goes_back t was now serving more told covers) stands none = record {
   here = none.here;
   old_none = covers none.old_none;
   serving_none = ap (λ (c : _). not (up c.station)) (sym serving) ∙ none.serving_none;
-  target_none = lost-away before up seat (commanded_target s.state) (not-came (Stands-goes_back more (subst (λ (o : Option Target). StandsWith opening o commands seat (controls_in (before (place_of s.serving))) before link) was stands)).0 none.here);
+  target_none = lost-away before up seat (commanded_target s.state) (not_came (stands_goes_back more (subst (λ (o : Option Target). StandsWith opening o commands seat (controls_in (before (place_of s.serving))) before link) was stands)).0 none.here);
 }

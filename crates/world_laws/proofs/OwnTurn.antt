@@ -16,18 +16,18 @@ use Rattle.world_laws.proofs.SwitchTakes.{forwarded-first}
 
 -- ---- the links are up as before
 
-link-up : (target : Option Tenure) (u : Actors) (out : Out) (n : ℕ) → is_up (joined_by target u out) n ≡ is_up u n
-link-up target u out n = by (is_up u out.to) where
+link_up : (target : Option Tenure) (u : Actors) (out : Out) (n : ℕ) → is_up (joined_by target u out) n ≡ is_up u n
+link_up target u out n = by (is_up u out.to) where
   by : (b : Bool) → is_up (if b then with_outbox out.to (outbox_of u out.to ++ entry_of target out ∷ []) u else u) n ≡ is_up u n
   by true = set-same (λ (link : Link). link.up) u.links broken_link out.to n (record (link_of u out.to) { outbox = outbox_of u out.to ++ entry_of target out ∷ [] }) refl
   by false = refl
 
-pub turn-up : (target : Option Tenure) (outs : List Out) (u : Actors) (n : ℕ) → is_up (fold (joined_by target) u outs) n ≡ is_up u n
-turn-up target [] u n = refl
-turn-up target (out ∷ outs) u n = turn-up target outs (joined_by target u out) n ∙ link-up target u out n
+pub turn_up : (target : Option Tenure) (outs : List Out) (u : Actors) (n : ℕ) → is_up (fold (joined_by target) u outs) n ≡ is_up u n
+turn_up target [] u n = refl
+turn_up target (out ∷ outs) u n = turn_up target outs (joined_by target u out) n ∙ link_up target u out n
 
-pub turn-stations : (target : Option Tenure) (outs : List Out) (u : Actors) → AreUp (is_station_up (fold (joined_by target) u outs)) (is_station_up u)
-turn-stations target outs u n = ap (λ (b : Bool). not (n == SWITCH_LINK) && b) (turn-up target outs u n)
+pub turn_stations : (target : Option Tenure) (outs : List Out) (u : Actors) → AreUp (is_station_up (fold (joined_by target) u outs)) (is_station_up u)
+turn_stations target outs u n = ap (λ (b : Bool). not (n == SWITCH_LINK) && b) (turn_up target outs u n)
 
 -- ---- what waits for the switch
 
@@ -35,9 +35,9 @@ abbrev pub messages_of : List Forwarded → List (List ℕ)
 messages_of fs = map (λ f. f.message) fs
 
 -- only what goes to the switch is forwarded
-forwards-none : (out : Out) (number : ℕ) → (out.to == SWITCH_LINK) ≡ false → forwarded (out ∷ []) number ≡ []
+forwards_none : (out : Out) (number : ℕ) → (out.to == SWITCH_LINK) ≡ false → forwarded (out ∷ []) number ≡ []
 unfolding forwarded
-forwards-none out number other = by (out.conn == number) (out.to == SWITCH_LINK) other where
+forwards_none out number other = by (out.conn == number) (out.to == SWITCH_LINK) other where
   by : (a b : Bool) → b ≡ false → flat_map (λ (o : Out). forwarded_by (sccp_reading o.frame.body)) (cond (a && b) (out ∷ []) []) ≡ []
   by true false other = refl
   by false false other = refl
@@ -46,7 +46,7 @@ forwards-none out number other = by (out.conn == number) (out.to == SWITCH_LINK)
 joined-waiting : (target : Option Tenure) (u : Actors) (out : Out) (number : ℕ) → is_up u SWITCH_LINK ≡ true → waiting_of (joined_by target u out) number ≡ waiting_of u number ++ messages_of (forwarded (out ∷ []) number)
 joined-waiting target u out number up = elim (cases_Bool (out.to == SWITCH_LINK)) [
   | inl here ↦ to_switch out.to (eqb-true out.to SWITCH_LINK here)
-  | inr other ↦ by (is_up u out.to) other ∙ sym (append-nil (waiting_of u number)) ∙ ap (λ (fs : List Forwarded). waiting_of u number ++ messages_of fs) (sym (forwards-none out number other))
+  | inr other ↦ by (is_up u out.to) other ∙ sym (append-nil (waiting_of u number)) ∙ ap (λ (fs : List Forwarded). waiting_of u number ++ messages_of fs) (sym (forwards_none out number other))
 ] where
   entries : List OutboxEntry
   entries = outbox_of u SWITCH_LINK
@@ -71,11 +71,11 @@ joined-waiting target u out number up = elim (cases_Bool (out.to == SWITCH_LINK)
   by true other = ap (λ (link : Link). messages_of (forwarded (map (λ entry. entry.out) link.outbox) number)) (set-apart u.links broken_link out.to SWITCH_LINK (record (link_of u out.to) { outbox = outbox_of u out.to ++ entry_of target out ∷ [] }) (λ is. eqb-false out.to SWITCH_LINK other (sym is)))
 
 -- what is forwarded of the outputs joins it
-pub turn-waiting : (target : Option Tenure) (outs : List Out) (u : Actors) (number : ℕ) → is_up u SWITCH_LINK ≡ true → waiting_of (fold (joined_by target) u outs) number ≡ waiting_of u number ++ messages_of (forwarded outs number)
+pub turn_waiting : (target : Option Tenure) (outs : List Out) (u : Actors) (number : ℕ) → is_up u SWITCH_LINK ≡ true → waiting_of (fold (joined_by target) u outs) number ≡ waiting_of u number ++ messages_of (forwarded outs number)
 unfolding forwarded
-turn-waiting target [] u number up = sym (append-nil (waiting_of u number))
-turn-waiting target (out ∷ outs) u number up =
-    turn-waiting target outs (joined_by target u out) number (link-up target u out SWITCH_LINK ∙ up)
+turn_waiting target [] u number up = sym (append-nil (waiting_of u number))
+turn_waiting target (out ∷ outs) u number up =
+    turn_waiting target outs (joined_by target u out) number (link_up target u out SWITCH_LINK ∙ up)
     ∙ ap (λ (ms : List (List ℕ)). ms ++ messages_of (forwarded outs number)) (joined-waiting target u out number up)
     ∙ append_assoc (waiting_of u number) (messages_of (forwarded (out ∷ []) number)) (messages_of (forwarded outs number))
     ∙ ap (λ (ms : List (List ℕ)). waiting_of u number ++ ms) (sym (map-append (λ (f : Forwarded). f.message) (forwarded (out ∷ []) number) (forwarded outs number)) ∙ ap messages_of (sym (forwarded-first out outs number)))
@@ -83,8 +83,8 @@ turn-waiting target (out ∷ outs) u number up =
 -- ---- the commands
 
 -- an output without a target leads nowhere
-pub none-leads : (channel : ℕ) (out : Out) → leading_from_outbox channel (entry_of None out) ≡ []
-none-leads channel out = by (rsl_in out.frame) where
+pub none_leads : (channel : ℕ) (out : Out) → leading_from_outbox channel (entry_of None out) ≡ []
+none_leads channel out = by (rsl_in out.frame) where
   by : (o : Option Rsl) → leading_by channel None o ≡ []
   by (Some (DataRequest d)) = either (d.channel == channel) where
     either : (b : Bool) → (if b then leading d.l3 None else []) ≡ []
@@ -92,17 +92,17 @@ none-leads channel out = by (rsl_in out.frame) where
     either false = refl
   by _ = refl
 
-pub turn-down : (outs : List Out) (u : Actors) (c : Channel) → going_down (fold (joined_by None) u outs) (place_of c) ≡ going_down u (place_of c)
-turn-down [] u c = refl
-turn-down (out ∷ outs) u c = turn-down outs (joined_by None u out) c ∙ by (is_up u out.to) where
+pub turn_down : (outs : List Out) (u : Actors) (c : Channel) → going_down (fold (joined_by None) u outs) (place_of c) ≡ going_down u (place_of c)
+turn_down [] u c = refl
+turn_down (out ∷ outs) u c = turn_down outs (joined_by None u out) c ∙ by (is_up u out.to) where
   by : (b : Bool) → going_down (if b then with_outbox out.to (outbox_of u out.to ++ entry_of None out ∷ []) u else u) (place_of c) ≡ going_down u (place_of c)
-  by true = down-joined u None out c (λ is. none-leads c.number out)
+  by true = down-joined u None out c (λ is. none_leads c.number out)
   by false = refl
 
 -- one output, with a target: on its channel it is behind what was there, where its link is up
-pub commanded-down : (target : Option Tenure) (u : Actors) (out : Out) (c : Channel) (new : List AirMessage) → out.to ≡ c.station → leading_from_outbox c.number (entry_of target out) ≡ new
+pub commanded_down : (target : Option Tenure) (u : Actors) (out : Out) (c : Channel) (new : List AirMessage) → out.to ≡ c.station → leading_from_outbox c.number (entry_of target out) ≡ new
     → (more : List AirMessage) × (going_down (joined_by target u out) (place_of c) ≡ going_down u (place_of c) ++ more) × ((P : List AirMessage → Type 0) → P [] → P new → P more)
-commanded-down target u out c new to is = by (is_up u out.to) refl where
+commanded_down target u out c new to is = by (is_up u out.to) refl where
   by : (b : Bool) → is_up u out.to ≡ b → (more : List AirMessage) × (going_down (if b then with_outbox out.to (outbox_of u out.to ++ entry_of target out ∷ []) u else u) (place_of c) ≡ going_down u (place_of c) ++ more) × ((P : List AirMessage → Type 0) → P [] → P new → P more)
   by false up = ([], sym (append-nil (going_down u (place_of c))), λ P none some. none)
   by true up = (new, there, λ P none some. some) where

@@ -25,14 +25,14 @@ use Rattle.world_model.proofs.OwnerLines.{none-due}
 use Rattle.world_model.proofs.OwnerRuns.{ServesAt, ServesThrough, owned-run}
 use Rattle.world_model.proofs.Ticketing.{AllSitBy-new, OneMobileEach-new}
 use Rattle.world_laws.specs.Owned.{MobilesSitOnTheirs, OneSendsEach, TenuresAreOwned}
-use Rattle.world_laws.proofs.OrderHeard.{FreesNone, none-frees, none-nacks, other-heard, read-known, station-heard, switch-frees}
+use Rattle.world_laws.proofs.OrderHeard.{FreesNone, none_frees, none_nacks, other_heard, read_known, station_heard, switch_frees}
 use Rattle.world_laws.proofs.OrderHeard.{word-known}
-use Rattle.world_laws.proofs.OrderLeads.{LeadsOut, ack-leads}
-use Rattle.world_laws.proofs.OrderServes.{Lawful, LeadsOwn, broken-down, heard-before, serves-by}
-use Rattle.world_laws.proofs.OrderSteps.{break-serves, tick-serves}
+use Rattle.world_laws.proofs.OrderLeads.{LeadsOut, ack_leads}
+use Rattle.world_laws.proofs.OrderServes.{Lawful, LeadsOwn, broken_down, heard_before, serves_by}
+use Rattle.world_laws.proofs.OrderSteps.{break_serves, tick_serves}
 use Rattle.world_laws.proofs.OrderTurns.{Serving, word-serves}
-use Rattle.world_laws.proofs.Events.{snoc-actors, world}
-use Rattle.world_laws.proofs.Framing.{all-left, all-right}
+use Rattle.world_laws.proofs.Events.{snoc_actors, world}
+use Rattle.world_laws.proofs.Framing.{all_left, all_right}
 
 -- ---- the controller of a life
 
@@ -44,8 +44,8 @@ pub life-settings : (p : Parameters) (steps : List Step) → (life p steps).next
 unfolding life
 life-settings p steps = each-settings (new_controller p) steps
 
-pub lawful-life : (p : Parameters) (steps : List Step) (s : Step) → AreAllowed p → AllByRecursion ComesInOctets steps → ComesInOctets s → Lawful (life p steps).next s
-lawful-life p steps s allowed octets own = record {
+pub lawful_life : (p : Parameters) (steps : List Step) (s : Step) → AreAllowed p → AllByRecursion ComesInOctets steps → ComesInOctets s → Lawful (life p steps).next s
+lawful_life p steps s allowed octets own = record {
   ready = life_ready p steps allowed;
   used = life_uses p steps allowed;
   sent = life_sends p steps s allowed octets own;
@@ -55,54 +55,54 @@ lawful-life p steps s allowed octets own = record {
 
 -- ---- what is heard of an item
 
-nothing-heard : (at : Place) (source : ℕ) (state : ChannelState) → hear (heard_of at (record { source = source; what = whats.Down })) state ≡ state
-nothing-heard at source state = by (source == at.station) where
+nothing_heard : (at : Place) (source : ℕ) (state : ChannelState) → hear (heard_of at (record { source = source; what = whats.Down })) state ≡ state
+nothing_heard at source state = by (source == at.station) where
   by : (b : Bool) → hear (acknowledgements at.number (if b then [] else [])) state ≡ state
   by true = refl
   by false = refl
 
-quiet-serving : (at : Place) (least : 1 ≤ at.station) (c : Controller) → Serving at least c (channel_state c at) (ignoring c)
-quiet-serving at least c sent = (runs over, tt)
+quiet_serving : (at : Place) (least : 1 ≤ at.station) (c : Controller) → Serving at least c (channel_state c at) (ignoring c)
+quiet_serving at least c sent = (runs over, tt)
 
-not-switch : (at : Place) (source : ℕ) → 1 ≤ at.station → source ≡ SWITCH_LINK → (source == at.station) ≡ false
-not-switch at source least is = ne_eqb source at.station (λ same. absurd (let zero : at.station ≡ 0 = sym same ∙ is in omega (arith, zero, least)))
+not_switch : (at : Place) (source : ℕ) → 1 ≤ at.station → source ≡ SWITCH_LINK → (source == at.station) ≡ false
+not_switch at source least is = ne_eqb source at.station (λ same. absurd (let zero : at.station ≡ 0 = sym same ∙ is in omega (arith, zero, least)))
 
-pub source-or : (source : ℕ) → (source ≡ SWITCH_LINK) ⊎ (source ≢ SWITCH_LINK)
-source-or source = elim (cases_Bool (nat_eq source SWITCH_LINK)) [
+pub source_or : (source : ℕ) → (source ≡ SWITCH_LINK) ⊎ (source ≢ SWITCH_LINK)
+source_or source = elim (cases_Bool (nat_eq source SWITCH_LINK)) [
   | inl hit ↦ inl (eqb-true source SWITCH_LINK hit)
   | inr miss ↦ inr (λ same. true≢false (sym (eq-eqb source SWITCH_LINK same) ∙ miss))
 ]
 
-frame-serving : (at : Place) (least : 1 ≤ at.station) (source : ℕ) (frame : Frame) (c : Controller) → IsKnownItem (record { source = source; what = whats.Frame frame }) → Ready c → Serving at least c (hear (heard_of at (record { source = source; what = whats.Frame frame })) (channel_state c at)) (on_word source (word_of source frame) c)
-frame-serving at least source frame c known ready = elim (source-or source) [
+frame_serving : (at : Place) (least : 1 ≤ at.station) (source : ℕ) (frame : Frame) (c : Controller) → IsKnownItem (record { source = source; what = whats.Frame frame }) → Ready c → Serving at least c (hear (heard_of at (record { source = source; what = whats.Frame frame })) (channel_state c at)) (on_word source (word_of source frame) c)
+frame_serving at least source frame c known ready = elim (source_or source) [
   | inl switch ↦
-      let frees = subst (λ (k : ℕ). FreesNone (word_of k frame)) (sym switch) (switch-frees frame) in
+      let frees = subst (λ (k : ℕ). FreesNone (word_of k frame)) (sym switch) (switch_frees frame) in
       subst (λ (s : ChannelState). Serving at least c s (on_word source (word_of source frame) c))
-      (none-frees at least (word_of source frame) c frees ∙ sym (other-heard at (record { source = source; what = whats.Frame frame }) c (not-switch at source least switch)))
-      (word-serves at least source (word_of source frame) c (none-nacks (word_of source frame) frees) ready)
+      (none_frees at least (word_of source frame) c frees ∙ sym (other_heard at (record { source = source; what = whats.Frame frame }) c (not_switch at source least switch)))
+      (word-serves at least source (word_of source frame) c (none_nacks (word_of source frame) frees) ready)
   | inr station ↦
-      let heard = station-heard at least source frame c station (known.station station) in
+      let heard = station_heard at least source frame c station (known.station station) in
       subst (λ (s : ChannelState). Serving at least c s (on_word source (word_of source frame) c)) (sym heard.0) (word-serves at least source (word_of source frame) c heard.1 ready)
 ]
 
-item-serving : (at : Place) (least : 1 ≤ at.station) (source : ℕ) (what : What) (c : Controller) (up : Bool) → hears c source ≡ up → IsKnownItem (record { source = source; what = what }) → Ready c → is_link_up (links_with up source what c) at.station ≡ true → is_link_up c.links at.station ≡ true → Serving at least c (hear (heard_of at (record { source = source; what = what })) (channel_state c at)) (on_what up source what c)
-item-serving at least source (whats.Frame frame) c true up known ready hearing before = frame-serving at least source frame c known ready
-item-serving at least source whats.Down c true up known ready hearing before =
-    subst (λ (s : ChannelState). Serving at least c s (on_break source c)) (sym (nothing-heard at source (channel_state c at)))
-    (break-serves at least source c (λ same. true≢false (sym hearing ∙ ap (is_link_up (links_with true source whats.Down c)) same ∙ broken-down c.links source)) ready)
-item-serving at least source what c false down known ready hearing before =
-    subst (λ (s : ChannelState). Serving at least c s (ignoring c)) (sym (other-heard at (record { source = source; what = what }) c (ne_eqb source at.station (λ same. true≢false (sym before ∙ ap (is_link_up c.links) (sym same) ∙ down))))) (quiet-serving at least c)
+item_serving : (at : Place) (least : 1 ≤ at.station) (source : ℕ) (what : What) (c : Controller) (up : Bool) → hears c source ≡ up → IsKnownItem (record { source = source; what = what }) → Ready c → is_link_up (links_with up source what c) at.station ≡ true → is_link_up c.links at.station ≡ true → Serving at least c (hear (heard_of at (record { source = source; what = what })) (channel_state c at)) (on_what up source what c)
+item_serving at least source (whats.Frame frame) c true up known ready hearing before = frame_serving at least source frame c known ready
+item_serving at least source whats.Down c true up known ready hearing before =
+    subst (λ (s : ChannelState). Serving at least c s (on_break source c)) (sym (nothing_heard at source (channel_state c at)))
+    (break_serves at least source c (λ same. true≢false (sym hearing ∙ ap (is_link_up (links_with true source whats.Down c)) same ∙ broken_down c.links source)) ready)
+item_serving at least source what c false down known ready hearing before =
+    subst (λ (s : ChannelState). Serving at least c s (ignoring c)) (sym (other_heard at (record { source = source; what = what }) c (ne_eqb source at.station (λ same. true≢false (sym before ∙ ap (is_link_up c.links) (sym same) ∙ down))))) (quiet_serving at least c)
 
 -- ---- where a command leads
 
-none-lead : (owner : Tenure → ℕ) (w : Actors) (at : Place) (target : Option Tenure) (outs : List Out) → target ≡ None → AllByRecursion (LeadsOwn owner w at target) outs
-none-lead owner w at target [] none = tt
-none-lead owner w at target (out ∷ outs) none = ((λ tenure is d says same. absurd (let both : None ≡ Some tenure = sym none ∙ is in cc)), none-lead owner w at target outs none)
+none_lead : (owner : Tenure → ℕ) (w : Actors) (at : Place) (target : Option Tenure) (outs : List Out) → target ≡ None → AllByRecursion (LeadsOwn owner w at target) outs
+none_lead owner w at target [] none = tt
+none_lead owner w at target (out ∷ outs) none = ((λ tenure is d says same. absurd (let both : None ≡ Some tenure = sym none ∙ is in cc)), none_lead owner w at target outs none)
 
 -- the tenure whose ACTIVATION ACK is the first item is the last one, and of the mobile of the
 -- connection that uses the channel
-acknowledged-own : (owner : Tenure → ℕ) (w : Actors) (p : Place) (number mobile : ℕ) (m : Rsl) (rest : List Rsl) → Agrees owner w p → hears w.controller p.station ≡ true → channel_state w.controller p ≡ InUse number → asker w.controller number ≡ Some mobile → acknowledged_in p w.inbox ≡ m ∷ rest → owner (tenure_at w p) ≡ mobile
-acknowledged-own owner w p number mobile m rest agrees hearing used asks first =
+acknowledged_own : (owner : Tenure → ℕ) (w : Actors) (p : Place) (number mobile : ℕ) (m : Rsl) (rest : List Rsl) → Agrees owner w p → hears w.controller p.station ≡ true → channel_state w.controller p ≡ InUse number → asker w.controller number ≡ Some mobile → acknowledged_in p w.inbox ≡ m ∷ rest → owner (tenure_at w p) ≡ mobile
+acknowledged_own owner w p number mobile m rest agrees hearing used asks first =
     let way = agrees.way hearing in
     let behind : List Rsl = rest ++ (acknowledgements p.number (base_of w p.station).messages ++ due p.number (is_active_at w p) (outbox_of w p.station)) in
     let comes : to_come w p ≡ m ∷ behind = ap (λ (xs : List Rsl). xs ++ (acknowledgements p.number (base_of w p.station).messages ++ due p.number (is_active_at w p) (outbox_of w p.station))) first in
@@ -113,8 +113,8 @@ acknowledged-own owner w p number mobile m rest agrees hearing used asks first =
     ap (λ (k : ℕ). owner (record { at = p; number = k })) (sym (none-due p.number (is_active_at w p) (spot_at w p).tenure (outbox_of w p.station) nothing_due))
     ∙ agrees.own number mobile hearing used asks (λ down silent. absurd (let both : m ∷ behind ≡ [] = sym comes ∙ silent in cc))
 
-first-heard : (w : Actors) (p : Place) (item : Item) (items : List Item) (frame : Frame) (a : ActivationAck) → w.inbox ≡ item ∷ items → item ≡ record { source = p.station; what = whats.Frame frame } → rsl_in frame ≡ Some (rsl.ChannelActivationAck a) → a.channel ≡ p.number → acknowledged_in p w.inbox ≡ rsl.ChannelActivationAck a ∷ acknowledged_in p items
-first-heard w p item items frame a stands is says same =
+first_heard : (w : Actors) (p : Place) (item : Item) (items : List Item) (frame : Frame) (a : ActivationAck) → w.inbox ≡ item ∷ items → item ≡ record { source = p.station; what = whats.Frame frame } → rsl_in frame ≡ Some (rsl.ChannelActivationAck a) → a.channel ≡ p.number → acknowledged_in p w.inbox ≡ rsl.ChannelActivationAck a ∷ acknowledged_in p items
+first_heard w p item items frame a stands is says same =
     ap (acknowledged_in p) stands ∙ acks-append p.number (said p.station item) (flat_map (said p.station) items)
     ∙ ap (λ (xs : List Rsl). xs ++ acknowledged_in p items)
     (ap (λ (i : Item). acknowledgements p.number (said p.station i)) is
@@ -122,12 +122,12 @@ first-heard w p item items frame a stands is says same =
     ∙ ap (λ (o : Option Rsl). acknowledgements p.number (option_to_list o)) says
     ∙ ap (λ (b : Bool). cond b (rsl.ChannelActivationAck a ∷ []) []) (eq-eqb a.channel p.number same))
 
-pub not-zero : (n : ℕ) → n ≢ 0 → 1 ≤ n
-not-zero n is = omega (arith, is)
+pub not_zero : (n : ℕ) → n ≢ 0 → 1 ≤ n
+not_zero n is = omega (arith, is)
 
 -- a channel that isn't free is one of a station of the settings
-pub within-settings : (settings : Parameters) (c : Controller) (at : Place) → c.settings ≡ settings → Ready c → channel_state c at ≢ Free → at.station ≤ length settings.cells
-within-settings settings c at same ready busy =
+pub within_settings : (settings : Parameters) (c : Controller) (at : Place) → c.settings ≡ settings → Ready c → channel_state c at ≢ Free → at.station ≤ length settings.cells
+within_settings settings c at same ready busy =
     subst (λ (p : Parameters). at.station ≤ length p.cells) same (less at.station (length c.channels) (length c.settings.cells) (is_there c.channels at busy).station ready.holds.shaped.links) where
       less : (a b d : ℕ) → a < b → b ≡ d + 1 → a ≤ d
       less a b d small is = omega (arith, small, is)
@@ -135,7 +135,7 @@ within-settings settings c at same ready busy =
 module _ (settings : Parameters) (owner : Tenure → ℕ) (w : Actors) (agree : AllAgree settings owner w) (same_settings : w.controller.settings ≡ settings) (ready : Ready w.controller) where
   -- a channel that is in use is one of a station of the settings
   within : (p : Place) (number : ℕ) → channel_state w.controller p ≡ InUse number → p.station ≤ length settings.cells
-  within p number used = within-settings settings w.controller p same_settings ready (λ free. free≢use number (sym free ∙ used))
+  within p number used = within_settings settings w.controller p same_settings ready (λ free. free≢use number (sym free ∙ used))
 
   acks-lead : (at : Place) (source : ℕ) (frame : Frame) (items : List Item) (a : ActivationAck) (outs : List Out) → 1 ≤ at.station → at.station ≤ length settings.cells → source ≢ SWITCH_LINK → hears w.controller source ≡ true → w.inbox ≡ record { source = source; what = whats.Frame frame } ∷ items → rsl_in frame ≡ Some (rsl.ChannelActivationAck a) → hears w.controller at.station ≡ true → is_up w at.station ≡ true
       → AllByRecursion (LeadsOut at (place_at source a.channel) w.controller) outs → AllByRecursion (LeadsOwn owner w at (Some (tenure_at w (place_at source a.channel)))) outs
@@ -144,8 +144,8 @@ module _ (settings : Parameters) (owner : Tenure → ℕ) (w : Actors) (agree : 
     λ tenure is d said same.
         let user = leads.0 d said same in
         let p : Place = place_at source a.channel in
-        let own : owner (tenure_at w p) ≡ user.mobile = acknowledged-own owner w p user.number user.mobile (rsl.ChannelActivationAck a) (acknowledged_in p items) (agree p (not-zero source station) (within p user.number user.there)) up user.there user.asks
-        (first-heard w p (record { source = source; what = whats.Frame frame }) items frame a stands refl says refl) in
+        let own : owner (tenure_at w p) ≡ user.mobile = acknowledged_own owner w p user.number user.mobile (rsl.ChannelActivationAck a) (acknowledged_in p items) (agree p (not_zero source station) (within p user.number user.there)) up user.there user.asks
+        (first_heard w p (record { source = source; what = whats.Frame frame }) items frame a stands refl says refl) in
         let there : owner (tenure_behind w at) ≡ user.mobile = (agree at least most).own user.number user.mobile hearing user.here user.asks (λ down silent. true≢false (sym at_up ∙ down)) in
         let tenure_is : tenure_at w p ≡ tenure = (let both : Some (tenure_at w p) ≡ Some tenure = is in cc) in
         (user.number, user.here, ap owner (sym tenure_is) ∙ own ∙ sym there),
@@ -156,13 +156,13 @@ module _ (settings : Parameters) (owner : Tenure → ℕ) (w : Actors) (agree : 
   message-leads : (at : Place) (source : ℕ) (frame : Frame) (items : List Item) (m : Rsl) (outs : List Out) → 1 ≤ at.station → at.station ≤ length settings.cells → source ≢ SWITCH_LINK → hears w.controller source ≡ true → w.inbox ≡ record { source = source; what = whats.Frame frame } ∷ items → rsl_in frame ≡ Some m → hears w.controller at.station ≡ true → is_up w at.station ≡ true
       → ((a : ActivationAck) → m ≡ rsl.ChannelActivationAck a → AllByRecursion (LeadsOut at (place_at source a.channel) w.controller) outs) → AllByRecursion (LeadsOwn owner w at (acknowledged_tenure w source (Some m))) outs
   message-leads at source frame items (rsl.ChannelActivationAck a) outs least most station up stands says hearing at_up leads = acks-lead at source frame items a outs least most station up stands says hearing at_up (leads a refl)
-  message-leads at source frame items m outs least most station up stands says hearing at_up leads = none-lead owner w at None outs refl
+  message-leads at source frame items m outs least most station up stands says hearing at_up leads = none_lead owner w at None outs refl
 
   frame-leads : (at : Place) (source : ℕ) (frame : Frame) (items : List Item) (up : Bool) → hears w.controller source ≡ up → 1 ≤ at.station → at.station ≤ length settings.cells → source ≢ SWITCH_LINK → w.inbox ≡ record { source = source; what = whats.Frame frame } ∷ items → IsKnown (whats.Frame frame) → hears w.controller at.station ≡ true → is_up w at.station ≡ true
       → AllByRecursion IsSent (on_what up source (whats.Frame frame) w.controller).outs → AllByRecursion (LeadsOwn owner w at (acknowledged_tenure w source (rsl_in frame))) (on_what up source (whats.Frame frame) w.controller).outs
   frame-leads at source frame items false down least most station stands known hearing at_up sent = tt
   frame-leads at source frame items true up least most station stands (m, is, read, no_nack) hearing at_up sent =
-      let says : rsl_in frame ≡ Some m = ap rsl_in is ∙ read-known m read in
+      let says : rsl_in frame ≡ Some m = ap rsl_in is ∙ read_known m read in
       let word : word_of source frame ≡ rsl_word source m = ap (word_of source) is ∙ word-known source m station read in
       let c : Controller = w.controller in
       subst (λ (o : Option Rsl). AllByRecursion (LeadsOwn owner w at (acknowledged_tenure w source o)) (on_word source (word_of source frame) c).outs) (sym says)
@@ -171,67 +171,67 @@ module _ (settings : Parameters) (owner : Tenure → ℕ) (w : Actors) (agree : 
       let p : Place = place_at source a.channel in
       let own : word_of source frame ≡ OnChannel p (inputs.ActivationAck p) = word ∙ ap (rsl_word source) acks in
       subst (λ (x : Word). AllByRecursion (LeadsOut at p c) (on_word source x c).outs) (sym own)
-      (ack-leads at p c (channel_state c p) ready (subst (λ (x : Word). AllByRecursion IsSent (on_word source x c).outs) own sent))))
+      (ack_leads at p c (channel_state c p) ready (subst (λ (x : Word). AllByRecursion IsSent (on_word source x c).outs) own sent))))
 
   pub item-leads : (at : Place) (source : ℕ) (what : What) (items : List Item) → 1 ≤ at.station → at.station ≤ length settings.cells → w.inbox ≡ record { source = source; what = what } ∷ items → IsKnownItem (record { source = source; what = what }) → hears w.controller at.station ≡ true → is_up w at.station ≡ true
       → AllByRecursion IsSent (on_what (hears w.controller source) source what w.controller).outs → AllByRecursion (LeadsOwn owner w at (target_in w source what)) (on_what (hears w.controller source) source what w.controller).outs
-  item-leads at source whats.Down items least most stands known hearing at_up sent = none-lead owner w at None (on_what (hears w.controller source) source whats.Down w.controller).outs refl
-  item-leads at source (whats.Frame frame) items least most stands known hearing at_up sent = elim (source-or source) [
-    | inl switch ↦ none-lead owner w at (acknowledged_tenure w source (rsl_in frame)) (on_what (hears w.controller source) source (whats.Frame frame) w.controller).outs (ap (acknowledged_tenure w source) (known.switch switch))
+  item-leads at source whats.Down items least most stands known hearing at_up sent = none_lead owner w at None (on_what (hears w.controller source) source whats.Down w.controller).outs refl
+  item-leads at source (whats.Frame frame) items least most stands known hearing at_up sent = elim (source_or source) [
+    | inl switch ↦ none_lead owner w at (acknowledged_tenure w source (rsl_in frame)) (on_what (hears w.controller source) source (whats.Frame frame) w.controller).outs (ap (acknowledged_tenure w source) (known.switch switch))
     | inr station ↦ frame-leads at source frame items (hears w.controller source) refl least most station stands (known.station station) hearing at_up sent
   ]
 
   pub serves-handle : (item : Item) (items : List Item) → w.inbox ≡ item ∷ items → Lawful w.controller (Take item) → IsKnownItem item → (at : Place) → 1 ≤ at.station → at.station ≤ length settings.cells → Serves owner w at (target_in w item.source item.what) (take item w.controller) (heard_of at item)
   unfolding take
   serves-handle item items stands laws known at least most =
-      serves-by owner w at least (target_in w item.source item.what) (Take item) (heard_of at item) (agree at least most) laws
-      (λ hearing. item-serving at least item.source item.what w.controller (hears w.controller item.source) refl known ready
-      (ap (λ (links : List Bool). is_link_up links at.station) (sym (step_goes w.controller (Take item)).links_are) ∙ hearing) (heard-before w.controller (Take item) at.station hearing))
-      (λ hearing up. item-leads at item.source item.what items least most stands known (heard-before w.controller (Take item) at.station hearing) up laws.sent)
+      serves_by owner w at least (target_in w item.source item.what) (Take item) (heard_of at item) (agree at least most) laws
+      (λ hearing. item_serving at least item.source item.what w.controller (hears w.controller item.source) refl known ready
+      (ap (λ (links : List Bool). is_link_up links at.station) (sym (step_goes w.controller (Take item)).links_are) ∙ hearing) (heard_before w.controller (Take item) at.station hearing))
+      (λ hearing up. item-leads at item.source item.what items least most stands known (heard_before w.controller (Take item) at.station hearing) up laws.sent)
 
   pub serves-tick : (ms : ℕ) → Lawful w.controller (Tick ms) → (at : Place) → 1 ≤ at.station → at.station ≤ length settings.cells → Serves owner w at None (tick ms w.controller) []
   serves-tick ms laws at least most =
-      serves-by owner w at least None (Tick ms) [] (agree at least most) laws (λ hearing. tick-serves at least ms w.controller ready) (λ hearing up. none-lead owner w at None (step w.controller (Tick ms)).outs refl)
+      serves_by owner w at least None (Tick ms) [] (agree at least most) laws (λ hearing. tick_serves at least ms w.controller ready) (λ hearing up. none_lead owner w at None (step w.controller (Tick ms)).outs refl)
 
 -- ---- over all events
 
-pub snoc-steps : (P : Step → Type 0) (w : Actors) (xs : List Event) (e : Event) → AllByRecursion P (all_steps w xs) → AllByRecursion P (step_at (actors_after_all w xs) e) → AllByRecursion P (all_steps w (xs ++ e ∷ []))
-snoc-steps P w [] e all own = AllByRecursion-append P (step_at w e) [] own tt
-snoc-steps P w (x ∷ xs) e all own =
-    AllByRecursion-append P (step_at w x) (all_steps (actors_after w x) (xs ++ e ∷ [])) (all-left P (step_at w x) (all_steps (actors_after w x) xs) all)
-    (snoc-steps P (actors_after w x) xs e (all-right P (step_at w x) (all_steps (actors_after w x) xs) all) own)
+pub snoc_steps : (P : Step → Type 0) (w : Actors) (xs : List Event) (e : Event) → AllByRecursion P (all_steps w xs) → AllByRecursion P (step_at (actors_after_all w xs) e) → AllByRecursion P (all_steps w (xs ++ e ∷ []))
+snoc_steps P w [] e all own = AllByRecursion-append P (step_at w e) [] own tt
+snoc_steps P w (x ∷ xs) e all own =
+    AllByRecursion-append P (step_at w x) (all_steps (actors_after w x) (xs ++ e ∷ [])) (all_left P (step_at w x) (all_steps (actors_after w x) xs) all)
+    (snoc_steps P (actors_after w x) xs e (all_right P (step_at w x) (all_steps (actors_after w x) xs) all) own)
 
 -- the actors after the events that are done
-pub serves-event : (settings : Parameters) (owner : Tenure → ℕ) (done : List Event) (w : Actors) (event : Event) → w ≡ world settings done → AreAllowed settings → AllByRecursion ComesInOctets (all_steps (new_actors settings) done) → AllByRecursion ComesInOctets (step_at w event) → AllAgree settings owner w → ServesAt settings owner w event
+pub serves_event : (settings : Parameters) (owner : Tenure → ℕ) (done : List Event) (w : Actors) (event : Event) → w ≡ world settings done → AreAllowed settings → AllByRecursion ComesInOctets (all_steps (new_actors settings) done) → AllByRecursion ComesInOctets (step_at w event) → AllAgree settings owner w → ServesAt settings owner w event
 unfolding ServesAt
-serves-event settings owner done w Handle is allowed octets own agree = λ item items stands.
+serves_event settings owner done w Handle is allowed octets own agree = λ item items stands.
     let lives : w.controller ≡ (life settings (all_steps (new_actors settings) done)).next = ap (λ (x : Actors). x.controller) is ∙ LivesByTable-new settings done in
     let came : AllByRecursion ComesInOctets (first_taken (item ∷ items)) = subst (λ (xs : List Item). AllByRecursion ComesInOctets (first_taken xs)) stands own in
-    let laws : Lawful w.controller (Take item) = subst (λ (c : Controller). Lawful c (Take item)) (sym lives) (lawful-life settings (all_steps (new_actors settings) done) (Take item) allowed octets came.0) in
+    let laws : Lawful w.controller (Take item) = subst (λ (c : Controller). Lawful c (Take item)) (sym lives) (lawful_life settings (all_steps (new_actors settings) done) (Take item) allowed octets came.0) in
     let known : AllByRecursion IsKnownItem (item ∷ items) = subst (AllByRecursion IsKnownItem) stands (subst (λ (x : Actors). AllByRecursion IsKnownItem x.inbox) (sym is) (known-inbox settings done)) in
     serves-handle settings owner w agree (ap (λ (c : Controller). c.settings) lives ∙ life-settings settings (all_steps (new_actors settings) done)) laws.ready item items stands laws known.0
-serves-event settings owner done w (events.Tick ms) is allowed octets own agree =
+serves_event settings owner done w (events.Tick ms) is allowed octets own agree =
     let lives : w.controller ≡ (life settings (all_steps (new_actors settings) done)).next = ap (λ (x : Actors). x.controller) is ∙ LivesByTable-new settings done in
-    let laws : Lawful w.controller (Tick ms) = subst (λ (c : Controller). Lawful c (Tick ms)) (sym lives) (lawful-life settings (all_steps (new_actors settings) done) (Tick ms) allowed octets own.0) in
+    let laws : Lawful w.controller (Tick ms) = subst (λ (c : Controller). Lawful c (Tick ms)) (sym lives) (lawful_life settings (all_steps (new_actors settings) done) (Tick ms) allowed octets own.0) in
     serves-tick settings owner w agree (ap (λ (c : Controller). c.settings) lives ∙ life-settings settings (all_steps (new_actors settings) done)) laws.ready ms laws
-serves-event settings owner done w _ is allowed octets own agree = tt
+serves_event settings owner done w _ is allowed octets own agree = tt
 
-pub serves-through : (settings : Parameters) (owner : Tenure → ℕ) (done rest : List Event) (w : Actors) → w ≡ world settings done → AreAllowed settings → AllByRecursion ComesInOctets (all_steps (new_actors settings) done) → AllByRecursion ComesInOctets (all_steps w rest) → ServesThrough settings owner w rest
+pub serves_through : (settings : Parameters) (owner : Tenure → ℕ) (done rest : List Event) (w : Actors) → w ≡ world settings done → AreAllowed settings → AllByRecursion ComesInOctets (all_steps (new_actors settings) done) → AllByRecursion ComesInOctets (all_steps w rest) → ServesThrough settings owner w rest
 unfolding ServesThrough
-serves-through settings owner done [] w is allowed octets later = tt
-serves-through settings owner done (event ∷ rest) w is allowed octets later =
-    let own = all-left ComesInOctets (step_at w event) (all_steps (actors_after w event) rest) later in (
-      λ agree. serves-event settings owner done w event is allowed octets own agree,
-      serves-through settings owner (done ++ event ∷ []) rest (actors_after w event) (ap (λ (x : Actors). actors_after x event) is ∙ sym (snoc-actors (new_actors settings) done event)) allowed
-          (snoc-steps ComesInOctets (new_actors settings) done event octets (subst (λ (x : Actors). AllByRecursion ComesInOctets (step_at x event)) is own))
-          (all-right ComesInOctets (step_at w event) (all_steps (actors_after w event) rest) later),
+serves_through settings owner done [] w is allowed octets later = tt
+serves_through settings owner done (event ∷ rest) w is allowed octets later =
+    let own = all_left ComesInOctets (step_at w event) (all_steps (actors_after w event) rest) later in (
+      λ agree. serves_event settings owner done w event is allowed octets own agree,
+      serves_through settings owner (done ++ event ∷ []) rest (actors_after w event) (ap (λ (x : Actors). actors_after x event) is ∙ sym (snoc_actors (new_actors settings) done event)) allowed
+          (snoc_steps ComesInOctets (new_actors settings) done event octets (subst (λ (x : Actors). AllByRecursion ComesInOctets (step_at x event)) is own))
+          (all_right ComesInOctets (step_at w event) (all_steps (actors_after w event) rest) later),
     )
 
-pub TenuresAreOwned-new : (settings : Parameters) (events : List Event) → TenuresAreOwned settings events
-TenuresAreOwned-new settings events allowed octets = owned-run settings events (serves-through settings (owner_in (new_actors settings) events) [] events (new_actors settings) refl allowed tt octets)
+pub tenures_are_owned_new : (settings : Parameters) (events : List Event) → TenuresAreOwned settings events
+tenures_are_owned_new settings events allowed octets = owned-run settings events (serves_through settings (owner_in (new_actors settings) events) [] events (new_actors settings) refl allowed tt octets)
 
-pub MobilesSitOnTheirs-new : (settings : Parameters) (events : List Event) → MobilesSitOnTheirs settings events
-MobilesSitOnTheirs-new settings events allowed octets = AllSitBy-new settings events (owner_in (new_actors settings) events) (TenuresAreOwned-new settings events allowed octets)
+pub mobiles_sit_on_theirs_new : (settings : Parameters) (events : List Event) → MobilesSitOnTheirs settings events
+mobiles_sit_on_theirs_new settings events allowed octets = AllSitBy-new settings events (owner_in (new_actors settings) events) (tenures_are_owned_new settings events allowed octets)
 
-pub OneSendsEach-new : (settings : Parameters) (events : List Event) → OneSendsEach settings events
-OneSendsEach-new settings events allowed octets = OneMobileEach-new settings events (owner_in (new_actors settings) events) (TenuresAreOwned-new settings events allowed octets)
+pub one_sends_each_new : (settings : Parameters) (events : List Event) → OneSendsEach settings events
+one_sends_each_new settings events allowed octets = OneMobileEach-new settings events (owner_in (new_actors settings) events) (tenures_are_owned_new settings events allowed octets)

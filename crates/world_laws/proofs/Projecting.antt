@@ -22,8 +22,8 @@ added_by at station messages = if station == at.station then made_of at.number m
 abbrev pub IsMade : Actors → ℕ → Place → List Rsl → Type 0
 IsMade w station at messages = (base_of w station ≢ no_station.base) ⊎ (made_of at.number messages ≡ [])
 
-pub active-there : (w : Actors) (at : Place) → is_active_at w at ≡ true → base_of w at.station ≢ no_station.base
-active-there w at active nowhere = absurd (false≢true (sym (ap (λ (b : BaseState). is_active b.active at.number) nowhere) ∙ active))
+pub active_there : (w : Actors) (at : Place) → is_active_at w at ≡ true → base_of w at.station ≢ no_station.base
+active_there w at active nowhere = absurd (false≢true (sym (ap (λ (b : BaseState). is_active b.active at.number) nowhere) ∙ active))
 
 pub coming-same : (w v : Actors) (at : Place) → v.inbox ≡ w.inbox → base_of v at.station ≡ base_of w at.station → coming_up v at ≡ coming_up w at
 coming-same w v at inbox base = ap (λ (items : List Item). flat_map (brings_in at) items ++ made_of at.number (base_of v at.station).messages) inbox ∙ ap (λ (b : BaseState). flat_map (brings_in at) w.inbox ++ made_of at.number b.messages) base
@@ -49,8 +49,8 @@ coming-more w u station at base messages at_is up same inbox made_now =
           ∙ sym (append_assoc (flat_map (brings_in at) w.inbox) (made_of at.number (base_of w station).messages) (made_of at.number messages))
           ∙ ap (λ (n : ℕ). flat_map (brings_in at) w.inbox ++ made_of at.number (base_of w n).messages ++ made_of at.number messages) is
 
-told-there : (w : Actors) (v : Actors) (station : ℕ) (at : Place) (base : BaseState) (messages : List Rsl) → base.messages ≡ (base_of w station).messages ++ messages → base_of v station ≡ base → made_of at.number (base_of v station).messages ≡ made_of at.number (base_of w station).messages ++ made_of at.number messages
-told-there w v station at base messages told is = ap (λ (b : BaseState). made_of at.number b.messages) is ∙ ap (made_of at.number) told ∙ made-append at.number (base_of w station).messages messages
+told_there : (w : Actors) (v : Actors) (station : ℕ) (at : Place) (base : BaseState) (messages : List Rsl) → base.messages ≡ (base_of w station).messages ++ messages → base_of v station ≡ base → made_of at.number (base_of v station).messages ≡ made_of at.number (base_of w station).messages ++ made_of at.number messages
+told_there w v station at base messages told is = ap (λ (b : BaseState). made_of at.number b.messages) is ∙ ap (made_of at.number) told ∙ made-append at.number (base_of w station).messages messages
 
 pub coming-told : (w u : Actors) (station : ℕ) (at : Place) (base : BaseState) (messages : List Rsl) → at.station ≢ 0 → is_station_up w station ≡ true → SameEnds w u → u.inbox ≡ w.inbox → base.messages ≡ (base_of w station).messages ++ messages → IsMade w station at messages
     → coming_up (with_base station base u) at ≡ coming_up w at ++ added_by at station messages
@@ -64,16 +64,16 @@ coming-told w u station at base messages at_is up same inbox told made = coming-
 
   made_now : made_of at.number (base_of v station).messages ≡ made_of at.number (base_of w station).messages ++ made_of at.number messages
   made_now = elim (base-there u station base) [
-    | inl is ↦ told-there w v station at base messages told is
+    | inl is ↦ told_there w v station at base messages told is
     | inr is ↦ nowhere is.0 (sym (same station) ∙ is.1) made
   ]
 
 -- the messages join what its station made, if it is there
-pub coming-told-or : (w u : Actors) (station : ℕ) (at : Place) (base : BaseState) (messages : List Rsl) → at.station ≢ 0 → is_station_up w station ≡ true → SameEnds w u → u.inbox ≡ w.inbox → base.messages ≡ (base_of w station).messages ++ messages
+pub coming_told_or : (w u : Actors) (station : ℕ) (at : Place) (base : BaseState) (messages : List Rsl) → at.station ≢ 0 → is_station_up w station ≡ true → SameEnds w u → u.inbox ≡ w.inbox → base.messages ≡ (base_of w station).messages ++ messages
     → (coming_up (with_base station base u) at ≡ coming_up w at ++ added_by at station messages) ⊎ (coming_up (with_base station base u) at ≡ coming_up w at)
-coming-told-or w u station at base messages at_is up same inbox told =
+coming_told_or w u station at base messages at_is up same inbox told =
     elim (base-there u station base) [
-      | inl is ↦ inl (coming-more w u station at base messages at_is up same inbox (told-there w (with_base station base u) station at base messages told is))
+      | inl is ↦ inl (coming-more w u station at base messages at_is up same inbox (told_there w (with_base station base u) station at base messages told is))
       | inr is ↦ inr (coming-same w (with_base station base u) at inbox (ends is.0 is.1))
     ] where
       ends : base_of (with_base station base u) station ≡ no_station.base → base_of u station ≡ no_station.base → base_of (with_base station base u) at.station ≡ base_of w at.station
@@ -92,9 +92,9 @@ coming-quiet w u station at base messages at_is up same inbox told nothing = com
 
 -- ---- a push: the item goes from the station to the inbox
 
-first-made : (channel : ℕ) (messages : List Rsl) (message : Rsl) → first_of_messages messages ≡ Some message → made_of channel messages ≡ brings channel message ++ made_of channel (messages_behind_first messages)
-first-made channel [] message is = absurd cc
-first-made channel (first ∷ others) message is = ap (λ (m : Rsl). brings channel m ++ made_of channel others) (same_Some _ _ is)
+first_made : (channel : ℕ) (messages : List Rsl) (message : Rsl) → first_of_messages messages ≡ Some message → made_of channel messages ≡ brings channel message ++ made_of channel (messages_behind_first messages)
+first_made channel [] message is = absurd cc
+first_made channel (first ∷ others) message is = ap (λ (m : Rsl). brings channel m ++ made_of channel others) (same_Some _ _ is)
 
 -- the first message that a station made is there no more
 pub base-pushed : (w : Actors) (station : ℕ) (message : Rsl) → first_message (base_of w station) ≡ Some message → base_of (with_base station (after_next (base_of w station)) w) station ≡ after_next (base_of w station)
@@ -121,7 +121,7 @@ coming-pushed w station message at at_is station_is first read =
             ap (λ (xs : List Brought). xs ++ made_of at.number (base_of v at.station).messages) (item ∙ ap (λ (b : Bool). cond b (brings at.number message) []) here)
             ∙ ap (λ (n : ℕ). brings at.number message ++ made_of at.number (base_of v n).messages) (sym (eqb-true station at.station here))
             ∙ ap (λ (b : BaseState). brings at.number message ++ made_of at.number b.messages) (base-pushed w station message first)
-            ∙ sym (first-made at.number (base_of w station).messages message first)
+            ∙ sym (first_made at.number (base_of w station).messages message first)
             ∙ ap (λ (n : ℕ). made_of at.number (base_of w n).messages) (eqb-true station at.station here)
         | inr other ↦
             ap (λ (xs : List Brought). xs ++ made_of at.number (base_of v at.station).messages) (item ∙ ap (λ (b : Bool). cond b (brings at.number message) []) other)

@@ -40,10 +40,10 @@ use Rattle.world_laws.specs.OwnFrame.{IsRequested, IsSaidTo, freed_for}
 use Rattle.world_laws.specs.OwnFrame.IsSaidTo.{on_channel as is_on_channel, on_connection as is_on_connection}
 use Rattle.world_laws.specs.PutAsRead.{AllowedFramesKeepLineUps, FramesArePutAsRead}
 use Rattle.world_laws.specs.SapiThree.{BringsBesideFlow, IsBesideFlow, SaysBesideFlow}
-use Rattle.world_laws.proofs.Handled.{FramesKeepLineUps-new}
-use Rattle.world_laws.proofs.Framing.{all-left, all-right}
-use Rattle.world_laws.proofs.SapiThree.{says-waits}
-use Rattle.world_laws.proofs.SapiThreeHeld.{FlowComesOnSapiZero-new}
+use Rattle.world_laws.proofs.Handled.{frames_keep_line_ups_new}
+use Rattle.world_laws.proofs.Framing.{all_left, all_right}
+use Rattle.world_laws.proofs.SapiThree.{says_waits}
+use Rattle.world_laws.proofs.SapiThreeHeld.{flow_comes_on_sapi_zero_new}
 use Rattle.world_laws.proofs.Events.{world}
 
 -- ---- what may still come of a connection, where nothing is on its way
@@ -51,9 +51,9 @@ use Rattle.world_laws.proofs.Events.{world}
 abbrev none : Future
 none place = []
 
-ends-none : (input : Input) (state : State) → Ends none state input
-ends-none (inputs.ReleaseAck at) state = refl
-ends-none (inputs.Failure at change cause) state = by state where
+ends_none : (input : Input) (state : State) → Ends none state input
+ends_none (inputs.ReleaseAck at) state = refl
+ends_none (inputs.Failure at change cause) state = by state where
   by : (state : State) → of_target none state ≡ []
   by (Live reference (Changing target)) = refl
   by (Live reference Active) = refl
@@ -64,7 +64,7 @@ ends-none (inputs.Failure at change cause) state = by state where
   by WaitConfirm = refl
   by (Closed clearing) = refl
   by Removed = refl
-ends-none (inputs.ActivationAck at) state = by state where
+ends_none (inputs.ActivationAck at) state = by state where
   by : (state : State) → of_prepared none state ≡ []
   by (Live reference (Preparing target)) = refl
   by (Live reference Active) = refl
@@ -75,7 +75,7 @@ ends-none (inputs.ActivationAck at) state = by state where
   by WaitConfirm = refl
   by (Closed clearing) = refl
   by Removed = refl
-ends-none _ state = tt
+ends_none _ state = tt
 
 -- the message that an input brings
 module _ (P : List ℕ → Type 0) where
@@ -111,37 +111,37 @@ module _ (P : List ℕ → Type 0) where
   all-relayed : (sapi : Sapi) (s : Connection) (input : Input) (offer : Option Channel) (r : Row) → Stands s → AreApart (used_channels s) → row_of s input offer ≡ Some r → IsOpen r.next.state
       → ((at : Place) → AllByRecursion P (from_input sapi input none at)) → AllByRecursion (λ t. AllByRecursion P (tenure_messages t sapi)) s.up.tenures → AllByRecursion P (relayed sapi r.outs)
   all-relayed sapi s input offer r stands apart fits is_open each all =
-      let keeps : KeepsUplink sapi none s input r = subst (OfRow (KeepsUplink sapi none s input)) fits (row-keeps s input offer sapi none stands apart (ends-none input s.state)) in
-      all-left P (relayed sapi r.outs) (still_to_relay sapi none r.next)
+      let keeps : KeepsUplink sapi none s input r = subst (OfRow (KeepsUplink sapi none s input)) fits (row-keeps s input offer sapi none stands apart (ends_none input s.state)) in
+      all_left P (relayed sapi r.outs) (still_to_relay sapi none r.next)
       (subst (AllByRecursion P) (sym (keeps is_open))
       (AllByRecursion-append P (still_of sapi (from_input sapi input none) s.serving s.draining s.up.tenures) (of_target (from_input sapi input none) s.state)
       (all-of-tenures sapi (from_input sapi input none) s.serving s.draining s.up.tenures each all) (all-of-target (from_input sapi input none) s.state each)))
 
 -- ---- messages of 1 to 251 octets
 
-brought-whole : (input : Input) → IsCarried input → (at : Place) → AllByRecursion IsLayer3 (from_input Zero input none at)
-brought-whole (inputs.Dtap at Zero message) carried place = first-all IsLayer3 at message carried place
-brought-whole (inputs.Dtap at Three message) carried place = tt
-brought-whole (inputs.EstablishIndication at Zero (Some initial)) carried place = first-all IsLayer3 at initial carried place
-brought-whole (inputs.EstablishIndication at Zero None) carried place = tt
-brought-whole (inputs.EstablishIndication at Three message) carried place = tt
-brought-whole _ carried place = tt
+brought_whole : (input : Input) → IsCarried input → (at : Place) → AllByRecursion IsLayer3 (from_input Zero input none at)
+brought_whole (inputs.Dtap at Zero message) carried place = first-all IsLayer3 at message carried place
+brought_whole (inputs.Dtap at Three message) carried place = tt
+brought_whole (inputs.EstablishIndication at Zero (Some initial)) carried place = first-all IsLayer3 at initial carried place
+brought_whole (inputs.EstablishIndication at Zero None) carried place = tt
+brought_whole (inputs.EstablishIndication at Three message) carried place = tt
+brought_whole _ carried place = tt
 
-held-whole : (ts : List Held) → AllByRecursion IsHeldTenure ts → AllByRecursion (λ t. AllByRecursion IsLayer3 (tenure_messages t Zero)) ts
-held-whole [] all = tt
-held-whole (t ∷ ts) all = (all.0.0, held-whole ts all.1)
+held_whole : (ts : List Held) → AllByRecursion IsHeldTenure ts → AllByRecursion (λ t. AllByRecursion IsLayer3 (tenure_messages t Zero)) ts
+held_whole [] all = tt
+held_whole (t ∷ ts) all = (all.0.0, held_whole ts all.1)
 
 -- ---- SAPI 3
 
-brought-beside : (input : Input) → BringsBesideFlow input → (place : Place) → AllByRecursion IsBesideFlow (from_input Three input none place)
-brought-beside (inputs.Dtap at Three message) says place = first-all IsBesideFlow at message says place
-brought-beside (inputs.Dtap at Zero message) says place = tt
-brought-beside _ says place = tt
+brought_beside : (input : Input) → BringsBesideFlow input → (place : Place) → AllByRecursion IsBesideFlow (from_input Three input none place)
+brought_beside (inputs.Dtap at Three message) says place = first-all IsBesideFlow at message says place
+brought_beside (inputs.Dtap at Zero message) says place = tt
+brought_beside _ says place = tt
 
-held-three : (ts : List Held) → AllByRecursion IsBesideFlow (flat_map (λ tenure. tenure_messages tenure Three) ts) → AllByRecursion (λ t. AllByRecursion IsBesideFlow (tenure_messages t Three)) ts
-held-three [] all = tt
-held-three (t ∷ ts) all =
-    (all-left IsBesideFlow t.three (flat_map (λ tenure. tenure_messages tenure Three) ts) all, held-three ts (all-right IsBesideFlow t.three (flat_map (λ tenure. tenure_messages tenure Three) ts) all))
+held_three : (ts : List Held) → AllByRecursion IsBesideFlow (flat_map (λ tenure. tenure_messages tenure Three) ts) → AllByRecursion (λ t. AllByRecursion IsBesideFlow (tenure_messages t Three)) ts
+held_three [] all = tt
+held_three (t ∷ ts) all =
+    (all_left IsBesideFlow t.three (flat_map (λ tenure. tenure_messages tenure Three) ts) all, held_three ts (all_right IsBesideFlow t.three (flat_map (λ tenure. tenure_messages tenure Three) ts) all))
 
 -- what is beside the flow leaves the flow as it is
 flow-of : (fs : List Forwarded) → AllByRecursion IsBesideFlow (messages_on Three fs) → flow (map (λ f. f.message) fs) ≡ flow (messages_on Zero fs)
@@ -153,10 +153,10 @@ flow-of (f ∷ fs) beside = by f.sapi (flow-of fs) beside where
 
 -- ---- one that a word says something to
 
-pub number-at : (c : Controller) (state : ChannelState) (e : Entry) → entry_at c state ≡ Some e → (n : ℕ) × (entry_of c n ≡ Some e)
-number-at c Free e there = absurd cc
-number-at c (InUse n) e there = (n, there)
-number-at c (Releasing n) e there = (n, there)
+pub number_at : (c : Controller) (state : ChannelState) (e : Entry) → entry_at c state ≡ Some e → (n : ℕ) × (entry_of c n ≡ Some e)
+number_at c Free e there = absurd cc
+number_at c (InUse n) e there = (n, there)
+number_at c (Releasing n) e there = (n, there)
 
 -- an entry of the controller
 record IsFound (c : Controller) (s : Connection) : Type 0 where
@@ -164,27 +164,27 @@ record IsFound (c : Controller) (s : Connection) : Type 0 where
   here : IsHere c.links c entry
   is : entry.connection ≡ s
 
-found-of : {c : Controller} {word : Word} {s : Connection} {input : Input} {offer : Option Channel} → Ready c → IsSaidTo c word s input offer → IsFound c s
-found-of {c} {s = s} ready (is_on_channel at input e word_is there is) = let found = number-at c (channel_state c at) e there in record { entry = e; here = here_of c found.0 e ready found.1; is = is }
-found-of {c} {s = s} ready (is_on_connection number input e word_is there is) = record { entry = e; here = here_of c number e ready there; is = is }
+found_of : {c : Controller} {word : Word} {s : Connection} {input : Input} {offer : Option Channel} → Ready c → IsSaidTo c word s input offer → IsFound c s
+found_of {c} {s = s} ready (is_on_channel at input e word_is there is) = let found = number_at c (channel_state c at) e there in record { entry = e; here = here_of c found.0 e ready found.1; is = is }
+found_of {c} {s = s} ready (is_on_connection number input e word_is there is) = record { entry = e; here = here_of c number e ready there; is = is }
 
 -- ---- the connection after it
 
 -- a connection that is open stays there
-pub still-there : (state : State) (s : Connection) → IsOpen state → kept_in state s ≡ Some s
-still-there WaitActivation s is_open = refl
-still-there WaitEstablish s is_open = refl
-still-there WaitConfirm s is_open = refl
-still-there (Live reference stage) s is_open = refl
-still-there (Closed clearing) s is_open = absurd is_open
-still-there Removed s is_open = absurd is_open
+pub still_there : (state : State) (s : Connection) → IsOpen state → kept_in state s ≡ Some s
+still_there WaitActivation s is_open = refl
+still_there WaitEstablish s is_open = refl
+still_there WaitConfirm s is_open = refl
+still_there (Live reference stage) s is_open = refl
+still_there (Closed clearing) s is_open = absurd is_open
+still_there Removed s is_open = absurd is_open
 
 row-next : (c : Controller) (otherwise : Turn) (e : Entry) (input : Input) (r : Row) → AreRising c.entries → entry_of c e.connection.number ≡ Some e → row_in c e.connection input ≡ Some r → IsOpen r.next.state
     → connection_of (by_fitting otherwise e (row_in c e.connection input) c).next e.connection.number ≡ Some r.next
 row-next c otherwise e input r rising there fits is_open =
     ap (λ (o : Option Row). connection_of (by_fitting otherwise e o c).next e.connection.number) fits
     ∙ row_found c e e r rising (subst (OfRow (λ (q : Row). q.next.number ≡ e.connection.number)) fits (keeps_number e.connection input (request_offer c e.connection input))) there
-    ∙ still-there r.next.state r.next is_open
+    ∙ still_there r.next.state r.next is_open
 
 freed-next : (b : Bool) (at : Place) (input : Input) (c : Controller) (e : Entry) (r : Row) → AreRising c.entries → entry_of c e.connection.number ≡ Some e → row_in (if b then freed at c else c) e.connection input ≡ Some r → IsOpen r.next.state
     → connection_of (on_freed b at input c (Some e)).next e.connection.number ≡ Some r.next
@@ -193,7 +193,7 @@ freed-next false at input c e r rising there fits is_open = row-next c (ignoring
 
 word-next : {c : Controller} {word : Word} {s : Connection} {input : Input} {offer : Option Channel} (source : ℕ) (r : Row) → Ready c → IsSaidTo c word s input offer → row_of s input offer ≡ Some r → IsOpen r.next.state → connection_of (on_word source word c).next s.number ≡ Some r.next
 word-next {c} {s = s} source r ready (is_on_channel at input e word_is found is) fits is_open =
-    let number = number-at c (channel_state c at) e found in
+    let number = number_at c (channel_state c at) e found in
     let here : IsHere c.links c e = here_of c number.0 e ready number.1 in
     ap (λ (w : Word). connection_of (on_word source w c).next s.number) word_is
     ∙ ap (λ (o : Option Entry). connection_of (on_freed (frees (channel_state c at) o input) at input c o).next s.number) found
@@ -209,28 +209,28 @@ word-next {c} {s = s} source r ready (is_on_connection number input e word_is fo
 
 -- ---- its channels are different ones, of stations
 
-used-placed : (c : Controller) (state : ChannelState) (cs : List Channel) → AreUsed c → (state ≡ Free → ⊥) → AllByRecursion (λ (x : Channel). state_in c.channels (place_of x) ≡ state) cs → AllByRecursion (λ (x : Channel). x.station ≢ SWITCH_LINK) cs
-used-placed c state [] used isnt all = tt
-used-placed c state (x ∷ xs) used isnt all = (
+used_placed : (c : Controller) (state : ChannelState) (cs : List Channel) → AreUsed c → (state ≡ Free → ⊥) → AllByRecursion (λ (x : Channel). state_in c.channels (place_of x) ≡ state) cs → AllByRecursion (λ (x : Channel). x.station ≢ SWITCH_LINK) cs
+used_placed c state [] used isnt all = tt
+used_placed c state (x ∷ xs) used isnt all = (
   λ is. isnt (sym all.0 ∙ ap (λ (n : ℕ). state_in c.channels (place_at n x.number)) is ∙ used.switch x.number),
-  used-placed c state xs used isnt all.1,
+  used_placed c state xs used isnt all.1,
 )
 
-owns-placed : (c : Controller) (s : Connection) → AreUsed c → Owns c.channels c.links s.number (roles_of s) → AllByRecursion (λ (x : Channel). x.station ≢ SWITCH_LINK) (used_channels s)
-owns-placed c s used owns = subst (λ (cs : List Channel). AllByRecursion (λ (x : Channel). x.station ≢ SWITCH_LINK) (undone s.draining ++ s.serving ∷ cs)) (target_in-role s.state)
+owns_placed : (c : Controller) (s : Connection) → AreUsed c → Owns c.channels c.links s.number (roles_of s) → AllByRecursion (λ (x : Channel). x.station ≢ SWITCH_LINK) (used_channels s)
+owns_placed c s used owns = subst (λ (cs : List Channel). AllByRecursion (λ (x : Channel). x.station ≢ SWITCH_LINK) (undone s.draining ++ s.serving ∷ cs)) (target_in-role s.state)
     (AllByRecursion-append (λ (x : Channel). x.station ≢ SWITCH_LINK) (undone s.draining) (s.serving ∷ target_channels (target_role s.state))
-    (used-placed c (Releasing s.number) (undone s.draining) used (λ is. absurd cc) owns.releasing)
-    (used-placed c (InUse s.number) (s.serving ∷ target_channels (target_role s.state)) used (λ is. absurd cc) owns.using))
+    (used_placed c (Releasing s.number) (undone s.draining) used (λ is. absurd cc) owns.releasing)
+    (used_placed c (InUse s.number) (s.serving ∷ target_channels (target_role s.state)) used (λ is. absurd cc) owns.using))
 
 -- ---- what is put
 
-says-input : {c : Controller} {word : Word} {s : Connection} {input : Input} {offer : Option Channel} → IsSaidTo c word s input offer → SaysBesideFlow word → (at : Place) → AllByRecursion IsBesideFlow (from_input Three input none at)
-says-input (is_on_channel at input e word_is there is) says = brought-beside input (subst SaysBesideFlow word_is says)
-says-input (is_on_connection number input e word_is there is) says = brought-beside input (subst SaysBesideFlow word_is says)
+says_input : {c : Controller} {word : Word} {s : Connection} {input : Input} {offer : Option Channel} → IsSaidTo c word s input offer → SaysBesideFlow word → (at : Place) → AllByRecursion IsBesideFlow (from_input Three input none at)
+says_input (is_on_channel at input e word_is there is) says = brought_beside input (subst SaysBesideFlow word_is says)
+says_input (is_on_connection number input e word_is there is) says = brought_beside input (subst SaysBesideFlow word_is says)
 
-refers-input : {c : Controller} {word : Word} {s : Connection} {input : Input} {offer : Option Channel} → IsSaidTo c word s input offer → RefersIn word → RefersBy input
-refers-input (is_on_channel at input e word_is there is) refers = subst RefersIn word_is refers
-refers-input (is_on_connection number input e word_is there is) refers = subst RefersIn word_is refers
+refers_input : {c : Controller} {word : Word} {s : Connection} {input : Input} {offer : Option Channel} → IsSaidTo c word s input offer → RefersIn word → RefersBy input
+refers_input (is_on_channel at input e word_is there is) refers = subst RefersIn word_is refers
+refers_input (is_on_connection number input e word_is there is) refers = subst RefersIn word_is refers
 
 offered : {c : Controller} {word : Word} {s : Connection} {input : Input} {offer : Option Channel} → IsSaidTo c word s input offer → IsSoundAll c → AllByRecursion IsSoundChannel (option_to_list offer)
 offered {c} {s = s} (is_on_channel at input e word_is there is) sound =
@@ -240,17 +240,17 @@ offered {c} {s = s} (is_on_channel at input e word_is there is) sound =
       by false = sound.cells
 offered {c} {s = s} (is_on_connection number input e word_is there is) sound = offer_list (request_offer c s input) (request_sound c s input sound.cells)
 
-pub all-read : (n : ℕ) (ms : List Message) → n < 2 ^ 24 → AllByRecursion IsSound ms → AllByRecursion (λ m. IsReadOf n m (out_of n m).frame.body) ms
-all-read n [] few all = tt
-all-read n (m ∷ ms) few all = (message_again n m few all.0.0 all.0.1, all-read n ms few all.1)
+pub all_read : (n : ℕ) (ms : List Message) → n < 2 ^ 24 → AllByRecursion IsSound ms → AllByRecursion (λ m. IsReadOf n m (out_of n m).frame.body) ms
+all_read n [] few all = tt
+all_read n (m ∷ ms) few all = (message_again n m few all.0.0 all.0.1, all_read n ms few all.1)
 
-all-sent : (n : ℕ) (ms : List Message) → n < 2 ^ 24 → AllByRecursion IsSound ms → AllByRecursion IsSent (outs_of n ms)
-all-sent n [] few all = tt
-all-sent n (m ∷ ms) few all = (sent_message n m few all.0, all-sent n ms few all.1)
+all_sent : (n : ℕ) (ms : List Message) → n < 2 ^ 24 → AllByRecursion IsSound ms → AllByRecursion IsSent (outs_of n ms)
+all_sent n [] few all = tt
+all_sent n (m ∷ ms) few all = (sent_message n m few all.0, all_sent n ms few all.1)
 
-parts-of : (o : Option Connection) (s : Connection) → o ≡ Some s → SoundOf o → SoundParts s
+parts_of : (o : Option Connection) (s : Connection) → o ≡ Some s → SoundOf o → SoundParts s
 unfolding SoundOf
-parts-of o s is sound = subst SoundOf is sound
+parts_of o s is sound = subst SoundOf is sound
 
 -- ---- what is known of the connection
 
@@ -262,10 +262,10 @@ record IsKnown (c : Controller) (s : Connection) : Type 0 where
   owns : Owns c.channels c.links s.number (roles_of s)
   parts : SoundParts s
 
-pub open-of : (state : State) → IsRequested state → IsOpen state
-open-of WaitConfirm requested = tt
-open-of (Live reference stage) requested = tt
-open-of _ requested = absurd requested
+pub open_of : (state : State) → IsRequested state → IsOpen state
+open_of WaitConfirm requested = tt
+open_of (Live reference stage) requested = tt
+open_of _ requested = absurd requested
 
 known : (c : Controller) (s : Connection) → Ready c → IsSoundAll c → IsFound c s → IsOpen s.state → IsKnown c s
 known c s ready sound found = subst (λ (x : Connection). IsOpen x.state → IsKnown c x) found.is (λ is_open.
@@ -279,39 +279,39 @@ known c s ready sound found = subst (λ (x : Connection). IsOpen x.state → IsK
       stands = found.here.stands;
       there = there;
       owns = subst (OwnsOpen c.channels c.links e.connection.number) there (ready.holds.each e.connection.number) is_open;
-      parts = parts-of (connection_of c e.connection.number) e.connection there (sound.each e.connection.number);
+      parts = parts_of (connection_of c e.connection.number) e.connection there (sound.each e.connection.number);
     })
 
-sound-row : {c : Controller} {s : Connection} (input : Input) (offer : Option Channel) (r : Row) → IsKnown c s → row_of s input offer ≡ Some r → AllByRecursion IsSoundChannel (option_to_list offer) → IsCarried input → RefersBy input → AllByRecursion IsSound r.outs
-sound-row {s = s} input offer r known fits offered carried refers =
+sound_row : {c : Controller} {s : Connection} (input : Input) (offer : Option Channel) (r : Row) → IsKnown c s → row_of s input offer ≡ Some r → AllByRecursion IsSoundChannel (option_to_list offer) → IsCarried input → RefersBy input → AllByRecursion IsSound r.outs
+sound_row {s = s} input offer r known fits offered carried refers =
     let sound : IsSoundRow r = subst (OfRow IsSoundRow) fits
     (row_sound s input offer (record { serving = known.parts.serving; zero = known.stands.down_zero; three = known.stands.down_three; up = known.stands.up_messages; refers = known.parts.refers }) known.parts.targets offered carried refers) in
     sound.1
 
 -- the flow that goes to the switch
-forwards-of : {c : Controller} {s : Connection} (input : Input) (offer : Option Channel) (r : Row) → IsKnown c s → row_of s input offer ≡ Some r → AllByRecursion IsSound r.outs → AllByRecursion IsBesideFlow (relayed Three r.outs) → flow (map (λ f. f.message) (forwarded (outs_of s.number r.outs) s.number)) ≡ flow (relayed Zero r.outs)
-forwards-of {s = s} input offer r known fits sound beside =
+forwards_of : {c : Controller} {s : Connection} (input : Input) (offer : Option Channel) (r : Row) → IsKnown c s → row_of s input offer ≡ Some r → AllByRecursion IsSound r.outs → AllByRecursion IsBesideFlow (relayed Three r.outs) → flow (map (λ f. f.message) (forwarded (outs_of s.number r.outs) s.number)) ≡ flow (relayed Zero r.outs)
+forwards_of {s = s} input offer r known fits sound beside =
     let usual : AreUsual r.outs = subst (OfRow PutsUsual) fits (usual_row s input offer) in
-    let seen = forwarded_seen s.number (outs_of s.number r.outs) r.outs known.from_one (outs_own s.number r.outs) usual (all-sent s.number r.outs known.few sound) in
+    let seen = forwarded_seen s.number (outs_of s.number r.outs) r.outs known.from_one (outs_own s.number r.outs) usual (all_sent s.number r.outs known.few sound) in
     flow-of (forwarded (outs_of s.number r.outs) s.number) (subst (AllByRecursion IsBesideFlow) (sym (seen Three)) beside) ∙ ap flow (seen Zero)
 
-beside-held : (c : Controller) (s : Connection) → connection_of c s.number ≡ Some s → AllByRecursion IsBesideFlow (held_up c s.number Three) → AllByRecursion (λ t. AllByRecursion IsBesideFlow (tenure_messages t Three)) s.up.tenures
-beside-held c s there beside = held-three s.up.tenures (by (entry_of c s.number) there beside) where
+beside_held : (c : Controller) (s : Connection) → connection_of c s.number ≡ Some s → AllByRecursion IsBesideFlow (held_up c s.number Three) → AllByRecursion (λ t. AllByRecursion IsBesideFlow (tenure_messages t Three)) s.up.tenures
+beside_held c s there beside = held_three s.up.tenures (by (entry_of c s.number) there beside) where
   by : (o : Option Entry) → option_map (λ (x : Entry). x.connection) o ≡ Some s → AllByRecursion IsBesideFlow (held_up_for Three o) → AllByRecursion IsBesideFlow (flat_map (λ tenure. tenure_messages tenure Three) s.up.tenures)
   by None is beside = absurd cc
   by (Some e) is beside = subst (λ (o : Option Connection). AllByRecursion IsBesideFlow (flat_map (λ tenure. tenure_messages tenure Three) (unwrap_or o s).up.tenures)) is beside
 
 -- ---- the law, over the life of a controller
 
-taken-next : (c : Controller) (item : RelayItem) (frame : Frame) (n : ℕ) (s : Connection) → is_up c item.source ≡ true → item.what ≡ whats.Frame frame → connection_of (on_word item.source (word_of item.source frame) c).next n ≡ Some s → connection_of (take item c).next n ≡ Some s
+taken_next : (c : Controller) (item : RelayItem) (frame : Frame) (n : ℕ) (s : Connection) → is_up c item.source ≡ true → item.what ≡ whats.Frame frame → connection_of (on_word item.source (word_of item.source frame) c).next n ≡ Some s → connection_of (take item c).next n ≡ Some s
 unfolding take
-taken-next c item frame n s up is next = ap (λ (b : Bool). connection_of (on_what b item.source item.what c).next n) up ∙ ap (λ (x : What). connection_of (on_what true item.source x c).next n) is ∙ next
+taken_next c item frame n s up is next = ap (λ (b : Bool). connection_of (on_what b item.source item.what c).next n) up ∙ ap (λ (x : What). connection_of (on_what true item.source x c).next n) is ∙ next
 
-next-owns : (c : Controller) (r : Row) → OwnsOpen c.channels c.links r.next.number (connection_of c r.next.number) → connection_of c r.next.number ≡ Some r.next → IsOpen r.next.state → Owns c.channels c.links r.next.number (roles_of r.next)
-next-owns c r owns there is_open = subst (OwnsOpen c.channels c.links r.next.number) there owns is_open
+next_owns : (c : Controller) (r : Row) → OwnsOpen c.channels c.links r.next.number (connection_of c r.next.number) → connection_of c r.next.number ≡ Some r.next → IsOpen r.next.state → Owns c.channels c.links r.next.number (roles_of r.next)
+next_owns c r owns there is_open = subst (OwnsOpen c.channels c.links r.next.number) there owns is_open
 
-pub FramesArePutAsRead-new : (settings : Parameters) (events : List Event) → FramesArePutAsRead settings events
-FramesArePutAsRead-new settings events s item items input offer r allowed octets own_octets stood comes =
+pub frames_are_put_as_read_new : (settings : Parameters) (events : List Event) → FramesArePutAsRead settings events
+frames_are_put_as_read_new settings events s item items input offer r allowed octets own_octets stood comes =
     let w : Actors = world settings events in
     let steps = all_steps (new_actors settings) events in
     let c : Controller = (life settings steps).next in
@@ -321,29 +321,29 @@ FramesArePutAsRead-new settings events s item items input offer r allowed octets
     let now : IsAfter c = life_after settings steps allowed in
     let ready : Ready c = ready_by c now.fits now.holds now.uses in
     let all : IsSoundAll c = life_sound settings steps allowed octets in
-    let is_open : IsOpen s.state = open-of s.state comes.requested in
-    let one : IsKnown c s = known c s ready all (found-of ready said) is_open in
+    let is_open : IsOpen s.state = open_of s.state comes.requested in
+    let one : IsKnown c s = known c s ready all (found_of ready said) is_open in
     let apart : AreApart (used_channels s) = used_apart s one.owns.apart in
     let frame_octets : AreOctets comes.frame.body = subst IsOfOctets comes.is own_octets in
-    let sound : AllByRecursion IsSound r.outs = sound-row input offer r one comes.fits (offered said all) comes.carried (refers-input said (word_refers item.source comes.frame frame_octets)) in
+    let sound : AllByRecursion IsSound r.outs = sound_row input offer r one comes.fits (offered said all) comes.carried (refers_input said (word_refers item.source comes.frame frame_octets)) in
     let says : SaysBesideFlow word = subst (λ (x : What). SaysBesideFlow (word_by item.source x)) comes.is
-    (subst (AllByRecursion (λ item. SaysBesideFlow (word_by item.source item.what))) stood (says-waits settings events)).0 in
+    (subst (AllByRecursion (λ item. SaysBesideFlow (word_by item.source item.what))) stood (says_waits settings events)).0 in
     let held : AllByRecursion IsBesideFlow (held_up c s.number Three) = subst (λ (d : Controller). AllByRecursion IsBesideFlow (held_up d s.number Three)) lives
-    ((FlowComesOnSapiZero-new settings events).held allowed s.number one.from_one (subst (λ (d : Controller). IsThere (connection_of d s.number)) (sym lives) (subst IsThere (sym one.there) is_open))) in
+    ((flow_comes_on_sapi_zero_new settings events).held allowed s.number one.from_one (subst (λ (d : Controller). IsThere (connection_of d s.number)) (sym lives) (subst IsThere (sym one.there) is_open))) in
     let after : IsAfter (step c (Take item)).next = run_step c (Take item) now.fits now.holds now.uses in
     let number : r.next.number ≡ s.number = subst (OfRow (λ (q : Row). q.next.number ≡ s.number)) comes.fits (keeps_number s input offer) in
     let next : connection_of (step c (Take item)).next r.next.number ≡ Some r.next =
-    ap (connection_of (step c (Take item)).next) number ∙ taken-next c item comes.frame s.number r.next (ap (λ (d : Controller). is_up d item.source) (sym lives) ∙ comes.up) comes.is (word-next item.source r ready said comes.fits comes.stays_open) in
-    let owns = next-owns (step c (Take item)).next r (after.holds.each r.next.number) next comes.stays_open in
+    ap (connection_of (step c (Take item)).next) number ∙ taken_next c item comes.frame s.number r.next (ap (λ (d : Controller). is_up d item.source) (sym lives) ∙ comes.up) comes.is (word-next item.source r ready said comes.fits comes.stays_open) in
+    let owns = next_owns (step c (Take item)).next r (after.holds.each r.next.number) next comes.stays_open in
     record {
-      whole = all-relayed IsLayer3 Zero s input offer r one.stands apart comes.fits comes.stays_open (brought-whole input comes.carried) (held-whole s.up.tenures one.stands.up_messages);
-      forwards = forwards-of input offer r one comes.fits sound
-          (all-relayed IsBesideFlow Three s input offer r one.stands apart comes.fits comes.stays_open (says-input said says) (beside-held c s one.there held));
-      read = all-read s.number r.outs one.few sound;
+      whole = all-relayed IsLayer3 Zero s input offer r one.stands apart comes.fits comes.stays_open (brought_whole input comes.carried) (held_whole s.up.tenures one.stands.up_messages);
+      forwards = forwards_of input offer r one comes.fits sound
+          (all-relayed IsBesideFlow Three s input offer r one.stands apart comes.fits comes.stays_open (says_input said says) (beside_held c s one.there held));
+      read = all_read s.number r.outs one.few sound;
       apart = used_apart r.next owns.apart;
-      placed = owns-placed (step c (Take item)).next r.next (ready_uses (step c (Take item)).next (ready_by (step c (Take item)).next after.fits after.holds after.uses)) owns;
+      placed = owns_placed (step c (Take item)).next r.next (ready_uses (step c (Take item)).next (ready_by (step c (Take item)).next after.fits after.holds after.uses)) owns;
     }
 
-pub AllowedFramesKeepLineUps-new : (settings : Parameters) (events : List Event) → AllowedFramesKeepLineUps settings events
-AllowedFramesKeepLineUps-new settings events mobile s item items input offer r allowed octets own_octets stood comes ready lined =
-    FramesKeepLineUps-new settings events mobile s item items input offer r stood comes ready (FramesArePutAsRead-new settings events s item items input offer r allowed octets own_octets stood comes) lined
+pub allowed_frames_keep_line_ups_new : (settings : Parameters) (events : List Event) → AllowedFramesKeepLineUps settings events
+allowed_frames_keep_line_ups_new settings events mobile s item items input offer r allowed octets own_octets stood comes ready lined =
+    frames_keep_line_ups_new settings events mobile s item items input offer r stood comes ready (frames_are_put_as_read_new settings events s item items input offer r allowed octets own_octets stood comes) lined

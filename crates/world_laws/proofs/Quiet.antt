@@ -8,26 +8,26 @@ use Rattle.world_laws.specs.ComingUp.{made_of, coming_up}
 use Rattle.world_laws.specs.GoingDown.{leading_from_air, leading_from_outbox, going_down}
 use Rattle.world_laws.specs.LineUps.{commanded_target}
 use Rattle.world_laws.specs.Seated.{IsElsewhere}
-use Rattle.world_laws.proofs.Apart.{all-both, target-in}
-use Rattle.world_laws.proofs.Framing.{AreSame, all-right}
+use Rattle.world_laws.proofs.Apart.{all_both, target-in}
+use Rattle.world_laws.proofs.Framing.{AreSame, all_right}
 use Rattle.world_laws.proofs.Projecting.{coming-same, coming-quiet}
 use Rattle.world_laws.proofs.Spots.{spot-same, spot-elsewhere, tenure-with_base, tenure-with_spot}
 use Rattle.world_laws.proofs.Seeing.{SameTenures, SeesSame}
 
 -- ---- lists
 
-pub all-of : {X : Type 0} (P : X → Type 0) (xs : List X) → ((x : X) → P x) → AllByRecursion P xs
-all-of P [] h = tt
-all-of P (x ∷ xs) h = (h x, all-of P xs h)
+pub all_of : {X : Type 0} (P : X → Type 0) (xs : List X) → ((x : X) → P x) → AllByRecursion P xs
+all_of P [] h = tt
+all_of P (x ∷ xs) h = (h x, all_of P xs h)
 
 -- stations of channels are numbered from 1
 abbrev pub ArePlaced : List Channel → Type 0
 ArePlaced cs = AllByRecursion (λ c. c.station ≢ SWITCH_LINK) cs
 
-pub sees-itself : (w : Actors) (s : Connection) → SeesSame w w s
+pub sees_itself : (w : Actors) (s : Connection) → SeesSame w w s
 unfolding SameTenures
-sees-itself w s = record {
-  coming = all-of (λ c. coming_up w (place_of c) ≡ coming_up w (place_of c)) (used_channels s) (λ c. refl);
+sees_itself w s = record {
+  coming = all_of (λ c. coming_up w (place_of c) ≡ coming_up w (place_of c)) (used_channels s) (λ c. refl);
   up = λ n. refl;
   serving = refl;
   target = λ t is. refl;
@@ -37,9 +37,9 @@ sees-itself w s = record {
 }
 
 -- mobiles change
-pub sees-mobiles : {w u : Actors} {s : Connection} (mobiles : List Mobile) → SeesSame w u s → SeesSame w (record u { mobiles = mobiles }) s
+pub sees_mobiles : {w u : Actors} {s : Connection} (mobiles : List Mobile) → SeesSame w u s → SeesSame w (record u { mobiles = mobiles }) s
 unfolding SameTenures
-sees-mobiles mobiles sees = record { coming = sees.coming; up = sees.up; serving = sees.serving; target = sees.target; tenures = sees.tenures; waiting = sees.waiting; taken = sees.taken }
+sees_mobiles mobiles sees = record { coming = sees.coming; up = sees.up; serving = sees.serving; target = sees.target; tenures = sees.tenures; waiting = sees.waiting; taken = sees.taken }
 
 -- ---- an end changes
 
@@ -47,11 +47,11 @@ pub down-with_base : (w : Actors) (station : ℕ) (base : BaseState) (at : Place
 down-with_base w station base at = ap (λ (spot : Spot). flat_map leading_from_air spot.air ++ flat_map (leading_from_outbox at.number) (outbox_of w at.station)) (spot-with_base station base w at)
 
 -- it makes messages that bring nothing
-pub sees-told : {w u : Actors} {s : Connection} (station : ℕ) (base : BaseState) (messages : List Rsl) → ArePlaced (used_channels s) → is_station_up w station ≡ true → SameEnds w u → u.inbox ≡ w.inbox → base.messages ≡ (base_of w station).messages ++ messages → ((channel : ℕ) → made_of channel messages ≡ [])
+pub sees_told : {w u : Actors} {s : Connection} (station : ℕ) (base : BaseState) (messages : List Rsl) → ArePlaced (used_channels s) → is_station_up w station ≡ true → SameEnds w u → u.inbox ≡ w.inbox → base.messages ≡ (base_of w station).messages ++ messages → ((channel : ℕ) → made_of channel messages ≡ [])
     → SeesSame w u s → SeesSame w (with_base station base u) s
 unfolding SameTenures
-sees-told {w} {u} {s} station base messages placed up same inbox told nothing sees = record {
-  coming = all-both (λ c. c.station ≢ SWITCH_LINK) (λ c. c.station ≢ SWITCH_LINK) (λ c. coming_up (with_base station base u) (place_of c) ≡ coming_up w (place_of c)) (used_channels s)
+sees_told {w} {u} {s} station base messages placed up same inbox told nothing sees = record {
+  coming = all_both (λ c. c.station ≢ SWITCH_LINK) (λ c. c.station ≢ SWITCH_LINK) (λ c. coming_up (with_base station base u) (place_of c) ≡ coming_up w (place_of c)) (used_channels s)
       (λ c c_is _. coming-quiet w u station (place_of c) base messages c_is up same inbox told (nothing c.number)) placed placed;
   up = sees.up;
   serving = down-with_base u station base (place_of s.serving) ∙ sees.serving;
@@ -73,9 +73,9 @@ down-with_spot u at spot other same = ap (λ (entries : List _). entries ++ flat
 pub coming-with_spot : (u : Actors) (at : Place) (spot : Spot) (other : Place) → coming_up (with_spot at spot u) other ≡ coming_up u other
 coming-with_spot u at spot other = coming-same u (with_spot at spot u) other refl (base-with_spot at spot u other.station)
 
-pub sees-spot : {w u : Actors} {s : Connection} (at : Place) (spot : Spot) → flat_map leading_from_air spot.air ≡ flat_map leading_from_air (spot_at u at).air → spot.tenure ≡ (spot_at u at).tenure → SeesSame w u s → SeesSame w (with_spot at spot u) s
+pub sees_spot : {w u : Actors} {s : Connection} (at : Place) (spot : Spot) → flat_map leading_from_air spot.air ≡ flat_map leading_from_air (spot_at u at).air → spot.tenure ≡ (spot_at u at).tenure → SeesSame w u s → SeesSame w (with_spot at spot u) s
 unfolding SameTenures
-sees-spot {w} {u} {s} at spot air tenure sees = record {
+sees_spot {w} {u} {s} at spot air tenure sees = record {
   coming = by_all (used_channels s) sees.coming;
   up = sees.up;
   serving = down-with_spot u at spot (place_of s.serving) air ∙ sees.serving;
@@ -89,9 +89,9 @@ sees-spot {w} {u} {s} at spot air tenure sees = record {
   by_all (c ∷ cs) same = (coming-with_spot u at spot (place_of c) ∙ same.0, by_all cs same.1)
 
 -- the channel is none of the connection's
-pub sees-elsewhere : {w u : Actors} {s : Connection} (at : Place) (spot : Spot) → at.station ≢ SWITCH_LINK → ArePlaced (used_channels s) → IsElsewhere (used_channels s) at → spot.tenure ≡ (spot_at u at).tenure → SeesSame w u s → SeesSame w (with_spot at spot u) s
+pub sees_elsewhere : {w u : Actors} {s : Connection} (at : Place) (spot : Spot) → at.station ≢ SWITCH_LINK → ArePlaced (used_channels s) → IsElsewhere (used_channels s) at → spot.tenure ≡ (spot_at u at).tenure → SeesSame w u s → SeesSame w (with_spot at spot u) s
 unfolding SameTenures
-sees-elsewhere {w} {u} {s} at spot at_is placed elsewhere tenure sees = record {
+sees_elsewhere {w} {u} {s} at spot at_is placed elsewhere tenure sees = record {
   coming = by_all (used_channels s) sees.coming;
   up = sees.up;
   serving = down-spot u (with_spot at spot u) (place_of s.serving) (spot-elsewhere u at spot s.serving at_is placed_rest.0 elsewhere_rest.0) refl ∙ sees.serving;
@@ -105,10 +105,10 @@ sees-elsewhere {w} {u} {s} at spot at_is placed elsewhere tenure sees = record {
   by_all (c ∷ cs) same = (coming-with_spot u at spot (place_of c) ∙ same.0, by_all cs same.1)
 
   placed_rest : ArePlaced (s.serving ∷ target_in s.state)
-  placed_rest = all-right (λ c. c.station ≢ SWITCH_LINK) (undone s.draining) (s.serving ∷ target_in s.state) placed
+  placed_rest = all_right (λ c. c.station ≢ SWITCH_LINK) (undone s.draining) (s.serving ∷ target_in s.state) placed
 
   elsewhere_rest : IsElsewhere (s.serving ∷ target_in s.state) at
-  elsewhere_rest = all-right (λ c. is_at at c ≡ false) (undone s.draining) (s.serving ∷ target_in s.state) elsewhere
+  elsewhere_rest = all_right (λ c. is_at at c ≡ false) (undone s.draining) (s.serving ∷ target_in s.state) elsewhere
 
   placed_target : (t : Target) → commanded_target s.state ≡ Some t → ArePlaced (t.channel ∷ [])
   placed_target t is = subst ArePlaced (target-in s.state t is) placed_rest.1
@@ -118,8 +118,8 @@ sees-elsewhere {w} {u} {s} at spot at_is placed elsewhere tenure sees = record {
 
 -- ---- the switch makes messages
 
-pub sees-switch_made : {w : Actors} {s : Connection} (made : List _) → SeesSame w (record w { switch_made = made }) s
+pub sees_switch_made : {w : Actors} {s : Connection} (made : List _) → SeesSame w (record w { switch_made = made }) s
 unfolding SameTenures
-sees-switch_made {w} {s} made =
-    let sees : SeesSame w w s = sees-itself w s in
+sees_switch_made {w} {s} made =
+    let sees : SeesSame w w s = sees_itself w s in
     record { coming = sees.coming; up = sees.up; serving = sees.serving; target = sees.target; tenures = sees.tenures; waiting = sees.waiting; taken = sees.taken }

@@ -1,7 +1,7 @@
 -- Stations refuse no activation, whatever happened.
 use Rattle.world_laws.proofs.Prelude.{List, Parameters, Event}
 use Rattle.world_laws.specs.Refusals.{NoneRefuse}
-use Rattle.world_laws.proofs.SapiThree.{refuses-came, refuses-waits}
+use Rattle.world_laws.proofs.SapiThree.{refuses_came, refuses_waits}
 
-pub NoneRefuse-new : (settings : Parameters) (events : List Event) → NoneRefuse settings events
-NoneRefuse-new settings events = record { came = refuses-came settings events; waits = refuses-waits settings events }
+pub none_refuse_new : (settings : Parameters) (events : List Event) → NoneRefuse settings events
+none_refuse_new settings events = record { came = refuses_came settings events; waits = refuses_waits settings events }

@@ -28,16 +28,16 @@ pub record ChannelsAfter (next : Connection) (roles : Roles) : Type 0 where
   pub draining : next.draining ≡ roles.draining
   pub target : commanded_target next.state ≡ commanded_of roles.target
 
-begun-roles : (begun : Option Target) (input : Input) (offer : Option Channel) (roles : Roles) → MayBegin begun input offer roles
+begun_roles : (begun : Option Target) (input : Input) (offer : Option Channel) (roles : Roles) → MayBegin begun input offer roles
     → ((with_target begun roles).serving ≡ roles.serving) × ((with_target begun roles).draining ≡ roles.draining) × (commanded_of (with_target begun roles).target ≡ commanded_of roles.target)
 unfolding commanded_of
-begun-roles None input offer roles may = (refl, refl, refl)
-begun-roles (Some target) input offer roles may = (refl, refl, sym (ap commanded_of may.2))
+begun_roles None input offer roles may = (refl, refl, refl)
+begun_roles (Some target) input offer roles may = (refl, refl, sym (ap commanded_of may.2))
 
 -- a change that begins leaves them, as its mobile isn't commanded yet
-pub channels-after : (step : RoleStep) (before : Roles) (down : HoldState) (input : Input) (offer : Option Channel) (r : Row) → GoesOn step before down input offer r → ChannelsAfter r.next (after_step step before)
-channels-after step before down input offer r goes =
-    let begun = begun-roles goes.begun input offer (after_step step before) goes.may in
+pub channels_after : (step : RoleStep) (before : Roles) (down : HoldState) (input : Input) (offer : Option Channel) (r : Row) → GoesOn step before down input offer r → ChannelsAfter r.next (after_step step before)
+channels_after step before down input offer r goes =
+    let begun = begun_roles goes.begun input offer (after_step step before) goes.may in
     record {
       serving = ap (λ (roles : Roles). roles.serving) goes.roles ∙ begun.0;
       draining = ap (λ (roles : Roles). roles.draining) goes.roles ∙ begun.1;
@@ -59,31 +59,31 @@ still-lacks coming up (d ∷ ds) =
 abbrev pub AreReleased : (Place → List Item) → (Place → List Item) → (ℕ → Bool) → Place → List Drain → Type 0
 AreReleased before after up at ds = AllByRecursion (λ d. (is_at at d.channel ≡ true → lacks before up d ≡ false) × (is_at at d.channel ≡ false → lacks after up d ≡ lacks before up d)) ds
 
-pub both-false : (a b : Bool) → a || b ≡ false → (a ≡ false) × (b ≡ false)
-both-false false b is = (refl, is)
-both-false true b is = absurd cc
+pub both_false : (a b : Bool) → a || b ≡ false → (a ≡ false) × (b ≡ false)
+both_false false b is = (refl, is)
+both_false true b is = absurd cc
 
 -- where nothing was released the list is as it was
-same-lacks : (before after : Place → List Item) (up : ℕ → Bool) (at : Place) (ds : List Drain) → AreReleased before after up at ds → some_lacks after up ds ≡ false → some_lacks before up ds ≡ false
-same-lacks before after up at [] released none = refl
-same-lacks before after up at (d ∷ ds) released none =
-    let both = both-false (lacks after up d) (some_lacks after up ds) none in
+same_lacks : (before after : Place → List Item) (up : ℕ → Bool) (at : Place) (ds : List Drain) → AreReleased before after up at ds → some_lacks after up ds ≡ false → some_lacks before up ds ≡ false
+same_lacks before after up at [] released none = refl
+same_lacks before after up at (d ∷ ds) released none =
+    let both = both_false (lacks after up d) (some_lacks after up ds) none in
     ap (λ (b : Bool). b || some_lacks before up ds) (elim (cases_Bool (is_at at d.channel)) [
       | inl here ↦ released.0.0 here
       | inr other ↦ sym (released.0.1 other) ∙ both.0
-    ]) ∙ same-lacks before after up at ds released.1 both.1
+    ]) ∙ same_lacks before after up at ds released.1 both.1
 
-pub done-lacks : (before after : Place → List Item) (up : ℕ → Bool) (at : Place) (place : ℕ) (ds : List Drain) → drain_at at ds ≡ Some place → AreReleased before after up at ds → some_lacks after up (done_at place ds) ≡ false → some_lacks before up ds ≡ false
-done-lacks before after up at place [] found released none = absurd cc
-done-lacks before after up at place (d ∷ ds) found released none =
+pub done_lacks : (before after : Place → List Item) (up : ℕ → Bool) (at : Place) (place : ℕ) (ds : List Drain) → drain_at at ds ≡ Some place → AreReleased before after up at ds → some_lacks after up (done_at place ds) ≡ false → some_lacks before up ds ≡ false
+done_lacks before after up at place [] found released none = absurd cc
+done_lacks before after up at place (d ∷ ds) found released none =
     elim (cases_Bool (is_at at d.channel && not d.is_done)) [
       | inl here ↦ first here (same_Some _ _ (sym (ap (λ (b : Bool). cond b (Some 0) (option_map (λ place. suc place) (drain_at at ds))) here) ∙ found)) none
-      | inr other ↦ behind (drain_at at ds) refl (sym (ap (λ (b : Bool). cond b (Some 0) (option_map (λ place. suc place) (drain_at at ds))) other) ∙ found) (λ later is. done-lacks before after up at later ds is released.1)
+      | inr other ↦ behind (drain_at at ds) refl (sym (ap (λ (b : Bool). cond b (Some 0) (option_map (λ place. suc place) (drain_at at ds))) other) ∙ found) (λ later is. done_lacks before after up at later ds is released.1)
     ] where
       first : is_at at d.channel && not d.is_done ≡ true → 0 ≡ place → some_lacks after up (done_at place (d ∷ ds)) ≡ false → some_lacks before up (d ∷ ds) ≡ false
       first here is none =
           ap (λ (b : Bool). b || some_lacks before up ds) (released.0.0 (and-left (is_at at d.channel) (not d.is_done) here))
-          ∙ same-lacks before after up at ds released.1 (subst (λ (n : ℕ). some_lacks after up (done_at n (d ∷ ds)) ≡ false) (sym is) none)
+          ∙ same_lacks before after up at ds released.1 (subst (λ (n : ℕ). some_lacks after up (done_at n (d ∷ ds)) ≡ false) (sym is) none)
 
       one : lacks after up d ≡ false → lacks before up d ≡ false
       one none = elim (cases_Bool (is_at at d.channel)) [
@@ -94,9 +94,9 @@ done-lacks before after up at place (d ∷ ds) found released none =
       behind : (o : Option ℕ) → drain_at at ds ≡ o → option_map (λ place. suc place) o ≡ Some place → ((later : ℕ) → drain_at at ds ≡ Some later → some_lacks after up (done_at later ds) ≡ false → some_lacks before up ds ≡ false) → some_lacks before up (d ∷ ds) ≡ false
       behind None is place_is rest = absurd cc
       behind (Some later) is place_is rest =
-          let both = both-false (lacks after up d) (some_lacks after up (done_at later ds)) (subst (λ (n : ℕ). some_lacks after up (done_at n (d ∷ ds)) ≡ false) (sym (same_Some _ _ place_is)) none) in
+          let both = both_false (lacks after up d) (some_lacks after up (done_at later ds)) (subst (λ (n : ℕ). some_lacks after up (done_at n (d ∷ ds)) ≡ false) (sym (same_Some _ _ place_is)) none) in
           ap (λ (b : Bool). b || some_lacks before up ds) (one both.0) ∙ rest later is both.1
 
 -- so a channel that leaves, leaves nothing missing behind
-pub leaves-covers : (before after : Place → List Item) (up : ℕ → Bool) (at : Place) (place : ℕ) (ds : List Drain) → drain_at at ds ≡ Some place → AreReleased before after up at ds → some_lacks after up (still_draining (done_at place ds)) ≡ false → some_lacks before up ds ≡ false
-leaves-covers before after up at place ds found released none = done-lacks before after up at place ds found released (sym (still-lacks after up (done_at place ds)) ∙ none)
+pub leaves_covers : (before after : Place → List Item) (up : ℕ → Bool) (at : Place) (place : ℕ) (ds : List Drain) → drain_at at ds ≡ Some place → AreReleased before after up at ds → some_lacks after up (still_draining (done_at place ds)) ≡ false → some_lacks before up ds ≡ false
+leaves_covers before after up at place ds found released none = done_lacks before after up at place ds found released (sym (still-lacks after up (done_at place ds)) ∙ none)

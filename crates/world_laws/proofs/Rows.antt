@@ -14,7 +14,7 @@ use Rattle.world_laws.specs.LineUp.Alive.Follows.{goes_on}
 use Rattle.world_laws.specs.LineUp.Alive.Stays.{remains}
 use Rattle.world_laws.specs.LineUp.Alive.Stands.{rests}
 use Rattle.world_laws.specs.LineUp.Alive.Condition.{sound}
-use Rattle.world_laws.proofs.LineUp.Ordering.{IsInOrder-alive}
+use Rattle.world_laws.proofs.LineUp.Ordering.{is_in_order_alive}
 use Rattle.world_laws.specs.LineUp.Places.{LineUp, Seat, controls_in, Tenure, fresh, line}
 use Rattle.world_laws.specs.LineUp.Places.Item.{brought, released}
 use Rattle.world_laws.specs.LineUp.Places.Seat.{on_serving, on_target, moving}
@@ -28,7 +28,7 @@ use Rattle.world_laws.specs.Seated.{LinedUp, Sits}
 use Rattle.world_laws.specs.Seated.Remembers.{nothing}
 use Rattle.world_laws.specs.Seated.Sits.{stays}
 use Rattle.world_laws.specs.Staying.{is_beside_relay, carried_for, IsForOthers}
-use Rattle.world_laws.proofs.Ending.{EndedAreInOrder-new}
+use Rattle.world_laws.proofs.Ending.{ended_are_in_order_new}
 use Rattle.world_laws.proofs.Usual.{channel}
 
 -- of a mobile and a connection of these numbers
@@ -251,7 +251,7 @@ spread_is_alive = record {
 
 -- where the switch took the third message without the second
 skipping_is_not_alive : Alive 4 (spread_line_up ((0x05 ∷ 0x24 ∷ 0x71 ∷ []) ∷ (0x03 ∷ 0x8f ∷ []) ∷ [])) → ⊥
-skipping_is_not_alive alive = let order = (IsInOrder-alive (omega arith) alive).no_gap in cc
+skipping_is_not_alive alive = let order = (is_in_order_alive (omega arith) alive).no_gap in cc
 
 spread_is : line_up_of spread 1 1 ≡ Some (spread_line_up ((0x05 ∷ 0x24 ∷ 0x71 ∷ []) ∷ (0x03 ∷ 0x45 ∷ []) ∷ []))
 unfolding on_literals
@@ -365,4 +365,4 @@ command_at_another_station = record { carries = refl; leads = ((λ h. absurd cc)
 -- where the switch took the third message without the second, it isn't in order
 skipping_is_out_of_order : HasEnded 4 (actors ((0x05 ∷ 0x24 ∷ 0x71 ∷ []) ∷ (0x03 ∷ 0x8f ∷ []) ∷ [])) 1 1 → ⊥
 unfolding on_literals forwarded
-skipping_is_out_of_order ended = let order = (EndedAreInOrder-new 4 (actors ((0x05 ∷ 0x24 ∷ 0x71 ∷ []) ∷ (0x03 ∷ 0x8f ∷ []) ∷ [])) 1 1 (omega arith) ended).no_gap in cc
+skipping_is_out_of_order ended = let order = (ended_are_in_order_new 4 (actors ((0x05 ∷ 0x24 ∷ 0x71 ∷ []) ∷ (0x03 ∷ 0x8f ∷ []) ∷ [])) 1 1 (omega arith) ended).no_gap in cc

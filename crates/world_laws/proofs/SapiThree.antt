@@ -35,7 +35,7 @@ use Rattle.world_model.specs.World.{Station}
 use Rattle.world_model.proofs.Honesty.{set-or-not, set-elsewhere}
 use Rattle.world_model.proofs.Inboxes.{inbox-all}
 use Rattle.world_model.proofs.Mobility.{MobilesLive-new}
-use Rattle.world_laws.proofs.Framing.{all-left, all-right}
+use Rattle.world_laws.proofs.Framing.{all_left, all_right}
 use Rattle.world_laws.specs.SapiThree.{IsBesideFlow, SaysBesideFlow}
 use Rattle.world_laws.specs.Refusals.{RefusesNone}
 use Rattle.world_model.proofs.Footprints.Tells.{answers, brings, detects, establishes, links, opens_with, reports, requires}
@@ -43,10 +43,10 @@ use Rattle.world_laws.proofs.Events.{world}
 
 -- ---- what a mobile's link of SAPI 3 gives
 
-one-more : (mobile : MobileState) (calls : List Call) → taken_on_three_by_calls mobile (calls ++ frames Three ∷ []) ≡ taken_on_three_by_calls mobile calls ++ frame_lent (frame_answer (after_calls mobile calls) Three)
-one-more mobile [] = append-nil (frame_lent (frame_answer mobile Three))
-one-more mobile (call ∷ calls) =
-    ap (λ (xs : List (List ℕ)). taken_on_three_by_call mobile call ++ xs) (one-more (after_call mobile call) calls)
+one_more : (mobile : MobileState) (calls : List Call) → taken_on_three_by_calls mobile (calls ++ frames Three ∷ []) ≡ taken_on_three_by_calls mobile calls ++ frame_lent (frame_answer (after_calls mobile calls) Three)
+one_more mobile [] = append-nil (frame_lent (frame_answer mobile Three))
+one_more mobile (call ∷ calls) =
+    ap (λ (xs : List (List ℕ)). taken_on_three_by_call mobile call ++ xs) (one_more (after_call mobile call) calls)
     ∙ sym (append_assoc (taken_on_three_by_call mobile call) (taken_on_three_by_calls (after_call mobile call) calls) (frame_lent (frame_answer (after_calls (after_call mobile call) calls) Three)))
 
 -- one that is filtered out
@@ -64,9 +64,9 @@ lent-in (Err fault) frame is = absurd cc
 NoneLent : Actors → Type 0
 NoneLent w = (number : ℕ) (p : Mobile) (frame : List ℕ) → mobile_of w number ≡ Some p → frame_in (frame_answer p.end Three) ≡ Some frame → IsBesideFlow frame
 
-none-lent : (settings : Parameters) (events : List Event) → NoneLent (world settings events)
+none_lent : (settings : Parameters) (events : List Event) → NoneLent (world settings events)
 unfolding NoneLent
-none-lent settings events number p frame found is =
+none_lent settings events number p frame found is =
     let lives = MobilesLive-new settings events number p found in
     let m : ℕ = modulus_in settings in
     let mobile : MobileState = new_mobile m in
@@ -75,7 +75,7 @@ none-lent settings events number p frame found is =
     beside frame ((Both-empty (filter is_flow_message (taken_on_three_by_calls mobile calls)) (filter is_flow_message (frame ∷ []))
     (sym (sym (filter-append is_flow_message (taken_on_three_by_calls mobile calls) (frame ∷ []))
     ∙ ap (λ (xs : List (List ℕ)). filter is_flow_message (taken_on_three_by_calls mobile calls ++ xs)) (sym last)
-    ∙ ap (filter is_flow_message) (sym (one-more mobile calls))
+    ∙ ap (filter is_flow_message) (sym (one_more mobile calls))
     ∙ takes_no_flow mobile (calls ++ frames Three ∷ []) tt))).1)
 
 -- ---- what stations make
@@ -88,9 +88,9 @@ IsShort _ = Unit {0}
 AreShort : Actors → Type 0
 AreShort w = (k : ℕ) → AllByRecursion IsShort (get_or w.stations k no_station).base.messages
 
-set-short : (stations : List Station) (k : ℕ) (station : Station) → AllByRecursion IsShort station.base.messages → ((j : ℕ) → AllByRecursion IsShort (get_or stations j no_station).base.messages) → (j : ℕ) → AllByRecursion IsShort (get_or (set stations k station) j no_station).base.messages
+set_short : (stations : List Station) (k : ℕ) (station : Station) → AllByRecursion IsShort station.base.messages → ((j : ℕ) → AllByRecursion IsShort (get_or stations j no_station).base.messages) → (j : ℕ) → AllByRecursion IsShort (get_or (set stations k station) j no_station).base.messages
 unfolding IsShort
-set-short stations k station short all j =
+set_short stations k station short all j =
     elim (cases_Bool (nat_eq j k)) [
       | inl same ↦ subst (λ (i : ℕ). AllByRecursion IsShort (get_or (set stations k station) i no_station).base.messages) (sym (eqb-true j k same)) own
       | inr miss ↦ subst (λ (s : Station). AllByRecursion IsShort s.base.messages) (sym (set-elsewhere stations k j station (eqb-false j k miss))) (all j)
@@ -101,58 +101,58 @@ set-short stations k station short all j =
         | inr nowhere ↦ subst (λ (s : Station). AllByRecursion IsShort s.base.messages) (sym nowhere.0) tt
       ]
 
-short-base : (station : ℕ) (base : BaseState) (u : Actors) → AllByRecursion IsShort base.messages → AreShort u → AreShort (with_base station base u)
+short_base : (station : ℕ) (base : BaseState) (u : Actors) → AllByRecursion IsShort base.messages → AreShort u → AreShort (with_base station base u)
 unfolding AreShort
-short-base station base u short all = set-short u.stations (station - 1) (record (station_of u station) { base = base }) short all
+short_base station base u short all = set_short u.stations (station - 1) (record (station_of u station) { base = base }) short all
 
-short-of : (u : Actors) (station : ℕ) → AreShort u → AllByRecursion IsShort (base_of u station).messages
+short_of : (u : Actors) (station : ℕ) → AreShort u → AllByRecursion IsShort (base_of u station).messages
 unfolding AreShort
-short-of u station all = all (station - 1)
+short_of u station all = all (station - 1)
 
-short-spot : (at : Place) (spot : Spot) (u : Actors) → AreShort u → AreShort (with_spot at spot u)
+short_spot : (at : Place) (spot : Spot) (u : Actors) → AreShort u → AreShort (with_spot at spot u)
 unfolding AreShort
-short-spot at spot u all = set-short u.stations (at.station - 1) _ (short-of u at.station all) all
+short_spot at spot u all = set_short u.stations (at.station - 1) _ (short_of u at.station all) all
 
-short-told : (station : ℕ) (message : Rsl) (u : Actors) → IsShort message → AreShort u → AreShort (told station message u)
-short-told station message u short all = short-base station (after_tell (base_of u station) message) u (AllByRecursion-append IsShort (base_of u station).messages (message ∷ []) (short-of u station all) (short, tt)) all
+short_told : (station : ℕ) (message : Rsl) (u : Actors) → IsShort message → AreShort u → AreShort (told station message u)
+short_told station message u short all = short_base station (after_tell (base_of u station) message) u (AllByRecursion-append IsShort (base_of u station).messages (message ∷ []) (short_of u station all) (short, tt)) all
 
-short-tells : {w : Actors} {event : Event} {n : ℕ} {message : Rsl} → NoneLent w → Tells w event n message → IsShort message
+short_tells : {w : Actors} {event : Event} {n : ℕ} {message : Rsl} → NoneLent w → Tells w event n message → IsShort message
 unfolding IsShort NoneLent
-short-tells none (requires number station initial accepts) = tt
-short-tells none (opens_with number p tenure frame lent) = tt
-short-tells none (brings number Zero p tenure frame lent) = λ is. absurd cc
-short-tells none (brings number Three p tenure frame lent) = λ is. none number p frame lent.found lent.lent
-short-tells none (links number p tenure frame lent) = tt
-short-tells none (detects number tenure reached) = tt
-short-tells none (establishes tenure reached) = tt
-short-tells none (answers station l true taken) = tt
-short-tells none (answers station l false taken) = tt
-short-tells none (reports number report tenure reached long) = tt
+short_tells none (requires number station initial accepts) = tt
+short_tells none (opens_with number p tenure frame lent) = tt
+short_tells none (brings number Zero p tenure frame lent) = λ is. absurd cc
+short_tells none (brings number Three p tenure frame lent) = λ is. none number p frame lent.found lent.lent
+short_tells none (links number p tenure frame lent) = tt
+short_tells none (detects number tenure reached) = tt
+short_tells none (establishes tenure reached) = tt
+short_tells none (answers station l true taken) = tt
+short_tells none (answers station l false taken) = tt
+short_tells none (reports number report tenure reached long) = tt
 
-short-behind : (messages : List Rsl) → AllByRecursion IsShort messages → AllByRecursion IsShort (messages_behind_first messages)
-short-behind [] all = tt
-short-behind (first ∷ others) all = all.1
+short_behind : (messages : List Rsl) → AllByRecursion IsShort messages → AllByRecursion IsShort (messages_behind_first messages)
+short_behind [] all = tt
+short_behind (first ∷ others) all = all.1
 
 -- ---- each event
 
-short-step : (w : Actors) (event : Event) → NoneLent w → AreShort w → AreShort (actors_after w event)
+short_step : (w : Actors) (event : Event) → NoneLent w → AreShort w → AreShort (actors_after w event)
 unfolding AreShort IsShort
-short-step w event none = event-keeps AreShort w event (record {
+short_step w event none = event-keeps AreShort w event (record {
   puts = λ u number p q _ _ _ all. all;
   joins = λ number initial accepts _ all. all;
-  tells = λ u n message _ how all. short-told n message u (short-tells none how) all;
-  spots = λ u at spot _ _ all. short-spot at spot u all;
+  tells = λ u n message _ how all. short_told n message u (short_tells none how) all;
+  spots = λ u at spot _ _ all. short_spot at spot u all;
   pops = λ station others _ all. all;
   activates = λ u s a _ _ all.
       let base : BaseState = after_activate (base_of u s) a.channel in
-      short-spot (place_at s a.channel) _ (with_base s base u) (short-base s base u (AllByRecursion-append IsShort (base_of u s).messages _ (short-of u s all) (tt, tt)) all);
+      short_spot (place_at s a.channel) _ (with_base s base u) (short_base s base u (AllByRecursion-append IsShort (base_of u s).messages _ (short_of u s all) (tt, tt)) all);
   releases = λ u s channel _ all.
       let base : BaseState = after_release (base_of u s) channel in
-      short-spot (place_at s channel) _ (with_base s base u) (short-base s base u (AllByRecursion-append IsShort (base_of u s).messages _ (short-of u s all) (tt, tt)) all);
+      short_spot (place_at s channel) _ (with_base s base u) (short_base s base u (AllByRecursion-append IsShort (base_of u s).messages _ (short_of u s all) (tt, tt)) all);
 }) (record {
   rest = λ u inbox controller switch made links all. all;
-  next = λ source message _ all. short-base source _ w (short-behind (base_of w source).messages (short-of w source all)) all;
-  down = λ source _ _ all. short-base source _ w tt all;
+  next = λ source message _ all. short_base source _ w (short_behind (base_of w source).messages (short_of w source all)) all;
+  down = λ source _ _ all. short_base source _ w tt all;
 })
 
 -- ---- what is given to the inbox
@@ -164,126 +164,126 @@ Says word = SaysBesideFlow word × RefusesNone word
 SaysItem : Item → Type 0
 SaysItem item = Says (word_by item.source item.what)
 
-of-sapi : (at : Place) (o : Option Sapi) (message : List ℕ) → (o ≡ Some Three → IsBesideFlow message) → Says (data_word true at o message)
+says_of_sapi : (at : Place) (o : Option Sapi) (message : List ℕ) → (o ≡ Some Three → IsBesideFlow message) → Says (data_word true at o message)
 unfolding Says
-of-sapi at None message none = (tt, tt)
-of-sapi at (Some Zero) message none = (tt, tt)
-of-sapi at (Some Three) message none = (none refl, tt)
+says_of_sapi at None message none = (tt, tt)
+says_of_sapi at (Some Zero) message none = (tt, tt)
+says_of_sapi at (Some Three) message none = (none refl, tt)
 
-of-change : (at : Place) (r : Result RrMessage RrFault) → Says (change_word at r)
+of_change : (at : Place) (r : Result RrMessage RrFault) → Says (change_word at r)
 unfolding Says
-of-change at (Ok (AssignmentComplete cause)) = (tt, tt)
-of-change at (Ok (HandoverComplete cause)) = (tt, tt)
-of-change at (Ok (AssignmentFailure cause)) = (tt, tt)
-of-change at (Ok (HandoverFailure cause)) = (tt, tt)
-of-change at (Ok _) = (tt, tt)
-of-change at (Err fault) = (tt, tt)
+of_change at (Ok (AssignmentComplete cause)) = (tt, tt)
+of_change at (Ok (HandoverComplete cause)) = (tt, tt)
+of_change at (Ok (AssignmentFailure cause)) = (tt, tt)
+of_change at (Ok (HandoverFailure cause)) = (tt, tt)
+of_change at (Ok _) = (tt, tt)
+of_change at (Err fault) = (tt, tt)
 
-of-rr : (at : Place) (o : Option Sapi) (message : List ℕ) → Says (rr_word at o message)
+of_rr : (at : Place) (o : Option Sapi) (message : List ℕ) → Says (rr_word at o message)
 unfolding Says
-of-rr at None message = (tt, tt)
-of-rr at (Some Zero) message = of-change at (rr_reading message)
-of-rr at (Some Three) message = (tt, tt)
+of_rr at None message = (tt, tt)
+of_rr at (Some Zero) message = of_change at (rr_reading message)
+of_rr at (Some Three) message = (tt, tt)
 
-of-data : (b : Bool) (at : Place) (o : Option Sapi) (message : List ℕ) → (o ≡ Some Three → IsBesideFlow message) → Says (data_word b at o message)
+of_data : (b : Bool) (at : Place) (o : Option Sapi) (message : List ℕ) → (o ≡ Some Three → IsBesideFlow message) → Says (data_word b at o message)
 unfolding Says
-of-data true at o message none = of-sapi at o message none
-of-data false at o message none = of-rr at o message
+of_data true at o message none = says_of_sapi at o message none
+of_data false at o message none = of_rr at o message
 
-of-valid : (at : Place) (number : ℕ) (report : ReportValue) → Says (valid_word at number report)
+of_valid : (at : Place) (number : ℕ) (report : ReportValue) → Says (valid_word at number report)
 unfolding Says
-of-valid at number report = by report.valid where
+of_valid at number report = by report.valid where
   by : (b : Bool) → Says (if b then Reports at number report else Nothing)
   by true = (tt, tt)
   by false = (tt, tt)
 
-of-report : (at : Place) (number : ℕ) (r : Result RrMessage RrFault) → Says (report_word at number r)
+of_report : (at : Place) (number : ℕ) (r : Result RrMessage RrFault) → Says (report_word at number r)
 unfolding Says
-of-report at number (Ok (MeasurementReport value)) = of-valid at number (report_reading value)
-of-report at number (Ok _) = (tt, tt)
-of-report at number (Err fault) = (tt, tt)
+of_report at number (Ok (MeasurementReport value)) = of_valid at number (report_reading value)
+of_report at number (Ok _) = (tt, tt)
+of_report at number (Err fault) = (tt, tt)
 
-of-result : (at : Place) (number : ℕ) (o : Option (List ℕ)) → Says (result_word at number o)
+of_result : (at : Place) (number : ℕ) (o : Option (List ℕ)) → Says (result_word at number o)
 unfolding Says
-of-result at number None = (tt, tt)
-of-result at number (Some message) = of-report at number (rr_reading message)
+of_result at number None = (tt, tt)
+of_result at number (Some message) = of_report at number (rr_reading message)
 
-on-link : (at : Place) (o : Option Sapi) (input : Sapi → Input) → ((sapi : Sapi) → Says (OnChannel at (input sapi))) → Says (of_sapi at o input)
+on_link : (at : Place) (o : Option Sapi) (input : Sapi → Input) → ((sapi : Sapi) → Says (OnChannel at (input sapi))) → Says (of_sapi at o input)
 unfolding Says
-on-link at None input each = (tt, tt)
-on-link at (Some sapi) input each = each sapi
+on_link at None input each = (tt, tt)
+on_link at (Some sapi) input each = each sapi
 
-of-message : (station : ℕ) (message : Rsl) → IsShort message → Says (rsl_word station message)
+of_message : (station : ℕ) (message : Rsl) → IsShort message → Says (rsl_word station message)
 unfolding IsShort Says
-of-message station (rsl.ChannelRequired r) short = (tt, tt)
-of-message station (rsl.ChannelActivationAck a) short = (tt, tt)
-of-message station (rsl.ChannelActivationNack f) short = absurd short
-of-message station (rsl.EstablishIndication e) short = on-link (place_at station e.channel) (sapi_of e.link) _ (λ sapi. (tt, tt))
-of-message station (rsl.EstablishConfirm l) short = on-link (place_at station l.channel) (sapi_of l.link) _ (λ sapi. (tt, tt))
-of-message station (rsl.ReleaseIndication l) short = on-link (place_at station l.channel) (sapi_of l.link) _ (λ sapi. (tt, tt))
-of-message station (rsl.ErrorIndication e) short = on-link (place_at station e.channel) (sapi_of e.link) _ (λ sapi. (tt, tt))
-of-message station (rsl.ConnectionFailure f) short = (tt, tt)
-of-message station (rsl.DataIndication d) short = of-data (is_dtap d.l3) (place_at station d.channel) (sapi_of d.link) d.l3 short
-of-message station (rsl.MeasurementResult m) short = of-result (place_at station m.channel) m.number.0 m.l3
-of-message station (rsl.RfChannelReleaseAck channel) short = (tt, tt)
-of-message station _ short = (tt, tt)
+of_message station (rsl.ChannelRequired r) short = (tt, tt)
+of_message station (rsl.ChannelActivationAck a) short = (tt, tt)
+of_message station (rsl.ChannelActivationNack f) short = absurd short
+of_message station (rsl.EstablishIndication e) short = on_link (place_at station e.channel) (sapi_of e.link) _ (λ sapi. (tt, tt))
+of_message station (rsl.EstablishConfirm l) short = on_link (place_at station l.channel) (sapi_of l.link) _ (λ sapi. (tt, tt))
+of_message station (rsl.ReleaseIndication l) short = on_link (place_at station l.channel) (sapi_of l.link) _ (λ sapi. (tt, tt))
+of_message station (rsl.ErrorIndication e) short = on_link (place_at station e.channel) (sapi_of e.link) _ (λ sapi. (tt, tt))
+of_message station (rsl.ConnectionFailure f) short = (tt, tt)
+of_message station (rsl.DataIndication d) short = of_data (is_dtap d.l3) (place_at station d.channel) (sapi_of d.link) d.l3 short
+of_message station (rsl.MeasurementResult m) short = of_result (place_at station m.channel) m.number.0 m.l3
+of_message station (rsl.RfChannelReleaseAck channel) short = (tt, tt)
+of_message station _ short = (tt, tt)
 
 -- ---- what the switch says is of no channel
 
-of-management : (number : ℕ) (message : Bssmap) → Says (management_word number message)
+of_management : (number : ℕ) (message : Bssmap) → Says (management_word number message)
 unfolding Says
-of-management number (bssmap.AssignmentRequest channel_type) = (tt, tt)
-of-management number (bssmap.ClearCommand cause) = (tt, tt)
-of-management number bssmap.CipherModeCommand = (tt, tt)
-of-management number _ = (tt, tt)
+of_management number (bssmap.AssignmentRequest channel_type) = (tt, tt)
+of_management number (bssmap.ClearCommand cause) = (tt, tt)
+of_management number bssmap.CipherModeCommand = (tt, tt)
+of_management number _ = (tt, tt)
 
-of-bssap : (number : ℕ) (r : Result Bssap InterfaceFault) → Says (bssap_word number r)
+of_bssap : (number : ℕ) (r : Result Bssap InterfaceFault) → Says (bssap_word number r)
 unfolding Says
-of-bssap number (Ok (Management message)) = of-management number message
-of-bssap number (Ok (Transfer dlci message)) = (tt, tt)
-of-bssap number (Err fault) = (tt, tt)
+of_bssap number (Ok (Management message)) = of_management number message
+of_bssap number (Ok (Transfer dlci message)) = (tt, tt)
+of_bssap number (Err fault) = (tt, tt)
 
-of-switch : (r : Result Sccp InterfaceFault) → Says (switch_word r)
+says_of_switch : (r : Result Sccp InterfaceFault) → Says (switch_word r)
 unfolding Says
-of-switch (Ok (sccp.ConnectionConfirm destination source)) = (tt, tt)
-of-switch (Ok (sccp.ConnectionRefused destination)) = (tt, tt)
-of-switch (Ok (sccp.Released destination source)) = (tt, tt)
-of-switch (Ok (sccp.DataForm1 destination user)) = of-bssap destination (bssap_reading user)
-of-switch (Ok _) = (tt, tt)
-of-switch (Err fault) = (tt, tt)
+says_of_switch (Ok (sccp.ConnectionConfirm destination source)) = (tt, tt)
+says_of_switch (Ok (sccp.ConnectionRefused destination)) = (tt, tt)
+says_of_switch (Ok (sccp.Released destination source)) = (tt, tt)
+says_of_switch (Ok (sccp.DataForm1 destination user)) = of_bssap destination (bssap_reading user)
+says_of_switch (Ok _) = (tt, tt)
+says_of_switch (Err fault) = (tt, tt)
 
 -- ---- frames
 
-of-station-item : (source : ℕ) (message : Rsl) → IsShort message → rsl_reading (rsl_text message) ≡ Ok message → SaysItem (station_item source message)
+of_station_item : (source : ℕ) (message : Rsl) → IsShort message → rsl_reading (rsl_text message) ≡ Ok message → SaysItem (station_item source message)
 unfolding word_of SaysItem Says
-of-station-item source message short read = by (source == SWITCH_LINK) where
+of_station_item source message short read = by (source == SWITCH_LINK) where
   by : (b : Bool) → Says (body_word (if (b && false) then connection_control else if (not b && true) then radio_signalling else other) source (rsl_text message))
   by true = (tt, tt)
-  by false = subst (λ (r : Result Rsl RslFault). Says (station_word source r)) (sym read) (of-message source message short)
+  by false = subst (λ (r : Result Rsl RslFault). Says (station_word source r)) (sym read) (of_message source message short)
 
-of-switch-item : (message : Sccp) → SaysItem (switch_item message)
+of_switch_item : (message : Sccp) → SaysItem (switch_item message)
 unfolding word_of SaysItem Says
-of-switch-item message = of-switch (sccp_reading (sccp_text message))
+of_switch_item message = says_of_switch (sccp_reading (sccp_text message))
 
-says-pushed : (w : Actors) (event : Event) → Good w → AreShort w → AllByRecursion SaysItem (pushed w event)
+says_pushed : (w : Actors) (event : Event) → Good w → AreShort w → AllByRecursion SaysItem (pushed w event)
 unfolding SaysItem AreShort Says
-says-pushed w (BasePush source) good all = by_source (nat_eq source SWITCH_LINK) where
+says_pushed w (BasePush source) good all = by_source (nat_eq source SWITCH_LINK) where
   of_switch : (made : List Sccp) → AllByRecursion SaysItem (map switch_item (first_of made))
   of_switch [] = tt
-  of_switch (first ∷ others) = (of-switch-item first, tt)
+  of_switch (first ∷ others) = (of_switch_item first, tt)
 
   of_station : (messages : List Rsl) → AllByRecursion IsSound messages → AllByRecursion IsShort messages → AllByRecursion SaysItem (map (station_item source) (option_to_list (first_of_messages messages)))
   of_station [] sound short = tt
-  of_station (first ∷ others) sound short = (of-station-item source first short.0 (sound-read first sound.0), tt)
+  of_station (first ∷ others) sound short = (of_station_item source first short.0 (sound-read first sound.0), tt)
 
   by_source : (b : Bool) → AllByRecursion SaysItem (if b then map switch_item (first_of w.switch_made) else map (station_item source) (option_to_list (first_message (base_of w source))))
   by_source true = of_switch w.switch_made
-  by_source false = of_station (base_of w source).messages (end-of w source good).made (short-of w source all)
-says-pushed w (BaseDown source) good all = by_link (is_up w source) where
+  by_source false = of_station (base_of w source).messages (end-of w source good).made (short_of w source all)
+says_pushed w (BaseDown source) good all = by_link (is_up w source) where
   by_link : (b : Bool) → AllByRecursion SaysItem (if b then record { source = source; what = whats.Down } ∷ [] else [])
   by_link true = ((tt, tt), tt)
   by_link false = tt
-says-pushed w _ good all = tt
+says_pushed w _ good all = tt
 
 -- ---- all events
 
@@ -291,63 +291,63 @@ record Begins (w : Actors) : Type 0 where
   good : Good w
   short : AreShort w
 
-says-all : (w : Actors) (events : List Event) → ((before : List Event) → NoneLent (actors_after_all w before)) → Begins w → AllByRecursion SaysItem (all_pushed w events)
-says-all w [] none begins = tt
-says-all w (event ∷ events) none begins =
-    AllByRecursion-append SaysItem (pushed w event) (all_pushed (actors_after w event) events) (says-pushed w event begins.good begins.short)
-    (says-all (actors_after w event) events (λ before. none (event ∷ before)) (record { good = good-step w event begins.good; short = short-step w event (none []) begins.short }))
+says_all : (w : Actors) (events : List Event) → ((before : List Event) → NoneLent (actors_after_all w before)) → Begins w → AllByRecursion SaysItem (all_pushed w events)
+says_all w [] none begins = tt
+says_all w (event ∷ events) none begins =
+    AllByRecursion-append SaysItem (pushed w event) (all_pushed (actors_after w event) events) (says_pushed w event begins.good begins.short)
+    (says_all (actors_after w event) events (λ before. none (event ∷ before)) (record { good = good-step w event begins.good; short = short_step w event (none []) begins.short }))
 
-new-short : (from k : ℕ) (cells : List CellParameters) → AllByRecursion IsShort (get_or (stations_from from cells) k no_station).base.messages
-new-short from k [] = tt
-new-short from zero (cell ∷ cells) = tt
-new-short from (suc k) (cell ∷ cells) = new-short (from + 1) k cells
+new_short : (from k : ℕ) (cells : List CellParameters) → AllByRecursion IsShort (get_or (stations_from from cells) k no_station).base.messages
+new_short from k [] = tt
+new_short from zero (cell ∷ cells) = tt
+new_short from (suc k) (cell ∷ cells) = new_short (from + 1) k cells
 
-says-new : (settings : Parameters) (events : List Event) → AllByRecursion SaysItem (all_popped (new_actors settings) events ++ (world settings events).inbox)
+says_new : (settings : Parameters) (events : List Event) → AllByRecursion SaysItem (all_popped (new_actors settings) events ++ (world settings events).inbox)
 unfolding AreShort
-says-new settings events = subst (AllByRecursion SaysItem) (inbox-all (new_actors settings) events)
-    (says-all (new_actors settings) events (none-lent settings) (record { good = good-new settings; short = λ k. new-short 1 k settings.cells }))
+says_new settings events = subst (AllByRecursion SaysItem) (inbox-all (new_actors settings) events)
+    (says_all (new_actors settings) events (none_lent settings) (record { good = good-new settings; short = λ k. new_short 1 k settings.cells }))
 
 -- the steps of the controller are what it handled, and ticks
-says-first : (items : List Item) → AllByRecursion SaysItem (first_of items) → AllByRecursion (λ step. Says (word_in step)) (first_taken items)
+says_first : (items : List Item) → AllByRecursion SaysItem (first_of items) → AllByRecursion (λ step. Says (word_in step)) (first_taken items)
 unfolding SaysItem Says
-says-first [] all = tt
-says-first (item ∷ items) all = (all.0, tt)
+says_first [] all = tt
+says_first (item ∷ items) all = (all.0, tt)
 
-says-step : (w : Actors) (event : Event) → AllByRecursion SaysItem (popped w event) → AllByRecursion (λ step. Says (word_in step)) (step_at w event)
+says_step : (w : Actors) (event : Event) → AllByRecursion SaysItem (popped w event) → AllByRecursion (λ step. Says (word_in step)) (step_at w event)
 unfolding Says
-says-step w Handle all = says-first w.inbox all
-says-step w (Tick ms) all = ((tt, tt), tt)
-says-step w _ all = tt
+says_step w Handle all = says_first w.inbox all
+says_step w (Tick ms) all = ((tt, tt), tt)
+says_step w _ all = tt
 
-says-steps : (w : Actors) (events : List Event) → AllByRecursion SaysItem (all_popped w events) → AllByRecursion (λ step. Says (word_in step)) (all_steps w events)
-says-steps w [] all = tt
-says-steps w (event ∷ events) all =
+says_steps : (w : Actors) (events : List Event) → AllByRecursion SaysItem (all_popped w events) → AllByRecursion (λ step. Says (word_in step)) (all_steps w events)
+says_steps w [] all = tt
+says_steps w (event ∷ events) all =
     AllByRecursion-append (λ step. Says (word_in step)) (step_at w event) (all_steps (actors_after w event) events)
-    (says-step w event (all-left SaysItem (popped w event) (all_popped (actors_after w event) events) all))
-    (says-steps (actors_after w event) events (all-right SaysItem (popped w event) (all_popped (actors_after w event) events) all))
+    (says_step w event (all_left SaysItem (popped w event) (all_popped (actors_after w event) events) all))
+    (says_steps (actors_after w event) events (all_right SaysItem (popped w event) (all_popped (actors_after w event) events) all))
 
-says-taken : (settings : Parameters) (events : List Event) → AllByRecursion (λ step. Says (word_in step)) (all_steps (new_actors settings) events)
-says-taken settings events =
+says_taken : (settings : Parameters) (events : List Event) → AllByRecursion (λ step. Says (word_in step)) (all_steps (new_actors settings) events)
+says_taken settings events =
     let w : Actors = new_actors settings in
-    says-steps w events (all-left SaysItem (all_popped w events) (actors_after_all w events).inbox (says-new settings events))
+    says_steps w events (all_left SaysItem (all_popped w events) (actors_after_all w events).inbox (says_new settings events))
 
-says-left : (settings : Parameters) (events : List Event) → AllByRecursion SaysItem (world settings events).inbox
-says-left settings events =
+says_left : (settings : Parameters) (events : List Event) → AllByRecursion SaysItem (world settings events).inbox
+says_left settings events =
     let w : Actors = new_actors settings in
-    all-right SaysItem (all_popped w events) (actors_after_all w events).inbox (says-new settings events)
+    all_right SaysItem (all_popped w events) (actors_after_all w events).inbox (says_new settings events)
 
-pub says-came : (settings : Parameters) (events : List Event) → AllByRecursion (λ step. SaysBesideFlow (word_in step)) (all_steps (new_actors settings) events)
+pub says_came : (settings : Parameters) (events : List Event) → AllByRecursion (λ step. SaysBesideFlow (word_in step)) (all_steps (new_actors settings) events)
 unfolding Says
-says-came settings events = AllByRecursion-so (λ step. Says (word_in step)) (λ step. SaysBesideFlow (word_in step)) (λ step says. says.0) (all_steps (new_actors settings) events) (says-taken settings events)
+says_came settings events = AllByRecursion-so (λ step. Says (word_in step)) (λ step. SaysBesideFlow (word_in step)) (λ step says. says.0) (all_steps (new_actors settings) events) (says_taken settings events)
 
-pub says-waits : (settings : Parameters) (events : List Event) → AllByRecursion (λ item. SaysBesideFlow (word_by item.source item.what)) (world settings events).inbox
+pub says_waits : (settings : Parameters) (events : List Event) → AllByRecursion (λ item. SaysBesideFlow (word_by item.source item.what)) (world settings events).inbox
 unfolding SaysItem Says
-says-waits settings events = AllByRecursion-so SaysItem (λ item. SaysBesideFlow (word_by item.source item.what)) (λ item says. says.0) (world settings events).inbox (says-left settings events)
+says_waits settings events = AllByRecursion-so SaysItem (λ item. SaysBesideFlow (word_by item.source item.what)) (λ item says. says.0) (world settings events).inbox (says_left settings events)
 
-pub refuses-came : (settings : Parameters) (events : List Event) → AllByRecursion (λ step. RefusesNone (word_in step)) (all_steps (new_actors settings) events)
+pub refuses_came : (settings : Parameters) (events : List Event) → AllByRecursion (λ step. RefusesNone (word_in step)) (all_steps (new_actors settings) events)
 unfolding Says
-refuses-came settings events = AllByRecursion-so (λ step. Says (word_in step)) (λ step. RefusesNone (word_in step)) (λ step says. says.1) (all_steps (new_actors settings) events) (says-taken settings events)
+refuses_came settings events = AllByRecursion-so (λ step. Says (word_in step)) (λ step. RefusesNone (word_in step)) (λ step says. says.1) (all_steps (new_actors settings) events) (says_taken settings events)
 
-pub refuses-waits : (settings : Parameters) (events : List Event) → AllByRecursion (λ item. RefusesNone (word_by item.source item.what)) (world settings events).inbox
+pub refuses_waits : (settings : Parameters) (events : List Event) → AllByRecursion (λ item. RefusesNone (word_by item.source item.what)) (world settings events).inbox
 unfolding SaysItem Says
-refuses-waits settings events = AllByRecursion-so SaysItem (λ item. RefusesNone (word_by item.source item.what)) (λ item says. says.1) (world settings events).inbox (says-left settings events)
+refuses_waits settings events = AllByRecursion-so SaysItem (λ item. RefusesNone (word_by item.source item.what)) (λ item says. says.1) (world settings events).inbox (says_left settings events)

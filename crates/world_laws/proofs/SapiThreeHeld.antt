@@ -12,8 +12,8 @@ use Rattle.controller_model.proofs.LifeLaws.UplinkLife.{life_conserves_up}
 use Rattle.controller_model.specs.Life.{life}
 use Rattle.controller_model.specs.Views.{held_up}
 use Rattle.world_laws.specs.SapiThree.{BringsBesideFlow, FlowComesOnSapiZero, IsBesideFlow, SaysBesideFlow}
-use Rattle.world_laws.proofs.Framing.{all-right}
-use Rattle.world_laws.proofs.SapiThree.{says-came, says-waits}
+use Rattle.world_laws.proofs.Framing.{all_right}
+use Rattle.world_laws.proofs.SapiThree.{says_came, says_waits}
 use Rattle.world_laws.proofs.Events.{world}
 
 -- ---- tenures
@@ -21,82 +21,82 @@ use Rattle.world_laws.proofs.Events.{world}
 Beside : Tenure → Type 0
 Beside t = AllByRecursion IsBesideFlow t.three
 
-heard-beside : (at : Place) (sapi : Sapi) (message : List ℕ) (t : Tenure) → BringsBesideFlow (inputs.Dtap at sapi message) → Beside t → Beside (heard at sapi message t)
+heard_beside : (at : Place) (sapi : Sapi) (message : List ℕ) (t : Tenure) → BringsBesideFlow (inputs.Dtap at sapi message) → Beside t → Beside (heard at sapi message t)
 unfolding Beside
-heard-beside at sapi message t says beside = by (is_on at t) sapi says where
+heard_beside at sapi message t says beside = by (is_on at t) sapi says where
   by : (b : Bool) (sapi : Sapi) → BringsBesideFlow (inputs.Dtap at sapi message) → AllByRecursion IsBesideFlow (if b then with_message sapi message t else t).three
   by true Zero says = beside
   by true Three says = AllByRecursion-append IsBesideFlow t.three (message ∷ []) beside (says, tt)
   by false sapi says = beside
 
-all-heard : (at : Place) (sapi : Sapi) (message : List ℕ) (ts : List Tenure) → BringsBesideFlow (inputs.Dtap at sapi message) → AllByRecursion Beside ts → AllByRecursion Beside (map (heard at sapi message) ts)
-all-heard at sapi message [] says all = tt
-all-heard at sapi message (t ∷ ts) says all = (heard-beside at sapi message t says all.0, all-heard at sapi message ts says all.1)
+all_heard : (at : Place) (sapi : Sapi) (message : List ℕ) (ts : List Tenure) → BringsBesideFlow (inputs.Dtap at sapi message) → AllByRecursion Beside ts → AllByRecursion Beside (map (heard at sapi message) ts)
+all_heard at sapi message [] says all = tt
+all_heard at sapi message (t ∷ ts) says all = (heard_beside at sapi message t says all.0, all_heard at sapi message ts says all.1)
 
-ended-beside : (at : Place) (t : Tenure) → Beside t → Beside (ended at t)
+ended_beside : (at : Place) (t : Tenure) → Beside t → Beside (ended at t)
 unfolding Beside
-ended-beside at t beside = by (is_on at t) where
+ended_beside at t beside = by (is_on at t) where
   by : (b : Bool) → AllByRecursion IsBesideFlow (if b then record t { is_over = true } else t).three
   by true = beside
   by false = beside
 
-all-ended : (at : Place) (ts : List Tenure) → AllByRecursion Beside ts → AllByRecursion Beside (map (ended at) ts)
-all-ended at [] all = tt
-all-ended at (t ∷ ts) all = (ended-beside at t all.0, all-ended at ts all.1)
+all_ended : (at : Place) (ts : List Tenure) → AllByRecursion Beside ts → AllByRecursion Beside (map (ended at) ts)
+all_ended at [] all = tt
+all_ended at (t ∷ ts) all = (ended_beside at t all.0, all_ended at ts all.1)
 
-begun-first : (b : Bool) (at : Place) (initial : List ℕ) (ts : List Tenure) → AllByRecursion Beside ts → AllByRecursion Beside (begin_first b at initial ts)
+begun_first : (b : Bool) (at : Place) (initial : List ℕ) (ts : List Tenure) → AllByRecursion Beside ts → AllByRecursion Beside (begin_first b at initial ts)
 unfolding Beside
-begun-first true at initial [] all = (tt, tt)
-begun-first true at initial (t ∷ ts) all = all
-begun-first false at initial ts all = all
+begun_first true at initial [] all = (tt, tt)
+begun_first true at initial (t ∷ ts) all = all
+begun_first false at initial ts all = all
 
-begun-next : (ts : List Tenure) (b : Bool) (at : Place) → AllByRecursion Beside ts → AllByRecursion Beside (begin_next ts b at)
+begun_next : (ts : List Tenure) (b : Bool) (at : Place) → AllByRecursion Beside ts → AllByRecursion Beside (begin_next ts b at)
 unfolding Beside
-begun-next [] b at all = tt
-begun-next (t ∷ ts) true at all = (tt, all)
-begun-next (t ∷ ts) false at all = all
+begun_next [] b at all = tt
+begun_next (t ∷ ts) true at all = (tt, all)
+begun_next (t ∷ ts) false at all = all
 
 -- ---- what came
 
-input-beside : (input : Input) (put : List Message) (ts : List Tenure) → BringsBesideFlow input → AllByRecursion Beside ts → AllByRecursion Beside (after_input input put ts)
-input-beside (inputs.EstablishIndication at Zero (Some initial)) put ts says all = begun-first (requests put) at initial ts all
-input-beside (inputs.Complete at change cause) put ts says all = begun-next ts (performs put) at all
-input-beside (inputs.Dtap at sapi message) put ts says all = all-heard at sapi message ts says all
-input-beside (inputs.ReleaseAck at) put [] says all = tt
-input-beside (inputs.ReleaseAck at) put (t ∷ ts) says all = (all.0, all-ended at ts all.1)
-input-beside _ put ts says all = all
+input_beside : (input : Input) (put : List Message) (ts : List Tenure) → BringsBesideFlow input → AllByRecursion Beside ts → AllByRecursion Beside (after_input input put ts)
+input_beside (inputs.EstablishIndication at Zero (Some initial)) put ts says all = begun_first (requests put) at initial ts all
+input_beside (inputs.Complete at change cause) put ts says all = begun_next ts (performs put) at all
+input_beside (inputs.Dtap at sapi message) put ts says all = all_heard at sapi message ts says all
+input_beside (inputs.ReleaseAck at) put [] says all = tt
+input_beside (inputs.ReleaseAck at) put (t ∷ ts) says all = (all.0, all_ended at ts all.1)
+input_beside _ put ts says all = all
 
-word-beside : (word : Word) (put : List Message) (ts : List Tenure) → SaysBesideFlow word → AllByRecursion Beside ts → AllByRecursion Beside (after_word word put ts)
-word-beside (OnChannel at input) put ts says all = input-beside input put ts says all
-word-beside _ put ts says all = all
+word_beside : (word : Word) (put : List Message) (ts : List Tenure) → SaysBesideFlow word → AllByRecursion Beside ts → AllByRecursion Beside (after_word word put ts)
+word_beside (OnChannel at input) put ts says all = input_beside input put ts says all
+word_beside _ put ts says all = all
 
-service-beside : (number : ℕ) (c : Controller) (steps : List Step) (moments : List Moment) (ts : List Tenure) → IsHistory number c steps moments → AllByRecursion (λ step. SaysBesideFlow (word_in step)) steps → AllByRecursion Beside ts → AllByRecursion Beside (fold after_moment ts moments)
-service-beside number c [] [] ts history says all = all
-service-beside number c [] (m ∷ ms) ts history says all = absurd history
-service-beside number c (s ∷ ss) [] ts history says all = absurd history
-service-beside number c (s ∷ ss) (m ∷ ms) ts history says all =
-    service-beside number (step c s).next ss ms (after_moment ts m) history.2 says.1
-    (word-beside (word_in m.taken) m.messages ts (subst (λ (x : Step). SaysBesideFlow (word_in x)) (sym history.0) says.0) all)
+service_beside : (number : ℕ) (c : Controller) (steps : List Step) (moments : List Moment) (ts : List Tenure) → IsHistory number c steps moments → AllByRecursion (λ step. SaysBesideFlow (word_in step)) steps → AllByRecursion Beside ts → AllByRecursion Beside (fold after_moment ts moments)
+service_beside number c [] [] ts history says all = all
+service_beside number c [] (m ∷ ms) ts history says all = absurd history
+service_beside number c (s ∷ ss) [] ts history says all = absurd history
+service_beside number c (s ∷ ss) (m ∷ ms) ts history says all =
+    service_beside number (step c s).next ss ms (after_moment ts m) history.2 says.1
+    (word_beside (word_in m.taken) m.messages ts (subst (λ (x : Step). SaysBesideFlow (word_in x)) (sym history.0) says.0) all)
 
-joined-beside : (ts : List Tenure) → AllByRecursion Beside ts → AllByRecursion IsBesideFlow (joined Three ts)
+joined_beside : (ts : List Tenure) → AllByRecursion Beside ts → AllByRecursion IsBesideFlow (joined Three ts)
 unfolding Beside
-joined-beside [] all = tt
-joined-beside (t ∷ ts) all = AllByRecursion-append IsBesideFlow (joined Three ts) t.three (joined-beside ts all.1) all.0
+joined_beside [] all = tt
+joined_beside (t ∷ ts) all = AllByRecursion-append IsBesideFlow (joined Three ts) t.three (joined_beside ts all.1) all.0
 
 -- ---- what is held
 
-held-beside : (settings : Parameters) (steps : List Step) (number : ℕ) → AreAllowed settings → 1 ≤ number → AllByRecursion (λ step. SaysBesideFlow (word_in step)) steps → IsThere (connection_of (life settings steps).next number) → AllByRecursion IsBesideFlow (held_up (life settings steps).next number Three)
-held-beside settings steps number allowed from_one says there =
+held_beside : (settings : Parameters) (steps : List Step) (number : ℕ) → AreAllowed settings → 1 ≤ number → AllByRecursion (λ step. SaysBesideFlow (word_in step)) steps → IsThere (connection_of (life settings steps).next number) → AllByRecursion IsBesideFlow (held_up (life settings steps).next number Three)
+held_beside settings steps number allowed from_one says there =
     let law = life_conserves_up settings steps number allowed from_one in
-    all-right IsBesideFlow (relayed Three (all_messages law.moments)) (held_up (life settings steps).next number Three)
-    (subst (AllByRecursion IsBesideFlow) (sym (law.uplink there Three)) (joined-beside (service law.moments) (service-beside number (new_controller settings) steps law.moments [] law.history says tt)))
+    all_right IsBesideFlow (relayed Three (all_messages law.moments)) (held_up (life settings steps).next number Three)
+    (subst (AllByRecursion IsBesideFlow) (sym (law.uplink there Three)) (joined_beside (service law.moments) (service_beside number (new_controller settings) steps law.moments [] law.history says tt)))
 
-pub FlowComesOnSapiZero-new : (settings : Parameters) (events : List Event) → FlowComesOnSapiZero settings events
-FlowComesOnSapiZero-new settings events = record {
-  came = says-came settings events;
-  waits = says-waits settings events;
+pub flow_comes_on_sapi_zero_new : (settings : Parameters) (events : List Event) → FlowComesOnSapiZero settings events
+flow_comes_on_sapi_zero_new settings events = record {
+  came = says_came settings events;
+  waits = says_waits settings events;
   held = λ allowed number from_one there.
       let lives : (world settings events).controller ≡ (life settings (all_steps (new_actors settings) events)).next = LivesByTable-new settings events in
       subst (λ (c : Controller). AllByRecursion IsBesideFlow (held_up c number Three)) (sym lives)
-      (held-beside settings (all_steps (new_actors settings) events) number allowed from_one (says-came settings events) (subst (λ (c : Controller). IsThere (connection_of c number)) lives there));
+      (held_beside settings (all_steps (new_actors settings) events) number allowed from_one (says_came settings events) (subst (λ (c : Controller). IsThere (connection_of c number)) lives there));
 }

@@ -96,8 +96,8 @@ grows (arrives p from command seat reached) = same refl refl
 grows (returns p from command seat reached) = same refl refl
 grows (sits station p channel asks) = same refl refl
 
-pub sent-grows : (mobile : ℕ) (w : Actors) (event : Event) (p : Mobile) → mobile_of w mobile ≡ Some p → HasSent mobile p.end.sent (actors_after w event)
-sent-grows mobile w event p found =
+pub sent_grows : (mobile : ℕ) (w : Actors) (event : Event) (p : Mobile) → mobile_of w mobile ≡ Some p → HasSent mobile p.end.sent (actors_after w event)
+sent_grows mobile w event p found =
     let has : HasSent mobile p.end.sent w = record { one = p; found = found; more = []; is = sym (append-nil p.end.sent) } in
     event-keeps (HasSent mobile p.end.sent) w event (record {
       puts = λ u number x q acting mobiles how so. acts number x q (ap (λ (ms : List Mobile). find (has_number number) ms) mobiles ∙ acting) refl (grows how) so;

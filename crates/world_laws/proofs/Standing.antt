@@ -10,8 +10,8 @@ stands_of : (o : Option Connection) (s : Connection) → o ≡ Some s → IsFine
 unfolding IsFine
 stands_of o s is fine = (subst IsFine is fine).1
 
-pub ConnectionsStand-new : (settings : Parameters) (events : List Event) → ConnectionsStand settings events
-ConnectionsStand-new settings events number s is =
+pub connections_stand_new : (settings : Parameters) (events : List Event) → ConnectionsStand settings events
+connections_stand_new settings events number s is =
     let steps : List Step = all_steps (new_actors settings) events in
     let c : Controller = (life settings steps).next in
     stands_of (connection_of c number) s (subst (λ (d : Controller). connection_of d number ≡ Some s) (LivesByTable-new settings events) is)

@@ -26,40 +26,40 @@ use Rattle.world_laws.specs.GoingDown.{leading, leading_from_air, leading_by, le
 use Rattle.world_laws.specs.LineUps.{commanded_target, waiting_of}
 use Rattle.world_laws.specs.Seated.{Sits, commanded_channels, AreActiveAt}
 use Rattle.world_laws.specs.Staying.{AreLinedUp, StationsKeepLineUps}
-use Rattle.world_laws.proofs.Apart.{all-both, target-in}
-use Rattle.world_laws.proofs.BaseTakes.{Grown, AreGrown, SeesLess, LinedUp-less}
+use Rattle.world_laws.proofs.Apart.{all_both, target-in}
+use Rattle.world_laws.proofs.BaseTakes.{Grown, AreGrown, SeesLess, lined_up_less}
 use Rattle.world_laws.proofs.BaseTakes.Grown.{rests, ends}
-use Rattle.world_laws.proofs.Framing.{AreUp, all-right}
-use Rattle.world_laws.proofs.Projecting.{coming-quiet, coming-told-or}
-use Rattle.world_laws.proofs.Quiet.{all-of, ArePlaced, down-with_base, coming-with_spot, sees-itself, sees-mobiles}
-use Rattle.world_laws.proofs.Seeing.{LinedUp-same}
+use Rattle.world_laws.proofs.Framing.{AreUp, all_right}
+use Rattle.world_laws.proofs.Projecting.{coming-quiet, coming_told_or}
+use Rattle.world_laws.proofs.Quiet.{all_of, ArePlaced, down-with_base, coming-with_spot, sees_itself, sees_mobiles}
+use Rattle.world_laws.proofs.Seeing.{lined_up_same}
 use Rattle.world_laws.proofs.Spots.{set-same, set-apart, spot-elsewhere, tenure-with_base, tenure-with_spot}
-use Rattle.world_laws.proofs.Sublists.{Sub, sub-itself, sub-none, sub-front, sub-append, sub-flat_map, sub-trans, set-related}
+use Rattle.world_laws.proofs.Sublists.{Sub, sub_itself, sub_none, sub_front, sub_append, sub_flat_map, sub_trans, set_related}
 use Rattle.world_laws.proofs.Sublists.Sub.{drops}
 use Rattle.world_laws.proofs.Events.{world}
 
 -- ---- the entry is taken from the outbox
 
-outbox-sub : (w : Actors) (station : ℕ) (first : OutboxEntry) (others : List OutboxEntry) (n : ℕ) → outbox_of w station ≡ first ∷ others → Sub (outbox_of (with_outbox station others w) n) (outbox_of w n)
-outbox-sub w station first others n stood =
-    set-related (λ (a b : Link). Sub a.outbox b.outbox) (λ link. sub-itself link.outbox) w.links broken_link station n (record (link_of w station) { outbox = others }) (subst (Sub others) (sym stood) (drops (sub-itself others)))
+outbox_sub : (w : Actors) (station : ℕ) (first : OutboxEntry) (others : List OutboxEntry) (n : ℕ) → outbox_of w station ≡ first ∷ others → Sub (outbox_of (with_outbox station others w) n) (outbox_of w n)
+outbox_sub w station first others n stood =
+    set_related (λ (a b : Link). Sub a.outbox b.outbox) (λ link. sub_itself link.outbox) w.links broken_link station n (record (link_of w station) { outbox = others }) (subst (Sub others) (sym stood) (drops (sub_itself others)))
 
-up-taken : (w : Actors) (station : ℕ) (others : List OutboxEntry) → AreUp (is_station_up (with_outbox station others w)) (is_station_up w)
-up-taken w station others n = ap (λ (b : Bool). not (n == SWITCH_LINK) && b) (set-same (λ (link : Link). link.up) w.links broken_link station n (record (link_of w station) { outbox = others }) refl)
+up_taken : (w : Actors) (station : ℕ) (others : List OutboxEntry) → AreUp (is_station_up (with_outbox station others w)) (is_station_up w)
+up_taken w station others n = ap (λ (b : Bool). not (n == SWITCH_LINK) && b) (set-same (λ (link : Link). link.up) w.links broken_link station n (record (link_of w station) { outbox = others }) refl)
 
 pub waiting-taken : (w : Actors) (station : ℕ) (others : List OutboxEntry) (number : ℕ) → station ≢ SWITCH_LINK → waiting_of (with_outbox station others w) number ≡ waiting_of w number
 waiting-taken w station others number differs =
     ap (λ (link : Link). map (λ f. f.message) (forwarded (map (λ entry. entry.out) link.outbox) number)) (set-apart w.links broken_link station SWITCH_LINK (record (link_of w station) { outbox = others }) (λ is. differs (sym is)))
 
-down-taken : (w : Actors) (station : ℕ) (first : OutboxEntry) (others : List OutboxEntry) (at : Place) → outbox_of w station ≡ first ∷ others → Sub (going_down (with_outbox station others w) at) (going_down w at)
-down-taken w station first others at stood = sub-append (sub-itself (flat_map leading_from_air (spot_at w at).air)) (sub-flat_map (leading_from_outbox at.number) (outbox-sub w station first others at.station stood))
+down_taken : (w : Actors) (station : ℕ) (first : OutboxEntry) (others : List OutboxEntry) (at : Place) → outbox_of w station ≡ first ∷ others → Sub (going_down (with_outbox station others w) at) (going_down w at)
+down_taken w station first others at stood = sub_append (sub_itself (flat_map leading_from_air (spot_at w at).air)) (sub_flat_map (leading_from_outbox at.number) (outbox_sub w station first others at.station stood))
 
-less-taken : {w : Actors} {s : Connection} (station : ℕ) (first : OutboxEntry) (others : List OutboxEntry) → station ≢ SWITCH_LINK → outbox_of w station ≡ first ∷ others → SeesLess w (with_outbox station others w) s
-less-taken {w} {s} station first others differs stood = record {
-  coming = all-of (λ c. Grown (is_station_up w c.station) (coming_up w (place_of c)) (coming_up w (place_of c))) (used_channels s) (λ c. rests refl);
-  up = up-taken w station others;
-  serving = down-taken w station first others (place_of s.serving) stood;
-  target = λ t is. down-taken w station first others (place_of t.channel) stood;
+less_taken : {w : Actors} {s : Connection} (station : ℕ) (first : OutboxEntry) (others : List OutboxEntry) → station ≢ SWITCH_LINK → outbox_of w station ≡ first ∷ others → SeesLess w (with_outbox station others w) s
+less_taken {w} {s} station first others differs stood = record {
+  coming = all_of (λ c. Grown (is_station_up w c.station) (coming_up w (place_of c)) (coming_up w (place_of c))) (used_channels s) (λ c. rests refl);
+  up = up_taken w station others;
+  serving = down_taken w station first others (place_of s.serving) stood;
+  target = λ t is. down_taken w station first others (place_of t.channel) stood;
   on_serving = refl;
   on_target = λ t is. refl;
   waiting = waiting-taken w station others s.number differs;
@@ -68,10 +68,10 @@ less-taken {w} {s} station first others differs stood = record {
 
 -- ---- the station tells something that brings nothing
 
-less-told : {w u : Actors} {s : Connection} (station : ℕ) (base : BaseState) (messages : List Rsl) → ArePlaced (used_channels s) → is_station_up w station ≡ true → SameEnds w u → u.inbox ≡ w.inbox → base.messages ≡ (base_of w station).messages ++ messages → ((channel : ℕ) → made_of channel messages ≡ [])
+less_told : {w u : Actors} {s : Connection} (station : ℕ) (base : BaseState) (messages : List Rsl) → ArePlaced (used_channels s) → is_station_up w station ≡ true → SameEnds w u → u.inbox ≡ w.inbox → base.messages ≡ (base_of w station).messages ++ messages → ((channel : ℕ) → made_of channel messages ≡ [])
     → SeesLess w u s → SeesLess w (with_base station base u) s
-less-told {w} {u} {s} station base messages placed up same inbox told nothing sees = record {
-  coming = all-both (λ c. c.station ≢ SWITCH_LINK) (λ c. c.station ≢ SWITCH_LINK) (λ c. Grown (is_station_up w c.station) (coming_up (with_base station base u) (place_of c)) (coming_up w (place_of c))) (used_channels s)
+less_told {w} {u} {s} station base messages placed up same inbox told nothing sees = record {
+  coming = all_both (λ c. c.station ≢ SWITCH_LINK) (λ c. c.station ≢ SWITCH_LINK) (λ c. Grown (is_station_up w c.station) (coming_up (with_base station base u) (place_of c)) (coming_up w (place_of c))) (used_channels s)
       (λ c c_is _. rests (coming-quiet w u station (place_of c) base messages c_is up same inbox told (nothing c.number))) placed placed;
   up = sees.up;
   serving = subst (λ (entries : List AirMessage). Sub entries (going_down w (place_of s.serving))) (sym (down-with_base u station base (place_of s.serving))) sees.serving;
@@ -84,28 +84,28 @@ less-told {w} {u} {s} station base messages placed up same inbox told nothing se
 
 -- ---- a channel changes, where no more leads anywhere
 
-pub spot-related : (R : Spot → Spot → Type 0) → ((x : Spot) → R x x) → (u : Actors) (at : Place) (spot : Spot) (other : Place) → R spot (spot_at u at) → R (spot_at (with_spot at spot u) other) (spot_at u other)
-spot-related R same u at spot other is =
-    set-related (λ (a b : Station). R (get_or a.spots other.number new_spot) (get_or b.spots other.number new_spot)) (λ x. same (get_or x.spots other.number new_spot)) u.stations no_station (at.station - 1) (other.station - 1) (record (station_of u at.station) { spots = set (station_of u at.station).spots at.number spot })
-    (set-related R same (station_of u at.station).spots new_spot at.number other.number spot is)
+pub spot_related : (R : Spot → Spot → Type 0) → ((x : Spot) → R x x) → (u : Actors) (at : Place) (spot : Spot) (other : Place) → R spot (spot_at u at) → R (spot_at (with_spot at spot u) other) (spot_at u other)
+spot_related R same u at spot other is =
+    set_related (λ (a b : Station). R (get_or a.spots other.number new_spot) (get_or b.spots other.number new_spot)) (λ x. same (get_or x.spots other.number new_spot)) u.stations no_station (at.station - 1) (other.station - 1) (record (station_of u at.station) { spots = set (station_of u at.station).spots at.number spot })
+    (set_related R same (station_of u at.station).spots new_spot at.number other.number spot is)
 
 abbrev pub LeadsLess : Spot → Spot → Type 0
 LeadsLess a b = Sub (flat_map leading_from_air a.air) (flat_map leading_from_air b.air)
 
-down-less : (u : Actors) (at : Place) (spot : Spot) (other : Place) → LeadsLess spot (spot_at u at) → Sub (going_down (with_spot at spot u) other) (going_down u other)
-down-less u at spot other less = sub-append (spot-related LeadsLess (λ x. sub-itself (flat_map leading_from_air x.air)) u at spot other less) (sub-itself (flat_map (leading_from_outbox other.number) (outbox_of u other.station)))
+down_less : (u : Actors) (at : Place) (spot : Spot) (other : Place) → LeadsLess spot (spot_at u at) → Sub (going_down (with_spot at spot u) other) (going_down u other)
+down_less u at spot other less = sub_append (spot_related LeadsLess (λ x. sub_itself (flat_map leading_from_air x.air)) u at spot other less) (sub_itself (flat_map (leading_from_outbox other.number) (outbox_of u other.station)))
 
-grown-spot : (w u : Actors) (at : Place) (spot : Spot) (cs : List Channel) → AreGrown (is_station_up w) (coming_up u) (coming_up w) cs → AreGrown (is_station_up w) (coming_up (with_spot at spot u)) (coming_up w) cs
-grown-spot w u at spot [] grown = tt
-grown-spot w u at spot (c ∷ cs) grown = (subst (λ (items : List Item). Grown (is_station_up w c.station) items (coming_up w (place_of c))) (sym (coming-with_spot u at spot (place_of c))) grown.0, grown-spot w u at spot cs grown.1)
+grown_spot : (w u : Actors) (at : Place) (spot : Spot) (cs : List Channel) → AreGrown (is_station_up w) (coming_up u) (coming_up w) cs → AreGrown (is_station_up w) (coming_up (with_spot at spot u)) (coming_up w) cs
+grown_spot w u at spot [] grown = tt
+grown_spot w u at spot (c ∷ cs) grown = (subst (λ (items : List Item). Grown (is_station_up w c.station) items (coming_up w (place_of c))) (sym (coming-with_spot u at spot (place_of c))) grown.0, grown_spot w u at spot cs grown.1)
 
-less-spot : {w u : Actors} {s : Connection} (at : Place) (spot : Spot) → LeadsLess spot (spot_at u at) → tenure_at (with_spot at spot u) (place_of s.serving) ≡ tenure_at u (place_of s.serving) → ((t : Target) → commanded_target s.state ≡ Some t → tenure_at (with_spot at spot u) (place_of t.channel) ≡ tenure_at u (place_of t.channel))
+less_spot : {w u : Actors} {s : Connection} (at : Place) (spot : Spot) → LeadsLess spot (spot_at u at) → tenure_at (with_spot at spot u) (place_of s.serving) ≡ tenure_at u (place_of s.serving) → ((t : Target) → commanded_target s.state ≡ Some t → tenure_at (with_spot at spot u) (place_of t.channel) ≡ tenure_at u (place_of t.channel))
     → SeesLess w u s → SeesLess w (with_spot at spot u) s
-less-spot {w} {u} {s} at spot less on to sees = record {
-  coming = grown-spot w u at spot (used_channels s) sees.coming;
+less_spot {w} {u} {s} at spot less on to sees = record {
+  coming = grown_spot w u at spot (used_channels s) sees.coming;
   up = sees.up;
-  serving = sub-trans (down-less u at spot (place_of s.serving) less) sees.serving;
-  target = λ t is. sub-trans (down-less u at spot (place_of t.channel) less) (sees.target t is);
+  serving = sub_trans (down_less u at spot (place_of s.serving) less) sees.serving;
+  target = λ t is. sub_trans (down_less u at spot (place_of t.channel) less) (sees.target t is);
   on_serving = on ∙ sees.on_serving;
   on_target = λ t is. to t is ∙ sees.on_target t is;
   waiting = sees.waiting;
@@ -113,39 +113,39 @@ less-spot {w} {u} {s} at spot less on to sees = record {
 }
 
 -- in the same tenure
-less-same_tenure : {w u : Actors} {s : Connection} (at : Place) (spot : Spot) → LeadsLess spot (spot_at u at) → spot.tenure ≡ (spot_at u at).tenure → SeesLess w u s → SeesLess w (with_spot at spot u) s
-less-same_tenure {u} {s} at spot less tenure sees = less-spot at spot less (tenure-with_spot u at spot (place_of s.serving) tenure) (λ t is. tenure-with_spot u at spot (place_of t.channel) tenure) sees
+less_same_tenure : {w u : Actors} {s : Connection} (at : Place) (spot : Spot) → LeadsLess spot (spot_at u at) → spot.tenure ≡ (spot_at u at).tenure → SeesLess w u s → SeesLess w (with_spot at spot u) s
+less_same_tenure {u} {s} at spot less tenure sees = less_spot at spot less (tenure-with_spot u at spot (place_of s.serving) tenure) (λ t is. tenure-with_spot u at spot (place_of t.channel) tenure) sees
 
 -- ---- a channel is activated: none of those that are active
 
-inactive-of : (base : BaseState) (channel : ℕ) → refusal_of_activate base channel ≡ None → is_active base.active channel ≡ true → ⊥
-inactive-of base channel free active = absurd (none (sym (ap (λ (b : Bool). if b then Some Busy else None) active) ∙ free)) where
+inactive_of : (base : BaseState) (channel : ℕ) → refusal_of_activate base channel ≡ None → is_active base.active channel ≡ true → ⊥
+inactive_of base channel free active = absurd (none (sym (ap (λ (b : Bool). if b then Some Busy else None) active) ∙ free)) where
   none : Some Busy ≡ None → ⊥
   none h = absurd cc
 
-apart-active : (w : Actors) (station channel : ℕ) (c : Channel) → refusal_of_activate (base_of w station) channel ≡ None → (c.station ≡ station → is_active_at w (place_of c) ≡ true) → is_at (place_at station channel) c ≡ false
-apart-active w station channel c free active = by_both (nat_eq station c.station) (nat_eq channel c.number) refl refl where
+apart_active : (w : Actors) (station channel : ℕ) (c : Channel) → refusal_of_activate (base_of w station) channel ≡ None → (c.station ≡ station → is_active_at w (place_of c) ≡ true) → is_at (place_at station channel) c ≡ false
+apart_active w station channel c free active = by_both (nat_eq station c.station) (nat_eq channel c.number) refl refl where
   by_both : (a b : Bool) → nat_eq station c.station ≡ a → nat_eq channel c.number ≡ b → (a && b) ≡ false
   by_both false b one two = refl
   by_both true false one two = refl
-  by_both true true one two = absurd (inactive-of (base_of w station) channel free
+  by_both true true one two = absurd (inactive_of (base_of w station) channel free
       (ap (λ (n : ℕ). is_active (base_of w n).active channel) (eqb-true station c.station one) ∙ ap (is_active (base_of w c.station).active) (eqb-true channel c.number two) ∙ active (sym (eqb-true station c.station one))))
 
-less-activated : {w u : Actors} {s : Connection} (station channel : ℕ) → ArePlaced (used_channels s) → is_station_up w station ≡ true → SameEnds w u → u.inbox ≡ w.inbox → refusal_of_activate (base_of u station) channel ≡ None → AreActiveAt station w s
+less_activated : {w u : Actors} {s : Connection} (station channel : ℕ) → ArePlaced (used_channels s) → is_station_up w station ≡ true → SameEnds w u → u.inbox ≡ w.inbox → refusal_of_activate (base_of u station) channel ≡ None → AreActiveAt station w s
     → SeesLess w u s → SeesLess w (with_spot (place_at station channel) (new_tenure (spot_at u (place_at station channel))) (with_base station (after_activate (base_of u station) channel) u)) s
-less-activated {w} {u} {s} station channel placed up same inbox free active sees =
-    less-spot (place_at station channel) (new_tenure (spot_at u (place_at station channel))) (sub-none _) (elsewhere s.serving placed_rest.0 active.0)
+less_activated {w} {u} {s} station channel placed up same inbox free active sees =
+    less_spot (place_at station channel) (new_tenure (spot_at u (place_at station channel))) (sub_none _) (elsewhere s.serving placed_rest.0 active.0)
     (λ t is. elsewhere t.channel (subst ArePlaced (target-in s.state t is) placed_rest.1).0 (subst (λ (o : Option Target). AllByRecursion (λ c. c.station ≡ station → is_active_at w (place_of c) ≡ true) (commanded_channels o)) is active.1).0)
-    (less-told station (after_activate (base_of u station) channel) (activation_ack channel ∷ []) placed up same inbox (ap (λ (b : BaseState). b.messages ++ activation_ack channel ∷ []) (same station)) (λ k. refl) sees) where
+    (less_told station (after_activate (base_of u station) channel) (activation_ack channel ∷ []) placed up same inbox (ap (λ (b : BaseState). b.messages ++ activation_ack channel ∷ []) (same station)) (λ k. refl) sees) where
       v : Actors
       v = with_base station (after_activate (base_of u station) channel) u
 
       placed_rest : ArePlaced (s.serving ∷ target_in s.state)
-      placed_rest = all-right (λ c. c.station ≢ SWITCH_LINK) (undone s.draining) (s.serving ∷ target_in s.state) placed
+      placed_rest = all_right (λ c. c.station ≢ SWITCH_LINK) (undone s.draining) (s.serving ∷ target_in s.state) placed
 
       elsewhere : (c : Channel) → c.station ≢ SWITCH_LINK → (c.station ≡ station → is_active_at w (place_of c) ≡ true) → tenure_at (with_spot (place_at station channel) (new_tenure (spot_at u (place_at station channel))) v) (place_of c) ≡ tenure_at v (place_of c)
       elsewhere c c_is is = ap (λ (x : Spot). record { at = place_of c; number = x.tenure }) (spot-elsewhere v (place_at station channel) (new_tenure (spot_at u (place_at station channel))) c (up-right station w up).0 c_is
-          (apart-active w station channel c (subst (λ (b : BaseState). refusal_of_activate b channel ≡ None) (same station) free) is))
+          (apart_active w station channel c (subst (λ (b : BaseState). refusal_of_activate b channel ≡ None) (same station) free) is))
 
 -- ---- a message goes into the air of an active channel
 
@@ -155,10 +155,10 @@ aired w station channel message first others =
     with_spot at (record (spot_at w at) { air = (spot_at w at).air ++ record { message = message; target = first.target } ∷ [] }) (with_outbox station others w)
 
 -- and no more leads down to any channel
-pub down-aired : (w : Actors) (station channel : ℕ) (message : List ℕ) (first : OutboxEntry) (others : List OutboxEntry) (c : Channel) → c.station ≢ SWITCH_LINK → is_station_up w station ≡ true → outbox_of w station ≡ first ∷ others
+pub down_aired : (w : Actors) (station channel : ℕ) (message : List ℕ) (first : OutboxEntry) (others : List OutboxEntry) (c : Channel) → c.station ≢ SWITCH_LINK → is_station_up w station ≡ true → outbox_of w station ≡ first ∷ others
     → ((n : ℕ) → (channel == n) ≡ true → leading_from_outbox n first ≡ leading message first.target)
     → Sub (going_down (aired w station channel message first others) (place_of c)) (going_down w (place_of c))
-down-aired w station channel message first others c c_is up stood leads = by_both (nat_eq station c.station) (nat_eq channel c.number) refl refl where
+down_aired w station channel message first others c c_is up stood leads = by_both (nat_eq station c.station) (nat_eq channel c.number) refl refl where
   at : Place
   at = place_at station channel
 
@@ -169,10 +169,10 @@ down-aired w station channel message first others c c_is up stood leads = by_bot
   spot = record (spot_at w at) { air = (spot_at w at).air ++ record { message = message; target = first.target } ∷ [] }
 
   in_air : (other : Place) → Sub (flat_map leading_from_air (spot_at (with_spot at spot u) other).air) (flat_map leading_from_air (spot_at w other).air ++ leading message first.target)
-  in_air other = spot-related (λ (a b : Spot). Sub (flat_map leading_from_air a.air) (flat_map leading_from_air b.air ++ leading message first.target)) (λ x. sub-front (flat_map leading_from_air x.air) (leading message first.target)) u at spot other
+  in_air other = spot_related (λ (a b : Spot). Sub (flat_map leading_from_air a.air) (flat_map leading_from_air b.air ++ leading message first.target)) (λ x. sub_front (flat_map leading_from_air x.air) (leading message first.target)) u at spot other
       (subst (λ (entries : List AirMessage). Sub entries (flat_map leading_from_air (spot_at w at).air ++ leading message first.target))
       (sym (flat_map-append leading_from_air (spot_at w at).air (record { message = message; target = first.target } ∷ []) ∙ ap (λ (entries : List AirMessage). flat_map leading_from_air (spot_at w at).air ++ entries) (append-nil (leading message first.target))))
-      (sub-itself (flat_map leading_from_air (spot_at w at).air ++ leading message first.target)))
+      (sub_itself (flat_map leading_from_air (spot_at w at).air ++ leading message first.target)))
 
   now_there : outbox_of u station ≡ others
   now_there = ap (λ (link : Link). link.outbox) (changed_link w.links station (record (link_of w station) { outbox = others }) (up-right station w up).1)
@@ -183,24 +183,24 @@ down-aired w station channel message first others c c_is up stood leads = by_bot
       (append_assoc (flat_map leading_from_air (spot_at w (place_of c)).air) (leading message first.target) (flat_map (leading_from_outbox c.number) others)
       ∙ ap (λ (entries : List AirMessage). flat_map leading_from_air (spot_at w (place_of c)).air ++ (entries ++ flat_map (leading_from_outbox c.number) others)) (sym (leads c.number number))
       ∙ ap (λ (entries : List OutboxEntry). flat_map leading_from_air (spot_at w (place_of c)).air ++ flat_map (leading_from_outbox c.number) entries) (sym stood ∙ ap (outbox_of w) same))
-      (sub-append (in_air (place_of c)) (subst (λ (entries : List OutboxEntry). Sub (flat_map (leading_from_outbox c.number) entries) (flat_map (leading_from_outbox c.number) others)) (sym now_there ∙ ap (outbox_of u) same) (sub-itself (flat_map (leading_from_outbox c.number) others))))
+      (sub_append (in_air (place_of c)) (subst (λ (entries : List OutboxEntry). Sub (flat_map (leading_from_outbox c.number) entries) (flat_map (leading_from_outbox c.number) others)) (sym now_there ∙ ap (outbox_of u) same) (sub_itself (flat_map (leading_from_outbox c.number) others))))
 
   elsewhere : is_at at c ≡ false → Sub (going_down (with_spot at spot u) (place_of c)) (going_down w (place_of c))
-  elsewhere other = subst (λ (x : Spot). Sub (flat_map leading_from_air x.air ++ flat_map (leading_from_outbox c.number) (outbox_of u c.station)) (going_down w (place_of c))) (sym (spot-elsewhere u at spot c (up-right station w up).0 c_is other)) (down-taken w station first others (place_of c) stood)
+  elsewhere other = subst (λ (x : Spot). Sub (flat_map leading_from_air x.air ++ flat_map (leading_from_outbox c.number) (outbox_of u c.station)) (going_down w (place_of c))) (sym (spot-elsewhere u at spot c (up-right station w up).0 c_is other)) (down_taken w station first others (place_of c) stood)
 
   by_both : (a b : Bool) → nat_eq station c.station ≡ a → nat_eq channel c.number ≡ b → Sub (going_down (with_spot at spot u) (place_of c)) (going_down w (place_of c))
   by_both true true one two = here (eqb-true station c.station one) two
   by_both false b one two = elsewhere (ap (λ (x : Bool). x && nat_eq channel c.number) one)
   by_both true false one two = elsewhere (ap (λ (x : Bool). x && nat_eq channel c.number) one ∙ two)
 
-less-aired : {w : Actors} {s : Connection} (station channel : ℕ) (message : List ℕ) (first : OutboxEntry) (others : List OutboxEntry) → ArePlaced (used_channels s) → is_station_up w station ≡ true → outbox_of w station ≡ first ∷ others
+less_aired : {w : Actors} {s : Connection} (station channel : ℕ) (message : List ℕ) (first : OutboxEntry) (others : List OutboxEntry) → ArePlaced (used_channels s) → is_station_up w station ≡ true → outbox_of w station ≡ first ∷ others
     → ((n : ℕ) → (channel == n) ≡ true → leading_from_outbox n first ≡ leading message first.target)
     → SeesLess w (aired w station channel message first others) s
-less-aired {w} {s} station channel message first others placed up stood leads = record {
-  coming = grown-spot w u at spot (used_channels s) taken_first.coming;
+less_aired {w} {s} station channel message first others placed up stood leads = record {
+  coming = grown_spot w u at spot (used_channels s) taken_first.coming;
   up = taken_first.up;
-  serving = down-aired w station channel message first others s.serving placed_rest.0 up stood leads;
-  target = λ t is. down-aired w station channel message first others t.channel (subst ArePlaced (target-in s.state t is) placed_rest.1).0 up stood leads;
+  serving = down_aired w station channel message first others s.serving placed_rest.0 up stood leads;
+  target = λ t is. down_aired w station channel message first others t.channel (subst ArePlaced (target-in s.state t is) placed_rest.1).0 up stood leads;
   on_serving = tenure-with_spot u at spot (place_of s.serving) refl;
   on_target = λ t is. tenure-with_spot u at spot (place_of t.channel) refl;
   waiting = taken_first.waiting;
@@ -216,16 +216,16 @@ less-aired {w} {s} station channel message first others placed up stood leads = 
   spot = record (spot_at w at) { air = (spot_at w at).air ++ record { message = message; target = first.target } ∷ [] }
 
   taken_first : SeesLess w u s
-  taken_first = less-taken station first others (up-right station w up).0 stood
+  taken_first = less_taken station first others (up-right station w up).0 stood
 
   placed_rest : ArePlaced (s.serving ∷ target_in s.state)
-  placed_rest = all-right (λ c. c.station ≢ SWITCH_LINK) (undone s.draining) (s.serving ∷ target_in s.state) placed
+  placed_rest = all_right (λ c. c.station ≢ SWITCH_LINK) (undone s.draining) (s.serving ∷ target_in s.state) placed
 
 -- ---- a channel is released: its RF CHANNEL RELEASE ACK is the last of it
 
-grown-released : (w u : Actors) (station channel : ℕ) (c : Channel) → c.station ≢ SWITCH_LINK → is_station_up w station ≡ true → SameEnds w u → u.inbox ≡ w.inbox → Grown (is_station_up w c.station) (coming_up (with_base station (after_release (base_of u station) channel) u) (place_of c)) (coming_up w (place_of c))
-grown-released w u station channel c c_is up same inbox =
-    elim (coming-told-or w u station (place_of c) (after_release (base_of u station) channel) (RfChannelReleaseAck channel ∷ []) c_is up same inbox (ap (λ (b : BaseState). b.messages ++ RfChannelReleaseAck channel ∷ []) (same station))) [
+grown_released : (w u : Actors) (station channel : ℕ) (c : Channel) → c.station ≢ SWITCH_LINK → is_station_up w station ≡ true → SameEnds w u → u.inbox ≡ w.inbox → Grown (is_station_up w c.station) (coming_up (with_base station (after_release (base_of u station) channel) u) (place_of c)) (coming_up w (place_of c))
+grown_released w u station channel c c_is up same inbox =
+    elim (coming_told_or w u station (place_of c) (after_release (base_of u station) channel) (RfChannelReleaseAck channel ∷ []) c_is up same inbox (ap (λ (b : BaseState). b.messages ++ RfChannelReleaseAck channel ∷ []) (same station))) [
       | inl more ↦ by_both (nat_eq station c.station) (nat_eq channel c.number) refl more
       | inr is ↦ rests is
     ] where
@@ -237,11 +237,11 @@ grown-released w u station channel c c_is up same inbox =
       by_both true false one is = rests (is ∙ append-nil (coming_up w (place_of c)))
       by_both false b one is = rests (is ∙ append-nil (coming_up w (place_of c)))
 
-less-released : {w u : Actors} {s : Connection} (station channel : ℕ) → ArePlaced (used_channels s) → is_station_up w station ≡ true → SameEnds w u → u.inbox ≡ w.inbox → SeesLess w u s → SeesLess w (released (place_at station channel) u) s
-less-released {w} {u} {s} station channel placed up same inbox sees =
-    less-same_tenure (place_at station channel) (record (spot_at u (place_at station channel)) { sapi_three_up = false; air = [] }) (sub-none _) (sym (ap (λ (x : Spot). x.tenure) (spot-with_base station (after_release (base_of u station) channel) u (place_at station channel)))) (record {
-      coming = all-both (λ c. c.station ≢ SWITCH_LINK) (λ c. c.station ≢ SWITCH_LINK) (λ c. Grown (is_station_up w c.station) (coming_up (with_base station (after_release (base_of u station) channel) u) (place_of c)) (coming_up w (place_of c))) (used_channels s)
-          (λ c c_is _. grown-released w u station channel c c_is up same inbox) placed placed;
+less_released : {w u : Actors} {s : Connection} (station channel : ℕ) → ArePlaced (used_channels s) → is_station_up w station ≡ true → SameEnds w u → u.inbox ≡ w.inbox → SeesLess w u s → SeesLess w (released (place_at station channel) u) s
+less_released {w} {u} {s} station channel placed up same inbox sees =
+    less_same_tenure (place_at station channel) (record (spot_at u (place_at station channel)) { sapi_three_up = false; air = [] }) (sub_none _) (sym (ap (λ (x : Spot). x.tenure) (spot-with_base station (after_release (base_of u station) channel) u (place_at station channel)))) (record {
+      coming = all_both (λ c. c.station ≢ SWITCH_LINK) (λ c. c.station ≢ SWITCH_LINK) (λ c. Grown (is_station_up w c.station) (coming_up (with_base station (after_release (base_of u station) channel) u) (place_of c)) (coming_up w (place_of c))) (used_channels s)
+          (λ c c_is _. grown_released w u station channel c c_is up same inbox) placed placed;
       up = sees.up;
       serving = subst (λ (entries : List AirMessage). Sub entries (going_down w (place_of s.serving))) (sym (down-with_base u station (after_release (base_of u station) channel) (place_of s.serving))) sees.serving;
       target = λ t is. subst (λ (entries : List AirMessage). Sub entries (going_down w (place_of t.channel))) (sym (down-with_base u station (after_release (base_of u station) channel) (place_of t.channel))) (sees.target t is);
@@ -253,12 +253,12 @@ less-released {w} {u} {s} station channel placed up same inbox sees =
 
 -- ---- the data link of SAPI 3 is asked for
 
-less-answered : {w u : Actors} {s : Connection} (answer : Bool) (station channel : ℕ) → ArePlaced (used_channels s) → is_station_up w station ≡ true → SameEnds w u → u.inbox ≡ w.inbox → SeesLess w u s → SeesLess w (answered answer (place_at station channel) u) s
-less-answered {w} {u} {s} answer station channel placed up same inbox sees =
+less_answered : {w u : Actors} {s : Connection} (answer : Bool) (station channel : ℕ) → ArePlaced (used_channels s) → is_station_up w station ≡ true → SameEnds w u → u.inbox ≡ w.inbox → SeesLess w u s → SeesLess w (answered answer (place_at station channel) u) s
+less_answered {w} {u} {s} answer station channel placed up same inbox sees =
     let spot : Spot = record (spot_at u (place_at station channel)) { sapi_three_up = answer } in
-    less-told station (after_tell (base_of (with_spot (place_at station channel) spot u) station) (link_answer answer channel)) (link_answer answer channel ∷ []) placed up (λ k. base-with_spot (place_at station channel) spot u k ∙ same k) inbox
+    less_told station (after_tell (base_of (with_spot (place_at station channel) spot u) station) (link_answer answer channel)) (link_answer answer channel ∷ []) placed up (λ k. base-with_spot (place_at station channel) spot u k ∙ same k) inbox
     (ap (λ (b : BaseState). b.messages ++ link_answer answer channel ∷ []) (base-with_spot (place_at station channel) spot u station ∙ same station)) (λ k. none answer k)
-    (less-same_tenure (place_at station channel) spot (sub-itself _) refl sees) where
+    (less_same_tenure (place_at station channel) spot (sub_itself _) refl sees) where
       none : (b : Bool) (k : ℕ) → made_of k (link_answer b channel ∷ []) ≡ []
       none true k = refl
       none false k = refl
@@ -266,28 +266,28 @@ less-answered {w} {u} {s} answer station channel placed up same inbox sees =
 -- ---- each entry
 
 keeps : {m : ℕ} {w v : Actors} {mobile : ℕ} {s : Connection} → AreLinedUp m w mobile s → v.mobiles ≡ w.mobiles → SeesLess w v s → AreLinedUp m v mobile s
-keeps {mobile} lined same sees = record { one = lined.one; found = ap (λ (ms : List Mobile). find (has_number mobile) ms) same ∙ lined.found; lined = LinedUp-less lined.one sees lined.lined }
+keeps {mobile} lined same sees = record { one = lined.one; found = ap (λ (ms : List Mobile). find (has_number mobile) ms) same ∙ lined.found; lined = lined_up_less lined.one sees lined.lined }
 
-none-asking : {w : Actors} {serving : Channel} {target : Option Target} → Sits w serving target Asking → ⊥
-none-asking sits = elim sits [ ]
+none_asking : {w : Actors} {serving : Channel} {target : Option Target} → Sits w serving target Asking → ⊥
+none_asking sits = elim sits [ ]
 
 -- a mobile that asks is none that is lined up
-seats-other : {m : ℕ} {u : Actors} {mobile : ℕ} {s : Connection} (q : Mobile) (number : ℕ) (tenure : Tenure) → AreLinedUp m u mobile s → mobile_of u number ≡ Some q → q.seat ≡ Asking → AreLinedUp m (with_mobile (record q { seat = On tenure None }) u) mobile s
-seats-other {m} {u} {mobile} {s} q number tenure lined acts asking = by_number (nat_eq number mobile) refl where
+seats_other : {m : ℕ} {u : Actors} {mobile : ℕ} {s : Connection} (q : Mobile) (number : ℕ) (tenure : Tenure) → AreLinedUp m u mobile s → mobile_of u number ≡ Some q → q.seat ≡ Asking → AreLinedUp m (with_mobile (record q { seat = On tenure None }) u) mobile s
+seats_other {m} {u} {mobile} {s} q number tenure lined acts asking = by_number (nat_eq number mobile) refl where
   by_number : (b : Bool) → nat_eq number mobile ≡ b → AreLinedUp m (with_mobile (record q { seat = On tenure None }) u) mobile s
   by_number true is =
       let one : q ≡ lined.one = same_Some _ _ (sym acts ∙ ap (mobile_of u) (eqb-true number mobile is) ∙ lined.found) in
-      absurd (none-asking (subst (Sits u s.serving (commanded_target s.state)) (ap (λ (p : Mobile). p.seat) (sym one) ∙ asking) lined.lined.sits))
+      absurd (none_asking (subst (Sits u s.serving (commanded_target s.state)) (ap (λ (p : Mobile). p.seat) (sym one) ∙ asking) lined.lined.sits))
   by_number false is = record {
     one = lined.one;
     found = back-other (record q { seat = On tenure None }) u.mobiles mobile (λ same. eqb-false number mobile is (sym (found-number number u.mobiles q acts) ∙ same)) ∙ lined.found;
-    lined = LinedUp-same lined.one lined.one (sees-mobiles _ (sees-itself u s)) refl refl refl lined.lined;
+    lined = lined_up_same lined.one lined.one (sees_mobiles _ (sees_itself u s)) refl refl refl lined.lined;
   }
 
-took-keeps : {m : ℕ} {w : Actors} {mobile : ℕ} {s : Connection} (station : ℕ) (first : OutboxEntry) (others : List OutboxEntry) → AreActiveAt station w s → AreLinedUp m w mobile s → is_station_up w station ≡ true → outbox_of w station ≡ first ∷ others
+took_keeps : {m : ℕ} {w : Actors} {mobile : ℕ} {s : Connection} (station : ℕ) (first : OutboxEntry) (others : List OutboxEntry) → AreActiveAt station w s → AreLinedUp m w mobile s → is_station_up w station ≡ true → outbox_of w station ≡ first ∷ others
     → OfTaken (λ v. AreLinedUp m v mobile s) (took station first.target (rsl_in first.out.frame) (with_outbox station others w))
 unfolding OfTaken Seats
-took-keeps {m} {w} {mobile} {s} station first others active lined up stood = by_message (rsl_in first.out.frame) refl where
+took_keeps {m} {w} {mobile} {s} station first others active lined up stood = by_message (rsl_in first.out.frame) refl where
   u : Actors
   u = with_outbox station others w
 
@@ -298,32 +298,32 @@ took-keeps {m} {w} {mobile} {s} station first others active lined up stood = by_
   placed = lined.lined.placed
 
   taken_first : SeesLess w u s
-  taken_first = less-taken station first others (up-right station w up).0 stood
+  taken_first = less_taken station first others (up-right station w up).0 stood
 
   stays : P u
   stays = keeps lined refl taken_first
 
   activating : (channel : ℕ) (o : Option LinkFault) → refusal_of_activate (base_of u station) channel ≡ o → P (activated_unless o (place_at station channel) u)
-  activating channel None is = keeps lined refl (less-activated station channel placed up (λ k. refl) refl is active taken_first)
+  activating channel None is = keeps lined refl (less_activated station channel placed up (λ k. refl) refl is active taken_first)
   activating channel (Some fault) is = stays
 
   airing : (d_channel : ℕ) (message : List ℕ) → ((n : ℕ) → (d_channel == n) ≡ true → leading_from_outbox n first ≡ leading message first.target) → (b : Bool)
       → P (if b then with_spot (place_at station d_channel) (record (spot_at u (place_at station d_channel)) { air = (spot_at u (place_at station d_channel)).air ++ record { message = message; target = first.target } ∷ [] }) u else u)
-  airing channel message leads true = keeps lined refl (less-aired station channel message first others placed up stood leads)
+  airing channel message leads true = keeps lined refl (less_aired station channel message first others placed up stood leads)
   airing channel message leads false = stays
 
   by_message : (o : Option Rsl) → rsl_in first.out.frame ≡ o → OfTaken P (took station first.target o u)
   by_message None is = stays
   by_message (Some (ChannelActivation a)) is = unless_last-leads P ((spot_at u (place_at station a.channel)).tenure == MAX_TENURE) (activated (place_at station a.channel) u) (activating a.channel (refusal_of_activate (base_of u station) a.channel) refl)
-  by_message (Some (ImmediateAssignCommand i)) is = assigned-leads P station u (rr_reading i.information) stays (λ q number channel acts asking. seats-other q number (tenure_at u (place_at station channel)) stays acts asking)
+  by_message (Some (ImmediateAssignCommand i)) is = assigned-leads P station u (rr_reading i.information) stays (λ q number channel acts asking. seats_other q number (tenure_at u (place_at station channel)) stays acts asking)
   by_message (Some (DataRequest d)) is = airing d.channel d.l3
       (λ n same. ap (leading_by n first.target) is ∙ ap (λ (b : Bool). cond b (leading d.l3 first.target) []) same) (is_active_at u (place_at station d.channel))
-  by_message (Some (EstablishRequest l)) is = keeps lined refl (less-answered (is_active_at u (place_at station l.channel) && accepts (mobile_on u (tenure_at u (place_at station l.channel)))) station l.channel placed up (λ k. refl) refl taken_first)
-  by_message (Some (RfChannelRelease channel)) is = keeps lined refl (less-released station channel placed up (λ k. refl) refl taken_first)
+  by_message (Some (EstablishRequest l)) is = keeps lined refl (less_answered (is_active_at u (place_at station l.channel) && accepts (mobile_on u (tenure_at u (place_at station l.channel)))) station l.channel placed up (λ k. refl) refl taken_first)
+  by_message (Some (RfChannelRelease channel)) is = keeps lined refl (less_released station channel placed up (λ k. refl) refl taken_first)
   by_message (Some _) is = stays
 
-pub StationsKeepLineUps-new : (settings : Parameters) (events : List Event) (station : ℕ) → StationsKeepLineUps settings events station
+pub stations_keep_line_ups_new : (settings : Parameters) (events : List Event) (station : ℕ) → StationsKeepLineUps settings events station
 unfolding event_after
-StationsKeepLineUps-new settings events station mobile s active lined =
+stations_keep_line_ups_new settings events station mobile s active lined =
     let w : Actors = world settings events in
-    after-taken (λ v. AreLinedUp _ v mobile s) (after_base_takes w station) w (base_takes-leads (λ v. AreLinedUp _ v mobile s) w station (λ first others up stood. took-keeps station first others active lined up stood)) lined
+    after-taken (λ v. AreLinedUp _ v mobile s) (after_base_takes w station) w (base_takes-leads (λ v. AreLinedUp _ v mobile s) w station (λ first others up stood. took_keeps station first others active lined up stood)) lined

@@ -49,9 +49,9 @@ cut-items hold items b rest held whole = cut-part hold (texts_of items) b rest h
 
 -- ---- tenure by tenure
 
-old-part : (future : Future) (coming : Place → List Item) (up : ℕ → Bool) (d : Drain) (ds : List Drain) (hold rest : List (List ℕ)) (others : List Tenure) → AllByRecursion (AsOld future coming up) (undone (d ∷ ds)) → AreLayer3 hold → flow (cut rest) ≡ parts_of others
+old_part : (future : Future) (coming : Place → List Item) (up : ℕ → Bool) (d : Drain) (ds : List Drain) (hold rest : List (List ℕ)) (others : List Tenure) → AllByRecursion (AsOld future coming up) (undone (d ∷ ds)) → AreLayer3 hold → flow (cut rest) ≡ parts_of others
     → (flow (cut (hold ++ ((if d.is_done then [] else future (place_of d.channel)) ++ rest))) ≡ parts_of (old_tenure coming up d hold ∷ others)) × AllByRecursion (AsOld future coming up) (undone ds)
-old-part future coming up d ds hold rest others stand held is = by_done d.is_done stand where
+old_part future coming up d ds hold rest others stand held is = by_done d.is_done stand where
   by_done : (b : Bool) → AllByRecursion (AsOld future coming up) (if b then undone ds else d.channel ∷ undone ds)
       → (flow (cut (hold ++ ((if b then [] else future (place_of d.channel)) ++ rest))) ≡ parts_of ((if b then ended hold else draining_tenure (up d.channel.station) (coming (place_of d.channel)) hold) ∷ others)) × AllByRecursion (AsOld future coming up) (undone ds)
   by_done true all = (cut-items hold [] false rest held tt ∙ ap (λ (xs : List (List ℕ)). (flow hold ++ []) ++ xs) is, all)
@@ -71,7 +71,7 @@ still-parts future coming up serving [] (t ∷ ts) rest others stand is held beh
     ∙ cut-items t.zero (coming (place_of serving)) (not (up serving.station)) rest held is.1
     ∙ ap (λ (xs : List (List ℕ)). part_of (serving_tenure coming up serving t.zero) ++ (if not (up serving.station) then [] else xs)) behind
 still-parts future coming up serving (d ∷ ds) (t ∷ ts) rest others stand is held behind =
-    let split = old-part future coming up d ds t.zero (still_of Zero future serving ds ts ++ rest) (old_tenures coming up ds ts ++ serving_tenure coming up serving (serving_hold ds ts) ∷ others) stand held.0
+    let split = old_part future coming up d ds t.zero (still_of Zero future serving ds ts ++ rest) (old_tenures coming up ds ts ++ serving_tenure coming up serving (serving_hold ds ts) ∷ others) stand held.0
     (still-parts future coming up serving ds ts rest others (tail d ds stand) is held.1 behind) in
     ap (λ (xs : List (List ℕ)). flow (cut xs)) (append_assoc t.zero ((if d.is_done then [] else future (place_of d.channel)) ++ still_of Zero future serving ds ts) rest
     ∙ ap (λ (xs : List (List ℕ)). t.zero ++ xs) (append_assoc (if d.is_done then [] else future (place_of d.channel)) (still_of Zero future serving ds ts) rest)) ∙ split.0 where
@@ -104,10 +104,10 @@ parts-still future coming up seat s stands =
 
 -- So a row moves messages along the line: what it relays, and the line behind it, are the line
 -- before.
-pub row-line : (s : Connection) (input : Input) (r : Row) (future : Future) (before after : Place → List Item) (up : ℕ → Bool) (seat seat2 : Seat) → KeepsUplink Zero future s input r → IsOpen r.next.state → StandsFor (from_input Zero input future) before up s → StandsFor future after up r.next → AreLayer3 (relayed Zero r.outs)
+pub row_line : (s : Connection) (input : Input) (r : Row) (future : Future) (before after : Place → List Item) (up : ℕ → Bool) (seat seat2 : Seat) → KeepsUplink Zero future s input r → IsOpen r.next.state → StandsFor (from_input Zero input future) before up s → StandsFor future after up r.next → AreLayer3 (relayed Zero r.outs)
     → parts_of (old_tenures before up s.draining s.up.tenures ++ serving_tenure before up s.serving (serving_hold s.draining s.up.tenures) ∷ target_tenure before up seat (commanded_target s.state) ∷ [])
     ≡ flow (relayed Zero r.outs) ++ parts_of (old_tenures after up r.next.draining r.next.up.tenures ++ serving_tenure after up r.next.serving (serving_hold r.next.draining r.next.up.tenures) ∷ target_tenure after up seat2 (commanded_target r.next.state) ∷ [])
-row-line s input r future before after up seat seat2 keeps stays was now whole =
+row_line s input r future before after up seat seat2 keeps stays was now whole =
     parts-still (from_input Zero input future) before up seat s was
     ∙ ap (λ (xs : List (List ℕ)). flow (cut xs)) (sym (keeps stays))
     ∙ ap flow (cut-front (relayed Zero r.outs) (still_to_relay Zero future r.next) whole)

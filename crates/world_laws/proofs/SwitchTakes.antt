@@ -12,7 +12,7 @@ use Rattle.world_laws.specs.LineUp.Alive.{Alive}
 use Rattle.world_laws.specs.LineUp.Places.{LineUp, flow}
 use Rattle.world_laws.specs.LineUp.RelayStep.RelayStep.{switch_takes}
 use Rattle.world_laws.proofs.LineUp.Lines.{flow-append}
-use Rattle.world_laws.proofs.LineUp.Relaying.{Alive-relay}
+use Rattle.world_laws.proofs.LineUp.Relaying.{alive_relay}
 use Rattle.msc_end.specs.Switch.{after}
 use Rattle.world_model.specs.Life.{event_after}
 use Rattle.world_laws.specs.ComingUp.{coming_up}
@@ -21,20 +21,20 @@ use Rattle.world_laws.specs.LineUps.{commanded_target, waiting_of, is_of_peer, t
 use Rattle.world_laws.specs.Seated.{Leads, LinedUp}
 use Rattle.world_laws.specs.Staying.{AreLinedUp, carried_for, DeliversFirst, SwitchKeepsLineUps}
 use Rattle.world_laws.proofs.Apart.{target-in}
-use Rattle.world_laws.proofs.Framing.{AreUp, all-right, lined-same}
-use Rattle.world_laws.proofs.Quiet.{all-of, ArePlaced}
-use Rattle.world_laws.proofs.Seeing.{SameTenures, Sits-same, Leads-same, none-same}
+use Rattle.world_laws.proofs.Framing.{AreUp, all_right, lined-same}
+use Rattle.world_laws.proofs.Quiet.{all_of, ArePlaced}
+use Rattle.world_laws.proofs.Seeing.{SameTenures, sits_same, leads_same, none_same}
 use Rattle.world_laws.proofs.Spots.{set-same, set-apart}
 use Rattle.world_laws.proofs.Events.{world}
 
 -- ---- the line moves
 
 -- some of what waits is taken
-alive-taken : {m : ℕ} (l : LineUp) (xs out taken : List (List ℕ)) → Alive m (record l { out = xs ++ out; taken = taken }) → Alive m (record l { out = out; taken = taken ++ xs })
-alive-taken {m} l [] out taken alive = subst (λ (ys : List (List ℕ)). Alive m (record l { out = out; taken = ys })) (sym (append-nil taken)) alive
-alive-taken {m} l (x ∷ xs) out taken alive =
+alive_taken : {m : ℕ} (l : LineUp) (xs out taken : List (List ℕ)) → Alive m (record l { out = xs ++ out; taken = taken }) → Alive m (record l { out = out; taken = taken ++ xs })
+alive_taken {m} l [] out taken alive = subst (λ (ys : List (List ℕ)). Alive m (record l { out = out; taken = ys })) (sym (append-nil taken)) alive
+alive_taken {m} l (x ∷ xs) out taken alive =
     subst (λ (ys : List (List ℕ)). Alive m (record l { out = out; taken = ys })) (append_assoc taken (x ∷ []) xs)
-    (alive-taken l xs out (taken ++ x ∷ []) (Alive-relay (switch_takes (record l { taken = taken }) x (xs ++ out)) alive))
+    (alive_taken l xs out (taken ++ x ∷ []) (alive_relay (switch_takes (record l { taken = taken }) x (xs ++ out)) alive))
 
 -- ---- what waits, entry by entry
 
@@ -57,15 +57,15 @@ waiting-first w number first others up stood =
 -- ---- the connection
 
 -- all but what waits and what the switch took is seen as before
-keeps-taking : {m : ℕ} {w : Actors} {s : Connection} (p : Mobile) (next : SwitchState) (made : List Sccp) (first : OutboxEntry) (others : List OutboxEntry) → is_up w SWITCH_LINK ≡ true → outbox_of w SWITCH_LINK ≡ first ∷ others
+keeps_taking : {m : ℕ} {w : Actors} {s : Connection} (p : Mobile) (next : SwitchState) (made : List Sccp) (first : OutboxEntry) (others : List OutboxEntry) → is_up w SWITCH_LINK ≡ true → outbox_of w SWITCH_LINK ≡ first ∷ others
     → taken_in (find (is_of_peer s.number) next.connections) ≡ taken_of w s.number ++ carried_for s.number first.out → LinedUp m w p s → LinedUp m (record (with_outbox SWITCH_LINK others w) { switch = next; switch_made = made }) p s
 unfolding SameTenures
-keeps-taking {m} {w} {s} p next made first others up stood takes kept = record {
+keeps_taking {m} {w} {s} p next made first others up stood takes kept = record {
   alive = subst (Alive m) (sym (lined-same (coming_up v) (coming_up w) (is_station_up v) (is_station_up w) (going_down v (place_of s.serving)) (going_down w (place_of s.serving)) (waiting_of v s.number) (waiting_of v s.number) (taken_of v s.number) (taken_of v s.number) p p s
-      (all-of (λ c. coming_up w (place_of c) ≡ coming_up w (place_of c)) (used_channels s) (λ c. refl)) up_same (down_same s.serving placed_rest.0) refl refl refl refl refl)) alive_now;
-  sits = Sits-same same_tenures kept.sits;
-  led = subst (AllByRecursion (λ a. Leads v a (commanded_target s.state))) (sym (down_same s.serving placed_rest.0)) (AllByRecursion-so (λ a. Leads w a (commanded_target s.state)) (λ a. Leads v a (commanded_target s.state)) (λ a. Leads-same same_tenures) (going_down w (place_of s.serving)) kept.led);
-  none_on_target = none-same w v (commanded_target s.state) (λ t is. down_same t.channel (subst ArePlaced (target-in s.state t is) placed_rest.1).0) kept.none_on_target;
+      (all_of (λ c. coming_up w (place_of c) ≡ coming_up w (place_of c)) (used_channels s) (λ c. refl)) up_same (down_same s.serving placed_rest.0) refl refl refl refl refl)) alive_now;
+  sits = sits_same same_tenures kept.sits;
+  led = subst (AllByRecursion (λ a. Leads v a (commanded_target s.state))) (sym (down_same s.serving placed_rest.0)) (AllByRecursion-so (λ a. Leads w a (commanded_target s.state)) (λ a. Leads v a (commanded_target s.state)) (λ a. leads_same same_tenures) (going_down w (place_of s.serving)) kept.led);
+  none_on_target = none_same w v (commanded_target s.state) (λ t is. down_same t.channel (subst ArePlaced (target-in s.state t is) placed_rest.1).0) kept.none_on_target;
   apart = kept.apart;
   placed = kept.placed;
 } where
@@ -88,25 +88,25 @@ keeps-taking {m} {w} {s} p next made first others up stood takes kept = record {
   down_same c c_is = ap (λ (link : Link). flat_map leading_from_air (spot_at w (place_of c)).air ++ flat_map (leading_from_outbox c.number) link.outbox) (set-apart w.links broken_link SWITCH_LINK c.station (record (link_of w SWITCH_LINK) { outbox = others }) c_is)
 
   placed_rest : ArePlaced (s.serving ∷ target_in s.state)
-  placed_rest = all-right (λ c. c.station ≢ SWITCH_LINK) (undone s.draining) (s.serving ∷ target_in s.state) kept.placed
+  placed_rest = all_right (λ c. c.station ≢ SWITCH_LINK) (undone s.draining) (s.serving ∷ target_in s.state) kept.placed
 
   up_same : AreUp (is_station_up v) (is_station_up w)
   up_same n = ap (λ (b : Bool). not (n == SWITCH_LINK) && b) (set-same (λ (link : Link). link.up) w.links broken_link SWITCH_LINK n (record (link_of w SWITCH_LINK) { outbox = others }) refl)
 
   alive_now : Alive m (record now { out = flow (waiting_of v s.number); taken = flow (taken_of v s.number) })
   alive_now = subst (λ (ys : List (List ℕ)). Alive m (record now { out = flow (waiting_of v s.number); taken = ys })) (sym (ap flow takes ∙ flow-append (taken_of w s.number) x))
-      (alive-taken now (flow x) (flow (waiting_of v s.number)) (flow (taken_of w s.number)) (subst (λ (ys : List (List ℕ)). Alive m (record now { out = ys; taken = flow (taken_of w s.number) })) flows_out kept.alive))
+      (alive_taken now (flow x) (flow (waiting_of v s.number)) (flow (taken_of w s.number)) (subst (λ (ys : List (List ℕ)). Alive m (record now { out = ys; taken = flow (taken_of w s.number) })) flows_out kept.alive))
 
 -- ---- the event
 
-taking-keeps : {m : ℕ} {w : Actors} {mobile : ℕ} {s : Connection} (first : OutboxEntry) (others : List OutboxEntry) (o : Option Sccp) → is_up w SWITCH_LINK ≡ true → outbox_of w SWITCH_LINK ≡ first ∷ others → taken_of (switch_took o w) s.number ≡ taken_of w s.number ++ carried_for s.number first.out → AreLinedUp m w mobile s
+taking_keeps : {m : ℕ} {w : Actors} {mobile : ℕ} {s : Connection} (first : OutboxEntry) (others : List OutboxEntry) (o : Option Sccp) → is_up w SWITCH_LINK ≡ true → outbox_of w SWITCH_LINK ≡ first ∷ others → taken_of (switch_took o w) s.number ≡ taken_of w s.number ++ carried_for s.number first.out → AreLinedUp m w mobile s
     → AreLinedUp m (switch_took o (with_outbox SWITCH_LINK others w)) mobile s
-taking-keeps {w} first others None up stood takes lined = record { one = lined.one; found = lined.found; lined = keeps-taking lined.one w.switch w.switch_made first others up stood takes lined.lined }
-taking-keeps {w} first others (Some message) up stood takes lined = record { one = lined.one; found = lined.found; lined = keeps-taking lined.one (after w.switch message) (w.switch_made ++ replies w.switch.connections message) first others up stood takes lined.lined }
+taking_keeps {w} first others None up stood takes lined = record { one = lined.one; found = lined.found; lined = keeps_taking lined.one w.switch w.switch_made first others up stood takes lined.lined }
+taking_keeps {w} first others (Some message) up stood takes lined = record { one = lined.one; found = lined.found; lined = keeps_taking lined.one (after w.switch message) (w.switch_made ++ replies w.switch.connections message) first others up stood takes lined.lined }
 
-pub SwitchKeepsLineUps-new : (settings : Parameters) (events : List Event) → SwitchKeepsLineUps settings events
+pub switch_keeps_line_ups_new : (settings : Parameters) (events : List Event) → SwitchKeepsLineUps settings events
 unfolding event_after
-SwitchKeepsLineUps-new settings events mobile s delivers lined =
+switch_keeps_line_ups_new settings events mobile s delivers lined =
     let w : Actors = world settings events in
     after-taken (λ v. AreLinedUp (modulus_in settings) v mobile s) (after_switch_takes w) w
-    (switch_takes-leads (λ v. AreLinedUp (modulus_in settings) v mobile s) w (λ first others up stood. taking-keeps first others (sccp_in first.out.frame) up stood (subst (DeliversFirst w s.number) stood delivers) lined)) lined
+    (switch_takes-leads (λ v. AreLinedUp (modulus_in settings) v mobile s) w (λ first others up stood. taking_keeps first others (sccp_in first.out.frame) up stood (subst (DeliversFirst w s.number) stood delivers) lined)) lined

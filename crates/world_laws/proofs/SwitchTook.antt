@@ -42,16 +42,16 @@ does w number action = by_action action where
     by_length false = tt
 
 -- what the switch took of a connection stays, but where it takes an entry
-quiet-takes : (w : Actors) (event : Event) (number : ℕ) → OfTaken (Took number (taken_of w number)) (event_after w event) → taken SWITCH_LINK w event ≡ [] → taken_of (actors_after w event) number ≡ taken_of w number ++ waiting_in (taken SWITCH_LINK w event) number
+quiet_takes : (w : Actors) (event : Event) (number : ℕ) → OfTaken (Took number (taken_of w number)) (event_after w event) → taken SWITCH_LINK w event ≡ [] → taken_of (actors_after w event) number ≡ taken_of w number ++ waiting_in (taken SWITCH_LINK w event) number
 unfolding forwarded
-quiet-takes w event number stays nobody =
+quiet_takes w event number stays nobody =
     after-taken (Took number (taken_of w number)) (event_after w event) w stays refl
     ∙ sym (append-nil (taken_of w number)) ∙ ap (λ (entries : List OutboxEntry). taken_of w number ++ waiting_in entries number) (sym nobody)
 
 -- no station takes what waits for the switch
-no-station : (w : Actors) (station : ℕ) → taken SWITCH_LINK w (BaseTakes station) ≡ []
+no_station : (w : Actors) (station : ℕ) → taken SWITCH_LINK w (BaseTakes station) ≡ []
 unfolding event_after
-no-station w station = by_station (nat_eq station SWITCH_LINK) refl where
+no_station w station = by_station (nat_eq station SWITCH_LINK) refl where
   none : station ≡ SWITCH_LINK → after_base_takes w station ≡ None
   none is = ap (after_base_takes w) is
 
@@ -75,14 +75,14 @@ switch_takes w number delivers = by_link (is_up w SWITCH_LINK) where
   by_link true = by_entries (outbox_of w SWITCH_LINK) delivers
   by_link false = sym (append-nil (taken_of w number))
 
-pub switch-stays : (w : Actors) (event : Event) (number : ℕ) → DeliversAt w number event → taken_of (actors_after w event) number ≡ taken_of w number ++ waiting_in (taken SWITCH_LINK w event) number
+pub switch_stays : (w : Actors) (event : Event) (number : ℕ) → DeliversAt w number event → taken_of (actors_after w event) number ≡ taken_of w number ++ waiting_in (taken SWITCH_LINK w event) number
 unfolding event_after FromAir OfTaken
-switch-stays w (BaseTakes station) number delivers =
-    quiet-takes w (BaseTakes station) number (taking-leads (Took number (taken_of w number)) w station (λ first others _ _ mobiles stations. refl)) (no-station w station)
-switch-stays w (BasePush source) number delivers = quiet-takes w (BasePush source) number (push-leads (Took number (taken_of w number)) w source (λ first others. refl) (λ message _. refl)) refl
-switch-stays w Handle number delivers = quiet-takes w Handle number (handle-leads (Took number (taken_of w number)) w (λ item items _. turn-leads (Took number (taken_of w number)) (target_in w item.source item.what) (take item w.controller) (record w { inbox = items }) (λ links. refl))) refl
-switch-stays w SwitchTakes number delivers = switch_takes w number delivers
-switch-stays w (SwitchDoes action) number delivers = quiet-takes w (SwitchDoes action) number (does w number action) refl
-switch-stays w (Tick ms) number delivers = quiet-takes w (Tick ms) number (turn-leads (Took number (taken_of w number)) None (tick ms w.controller) w (λ links. refl)) refl
-switch-stays w (BaseDown source) number delivers = quiet-takes w (BaseDown source) number (broken-leads (Took number (taken_of w number)) w source (λ _ _. refl) (λ _ _. refl)) refl
-switch-stays w event number delivers = quiet-takes w event number (aerial-leads (Took number (taken_of w number)) w event refl (λ mobiles stations. refl)) refl
+switch_stays w (BaseTakes station) number delivers =
+    quiet_takes w (BaseTakes station) number (taking-leads (Took number (taken_of w number)) w station (λ first others _ _ mobiles stations. refl)) (no_station w station)
+switch_stays w (BasePush source) number delivers = quiet_takes w (BasePush source) number (push-leads (Took number (taken_of w number)) w source (λ first others. refl) (λ message _. refl)) refl
+switch_stays w Handle number delivers = quiet_takes w Handle number (handle-leads (Took number (taken_of w number)) w (λ item items _. turn-leads (Took number (taken_of w number)) (target_in w item.source item.what) (take item w.controller) (record w { inbox = items }) (λ links. refl))) refl
+switch_stays w SwitchTakes number delivers = switch_takes w number delivers
+switch_stays w (SwitchDoes action) number delivers = quiet_takes w (SwitchDoes action) number (does w number action) refl
+switch_stays w (Tick ms) number delivers = quiet_takes w (Tick ms) number (turn-leads (Took number (taken_of w number)) None (tick ms w.controller) w (λ links. refl)) refl
+switch_stays w (BaseDown source) number delivers = quiet_takes w (BaseDown source) number (broken-leads (Took number (taken_of w number)) w source (λ _ _. refl) (λ _ _. refl)) refl
+switch_stays w event number delivers = quiet_takes w event number (aerial-leads (Took number (taken_of w number)) w event refl (λ mobiles stations. refl)) refl

@@ -30,9 +30,9 @@ use Rattle.dtap_codec.specs.declared.report.Report.{Report}
 use Rattle.controller_model.specs.Decision.TheVariants.{Move}
 use Rattle.world_laws.specs.Refusals.{RefusesNone}
 use Rattle.world_laws.specs.TakingTurns.{Order, TakesTurns, Turns, freed_by}
-use Rattle.world_laws.proofs.TakingTurns.{AreInTurn, IsInTurn, IsOpenFor, IsUsing, all-turns, quiet-order, places-differ, places-same}
-use Rattle.world_laws.proofs.TakingTurns.{row-turns}
-use Rattle.world_laws.proofs.PutAsRead.{all-read}
+use Rattle.world_laws.proofs.TakingTurns.{AreInTurn, IsInTurn, IsOpenFor, IsUsing, all_turns, quiet_order, places_differ, places_same}
+use Rattle.world_laws.proofs.TakingTurns.{row_turns}
+use Rattle.world_laws.proofs.PutAsRead.{all_read}
 
 -- a turn's orders on a channel, from this state on
 unfoldable pub TurnsFrom : Place → ChannelState → Turn → Type 0
@@ -40,22 +40,22 @@ TurnsFrom at before t = TakesTurns at before t.outs (channel_state t.next at)
 
 -- ---- a row
 
-differ-of : (c d : Channel) → IsApart c d → place_of c ≢ place_of d
-differ-of c d apart same = places-differ c.station c.number (place_of d) apart (sym same)
+differ_of : (c d : Channel) → IsApart c d → place_of c ≢ place_of d
+differ_of c d apart same = places_differ c.station c.number (place_of d) apart (sym same)
 
-all-differ : (c : Channel) (cs : List Channel) → AllByRecursion (IsApart c) cs → AllByRecursion (λ d. place_of c ≢ place_of d) cs
-all-differ c [] all = tt
-all-differ c (d ∷ ds) all = (differ-of c d all.0, all-differ c ds all.1)
+all_differ : (c : Channel) (cs : List Channel) → AllByRecursion (IsApart c) cs → AllByRecursion (λ d. place_of c ≢ place_of d) cs
+all_differ c [] all = tt
+all_differ c (d ∷ ds) all = (differ_of c d all.0, all_differ c ds all.1)
 
-pub using-of : (channels : List (List ChannelState)) (links : List Bool) (m : ℕ) (roles : Roles) → Owns channels links m roles → IsUsing m channels roles
-using-of channels links m roles owns = record {
+pub using_of : (channels : List (List ChannelState)) (links : List Bool) (m : ℕ) (roles : Roles) → Owns channels links m roles → IsUsing m channels roles
+using_of channels links m roles owns = record {
   using = owns.using;
-  apart = all-differ roles.serving (target_channels roles.target) (apart_behind (undone roles.draining) (roles.serving ∷ target_channels roles.target) owns.apart).0;
+  apart = all_differ roles.serving (target_channels roles.target) (apart_behind (undone roles.draining) (roles.serving ∷ target_channels roles.target) owns.apart).0;
 }
 
-open-for : (channels : List (List ChannelState)) (links : List Bool) (c : Channel) → IsOffered channels links c → IsOpenFor channels c
+open_for : (channels : List (List ChannelState)) (links : List Bool) (c : Channel) → IsOffered channels links c → IsOpenFor channels c
 unfolding IsOpenFor
-open-for channels links c offered = (offered.is_free, offered.is_in)
+open_for channels links c offered = (offered.is_free, offered.is_in)
 
 -- what is known of an entry
 pub record IsTold (e : Entry) : Type 0 where
@@ -63,20 +63,20 @@ pub record IsTold (e : Entry) : Type 0 where
   pub parts : SoundParts e.connection
   pub few : e.connection.number < 2 ^ 24
 
-pub row-turn : (at : Place) (c : Controller) (e : Entry) (input : Input) (offer : Option Channel) (r : Row) → IsTold e → row_of e.connection input offer ≡ Some r → AllByRecursion IsSoundChannel (option_to_list offer) → IsCarried input → RefersBy input
+pub row_turn : (at : Place) (c : Controller) (e : Entry) (input : Input) (offer : Option Channel) (r : Row) → IsTold e → row_of e.connection input offer ≡ Some r → AllByRecursion IsSoundChannel (option_to_list offer) → IsCarried input → RefersBy input
     → (IsOpen e.connection.state → IsUsing e.connection.number c.channels (roles_of e.connection)) → (IsOpen r.next.state → (d : Channel) → offer ≡ Some d → IsOpenFor c.channels d) → TurnsFrom at (channel_state c at) (by_row e r c)
 unfolding TurnsFrom
-row-turn at c e input offer r told fits sounds carried refers using offers =
+row_turn at c e input offer r told fits sounds carried refers using offers =
     let s : Connection = e.connection in
     let sound : IsSoundRow r = subst (OfRow IsSoundRow) fits
     (row_sound s input offer (record { serving = told.parts.serving; zero = told.stands.down_zero; three = told.stands.down_three; up = told.stands.up_messages; refers = told.parts.refers }) told.parts.targets sounds carried refers) in
-    all-turns s.number at c.channels r.outs (all-read s.number r.outs told.few sound.1)
-    (row-turns s.number c.channels s input offer r (changes_of s input offer r told.stands fits) using offers)
+    all_turns s.number at c.channels r.outs (all_read s.number r.outs told.few sound.1)
+    (row_turns s.number c.channels s input offer r (changes_of s input offer r told.stands fits) using offers)
 
-pub fitting-turn : (at : Place) (c : Controller) (otherwise : Turn) (e : Entry) (input : Input) (offer : Option Channel) (o : Option Row) → row_of e.connection input offer ≡ o → IsTold e → AllByRecursion IsSoundChannel (option_to_list offer) → IsCarried input → RefersBy input
+pub fitting_turn : (at : Place) (c : Controller) (otherwise : Turn) (e : Entry) (input : Input) (offer : Option Channel) (o : Option Row) → row_of e.connection input offer ≡ o → IsTold e → AllByRecursion IsSoundChannel (option_to_list offer) → IsCarried input → RefersBy input
     → (IsOpen e.connection.state → IsUsing e.connection.number c.channels (roles_of e.connection)) → ((d : Channel) → offer ≡ Some d → IsOpenFor c.channels d) → TurnsFrom at (channel_state c at) otherwise → TurnsFrom at (channel_state c at) (by_fitting otherwise e o c)
-fitting-turn at c otherwise e input offer None is told sounds carried refers using offers same = same
-fitting-turn at c otherwise e input offer (Some r) is told sounds carried refers using offers same = row-turn at c e input offer r told is sounds carried refers using (λ is_open. offers)
+fitting_turn at c otherwise e input offer None is told sounds carried refers using offers same = same
+fitting_turn at c otherwise e input offer (Some r) is told sounds carried refers using offers same = row_turn at c e input offer r told is sounds carried refers using (λ is_open. offers)
 
 -- ---- entries of a controller that is ready
 
@@ -91,10 +91,10 @@ module _ (c : Controller) (ready : Ready c) (sound : IsSoundAll c) where
       record { stands = here.stands; parts = subst SoundOf own (sound.each e.connection.number); few = omega arith }
 
   uses-of : (m : ℕ) (e : Entry) → entry_of c m ≡ Some e → IsOpen e.connection.state → IsUsing e.connection.number c.channels (roles_of e.connection)
-  uses-of m e there is_open = using-of c.channels c.links e.connection.number (roles_of e.connection) (owns_entry c.links c e (here_of c m e ready there).there ready.holds is_open)
+  uses-of m e there is_open = using_of c.channels c.links e.connection.number (roles_of e.connection) (owns_entry c.links c e (here_of c m e ready there).there ready.holds is_open)
 
   offers-of : (station reference : ℕ) (kind : ChannelKind) (d : Channel) → first_free c station reference kind ≡ Some d → IsOpenFor c.channels d
-  offers-of station reference kind d is = open-for c.channels c.links d (offered_free c c.links station reference kind d refl ready.holds.shaped is)
+  offers-of station reference kind d is = open_for c.channels c.links d (offered_free c c.links station reference kind d refl ready.holds.shaped is)
 
   ignored : (at : Place) → TurnsFrom at (channel_state c at) (ignoring c)
   unfolding TurnsFrom
@@ -103,7 +103,7 @@ module _ (c : Controller) (ready : Ready c) (sound : IsSoundAll c) where
   concerns : (at : Place) (input : Input) (m : ℕ) (o : Option Entry) → entry_of c m ≡ o → IsCarried input → RefersBy input → TurnsFrom at (channel_state c at) (concerning input c o)
   concerns at input m None there carried refers = ignored at
   concerns at input m (Some e) there carried refers =
-      fitting-turn at c (ignoring c) e input (request_offer c e.connection input) (row_in c e.connection input) refl (told-of m e there) (offer_list (request_offer c e.connection input) (request_sound c e.connection input sound.cells)) carried refers (uses-of m e there)
+      fitting_turn at c (ignoring c) e input (request_offer c e.connection input) (row_in c e.connection input) refl (told-of m e there) (offer_list (request_offer c e.connection input) (request_sound c e.connection input sound.cells)) carried refers (uses-of m e there)
       (offers-of (serving_after e.connection (row_of e.connection input None)).station 0 Tch) (ignored at)
 
   -- the channel was freed first
@@ -114,20 +114,20 @@ module _ (c : Controller) (ready : Ready c) (sound : IsSoundAll c) where
   }
 
   freed-offers : (place : Place) (station reference : ℕ) (kind : ChannelKind) (d : Channel) → first_free (freed place c) station reference kind ≡ Some d → IsOpenFor (with_state place Free c.channels) d
-  freed-offers place station reference kind d is = open-for (with_state place Free c.channels) c.links d (offered_free (freed place c) c.links station reference kind d refl (freed_shaped place c ready.holds.shaped) is)
+  freed-offers place station reference kind d is = open_for (with_state place Free c.channels) c.links d (offered_free (freed place c) c.links station reference kind d refl (freed_shaped place c ready.holds.shaped) is)
 
   concerns-freed : (at place : Place) (k : ℕ) (input : Input) (m : ℕ) (o : Option Entry) → channel_state c place ≡ Releasing k → entry_of c m ≡ o → IsCarried input → RefersBy input → TurnsFrom at (channel_state (freed place c) at) (concerning_too input (freed place c) o)
   unfolding TurnsFrom
   concerns-freed at place k input m None is there carried refers = refl
   concerns-freed at place k input m (Some e) is there carried refers =
-      fitting-turn at (freed place c) (turn [] (freed place c)) e input (request_offer (freed place c) e.connection input) (row_in (freed place c) e.connection input) refl (told-of m e there)
+      fitting_turn at (freed place c) (turn [] (freed place c)) e input (request_offer (freed place c) e.connection input) (row_in (freed place c) e.connection input) refl (told-of m e there)
       (offer_list (request_offer (freed place c) e.connection input) (request_sound (freed place c) e.connection input sound.cells)) carried refers (λ is_open. freed-using place k e.connection.number (roles_of e.connection) is (uses-of m e there is_open))
       (freed-offers place (serving_after e.connection (row_of e.connection input None)).station 0 Tch) refl
 
 -- ---- the state from that a word begins
 
-pub same-places : (place at : Place) → same_place place at ≡ true → place ≡ at
-same-places place at is = places-same place.station place.number at is
+pub same_places : (place at : Place) → same_place place at ≡ true → place ≡ at
+same_places place at is = places_same place.station place.number at is
 
 pub freed-none : (at place : Place) (input : Input) (state : ChannelState) → ((n : ℕ) → state ≡ Releasing n → same_place place at ≡ false) → freed_by at (OnChannel place input) state ≡ state
 freed-none at place (inputs.ReleaseAck acknowledged) (Releasing n) other = ap (λ (b : Bool). if b then Free else Releasing n) (other n refl)
@@ -138,12 +138,12 @@ freed-none at place _ state other = refl
 freed-one : (c : Controller) (at place acknowledged : Place) (k : ℕ) → channel_state c place ≡ Releasing k → freed_by at (OnChannel place (inputs.ReleaseAck acknowledged)) (channel_state c at) ≡ channel_state (freed place c) at
 freed-one c at place acknowledged k is = elim (cases_Bool (same_place place at)) [
   | inl hit ↦
-      let same : place ≡ at = same-places place at hit in
+      let same : place ≡ at = same_places place at hit in
       ap (freed_by at (OnChannel place (inputs.ReleaseAck acknowledged))) (ap (channel_state c) (sym same) ∙ is) ∙ ap (λ (b : Bool). if b then Free else Releasing k) hit
       ∙ sym (ap (state_in (with_state place Free c.channels)) (sym same) ∙ state_here c.channels place Free (is_there c.channels place (λ free. free≢release k (sym free ∙ is))))
   | inr miss ↦
       freed-none at place (inputs.ReleaseAck acknowledged) (channel_state c at) (λ n releasing. miss)
-      ∙ sym (state_else c.channels place at Free (places-differ place.station place.number at miss))
+      ∙ sym (state_else c.channels place at Free (places_differ place.station place.number at miss))
 ]
 
 -- which channels are freed
@@ -161,20 +161,20 @@ data IsFreeing (c : Controller) (place : Place) (input : Input) : Type 0 where
   frees_it : (k : ℕ) (acknowledged : Place) → channel_state c place ≡ Releasing k → input ≡ inputs.ReleaseAck acknowledged → IsFreeing c place input
   frees_none : frees (channel_state c place) (entry_at c (channel_state c place)) input ≡ false → ((at : Place) → freed_by at (OnChannel place input) (channel_state c at) ≡ channel_state c at) → IsFreeing c place input
 
-none-freed : (c : Controller) (place : Place) (input : Input) (state : ChannelState) → channel_state c place ≡ state → ((n : ℕ) → state ≢ Releasing n) → RefusesNone (OnChannel place input) → IsFreeing c place input
-none-freed c place input state is free none =
+none_freed : (c : Controller) (place : Place) (input : Input) (state : ChannelState) → channel_state c place ≡ state → ((n : ℕ) → state ≢ Releasing n) → RefusesNone (OnChannel place input) → IsFreeing c place input
+none_freed c place input state is free none =
     frees_none (frees-not (channel_state c place) (entry_at c (channel_state c place)) place input none (λ n releasing. free n (sym is ∙ releasing)))
     (λ at. freed-none at place input (channel_state c at) (λ n releasing. elim (cases_Bool (same_place place at)) [
-      | inl hit ↦ absurd (free n (sym is ∙ ap (channel_state c) (same-places place at hit) ∙ releasing))
+      | inl hit ↦ absurd (free n (sym is ∙ ap (channel_state c) (same_places place at hit) ∙ releasing))
       | inr miss ↦ miss
     ]))
 
-freeing-of : (c : Controller) (place : Place) (input : Input) (state : ChannelState) → channel_state c place ≡ state → RefusesNone (OnChannel place input) → IsFreeing c place input
-freeing-of c place input Free is none = none-freed c place input Free is (λ n same. absurd (free≢release n same)) none
-freeing-of c place input (InUse m) is none = none-freed c place input (InUse m) is (λ n same. absurd (use≢release m n same)) none
-freeing-of c place (inputs.ReleaseAck acknowledged) (Releasing k) is none = frees_it k acknowledged is refl
-freeing-of c place (inputs.ActivationNack at) (Releasing k) is none = absurd none
-freeing-of c place input (Releasing k) is none = frees_none (ap (λ (s : ChannelState). frees s (entry_at c s) input) is ∙ refl) (λ at. refl)
+freeing_of : (c : Controller) (place : Place) (input : Input) (state : ChannelState) → channel_state c place ≡ state → RefusesNone (OnChannel place input) → IsFreeing c place input
+freeing_of c place input Free is none = none_freed c place input Free is (λ n same. absurd (free≢release n same)) none
+freeing_of c place input (InUse m) is none = none_freed c place input (InUse m) is (λ n same. absurd (use≢release m n same)) none
+freeing_of c place (inputs.ReleaseAck acknowledged) (Releasing k) is none = frees_it k acknowledged is refl
+freeing_of c place (inputs.ActivationNack at) (Releasing k) is none = absurd none
+freeing_of c place input (Releasing k) is none = frees_none (ap (λ (s : ChannelState). frees s (entry_at c s) input) is ∙ refl) (λ at. refl)
 
 -- ---- words
 
@@ -204,7 +204,7 @@ module _ (c : Controller) (ready : Ready c) (sound : IsSoundAll c) (at : Place) 
       let sounds : IsSoundChannel channel = offered_sound c source 0 Sdcch channel sound.cells is in
       let access = sound_access channel sounds in
       let offered : IsOffered c.channels c.links channel = offered_free c c.links source 0 Sdcch channel refl ready.holds.shaped is in
-      all-turns c.next_number at c.channels (access_activation channel ∷ []) (message_again c.next_number (access_activation channel) (omega arith) access.0 access.1, tt) ((offered.is_free, offered.is_in), tt)
+      all_turns c.next_number at c.channels (access_activation channel ∷ []) (message_again c.next_number (access_activation channel) (omega arith) access.0 access.1, tt) ((offered.is_free, offered.is_in), tt)
 
   asks-turns : (b d : Bool) (t : Turn) → (d ≡ true → TurnsFrom at (channel_state c at) t) → TurnsFrom at (channel_state c at) (if (b && d) then t else ignoring c)
   asks-turns true true t after = after refl
@@ -218,7 +218,7 @@ module _ (c : Controller) (ready : Ready c) (sound : IsSoundAll c) (at : Place) 
   decision-turns Stay put e m there same = refl
   decision-turns (Move cell) put e m there same =
       let told : IsTold e = told-of c ready sound m e there in
-      fitting-turn at (with_entry put c) (turn [] (with_entry put c)) put inputs.Move (handover_offer (with_entry put c) put.connection.serving cell) (row_of put.connection inputs.Move (handover_offer (with_entry put c) put.connection.serving cell)) refl
+      fitting_turn at (with_entry put c) (turn [] (with_entry put c)) put inputs.Move (handover_offer (with_entry put c) put.connection.serving cell) (row_of put.connection inputs.Move (handover_offer (with_entry put c) put.connection.serving cell)) refl
       (record { stands = subst Stands (sym same) told.stands; parts = subst SoundParts (sym same) told.parts; few = subst (λ (s : Connection). s.number < 2 ^ 24) (sym same) told.few })
       (offer_list (handover_offer c put.connection.serving cell) (λ d is. offered_sound c cell c.handovers (kind_of put.connection.serving.number) d sound.cells is)) tt tt
       (subst (λ (s : Connection). IsOpen s.state → IsUsing s.number c.channels (roles_of s)) (sym same) (uses-of c ready sound m e there))
@@ -242,9 +242,9 @@ module _ (c : Controller) (ready : Ready c) (sound : IsSoundAll c) (at : Place) 
   pub word-turns : (source : ℕ) (word : Word) → IsCarriedBy word → RefersIn word → RefusesNone word → WordTurns at source word c
   unfolding WordTurns TurnsFrom
   word-turns source Nothing carried refers none = refl
-  word-turns source Ping carried refers none = (channel_state c at, subst (λ (o : Option Order). Turns o (channel_state c at) (channel_state c at)) (sym (quiet-order (source == at.station) None refl)) refl, refl)
+  word-turns source Ping carried refers none = (channel_state c at, subst (λ (o : Option Order). Turns o (channel_state c at) (channel_state c at)) (sym (quiet_order (source == at.station) None refl)) refl, refl)
   word-turns source (Asks request delay) carried refers none =
       asks-turns (is_up c SWITCH_LINK) (nat_le c.next_number MAX_CONNECTION_NUMBER) (given c request delay (access_channel c source)) (λ few. given-turns source request delay (access_channel c source) refl (leb-true c.next_number MAX_CONNECTION_NUMBER few))
-  word-turns source (OnChannel place input) carried refers none = channel-turns place input (freeing-of c place input (channel_state c place) refl none) carried refers
+  word-turns source (OnChannel place input) carried refers none = channel-turns place input (freeing_of c place input (channel_state c place) refl none) carried refers
   word-turns source (Reports place of report) carried refers none = reports-turns place of report (channel_state c place)
   word-turns source (OnConnection m input) carried refers none = concerns c ready sound at input m (entry_of c m) refl carried refers

@@ -17,8 +17,8 @@ use Rattle.world_model.proofs.Honesty.{base-with_spot}
 use Rattle.world_model.proofs.Leads.{OfTaken, Seats, unless_last-leads, assigned-leads}
 
 -- in a list that goes on
-pub acks-tell : (k : ℕ) (base : BaseState) (message : Rsl) → is_bound_of k message ≡ false → acknowledgements k (after_tell base message).messages ≡ acknowledgements k base.messages
-acks-tell k base message free =
+pub acks_tell : (k : ℕ) (base : BaseState) (message : Rsl) → is_bound_of k message ≡ false → acknowledgements k (after_tell base message).messages ≡ acknowledgements k base.messages
+acks_tell k base message free =
     filter-append (is_bound_of k) base.messages (message ∷ [])
     ∙ ap (λ (b : Bool). acknowledgements k base.messages ++ cond b (message ∷ []) []) free
     ∙ append-nil (acknowledgements k base.messages)
@@ -29,8 +29,8 @@ pub record Answers (k : ℕ) (before after : BaseState) (o : Option Rsl) : Type 
   pub active : is_active after.active k ≡ is_active_then k (is_active before.active k) o
 
 -- one that asks for no acknowledgement
-answers-nothing : (k : ℕ) (before after : BaseState) (o : Option Rsl) → acknowledgement k (is_active before.active k) o ≡ [] → is_active_then k (is_active before.active k) o ≡ is_active before.active k → acknowledgements k after.messages ≡ acknowledgements k before.messages → after.active ≡ before.active → Answers k before after o
-answers-nothing k before after o none still same active = record {
+answers_nothing : (k : ℕ) (before after : BaseState) (o : Option Rsl) → acknowledgement k (is_active before.active k) o ≡ [] → is_active_then k (is_active before.active k) o ≡ is_active before.active k → acknowledgements k after.messages ≡ acknowledgements k before.messages → after.active ≡ before.active → Answers k before after o
+answers_nothing k before after o none still same active = record {
   acks = same ∙ sym (append-nil (acknowledgements k before.messages)) ∙ ap (λ (ms : List Rsl). acknowledgements k before.messages ++ ms) (sym none);
   active = ap (λ (xs : List ℕ). is_active xs k) active ∙ sym still;
 }
@@ -42,11 +42,11 @@ activation_busy k channel base o a is names busy =
     elim (cases_Bool (nat_eq a.channel k)) [
       | inl same ↦
           let on : is_active base.active k ≡ true = ap (is_active base.active) (sym (eqb-true a.channel k same) ∙ names) ∙ busy in
-          answers-nothing k base base (Some (ChannelActivation a))
+          answers_nothing k base base (Some (ChannelActivation a))
           (ap (λ (b : Bool). if (nat_eq a.channel k) && not b then activation_ack k ∷ [] else []) on ∙ ap (λ (b : Bool). if b && false then activation_ack k ∷ [] else []) same)
           (ap (λ (b : Bool). b || nat_eq a.channel k) on ∙ sym on) refl refl
       | inr other ↦
-          answers-nothing k base base (Some (ChannelActivation a))
+          answers_nothing k base base (Some (ChannelActivation a))
           (ap (λ (b : Bool). if b && not (is_active base.active k) then activation_ack k ∷ [] else []) other)
           (ap (λ (b : Bool). is_active base.active k || b) other ∙ or-false (is_active base.active k)) refl refl
     ]
@@ -92,13 +92,13 @@ base-own w n base there = ap (λ (s : Station). s.base) (get_or-set_same w.stati
 unfoldable pub AnswersAt : ℕ → ℕ → Actors → Option Rsl → Actors → Type 0
 AnswersAt n k u o v = Answers k (base_of u n) (base_of v n) o
 
-nothing-at : (n k : ℕ) (u : Actors) (o : Option Rsl) (v : Actors) → acknowledgement k (is_active (base_of u n).active k) o ≡ [] → is_active_then k (is_active (base_of u n).active k) o ≡ is_active (base_of u n).active k → base_of v n ≡ base_of u n → AnswersAt n k u o v
+nothing_at : (n k : ℕ) (u : Actors) (o : Option Rsl) (v : Actors) → acknowledgement k (is_active (base_of u n).active k) o ≡ [] → is_active_then k (is_active (base_of u n).active k) o ≡ is_active (base_of u n).active k → base_of v n ≡ base_of u n → AnswersAt n k u o v
 unfolding AnswersAt
-nothing-at n k u o v none still same = answers-nothing k (base_of u n) (base_of v n) o none still (ap (λ (b : BaseState). acknowledgements k b.messages) same) (ap (λ (b : BaseState). b.active) same)
+nothing_at n k u o v none still same = answers_nothing k (base_of u n) (base_of v n) o none still (ap (λ (b : BaseState). acknowledgements k b.messages) same) (ap (λ (b : BaseState). b.active) same)
 
-activated-answers : (n k : ℕ) (u : Actors) (a : Activation) → n - 1 < length u.stations → AnswersAt n k u (Some (ChannelActivation a)) (activated (place_at n a.channel) u)
+activated_answers : (n k : ℕ) (u : Actors) (a : Activation) → n - 1 < length u.stations → AnswersAt n k u (Some (ChannelActivation a)) (activated (place_at n a.channel) u)
 unfolding AnswersAt
-activated-answers n k u a there = by_activity (is_active (base_of u n).active a.channel) refl where
+activated_answers n k u a there = by_activity (is_active (base_of u n).active a.channel) refl where
   by_activity : (b : Bool) → is_active (base_of u n).active a.channel ≡ b → Answers k (base_of u n) (base_of (activated_unless (if b then Some Busy else None) (place_at n a.channel) u) n) (Some (ChannelActivation a))
   by_activity true busy = activation_busy k a.channel (base_of u n) (Some (ChannelActivation a)) a refl refl busy
   by_activity false idle =
@@ -106,9 +106,9 @@ activated-answers n k u a there = by_activity (is_active (base_of u n).active a.
       (sym (base-with_spot (place_at n a.channel) _ (with_base n (after_activate (base_of u n) a.channel) u) n ∙ base-own u n (after_activate (base_of u n) a.channel) there))
       (activation_done k (base_of u n) a idle)
 
-released-answers : (n k number : ℕ) (u : Actors) → n - 1 < length u.stations → AnswersAt n k u (Some (RfChannelRelease number)) (released (place_at n number) u)
+released_answers : (n k number : ℕ) (u : Actors) → n - 1 < length u.stations → AnswersAt n k u (Some (RfChannelRelease number)) (released (place_at n number) u)
 unfolding AnswersAt
-released-answers n k number u there =
+released_answers n k number u there =
     subst (λ (b : BaseState). Answers k (base_of u n) b (Some (RfChannelRelease number)))
     (sym (base-with_spot (place_at n number) _ (with_base n (after_release (base_of u n) number) u) n ∙ base-own u n (after_release (base_of u n) number) there))
     (release_done k number (base_of u n))
@@ -117,30 +117,30 @@ answer-free : (k : ℕ) (answer : Bool) (channel : ℕ) → is_bound_of k (link_
 answer-free k true channel = refl
 answer-free k false channel = refl
 
-answered-answers : (n k channel : ℕ) (answer : Bool) (u : Actors) (o : Option Rsl) → acknowledgement k (is_active (base_of u n).active k) o ≡ [] → is_active_then k (is_active (base_of u n).active k) o ≡ is_active (base_of u n).active k → n - 1 < length u.stations → AnswersAt n k u o (answered answer (place_at n channel) u)
+answered_answers : (n k channel : ℕ) (answer : Bool) (u : Actors) (o : Option Rsl) → acknowledgement k (is_active (base_of u n).active k) o ≡ [] → is_active_then k (is_active (base_of u n).active k) o ≡ is_active (base_of u n).active k → n - 1 < length u.stations → AnswersAt n k u o (answered answer (place_at n channel) u)
 unfolding AnswersAt
-answered-answers n k channel answer u o none still there =
+answered_answers n k channel answer u o none still there =
     let middle : Actors = with_spot (place_at n channel) (record (spot_at u (place_at n channel)) { sapi_three_up = answer }) u in
     let is : base_of (answered answer (place_at n channel) u) n ≡ after_tell (base_of u n) (link_answer answer channel) =
     base-own middle n (after_tell (base_of middle n) (link_answer answer channel)) (subst (λ (l : ℕ). n - 1 < l) (sym (length-set u.stations (n - 1) _)) there)
     ∙ ap (λ (b : BaseState). after_tell b (link_answer answer channel)) (base-with_spot (place_at n channel) _ u n) in
     subst (λ (b : BaseState). Answers k (base_of u n) b o) (sym is)
-    (answers-nothing k (base_of u n) (after_tell (base_of u n) (link_answer answer channel)) o none still (acks-tell k (base_of u n) (link_answer answer channel) (answer-free k answer channel)) refl)
+    (answers_nothing k (base_of u n) (after_tell (base_of u n) (link_answer answer channel)) o none still (acks_tell k (base_of u n) (link_answer answer channel) (answer-free k answer channel)) refl)
 
-pub took-answers : (n k : ℕ) (target : Option Tenure) (o : Option Rsl) (u : Actors) → n - 1 < length u.stations → OfTaken (AnswersAt n k u o) (took n target o u)
+pub took_answers : (n k : ℕ) (target : Option Tenure) (o : Option Rsl) (u : Actors) → n - 1 < length u.stations → OfTaken (AnswersAt n k u o) (took n target o u)
 unfolding OfTaken Seats
-took-answers n k target None u there = nothing-at n k u None u refl refl refl
-took-answers n k target (Some (ChannelActivation a)) u there =
-    unless_last-leads (AnswersAt n k u (Some (ChannelActivation a))) ((spot_at u (place_at n a.channel)).tenure == MAX_TENURE) (activated (place_at n a.channel) u) (activated-answers n k u a there)
-took-answers n k target (Some (ImmediateAssignCommand i)) u there =
+took_answers n k target None u there = nothing_at n k u None u refl refl refl
+took_answers n k target (Some (ChannelActivation a)) u there =
+    unless_last-leads (AnswersAt n k u (Some (ChannelActivation a))) ((spot_at u (place_at n a.channel)).tenure == MAX_TENURE) (activated (place_at n a.channel) u) (activated_answers n k u a there)
+took_answers n k target (Some (ImmediateAssignCommand i)) u there =
     assigned-leads (AnswersAt n k u (Some (ImmediateAssignCommand i))) n u (rr_reading i.information)
-    (nothing-at n k u (Some (ImmediateAssignCommand i)) u refl refl refl)
-    (λ p number channel _ _. nothing-at n k u (Some (ImmediateAssignCommand i)) _ refl refl refl)
-took-answers n k target (Some (DataRequest d)) u there = by_activity (is_active_at u (place_at n d.channel)) where
+    (nothing_at n k u (Some (ImmediateAssignCommand i)) u refl refl refl)
+    (λ p number channel _ _. nothing_at n k u (Some (ImmediateAssignCommand i)) _ refl refl refl)
+took_answers n k target (Some (DataRequest d)) u there = by_activity (is_active_at u (place_at n d.channel)) where
   by_activity : (b : Bool) → AnswersAt n k u (Some (DataRequest d)) (if b then with_spot (place_at n d.channel) (record (spot_at u (place_at n d.channel)) { air = (spot_at u (place_at n d.channel)).air ++ record { message = d.l3; target = target } ∷ [] }) u else u)
-  by_activity true = nothing-at n k u (Some (DataRequest d)) _ refl refl (base-with_spot (place_at n d.channel) _ u n)
-  by_activity false = nothing-at n k u (Some (DataRequest d)) u refl refl refl
-took-answers n k target (Some (EstablishRequest l)) u there =
-    answered-answers n k l.channel (is_active_at u (place_at n l.channel) && accepts (mobile_on u (tenure_at u (place_at n l.channel)))) u (Some (EstablishRequest l)) refl refl there
-took-answers n k target (Some (RfChannelRelease number)) u there = released-answers n k number u there
-took-answers n k target (Some _) u there = nothing-at n k u _ u refl refl refl
+  by_activity true = nothing_at n k u (Some (DataRequest d)) _ refl refl (base-with_spot (place_at n d.channel) _ u n)
+  by_activity false = nothing_at n k u (Some (DataRequest d)) u refl refl refl
+took_answers n k target (Some (EstablishRequest l)) u there =
+    answered_answers n k l.channel (is_active_at u (place_at n l.channel) && accepts (mobile_on u (tenure_at u (place_at n l.channel)))) u (Some (EstablishRequest l)) refl refl there
+took_answers n k target (Some (RfChannelRelease number)) u there = released_answers n k number u there
+took_answers n k target (Some _) u there = nothing_at n k u _ u refl refl refl

@@ -27,8 +27,8 @@ use Rattle.world_model.specs.Lives.{place_in}
 use Rattle.world_model.specs.Mobiles.{complete, failure}
 use Rattle.world_model.specs.World.{Actors, Mobile, mobile_of, modulus_in, new_actors}
 use Rattle.world_model.proofs.Leads.{and-left, and-right}
-use Rattle.world_model.proofs.Mobility.{Stands, Takes, control-complete, control-failure, end_of, may-come, stands-new, takes-at}
-use Rattle.world_model.proofs.Repeating.{IsBetween, arriving, end-between, frame-same, place-between, returning}
+use Rattle.world_model.proofs.Mobility.{Stands, Takes, control-complete, control-failure, end_of, may-come, stands_new, takes_at}
+use Rattle.world_model.proofs.Repeating.{IsBetween, arriving, end-between, frame-same, place_between, returning}
 
 -- nothing was taken yet, and the message is in the air; or it was taken first
 data IsLed (control : List ℕ) : List (List ℕ) → MobileState → Type 0 where
@@ -68,13 +68,13 @@ lent-given link control is = ap (λ (air : Air). offered_message (after_load_fro
   by [] = refl
   by (first ∷ others) = refl
 
-goes-frame : (control : List ℕ) (e : MobileState) (stage : Stage) (place : Place) → e.stage ≡ stage → e.place ≡ place → e.zero.air ≡ Given control → Goes control e (frames Zero)
-goes-frame control e New place is at air =
+goes_frame : (control : List ℕ) (e : MobileState) (stage : Stage) (place : Place) → e.stage ≡ stage → e.place ≡ place → e.zero.air ≡ Given control → Goes control e (frames Zero)
+goes_frame control e New place is at air =
     stays (ap (λ (s : Stage). frame_lent (frame_answer_at s e.place (lent_message e.zero))) is) (ap (λ (s : Stage). (after_frame_at s e.place e Zero).zero.air) is ∙ air)
-goes-frame control e Connected places.Moving is at air =
+goes_frame control e Connected places.Moving is at air =
     stays (ap (λ (s : Stage). frame_lent (frame_answer_at s e.place (lent_message e.zero))) is ∙ ap (λ (p : Place). frame_lent (frame_answer_at Connected p (lent_message e.zero))) at)
     (ap (λ (s : Stage). (after_frame_at s e.place e Zero).zero.air) is ∙ ap (λ (p : Place). (after_frame_at Connected p e Zero).zero.air) at ∙ air)
-goes-frame control e Connected places.OnChannel is at air =
+goes_frame control e Connected places.OnChannel is at air =
     goes (ap (λ (s : Stage). frame_lent (frame_answer_at s e.place (lent_message e.zero))) is ∙ ap (λ (p : Place). frame_lent (frame_answer_at Connected p (lent_message e.zero))) at
     ∙ ap (λ (o : Option (List ℕ)). option_to_list o) (lent-given e.zero control air))
 
@@ -92,23 +92,23 @@ air-acked places.Moving sapi e control air = air
 air-refused : (e next : MobileState) (b : Bool) → b ≡ false → (if b then next else e).zero.air ≡ e.zero.air
 air-refused e next b is = ap (λ (x : Bool). (if x then next else e).zero.air) is
 
-by-call : (control : List ℕ) (e : MobileState) (call : Call) → begins e call ≡ false → e.zero.air ≡ Given control → Goes control e call
-by-call control e (connects initial) not air =
+by_call : (control : List ℕ) (e : MobileState) (call : Call) → begins e call ≡ false → e.zero.air ≡ Given control → Goes control e call
+by_call control e (connects initial) not air =
     stays refl (air-connects e.stage e (unless_refused (refusal_of_connect initial) e (after_connect e initial)) (air-unless (refusal_of_connect initial) e (after_connect e initial) (air-connected e initial)) ∙ air)
-by-call control e (sends sapi message) not air = stays refl (air-unless (refusal_of_send e sapi message) e (after_queue e sapi message) (air-queued e sapi message) ∙ air)
-by-call control e (frames Zero) not air = goes-frame control e e.stage e.place refl refl air
-by-call control e (frames Three) not air = stays refl (air-framed-three e.stage e.place e ∙ air)
-by-call control e (acknowledges sapi) not air = stays refl (air-acked e.place sapi e control air)
-by-call control e leaves not air = stays refl air
-by-call control e (arrives text) not air = stays refl (air-refused e (after_arrival e text) (may_arrive e text) not ∙ air)
-by-call control e (gives_up text) not air = stays refl (air-refused e (after_arrival e text) (may_arrive e text) not ∙ air)
+by_call control e (sends sapi message) not air = stays refl (air-unless (refusal_of_send e sapi message) e (after_queue e sapi message) (air-queued e sapi message) ∙ air)
+by_call control e (frames Zero) not air = goes_frame control e e.stage e.place refl refl air
+by_call control e (frames Three) not air = stays refl (air-framed-three e.stage e.place e ∙ air)
+by_call control e (acknowledges sapi) not air = stays refl (air-acked e.place sapi e control air)
+by_call control e leaves not air = stays refl air
+by_call control e (arrives text) not air = stays refl (air-refused e (after_arrival e text) (may_arrive e text) not ∙ air)
+by_call control e (gives_up text) not air = stays refl (air-refused e (after_arrival e text) (may_arrive e text) not ∙ air)
 
-led-by : (control : List ℕ) (so_far : List (List ℕ)) (e : MobileState) (call : Call) → begins e call ≡ false → IsLed control so_far e → IsLed control (so_far ++ taken_by_call e call) (after_call e call)
-led-by control [] e call not (given air) = by (by-call control e call not air) where
+led_by : (control : List ℕ) (so_far : List (List ℕ)) (e : MobileState) (call : Call) → begins e call ≡ false → IsLed control so_far e → IsLed control (so_far ++ taken_by_call e call) (after_call e call)
+led_by control [] e call not (given air) = by (by_call control e call not air) where
   by : Goes control e call → IsLed control (taken_by_call e call) (after_call e call)
   by (stays none stands) = subst (λ (xs : List (List ℕ)). IsLed control xs (after_call e call)) (sym none) (given stands)
   by (goes one) = subst (λ (xs : List (List ℕ)). IsLed control xs (after_call e call)) (sym one) (taken [])
-led-by control (_ ∷ _) e call not (taken others) = taken (others ++ taken_by_call e call)
+led_by control (_ ∷ _) e call not (taken others) = taken (others ++ taken_by_call e call)
 
 -- where it comes, its message is in the air
 air-come : (e next : MobileState) (b : Bool) → b ≡ true → (if b then next else e).zero.air ≡ next.zero.air
@@ -121,60 +121,60 @@ data Turns (e : MobileState) (calls : List Call) : Bool → Option (List ℕ) �
   comes : {none : List (List ℕ)} (control : List ℕ) → (after_calls e calls).zero.air ≡ Given control → Turns e calls true (Some control) none
   goes_on : {o : Option (List ℕ)} {more : List (List ℕ)} → ((control : List ℕ) (so_far : List (List ℕ)) → IsLed control so_far e → IsLed control (so_far ++ more) (after_calls e calls)) → Turns e calls false o more
 
-turns-none : (e : MobileState) (o : Option (List ℕ)) → Turns e [] false o []
-turns-none e o = goes_on (λ control so_far led. subst (λ (xs : List (List ℕ)). IsLed control xs e) (sym (append-nil so_far)) led)
+turns_none : (e : MobileState) (o : Option (List ℕ)) → Turns e [] false o []
+turns_none e o = goes_on (λ control so_far led. subst (λ (xs : List (List ℕ)). IsLed control xs e) (sym (append-nil so_far)) led)
 
-turns-one : (e : MobileState) (call : Call) (o : Option (List ℕ)) (more : List (List ℕ)) → begins e call ≡ false → taken_by_call e call ≡ more → Turns e (call ∷ []) false o more
-turns-one e call o more not gives = goes_on (λ control so_far led. subst (λ (xs : List (List ℕ)). IsLed control (so_far ++ xs) (after_call e call)) gives (led-by control so_far e call not led))
+turns_one : (e : MobileState) (call : Call) (o : Option (List ℕ)) (more : List (List ℕ)) → begins e call ≡ false → taken_by_call e call ≡ more → Turns e (call ∷ []) false o more
+turns_one e call o more not gives = goes_on (λ control so_far led. subst (λ (xs : List (List ℕ)). IsLed control (so_far ++ xs) (after_call e call)) gives (led_by control so_far e call not led))
 
-turns-silent : (e : MobileState) (call : Call) (b : Bool) → begins e call ≡ false → taken_by_call e call ≡ [] → Turns e (if b then call ∷ [] else []) false None []
-turns-silent e call true not none = turns-one e call None [] not none
-turns-silent e call false not none = turns-none e None
+turns_silent : (e : MobileState) (call : Call) (b : Bool) → begins e call ≡ false → taken_by_call e call ≡ [] → Turns e (if b then call ∷ [] else []) false None []
+turns_silent e call true not none = turns_one e call None [] not none
+turns_silent e call false not none = turns_none e None
 
-turns-frame : (m number : ℕ) (w : Actors) (n : ℕ) (done b : Bool) → (n == number) && done ≡ b → Turns (end_of m (mobile_of w number)) (if b then frames Zero ∷ [] else []) false None (if b then frame_of (mobile_of w n) else [])
-turns-frame m number w n done true does =
-    turns-one (end_of m (mobile_of w number)) (frames Zero) None (frame_of (mobile_of w n)) refl
+turns_frame : (m number : ℕ) (w : Actors) (n : ℕ) (done b : Bool) → (n == number) && done ≡ b → Turns (end_of m (mobile_of w number)) (if b then frames Zero ∷ [] else []) false None (if b then frame_of (mobile_of w n) else [])
+turns_frame m number w n done true does =
+    turns_one (end_of m (mobile_of w number)) (frames Zero) None (frame_of (mobile_of w n)) refl
     (frame-same m (mobile_of w number) ∙ ap (λ (k : ℕ). frame_of (mobile_of w k)) (sym (eqb-true n number (and-left (n == number) done does))))
-turns-frame m number w n done false not = turns-none (end_of m (mobile_of w number)) None
+turns_frame m number w n done false not = turns_none (end_of m (mobile_of w number)) None
 
 -- it comes to a channel with this text
-turns-come : (m number : ℕ) (w : Actors) (n : ℕ) (call : List ℕ → Call) (text : Change → List ℕ) (calls : Seat → List Call) (told : Seat → Option (List ℕ))
+turns_come : (m number : ℕ) (w : Actors) (n : ℕ) (call : List ℕ → Call) (text : Change → List ℕ) (calls : Seat → List Call) (told : Seat → Option (List ℕ))
     → ((from : Tenure) (command : Command) → calls (Moving from command) ≡ call (text command.change) ∷ []) → ((from : Tenure) (command : Command) → told (Moving from command) ≡ Some (text command.change))
     → ((change : Change) → is_control (text change) ≡ true) → ((e : MobileState) (xs : List ℕ) → after_call e (call xs) ≡ (if may_arrive e xs then after_arrival e xs else e))
     → Stands m number w → n ≡ number → (at : IsBetween w n) → Turns (end_of m (mobile_of w number)) (calls (seat_of (mobile_of w n))) true (told (seat_of (mobile_of w n))) []
-turns-come m number w n call text calls told called said control does stands same at =
+turns_come m number w n call text calls told called said control does stands same at =
     let e : MobileState = end_of m (mobile_of w number) in
     let xs : List ℕ = text at.command.change in
     let seat : seat_of (mobile_of w n) ≡ Moving at.from at.command = ap (λ (o : Option Mobile). seat_of o) at.found ∙ at.seat in
-    let may : may_arrive e xs ≡ true = ap (λ (x : MobileState). may_arrive x xs) (end-between m number w n same at) ∙ may-come at.p.end at.from at.command xs (place-between n stands same at ∙ ap place_in at.seat) (control at.command.change) in
+    let may : may_arrive e xs ≡ true = ap (λ (x : MobileState). may_arrive x xs) (end-between m number w n same at) ∙ may-come at.p.end at.from at.command xs (place_between n stands same at ∙ ap place_in at.seat) (control at.command.change) in
     let air : (after_call e (call xs)).zero.air ≡ Given xs = ap (λ (x : MobileState). x.zero.air) (does e xs) ∙ air-come e (after_arrival e xs) (may_arrive e xs) may in
     subst (λ (cs : List Call). Turns e cs true (told (seat_of (mobile_of w n))) []) (sym (ap calls seat ∙ called at.from at.command))
     (subst (λ (o : Option (List ℕ)). Turns e (call xs ∷ []) true o []) (sym (ap told seat ∙ said at.from at.command)) (comes xs air))
 
-turns-arrive : (m number : ℕ) (w : Actors) (n : ℕ) (b : Bool) → (n == number) && is_some (event_after w (Arrive n)) ≡ b → Stands m number w
+turns_arrive : (m number : ℕ) (w : Actors) (n : ℕ) (b : Bool) → (n == number) && is_some (event_after w (Arrive n)) ≡ b → Stands m number w
     → Turns (end_of m (mobile_of w number)) (if b then calls_to_arrive (seat_of (mobile_of w n)) else []) b (complete_of (seat_of (mobile_of w n))) []
-turns-arrive m number w n true done stands =
-    turns-come m number w n (λ xs. arrives xs) complete calls_to_arrive complete_of (λ from command. refl) (λ from command. refl) control-complete (λ e xs. refl) stands
+turns_arrive m number w n true done stands =
+    turns_come m number w n (λ xs. arrives xs) complete calls_to_arrive complete_of (λ from command. refl) (λ from command. refl) control-complete (λ e xs. refl) stands
     (eqb-true n number (and-left (n == number) (is_some (event_after w (Arrive n))) done)) (arriving w n (and-right (n == number) (is_some (event_after w (Arrive n))) done))
-turns-arrive m number w n false not stands = turns-none (end_of m (mobile_of w number)) (complete_of (seat_of (mobile_of w n)))
+turns_arrive m number w n false not stands = turns_none (end_of m (mobile_of w number)) (complete_of (seat_of (mobile_of w n)))
 
-turns-return : (m number : ℕ) (w : Actors) (n : ℕ) (b : Bool) → (n == number) && is_some (event_after w (Return n)) ≡ b → Stands m number w
+turns_return : (m number : ℕ) (w : Actors) (n : ℕ) (b : Bool) → (n == number) && is_some (event_after w (Return n)) ≡ b → Stands m number w
     → Turns (end_of m (mobile_of w number)) (if b then calls_to_return (seat_of (mobile_of w n)) else []) b (failure_of (seat_of (mobile_of w n))) []
-turns-return m number w n true done stands =
-    turns-come m number w n (λ xs. gives_up xs) failure calls_to_return failure_of (λ from command. refl) (λ from command. refl) control-failure (λ e xs. refl) stands
+turns_return m number w n true done stands =
+    turns_come m number w n (λ xs. gives_up xs) failure calls_to_return failure_of (λ from command. refl) (λ from command. refl) control-failure (λ e xs. refl) stands
     (eqb-true n number (and-left (n == number) (is_some (event_after w (Return n))) done)) (returning w n (and-right (n == number) (is_some (event_after w (Return n))) done))
-turns-return m number w n false not stands = turns-none (end_of m (mobile_of w number)) (failure_of (seat_of (mobile_of w n)))
+turns_return m number w n false not stands = turns_none (end_of m (mobile_of w number)) (failure_of (seat_of (mobile_of w n)))
 
-turns-at : (m number : ℕ) (w : Actors) (event : Event) → Stands m number w → Turns (end_of m (mobile_of w number)) (calls_at w event number) (comes_at w event number) (comes_with w event) (taken_at w event number)
-turns-at m number w (Connect n station initial accepts) stands = turns-silent (end_of m (mobile_of w number)) (connects (Some initial)) ((n == number) && is_some (event_after w (Connect n station initial accepts))) refl refl
-turns-at m number w (Upper n sapi message) stands = turns-silent (end_of m (mobile_of w number)) (sends sapi message) ((n == number) && is_some (event_after w (Upper n sapi message))) refl refl
-turns-at m number w (AirUp n Zero) stands = turns-frame m number w n (is_some (event_after w (AirUp n Zero))) ((n == number) && is_some (event_after w (AirUp n Zero))) refl
-turns-at m number w (AirUp n Three) stands = turns-silent (end_of m (mobile_of w number)) (frames Three) ((n == number) && is_some (event_after w (AirUp n Three))) refl refl
-turns-at m number w (AirAck n sapi) stands = turns-silent (end_of m (mobile_of w number)) (acknowledges sapi) ((n == number) && is_some (event_after w (AirAck n sapi))) refl refl
-turns-at m number w (Move n) stands = turns-silent (end_of m (mobile_of w number)) leaves ((n == number) && is_some (event_after w (Move n))) refl refl
-turns-at m number w (Arrive n) stands = turns-arrive m number w n ((n == number) && is_some (event_after w (Arrive n))) refl stands
-turns-at m number w (Return n) stands = turns-return m number w n ((n == number) && is_some (event_after w (Return n))) refl stands
-turns-at m number w _ stands = turns-none (end_of m (mobile_of w number)) None
+turns_at : (m number : ℕ) (w : Actors) (event : Event) → Stands m number w → Turns (end_of m (mobile_of w number)) (calls_at w event number) (comes_at w event number) (comes_with w event) (taken_at w event number)
+turns_at m number w (Connect n station initial accepts) stands = turns_silent (end_of m (mobile_of w number)) (connects (Some initial)) ((n == number) && is_some (event_after w (Connect n station initial accepts))) refl refl
+turns_at m number w (Upper n sapi message) stands = turns_silent (end_of m (mobile_of w number)) (sends sapi message) ((n == number) && is_some (event_after w (Upper n sapi message))) refl refl
+turns_at m number w (AirUp n Zero) stands = turns_frame m number w n (is_some (event_after w (AirUp n Zero))) ((n == number) && is_some (event_after w (AirUp n Zero))) refl
+turns_at m number w (AirUp n Three) stands = turns_silent (end_of m (mobile_of w number)) (frames Three) ((n == number) && is_some (event_after w (AirUp n Three))) refl refl
+turns_at m number w (AirAck n sapi) stands = turns_silent (end_of m (mobile_of w number)) (acknowledges sapi) ((n == number) && is_some (event_after w (AirAck n sapi))) refl refl
+turns_at m number w (Move n) stands = turns_silent (end_of m (mobile_of w number)) leaves ((n == number) && is_some (event_after w (Move n))) refl refl
+turns_at m number w (Arrive n) stands = turns_arrive m number w n ((n == number) && is_some (event_after w (Arrive n))) refl stands
+turns_at m number w (Return n) stands = turns_return m number w n ((n == number) && is_some (event_after w (Return n))) refl stands
+turns_at m number w _ stands = turns_none (end_of m (mobile_of w number)) None
 
 -- ---- all these events
 
@@ -183,21 +183,21 @@ abbrev Led : Option (List ℕ) → List (List ℕ) → MobileState → Type 0
 Led None so_far e = Unit {0}
 Led (Some control) so_far e = IsLed control so_far e
 
-begins-led : (o : Option (List ℕ)) (so_far : List (List ℕ)) (e : MobileState) → Led o so_far e → Begins o so_far
-begins-led None so_far e led = tt
-begins-led (Some control) [] e (given air) = tt
-begins-led (Some control) (_ ∷ _) e (taken others) = refl
+begins_led : (o : Option (List ℕ)) (so_far : List (List ℕ)) (e : MobileState) → Led o so_far e → Begins o so_far
+begins_led None so_far e led = tt
+begins_led (Some control) [] e (given air) = tt
+begins_led (Some control) (_ ∷ _) e (taken others) = refl
 
-led-on : (o : Option (List ℕ)) (so_far more : List (List ℕ)) (e next end : MobileState) → end ≡ next
+led_on : (o : Option (List ℕ)) (so_far more : List (List ℕ)) (e next end : MobileState) → end ≡ next
     → ((control : List ℕ) (xs : List (List ℕ)) → IsLed control xs e → IsLed control (xs ++ more) next) → Led o so_far e → Led o (so_far ++ more) end
-led-on None so_far more e next end is on led = tt
-led-on (Some control) so_far more e next end is on led = subst (IsLed control (so_far ++ more)) (sym is) (on control so_far led)
+led_on None so_far more e next end is on led = tt
+led_on (Some control) so_far more e next end is on led = subst (IsLed control (so_far ++ more)) (sym is) (on control so_far led)
 
 firsts : (m number : ℕ) (w : Actors) (o : Option (List ℕ)) (so_far : List (List ℕ)) (events : List Event) → Stands m number w → Led o so_far (end_of m (mobile_of w number))
     → EachBegins (comings w number o events) (taken_by_channel w number so_far events)
-firsts m number w o so_far [] stands led = (begins-led o so_far (end_of m (mobile_of w number)) led, tt)
+firsts m number w o so_far [] stands led = (begins_led o so_far (end_of m (mobile_of w number)) led, tt)
 firsts m number w o so_far (event ∷ events) stands led =
-    by (comes_at w event number) (comes_with w event) (taken_at w event number) (turns-at m number w event stands) (λ p xs now. firsts m number v p xs events takes.stands now) where
+    by (comes_at w event number) (comes_with w event) (taken_at w event number) (turns_at m number w event stands) (λ p xs now. firsts m number v p xs events takes.stands now) where
       e : MobileState
       e = end_of m (mobile_of w number)
 
@@ -205,14 +205,14 @@ firsts m number w o so_far (event ∷ events) stands led =
       v = actors_after w event
 
       takes : Takes m number w (calls_at w event number) v
-      takes = takes-at m number w event stands
+      takes = takes_at m number w event stands
 
       by : (b : Bool) (c : Option (List ℕ)) (more : List (List ℕ)) → Turns e (calls_at w event number) b c more
           → ((p : Option (List ℕ)) (xs : List (List ℕ)) → Led p xs (end_of m (mobile_of v number)) → EachBegins (comings v number p events) (taken_by_channel v number xs events))
           → EachBegins (if b then o ∷ comings v number c events else comings v number o events) (if b then so_far ∷ taken_by_channel v number [] events else taken_by_channel v number (so_far ++ more) events)
       by true None more turn on = elim turn [ ]
-      by true (Some _) more (comes control air) on = (begins-led o so_far e led, on (Some control) [] (given (ap (λ (x : MobileState). x.zero.air) takes.ends ∙ air)))
-      by false c more (goes_on follows) on = on o (so_far ++ more) (led-on o so_far more e (after_calls e (calls_at w event number)) (end_of m (mobile_of v number)) takes.ends follows led)
+      by true (Some _) more (comes control air) on = (begins_led o so_far e led, on (Some control) [] (given (ap (λ (x : MobileState). x.zero.air) takes.ends ∙ air)))
+      by false c more (goes_on follows) on = on o (so_far ++ more) (led_on o so_far more e (after_calls e (calls_at w event number)) (end_of m (mobile_of v number)) takes.ends follows led)
 
-pub CompleteComesFirst-new : (settings : Parameters) (events : List Event) → CompleteComesFirst settings events
-CompleteComesFirst-new settings events number = firsts (modulus_in settings) number (new_actors settings) None [] events (stands-new settings number) tt
+pub complete_comes_first_new : (settings : Parameters) (events : List Event) → CompleteComesFirst settings events
+complete_comes_first_new settings events number = firsts (modulus_in settings) number (new_actors settings) None [] events (stands_new settings number) tt

@@ -215,33 +215,33 @@ pub record OnAir (P : Actors → Type 0) (w : Actors) (event : Event) : Type 0 w
 abbrev changed_at : ℕ → (Station → Station) → List Station → List Station
 changed_at k f stations = set stations k (f (get_or stations k no_station))
 
-twice-set : (stations : List Station) (k : ℕ) (f g : Station → Station) → changed_at k g (changed_at k f stations) ≡ changed_at k (λ s. g (f s)) stations
-twice-set [] k f g = refl
-twice-set (s ∷ ss) zero f g = refl
-twice-set (s ∷ ss) (suc k) f g = ap (λ (xs : List Station). s ∷ xs) (twice-set ss k f g)
+twice_set : (stations : List Station) (k : ℕ) (f g : Station → Station) → changed_at k g (changed_at k f stations) ≡ changed_at k (λ s. g (f s)) stations
+twice_set [] k f g = refl
+twice_set (s ∷ ss) zero f g = refl
+twice_set (s ∷ ss) (suc k) f g = ap (λ (xs : List Station). s ∷ xs) (twice_set ss k f g)
 
 told-twice : (n : ℕ) (one other : Rsl) (u : Actors) → told n other (told n one u) ≡ with_base n (after_tell (after_tell (base_of u n) one) other) u
 told-twice n one other u =
     ap (λ (stations : List Station). record u { stations = stations })
-    (twice-set u.stations (n - 1) (λ s. record s { base = after_tell s.base one }) (λ s. record s { base = after_tell s.base other }))
+    (twice_set u.stations (n - 1) (λ s. record s { base = after_tell s.base one }) (λ s. record s { base = after_tell s.base other }))
 
 -- on a channel that a mobile reaches
-reached-tell : (P : Actors → Type 0) (w : Actors) {event : Event} (tenure : Tenure) (message : Rsl) → OnAir P w event → is_reached w tenure ≡ true
+reached_tell : (P : Actors → Type 0) (w : Actors) {event : Event} (tenure : Tenure) (message : Rsl) → OnAir P w event → is_reached w tenure ≡ true
     → Tells w event tenure.at.station message → P w → P (told tenure.at.station message w)
-reached-tell P w tenure message air reached how h = air.tells w tenure.at.station message (reached-up w tenure reached).0 how h
+reached_tell P w tenure message air reached how h = air.tells w tenure.at.station message (reached-up w tenure reached).0 how h
 
-reached-spot : (P : Actors → Type 0) (w : Actors) {event : Event} (tenure : Tenure) (spot : Spot) → OnAir P w event → is_reached w tenure ≡ true
+reached_spot : (P : Actors → Type 0) (w : Actors) {event : Event} (tenure : Tenure) (spot : Spot) → OnAir P w event → is_reached w tenure ≡ true
     → Respots w w event tenure.at spot → P w → P (with_spot tenure.at spot w)
-reached-spot P w tenure spot air reached how h = air.spots w tenure.at spot (reached-station w tenure reached) how h
+reached_spot P w tenure spot air reached how h = air.spots w tenure.at spot (reached-station w tenure reached) how h
 
-brought-keeps : (P : Actors → Type 0) (w : Actors) (number : ℕ) (sapi : Sapi) (p : Mobile) (tenure : Tenure) (frame : List ℕ)
+brought_keeps : (P : Actors → Type 0) (w : Actors) (number : ℕ) (sapi : Sapi) (p : Mobile) (tenure : Tenure) (frame : List ℕ)
     → OnAir P w (AirUp number sapi) → Lends w number sapi p tenure frame → P w → P (brought w p tenure.at sapi frame)
-brought-keeps P w number Zero p tenure frame air lent h =
+brought_keeps P w number Zero p tenure frame air lent h =
     air.puts _ number p _ lent.found refl (opens p tenure frame lent) (by p.opens) where
       by : (b : Bool) → P (with_base tenure.at.station (signalling_brought (base_of w tenure.at.station) tenure.at.number b frame) w)
-      by true = reached-tell P w tenure _ air lent.reached (opens_with number p tenure frame lent) h
-      by false = reached-tell P w tenure _ air lent.reached (brings number Zero p tenure frame lent) h
-brought-keeps P w number Three p tenure frame air lent h =
+      by true = reached_tell P w tenure _ air lent.reached (opens_with number p tenure frame lent) h
+      by false = reached_tell P w tenure _ air lent.reached (brings number Zero p tenure frame lent) h
+brought_keeps P w number Three p tenure frame air lent h =
     let v : Actors = with_base tenure.at.station (short_message_brought (base_of w tenure.at.station) tenure.at.number (spot_at w tenure.at).sapi_three_up frame) w in
     air.puts (with_spot tenure.at (with_short true (spot_at w tenure.at)) v) number p _ lent.found refl (lends p tenure frame lent)
     (subst (λ (spot : Spot). P (with_spot tenure.at (with_short true spot) v)) (spot-with_base tenure.at.station _ w tenure.at)
@@ -257,12 +257,12 @@ brought-keeps P w number Three p tenure frame air lent h =
           (air.tells (told tenure.at.station link w) tenure.at.station _ up (brings number Three p tenure frame lent)
           (air.tells w tenure.at.station link up (links number p tenure frame lent) h))
 
-took-keeps : (P : Actors → Type 0) (w : Actors) (station : ℕ) (first : OutboxEntry) (others : List OutboxEntry) (o : Option Rsl)
+took_keeps : (P : Actors → Type 0) (w : Actors) (station : ℕ) (first : OutboxEntry) (others : List OutboxEntry) (o : Option Rsl)
     → OnAir P w (BaseTakes station) → is_station_up w station ≡ true → outbox_of w station ≡ first ∷ others → rsl_in first.out.frame ≡ o
     → P (with_outbox station others w) → OfTaken P (took station first.target o (with_outbox station others w))
 unfolding OfTaken Seats
-took-keeps P w station first others None air up stood is h = h
-took-keeps P w station first others (Some (ChannelActivation a)) air up stood is h =
+took_keeps P w station first others None air up stood is h = h
+took_keeps P w station first others (Some (ChannelActivation a)) air up stood is h =
     unless_last-leads P ((spot_at u at).tenure == MAX_TENURE) (activated at u) (by (refusal_of_activate (base_of u station) a.channel) refl) where
       u : Actors
       u = with_outbox station others w
@@ -273,10 +273,10 @@ took-keeps P w station first others (Some (ChannelActivation a)) air up stood is
       by : (o : Option LinkFault) → refusal_of_activate (base_of u station) a.channel ≡ o → P (activated_unless o at u)
       by None free = air.activates u station a (record { event_is = refl; first = first; others = others; up = up; stood = stood; is = is }) free h
       by (Some fault) free = h
-took-keeps P w station first others (Some (ImmediateAssignCommand i)) air up stood is h =
+took_keeps P w station first others (Some (ImmediateAssignCommand i)) air up stood is h =
     assigned-leads P station (with_outbox station others w) (rr_reading i.information) h
     (λ p number channel found asks. air.puts (with_outbox station others w) number p _ found refl (sits station p channel asks) h)
-took-keeps P w station first others (Some (DataRequest d)) air up stood is h = by (is_active_at u at) refl where
+took_keeps P w station first others (Some (DataRequest d)) air up stood is h = by (is_active_at u at) refl where
   u : Actors
   u = with_outbox station others w
 
@@ -292,7 +292,7 @@ took-keeps P w station first others (Some (DataRequest d)) air up stood is h = b
   by : (b : Bool) → is_active_at u at ≡ b → P (if b then with_spot at (joined_air message (spot_at u at)) u else u)
   by true active = air.spots u at _ (up-right station w up).0 (airs station d taken active) h
   by false active = h
-took-keeps P w station first others (Some (EstablishRequest l)) air up stood is h = by (is_active_at u at && accepts (mobile_on u (tenure_at u at))) where
+took_keeps P w station first others (Some (EstablishRequest l)) air up stood is h = by (is_active_at u at && accepts (mobile_on u (tenure_at u at))) where
   u : Actors
   u = with_outbox station others w
 
@@ -304,64 +304,64 @@ took-keeps P w station first others (Some (EstablishRequest l)) air up stood is 
 
   by : (answer : Bool) → P (answered answer at u)
   by answer = air.tells _ station _ up (answers station l answer taken) (air.spots u at _ (up-right station w up).0 (asks_up station l answer taken) h)
-took-keeps P w station first others (Some (RfChannelRelease channel)) air up stood is h =
+took_keeps P w station first others (Some (RfChannelRelease channel)) air up stood is h =
     air.releases (with_outbox station others w) station channel (record { event_is = refl; first = first; others = others; up = up; stood = stood; is = is }) h
-took-keeps P w station first others (Some _) air up stood is h = h
+took_keeps P w station first others (Some _) air up stood is h = h
 
 -- a station takes an entry, or the queues, the controller and the switch stay
 abbrev pub is_on_air : Event → Bool
 is_on_air (BaseTakes station) = true
 is_on_air event = is_aerial event
 
-pub air-leads : (P : Actors → Type 0) (w : Actors) (event : Event) → is_on_air event ≡ true → OnAir P w event → P w → OfTaken P (event_after w event)
+pub air_leads : (P : Actors → Type 0) (w : Actors) (event : Event) → is_on_air event ≡ true → OnAir P w event → P w → OfTaken P (event_after w event)
 unfolding event_after FromAir OfTaken
-air-leads P w (Upper number sapi message) is air h =
+air_leads P w (Upper number sapi message) is air h =
     by_mobile-leads P w number (sent_by w sapi message) (λ p found.
     only_if-leads P (may_send p.seat && is_none (refusal_of_send p.end sapi message)) _ (λ may. air.puts w number p _ found refl (queues sapi message p may) h))
-air-leads P w (Connect number station initial accepts) is air h =
+air_leads P w (Connect number station initial accepts) is air h =
     connect-leads P w number station initial accepts (λ may.
     let both = and-left (is_new w number && is_station_up w station) (is_none (refusal_of_connect (Some initial))) may in
     air.tells _ station _ (and-right (is_new w number) (is_station_up w station) both) (requires number station initial accepts)
     (air.joins number initial accepts (connects number station initial accepts may) h))
-air-leads P w (AirUp number sapi) is air h =
+air_leads P w (AirUp number sapi) is air h =
     air_up-leads P w number sapi (λ p tenure command frame found seat lent reached.
-    brought-keeps P w number sapi p tenure frame air (record { found = found; command = command; seat = seat; lent = lent; reached = reached }) h)
-air-leads P w (AirAck number sapi) is air h = air_ack-leads P w number sapi (λ p found. air.puts w number p _ found refl (is_acked sapi p) h)
-air-leads P w (AirDown number) is air h =
+    brought_keeps P w number sapi p tenure frame air (record { found = found; command = command; seat = seat; lent = lent; reached = reached }) h)
+air_leads P w (AirAck number sapi) is air h = air_ack-leads P w number sapi (λ p found. air.puts w number p _ found refl (is_acked sapi p) h)
+air_leads P w (AirDown number) is air h =
     air_down-leads P w number (λ p tenure command found seat reached first others stood.
     air.puts _ number p _ found refl (hears p tenure command first others seat reached stood)
-    (reached-spot P w tenure _ air reached (goes_down tenure first others reached stood) h))
-air-leads P w (AirDownLost number) is air h =
+    (reached_spot P w tenure _ air reached (goes_down tenure first others reached stood) h))
+air_leads P w (AirDownLost number) is air h =
     air_down_lost-leads P w number (λ p tenure command found seat reached first others stood.
-    air.puts _ number p _ found refl (misses p) (reached-spot P w tenure _ air reached (goes_down tenure first others reached stood) h))
-air-leads P w (Move number) is air h =
+    air.puts _ number p _ found refl (misses p) (reached_spot P w tenure _ air reached (goes_down tenure first others reached stood) h))
+air_leads P w (Move number) is air h =
     move-leads P w number (λ p tenure command found seat reached.
-    air.puts _ number p _ found refl (leaves p tenure command seat reached) (reached-spot P w tenure _ air reached (is_left number tenure reached) h))
-air-leads P w (Touch number) is air h =
-    touch-leads P w number (λ command reached. reached-tell P w command.target _ air reached (detects number command.target reached) h)
-air-leads P w (Arrive number) is air h =
+    air.puts _ number p _ found refl (leaves p tenure command seat reached) (reached_spot P w tenure _ air reached (is_left number tenure reached) h))
+air_leads P w (Touch number) is air h =
+    touch-leads P w number (λ command reached. reached_tell P w command.target _ air reached (detects number command.target reached) h)
+air_leads P w (Arrive number) is air h =
     arrive-leads P w number (λ p from command found seat reached.
-    air.puts _ number p _ found refl (arrives p from command seat reached) (reached-tell P w command.target _ air reached (establishes command.target reached) h))
-air-leads P w (Return number) is air h =
+    air.puts _ number p _ found refl (arrives p from command seat reached) (reached_tell P w command.target _ air reached (establishes command.target reached) h))
+air_leads P w (Return number) is air h =
     return-leads P w number (λ p from command found seat reached.
-    air.puts _ number p _ found refl (returns p from command seat reached) (reached-tell P w from _ air reached (establishes from reached) h))
-air-leads P w (BaseTakes station) is air h =
-    base_takes-leads P w station (λ first others up stood. took-keeps P w station first others (rsl_in first.out.frame) air up stood refl (air.pops station others up h))
-air-leads P w (Report number report) is air h =
+    air.puts _ number p _ found refl (returns p from command seat reached) (reached_tell P w from _ air reached (establishes from reached) h))
+air_leads P w (BaseTakes station) is air h =
+    base_takes-leads P w station (λ first others up stood. took_keeps P w station first others (rsl_in first.out.frame) air up stood refl (air.pops station others up h))
+air_leads P w (Report number report) is air h =
     by_mobile-leads P w number (λ p. reported w report p.seat) (λ p found. by p.seat) where
       by : (seat : Seat) → OfTaken P (reported w report seat)
       by (On tenure command) = only_if-leads P (is_reached w tenure && (length report == REPORT_LENGTH)) (reported_at w tenure.at report) (λ both.
           let reached = and-left (is_reached w tenure) (length report == REPORT_LENGTH) both in
           let long = and-right (is_reached w tenure) (length report == REPORT_LENGTH) both in
           air.tells _ tenure.at.station _ (reached-up w tenure reached).0 (reports number report tenure reached long)
-          (reached-spot P w tenure _ air reached (counts number report tenure reached) h))
+          (reached_spot P w tenure _ air reached (counts number report tenure reached) h))
       by Asking = tt
       by (Moving from command) = tt
       by Gone = tt
-air-leads P w _ is air h = absurd cc
+air_leads P w _ is air h = absurd cc
 
 pub air-after : (P : Actors → Type 0) (w : Actors) (event : Event) → is_on_air event ≡ true → OnAir P w event → P w → P (actors_after w event)
-air-after P w event is air h = after-taken P (event_after w event) w (air-leads P w event is air h) h
+air-after P w event is air h = after-taken P (event_after w event) w (air_leads P w event is air h) h
 
 -- ---- where mobiles and stations stay, but for what a source made
 
@@ -373,28 +373,28 @@ pub record InQueues (P : Actors → Type 0) (w : Actors) : Type 0 where
   pub next : (source : ℕ) (message : Rsl) → first_message (base_of w source) ≡ Some message → P w → P (with_base source (after_next (base_of w source)) w)
   pub down : (source : ℕ) → is_up w source ≡ true → source ≢ SWITCH_LINK → P w → P (with_base source (after_take_down (base_of w source)) w)
 
-pub queues-lead : (P : Actors → Type 0) (w : Actors) (event : Event) → is_on_air event ≡ false → InQueues P w → P w → OfTaken P (event_after w event)
+pub queues_lead : (P : Actors → Type 0) (w : Actors) (event : Event) → is_on_air event ≡ false → InQueues P w → P w → OfTaken P (event_after w event)
 unfolding event_after OfTaken
-queues-lead P w (BasePush source) is lists h =
+queues_lead P w (BasePush source) is lists h =
     push-leads P w source (λ first others. lists.rest w _ _ _ _ _ h)
     (λ message first. lists.rest (with_base source (after_next (base_of w source)) w) _ _ _ _ _ (lists.next source message first h))
-queues-lead P w Handle is lists h = handle-leads P w (λ item items _.
+queues_lead P w Handle is lists h = handle-leads P w (λ item items _.
     turn-leads P (target_in w item.source item.what) (take item w.controller) (record w { inbox = items }) (λ links. lists.rest w _ _ _ _ _ h))
-queues-lead P w SwitchTakes is lists h = switch_takes-leads P w (λ first others _ _.
+queues_lead P w SwitchTakes is lists h = switch_takes-leads P w (λ first others _ _.
     switch_took-leads P (with_outbox SWITCH_LINK others w) (sccp_in first.out.frame) (lists.rest w _ _ _ _ _ h) (λ next made. lists.rest w _ _ _ _ _ h))
-queues-lead P w (SwitchDoes action) is lists h = does-leads P w action (λ next made. lists.rest w _ _ _ _ _ h)
-queues-lead P w (Tick ms) is lists h = turn-leads P None (tick ms w.controller) w (λ links. lists.rest w _ _ _ _ _ h)
-queues-lead P w (BaseDown source) is lists h =
+queues_lead P w (SwitchDoes action) is lists h = does-leads P w action (λ next made. lists.rest w _ _ _ _ _ h)
+queues_lead P w (Tick ms) is lists h = turn-leads P None (tick ms w.controller) w (λ links. lists.rest w _ _ _ _ _ h)
+queues_lead P w (BaseDown source) is lists h =
     broken-leads P w source (λ _ _. lists.rest w _ _ _ _ _ h)
     (λ up other. lists.rest (with_base source (after_take_down (base_of w source)) w) _ _ _ _ _ (lists.down source up other h))
-queues-lead P w _ is lists h = absurd cc
+queues_lead P w _ is lists h = absurd cc
 
-pub queues-after : (P : Actors → Type 0) (w : Actors) (event : Event) → is_on_air event ≡ false → InQueues P w → P w → P (actors_after w event)
-queues-after P w event is lists h = after-taken P (event_after w event) w (queues-lead P w event is lists h) h
+pub queues_after : (P : Actors → Type 0) (w : Actors) (event : Event) → is_on_air event ≡ false → InQueues P w → P w → P (actors_after w event)
+queues_after P w event is lists h = after-taken P (event_after w event) w (queues_lead P w event is lists h) h
 
 -- what the changes of both kinds keep, each event keeps
 pub event-keeps : (P : Actors → Type 0) (w : Actors) (event : Event) → OnAir P w event → InQueues P w → P w → P (actors_after w event)
 event-keeps P w event air lists h = by (is_on_air event) refl where
   by : (b : Bool) → is_on_air event ≡ b → P (actors_after w event)
   by true is = air-after P w event is air h
-  by false is = queues-after P w event is lists h
+  by false is = queues_after P w event is lists h

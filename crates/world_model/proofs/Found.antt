@@ -42,19 +42,19 @@ back-other q (x ∷ xs) number differs =
     ]
 
 -- a new one stands behind all others
-pub new-found : (q : Mobile) (xs : List Mobile) → find (has_number q.number) xs ≡ None → find (has_number q.number) (xs ++ q ∷ []) ≡ Some q
-new-found q [] none = ap (λ (b : Bool). cond b (Some q) None) (eq-eqb q.number q.number refl)
-new-found q (x ∷ xs) none =
+pub new_found : (q : Mobile) (xs : List Mobile) → find (has_number q.number) xs ≡ None → find (has_number q.number) (xs ++ q ∷ []) ≡ Some q
+new_found q [] none = ap (λ (b : Bool). cond b (Some q) None) (eq-eqb q.number q.number refl)
+new_found q (x ∷ xs) none =
     elim (cases_Bool (has_number q.number x)) [
       | inl hit ↦ absurd (none-some x (sym none ∙ ap (λ (b : Bool). cond b (Some x) (find (has_number q.number) xs)) hit))
       | inr miss ↦
           ap (λ (b : Bool). cond b (Some x) (find (has_number q.number) (xs ++ q ∷ []))) miss
-          ∙ new-found q xs (sym (ap (λ (b : Bool). cond b (Some x) (find (has_number q.number) xs)) miss) ∙ none)
+          ∙ new_found q xs (sym (ap (λ (b : Bool). cond b (Some x) (find (has_number q.number) xs)) miss) ∙ none)
     ]
 
-pub new-other : (q : Mobile) (xs : List Mobile) (number : ℕ) → q.number ≢ number → find (has_number number) (xs ++ q ∷ []) ≡ find (has_number number) xs
-new-other q [] number differs = ap (λ (b : Bool). cond b (Some q) None) (ne_eqb q.number number differs)
-new-other q (x ∷ xs) number differs = ap (λ (o : Option Mobile). if has_number number x then Some x else o) (new-other q xs number differs)
+pub new_other : (q : Mobile) (xs : List Mobile) (number : ℕ) → q.number ≢ number → find (has_number number) (xs ++ q ∷ []) ≡ find (has_number number) xs
+new_other q [] number differs = ap (λ (b : Bool). cond b (Some q) None) (ne_eqb q.number number differs)
+new_other q (x ∷ xs) number differs = ap (λ (o : Option Mobile). if has_number number x then Some x else o) (new_other q xs number differs)
 
 -- one is found before those that stand behind
 pub found-front : (number : ℕ) (p : Mobile) (xs ys : List Mobile) → find (has_number number) xs ≡ Some p → find (has_number number) (xs ++ ys) ≡ Some p

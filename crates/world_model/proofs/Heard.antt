@@ -30,11 +30,11 @@ use Rattle.world_model.specs.Sized.{HasSized}
 use Rattle.world_model.specs.Stations.{rsl_in}
 use Rattle.world_model.specs.World.{Actors, Mobile, Spot, new_actors, stations_from, no_station, station_of, base_of, with_base, spot_at, with_spot, with_mobile, mobile_of, is_up, is_station_up, is_reached}
 use Rattle.world_model.proofs.Honesty.{reached-up}
-use Rattle.world_model.proofs.Lawful.{IsOnChannel, IsOnChannelIf, read-lawful}
+use Rattle.world_model.proofs.Lawful.{IsOnChannel, IsOnChannelIf, read_lawful}
 use Rattle.world_model.proofs.Leads.{and-right}
 use Rattle.world_model.proofs.Mobility.{back-all, behind-all, found-all}
-use Rattle.world_model.proofs.Sizing.{lent-sized, link-sized, queue-sized, frame-sized, acked-sized, arrival-sized, sendable-sized, initial-sized}
-use Rattle.world_model.proofs.Soundness.{IsSound, SoundEnd, Ends, sound-read, sound-tell, sound-activated, sound-released, sound-behind, active-lawful, ends-set, sound-request, sound-detection, sound-establishment, sound-initial, sound-data, sound-report, sound-answer}
+use Rattle.world_model.proofs.Sizing.{lent_sized, link_sized, queue-sized, frame_sized, acked_sized, arrival-sized, sendable-sized, initial_sized}
+use Rattle.world_model.proofs.Soundness.{IsSound, SoundEnd, Ends, sound-read, sound_tell, sound_activated, sound_released, sound_behind, active_lawful, ends_set, sound_request, sound_detection, sound_establishment, sound_initial, sound_data, sound_report, sound_answer}
 use Rattle.world_model.proofs.Footprints.{Becomes, Joins, Lends, Takes, Tells, event-keeps, hearing-end}
 use Rattle.world_model.proofs.Footprints.Becomes.{arrives, hears, is_acked, leaves, lends, misses, opens, queues, returns, sits}
 use Rattle.world_model.proofs.Footprints.Joins.{connects}
@@ -47,130 +47,130 @@ pub record Good (w : Actors) : Type 0 where
   pub ends : Ends w.stations
   pub mobiles : AllByRecursion HasSizedEnd w.mobiles
 
-good-mobile : (p : Mobile) (u : Actors) → HasSizedEnd p → Good u → Good (with_mobile p u)
-good-mobile p u sized good = record { ends = good.ends; mobiles = back-all HasSizedEnd p u.mobiles sized good.mobiles }
+good_mobile : (p : Mobile) (u : Actors) → HasSizedEnd p → Good u → Good (with_mobile p u)
+good_mobile p u sized good = record { ends = good.ends; mobiles = back-all HasSizedEnd p u.mobiles sized good.mobiles }
 
-good-base : (station : ℕ) (base : BaseState) (u : Actors) → SoundEnd base → Good u → Good (with_base station base u)
-good-base station base u sound good = record { ends = ends-set u.stations (station - 1) (record (station_of u station) { base = base }) sound good.ends; mobiles = good.mobiles }
+good_base : (station : ℕ) (base : BaseState) (u : Actors) → SoundEnd base → Good u → Good (with_base station base u)
+good_base station base u sound good = record { ends = ends_set u.stations (station - 1) (record (station_of u station) { base = base }) sound good.ends; mobiles = good.mobiles }
 
 pub end-of : (u : Actors) (station : ℕ) → Good u → SoundEnd (base_of u station)
 unfolding Ends
 end-of u station good = good.ends (station - 1)
 
-good-spot : (at : Place) (spot : Spot) (u : Actors) → Good u → Good (with_spot at spot u)
-good-spot at spot u good = record { ends = ends-set u.stations (at.station - 1) _ (end-of u at.station good) good.ends; mobiles = good.mobiles }
+good_spot : (at : Place) (spot : Spot) (u : Actors) → Good u → Good (with_spot at spot u)
+good_spot at spot u good = record { ends = ends_set u.stations (at.station - 1) _ (end-of u at.station good) good.ends; mobiles = good.mobiles }
 
-good-told : (station : ℕ) (message : Rsl) (u : Actors) → IsSound message → Good u → Good (told station message u)
-good-told station message u sound good = good-base station (after_tell (base_of u station) message) u (sound-tell (base_of u station) message sound (end-of u station good)) good
+good_told : (station : ℕ) (message : Rsl) (u : Actors) → IsSound message → Good u → Good (told station message u)
+good_told station message u sound good = good_base station (after_tell (base_of u station) message) u (sound_tell (base_of u station) message sound (end-of u station good)) good
 
-pub sized-of : (w : Actors) (number : ℕ) (p : Mobile) → Good w → mobile_of w number ≡ Some p → HasSizedEnd p
-sized-of w number p good found = found-all HasSizedEnd number w.mobiles p good.mobiles found
+pub sized_of : (w : Actors) (number : ℕ) (p : Mobile) → Good w → mobile_of w number ≡ Some p → HasSizedEnd p
+sized_of w number p good found = found-all HasSizedEnd number w.mobiles p good.mobiles found
 
 pub reached-lawful : (w : Actors) (tenure : Tenure) → Good w → is_reached w tenure ≡ true → is_channel tenure.at.number ≡ true
-reached-lawful w tenure good reached = active-lawful (base_of w tenure.at.station).active tenure.at.number (end-of w tenure.at.station good).channels (reached-up w tenure reached).1
+reached-lawful w tenure good reached = active_lawful (base_of w tenure.at.station).active tenure.at.number (end-of w tenure.at.station good).channels (reached-up w tenure reached).1
 
 -- ---- a frame that is brought
 
-frame-l3 : (p : MobileState) (sapi : Sapi) (frame : List ℕ) → HasSized p → frame_in (frame_answer p sapi) ≡ Some frame → IsL3 (Some frame)
-frame-l3 p sapi frame sized is = by_state p.stage p.place (lent_message (link_of p sapi)) (lent-sized (link_of p sapi) (link-sized p sapi sized)) is where
+frame_l3 : (p : MobileState) (sapi : Sapi) (frame : List ℕ) → HasSized p → frame_in (frame_answer p sapi) ≡ Some frame → IsL3 (Some frame)
+frame_l3 p sapi frame sized is = by_state p.stage p.place (lent_message (link_of p sapi)) (lent_sized (link_of p sapi) (link_sized p sapi sized)) is where
   by_state : (stage : Stage) (place : Whereabouts) (o : Option (List ℕ)) → IsL3 o → frame_in (frame_answer_at stage place o) ≡ Some frame → IsL3 (Some frame)
   by_state New place o l3 h = absurd cc
   by_state Connected places.Moving o l3 h = absurd cc
   by_state Connected places.OnChannel o l3 h = subst IsL3 h l3
 
 pub lent-l3 : {w : Actors} {number : ℕ} {sapi : Sapi} {p : Mobile} {tenure : Tenure} {frame : List ℕ} → Good w → Lends w number sapi p tenure frame → IsL3 (Some frame)
-lent-l3 {w} {number} {sapi} {p} {tenure} {frame} good lent = frame-l3 p.end sapi frame (sized-of w number p good lent.found) lent.lent
+lent-l3 {w} {number} {sapi} {p} {tenure} {frame} good lent = frame_l3 p.end sapi frame (sized_of w number p good lent.found) lent.lent
 
 pub lent-lawful : {w : Actors} {number : ℕ} {sapi : Sapi} {p : Mobile} {tenure : Tenure} {frame : List ℕ} → Good w → Lends w number sapi p tenure frame → is_channel tenure.at.number ≡ true
 lent-lawful {w} {tenure = tenure} good lent = reached-lawful w tenure good lent.reached
 
-three-octets : 0 < 3
-three-octets = omega arith
+three_octets : 0 < 3
+three_octets = omega arith
 
-few-octets : 3 ≤ 251
-few-octets = omega arith
+few_octets : 3 ≤ 251
+few_octets = omega arith
 
-complete-l3 : (change : Change) → IsL3 (Some (complete change))
-complete-l3 Assignment = (three-octets, few-octets)
-complete-l3 Handover = (three-octets, few-octets)
+complete_l3 : (change : Change) → IsL3 (Some (complete change))
+complete_l3 Assignment = (three_octets, few_octets)
+complete_l3 Handover = (three_octets, few_octets)
 
-failure-l3 : (change : Change) → IsL3 (Some (failure change))
-failure-l3 Assignment = (three-octets, few-octets)
-failure-l3 Handover = (three-octets, few-octets)
+failure_l3 : (change : Change) → IsL3 (Some (failure change))
+failure_l3 Assignment = (three_octets, few_octets)
+failure_l3 Handover = (three_octets, few_octets)
 
 -- ---- what a station takes
 
-pub rsl_in-lawful : (frame : Frame) → IsOnChannelIf (rsl_in frame)
+pub rsl_in_lawful : (frame : Frame) → IsOnChannelIf (rsl_in frame)
 unfolding IsOnChannelIf
-rsl_in-lawful frame = by_stream (frame.stream == RSL_STREAM) where
+rsl_in_lawful frame = by_stream (frame.stream == RSL_STREAM) where
   by_stream : (b : Bool) → IsOnChannelIf (if b then result_ok (rsl_reading frame.body) else None)
-  by_stream true = read-lawful frame.body
+  by_stream true = read_lawful frame.body
   by_stream false = tt
 
 -- what a station takes names a channel
 pub taken-lawful : {w : Actors} {event : Event} {station : ℕ} {message : Rsl} → Takes w event station message → IsOnChannel message
 unfolding IsOnChannelIf
-taken-lawful taken = subst IsOnChannelIf taken.is (rsl_in-lawful taken.first.out.frame)
+taken-lawful taken = subst IsOnChannelIf taken.is (rsl_in_lawful taken.first.out.frame)
 
 -- ---- each event
 
-becomes-sized : {w : Actors} {number : ℕ} {event : Event} {p q : Mobile} → HasSizedEnd p → Becomes w number event p q → HasSizedEnd q
-becomes-sized sized (queues sapi message p may) = queue-sized p.end sapi message (sendable-sized p.end sapi message (and-right (may_send p.seat) (is_none (refusal_of_send p.end sapi message)) may)) sized
-becomes-sized sized (opens p tenure frame lent) = frame-sized p.end Zero sized
-becomes-sized sized (lends p tenure frame lent) = frame-sized p.end Three sized
-becomes-sized sized (is_acked sapi p) = acked-sized p.end sapi sized
-becomes-sized sized (hears p tenure command first others seat reached stood) = subst HasSized (sym (hearing-end p first)) sized
-becomes-sized sized (misses p) = sized
-becomes-sized sized (leaves p tenure command seat reached) = record { zero = sized.zero; three = sized.three }
-becomes-sized sized (arrives p from command seat reached) = arrival-sized p.end (complete command.change) (complete-l3 command.change) sized
-becomes-sized sized (returns p from command seat reached) = arrival-sized p.end (failure command.change) (failure-l3 command.change) sized
-becomes-sized sized (sits station p channel asks) = sized
+becomes_sized : {w : Actors} {number : ℕ} {event : Event} {p q : Mobile} → HasSizedEnd p → Becomes w number event p q → HasSizedEnd q
+becomes_sized sized (queues sapi message p may) = queue-sized p.end sapi message (sendable-sized p.end sapi message (and-right (may_send p.seat) (is_none (refusal_of_send p.end sapi message)) may)) sized
+becomes_sized sized (opens p tenure frame lent) = frame_sized p.end Zero sized
+becomes_sized sized (lends p tenure frame lent) = frame_sized p.end Three sized
+becomes_sized sized (is_acked sapi p) = acked_sized p.end sapi sized
+becomes_sized sized (hears p tenure command first others seat reached stood) = subst HasSized (sym (hearing-end p first)) sized
+becomes_sized sized (misses p) = sized
+becomes_sized sized (leaves p tenure command seat reached) = record { zero = sized.zero; three = sized.three }
+becomes_sized sized (arrives p from command seat reached) = arrival-sized p.end (complete command.change) (complete_l3 command.change) sized
+becomes_sized sized (returns p from command seat reached) = arrival-sized p.end (failure command.change) (failure_l3 command.change) sized
+becomes_sized sized (sits station p channel asks) = sized
 
-joins-sized : {w : Actors} {event : Event} {number : ℕ} {initial : List ℕ} {accepting : Bool} → Joins w event number initial accepting → HasSizedEnd (connected w.modulus number initial accepting)
-joins-sized {w} (connects number station initial accepting may) =
+joins_sized : {w : Actors} {event : Event} {number : ℕ} {initial : List ℕ} {accepting : Bool} → Joins w event number initial accepting → HasSizedEnd (connected w.modulus number initial accepting)
+joins_sized {w} (connects number station initial accepting may) =
     let empty : HasSized (new_mobile w.modulus) = record { zero = record { waiting = tt; air = tt }; three = record { waiting = tt; air = tt } } in
-    let begins = initial-sized initial (and-right (is_new w number && is_station_up w station) (is_none (refusal_of_connect (Some initial))) may) in
+    let begins = initial_sized initial (and-right (is_new w number && is_station_up w station) (is_none (refusal_of_connect (Some initial))) may) in
     let queued : HasSized (after_queue (new_mobile w.modulus) Zero initial) = queue-sized (new_mobile w.modulus) Zero initial begins empty in
     record { zero = queued.zero; three = queued.three }
 
-tells-sound : {w : Actors} {event : Event} {n : ℕ} {message : Rsl} → Good w → Tells w event n message → IsSound message
+tells_sound : {w : Actors} {event : Event} {n : ℕ} {message : Rsl} → Good w → Tells w event n message → IsSound message
 unfolding IsOnChannel
-tells-sound good (requires number station initial accepting) = sound-request number
-tells-sound good (opens_with number p tenure frame lent) = sound-initial tenure.at.number frame (lent-lawful good lent) (lent-l3 good lent)
-tells-sound good (brings number sapi p tenure frame lent) = sound-data tenure.at.number sapi frame (lent-lawful good lent) (lent-l3 good lent)
-tells-sound good (links number p tenure frame lent) = sound-establishment tenure.at.number Three (lent-lawful good lent)
-tells-sound {w} good (detects number tenure reached) = sound-detection tenure.at.number (reached-lawful w tenure good reached)
-tells-sound {w} good (establishes tenure reached) = sound-establishment tenure.at.number Zero (reached-lawful w tenure good reached)
-tells-sound good (answers station l answer taken) = sound-answer answer l.channel (taken-lawful taken)
-tells-sound {w} good (reports number report tenure reached long) =
-    sound-report tenure.at.number (spot_at w tenure.at).reports report (reached-lawful w tenure good reached) (eqb-true (length report) REPORT_LENGTH long)
+tells_sound good (requires number station initial accepting) = sound_request number
+tells_sound good (opens_with number p tenure frame lent) = sound_initial tenure.at.number frame (lent-lawful good lent) (lent-l3 good lent)
+tells_sound good (brings number sapi p tenure frame lent) = sound_data tenure.at.number sapi frame (lent-lawful good lent) (lent-l3 good lent)
+tells_sound good (links number p tenure frame lent) = sound_establishment tenure.at.number Three (lent-lawful good lent)
+tells_sound {w} good (detects number tenure reached) = sound_detection tenure.at.number (reached-lawful w tenure good reached)
+tells_sound {w} good (establishes tenure reached) = sound_establishment tenure.at.number Zero (reached-lawful w tenure good reached)
+tells_sound good (answers station l answer taken) = sound_answer answer l.channel (taken-lawful taken)
+tells_sound {w} good (reports number report tenure reached long) =
+    sound_report tenure.at.number (spot_at w tenure.at).reports report (reached-lawful w tenure good reached) (eqb-true (length report) REPORT_LENGTH long)
 
 pub good-step : (w : Actors) (event : Event) → Good w → Good (actors_after w event)
 unfolding IsOnChannel
 good-step w event good = event-keeps Good w event (record {
-  puts = λ u number p q found _ how so. good-mobile q u (becomes-sized (sized-of w number p good found) how) so;
-  joins = λ number initial accepting how so. record { ends = so.ends; mobiles = behind-all HasSizedEnd (connected w.modulus number initial accepting) w.mobiles (joins-sized how) so.mobiles };
-  tells = λ u n message _ how so. good-told n message u (tells-sound good how) so;
-  spots = λ u at spot _ _ so. good-spot at spot u so;
+  puts = λ u number p q found _ how so. good_mobile q u (becomes_sized (sized_of w number p good found) how) so;
+  joins = λ number initial accepting how so. record { ends = so.ends; mobiles = behind-all HasSizedEnd (connected w.modulus number initial accepting) w.mobiles (joins_sized how) so.mobiles };
+  tells = λ u n message _ how so. good_told n message u (tells_sound good how) so;
+  spots = λ u at spot _ _ so. good_spot at spot u so;
   pops = λ station others _ so. record { ends = so.ends; mobiles = so.mobiles };
   activates = λ u s a taken _ so.
-      let sound = sound-activated (base_of u s) a.channel (taken-lawful taken) (end-of u s so) in
-      good-spot (place_at s a.channel) _ (with_base s _ u) (good-base s _ u sound so);
+      let sound = sound_activated (base_of u s) a.channel (taken-lawful taken) (end-of u s so) in
+      good_spot (place_at s a.channel) _ (with_base s _ u) (good_base s _ u sound so);
   releases = λ u s channel taken so.
-      let sound = sound-released (base_of u s) channel (taken-lawful taken) (end-of u s so) in
-      good-spot (place_at s channel) _ (with_base s _ u) (good-base s _ u sound so);
+      let sound = sound_released (base_of u s) channel (taken-lawful taken) (end-of u s so) in
+      good_spot (place_at s channel) _ (with_base s _ u) (good_base s _ u sound so);
 }) (record {
   rest = λ u inbox controller switch made lines so. record { ends = so.ends; mobiles = so.mobiles };
   next = λ source message _ so.
       let before = end-of w source so in
-      good-base source _ w (record { channels = before.channels; made = sound-behind (base_of w source).messages before.made }) so;
-  down = λ source _ _ so. good-base source _ w (record { channels = (end-of w source so).channels; made = tt }) so;
+      good_base source _ w (record { channels = before.channels; made = sound_behind (base_of w source).messages before.made }) so;
+  down = λ source _ _ so. good_base source _ w (record { channels = (end-of w source so).channels; made = tt }) so;
 }) good
 
 -- ---- what is pushed
 
-read-pushed : (w : Actors) (event : Event) → Good w → AllByRecursion IsReadItem (pushed w event)
-read-pushed w (BasePush source) good = by_source (nat_eq source SWITCH_LINK) refl where
+read_pushed : (w : Actors) (event : Event) → Good w → AllByRecursion IsReadItem (pushed w event)
+read_pushed w (BasePush source) good = by_source (nat_eq source SWITCH_LINK) refl where
   of_switch : source ≡ SWITCH_LINK → (made : List Sccp) → AllByRecursion IsReadItem (map switch_item (first_of made))
   of_switch is [] = tt
   of_switch is (first ∷ others) = ((λ other. absurd (other refl)), tt)
@@ -182,29 +182,29 @@ read-pushed w (BasePush source) good = by_source (nat_eq source SWITCH_LINK) ref
   by_source : (b : Bool) → nat_eq source SWITCH_LINK ≡ b → AllByRecursion IsReadItem (if b then map switch_item (first_of w.switch_made) else map (station_item source) (option_to_list (first_message (base_of w source))))
   by_source true is = of_switch (eqb-true source SWITCH_LINK is) w.switch_made
   by_source false is = of_station (base_of w source).messages (end-of w source good).made
-read-pushed w (BaseDown source) good = by_link (is_up w source) where
+read_pushed w (BaseDown source) good = by_link (is_up w source) where
   by_link : (b : Bool) → AllByRecursion IsReadItem (if b then record { source = source; what = whats.Down } ∷ [] else [])
   by_link true = ((λ other. tt), tt)
   by_link false = tt
-read-pushed w _ good = tt
+read_pushed w _ good = tt
 
-read-all : (w : Actors) (events : List Event) → Good w → AllByRecursion IsReadItem (all_pushed w events)
-read-all w [] good = tt
-read-all w (event ∷ events) good =
-    AllByRecursion-append IsReadItem (pushed w event) (all_pushed (actors_after w event) events) (read-pushed w event good) (read-all (actors_after w event) events (good-step w event good))
+read_all : (w : Actors) (events : List Event) → Good w → AllByRecursion IsReadItem (all_pushed w events)
+read_all w [] good = tt
+read_all w (event ∷ events) good =
+    AllByRecursion-append IsReadItem (pushed w event) (all_pushed (actors_after w event) events) (read_pushed w event good) (read_all (actors_after w event) events (good-step w event good))
 
-new-ends : (from k : ℕ) (cells : List CellParameters) → SoundEnd (get_or (stations_from from cells) k no_station).base
-new-ends from k [] = record { channels = tt; made = tt }
-new-ends from zero (cell ∷ cells) = record { channels = tt; made = tt }
-new-ends from (suc k) (cell ∷ cells) = new-ends (from + 1) k cells
+new_ends : (from k : ℕ) (cells : List CellParameters) → SoundEnd (get_or (stations_from from cells) k no_station).base
+new_ends from k [] = record { channels = tt; made = tt }
+new_ends from zero (cell ∷ cells) = record { channels = tt; made = tt }
+new_ends from (suc k) (cell ∷ cells) = new_ends (from + 1) k cells
 
 pub good-new : (settings : Parameters) → Good (new_actors settings)
 unfolding Ends
-good-new settings = record { ends = λ k. new-ends 1 k settings.cells; mobiles = tt }
+good-new settings = record { ends = λ k. new_ends 1 k settings.cells; mobiles = tt }
 
 pub good-all : (w : Actors) (events : List Event) → Good w → Good (actors_after_all w events)
 good-all w [] good = good
 good-all w (event ∷ events) good = good-all (actors_after w event) events (good-step w event good)
 
-pub AreRead-new : (settings : Parameters) (events : List Event) → AreRead settings events
-AreRead-new settings events = read-all (new_actors settings) events (good-new settings)
+pub are_read_new : (settings : Parameters) (events : List Event) → AreRead settings events
+are_read_new settings events = read_all (new_actors settings) events (good-new settings)

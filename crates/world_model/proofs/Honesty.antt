@@ -50,8 +50,8 @@ set-same-base (first ∷ stations) zero (suc j) station same = refl
 set-same-base (first ∷ stations) (suc k) zero station same = refl
 set-same-base (first ∷ stations) (suc k) (suc j) station same = set-same-base stations k j station same
 
-less-one : (n m : ℕ) → n ≢ 0 → m ≢ 0 → n ≢ m → n - 1 ≢ m - 1
-less-one n m n_is m_is differs same = differs (omega arith)
+less_one : (n m : ℕ) → n ≢ 0 → m ≢ 0 → n ≢ m → n - 1 ≢ m - 1
+less_one n m n_is m_is differs same = differs (omega arith)
 
 -- ---- ends of stations
 
@@ -59,7 +59,7 @@ pub base-with_spot : (at : Place) (spot : Spot) (w : Actors) (n : ℕ) → base_
 base-with_spot at spot w n = set-same-base w.stations (at.station - 1) (n - 1) _ refl
 
 pub base-elsewhere : (w : Actors) (n m : ℕ) (base : BaseState) → n ≢ 0 → m ≢ 0 → n ≢ m → base_of (with_base m base w) n ≡ base_of w n
-base-elsewhere w n m base n_is m_is differs = ap (λ (s : Station). s.base) (set-elsewhere w.stations (m - 1) (n - 1) _ (less-one n m n_is m_is differs))
+base-elsewhere w n m base n_is m_is differs = ap (λ (s : Station). s.base) (set-elsewhere w.stations (m - 1) (n - 1) _ (less_one n m n_is m_is differs))
 
 pub base-there : (w : Actors) (n : ℕ) (base : BaseState) → (base_of (with_base n base w) n ≡ base) ⊎ ((base_of (with_base n base w) n ≡ no_station.base) × (base_of w n ≡ no_station.base))
 base-there w n base =
@@ -99,9 +99,9 @@ calling n m w u calls base n_is up same is none =
         | inr nowhere ↦ rests (nowhere.0 ∙ sym nowhere.1 ∙ same m)
       ]
 
-acts-at : {n : ℕ} {w u v : Actors} → base_of v n ≡ base_of u n → Acts n w u → Acts n w v
-acts-at same (rests is) = rests (same ∙ is)
-acts-at same (acts calls up is none) = acts calls up (same ∙ is) none
+acts_at : {n : ℕ} {w u v : Actors} → base_of v n ≡ base_of u n → Acts n w u → Acts n w v
+acts_at same (rests is) = rests (same ∙ is)
+acts_at same (acts calls up is none) = acts calls up (same ∙ is) none
 
 active-unless : (base : BaseState) (channel : ℕ) → is_active base.active channel ≡ true → refusal_unless_active base channel ≡ None
 active-unless base channel is = ap (λ (b : Bool). cond b None (Some NotActive)) is
@@ -124,15 +124,15 @@ reached-up w tenure is =
 
 -- ---- each event but a push and a break
 
-brought-acts : (n : ℕ) (w : Actors) (p : Mobile) (tenure : Tenure) (sapi : Sapi) (frame : List ℕ) → n ≢ 0 → is_reached w tenure ≡ true → Acts n w (brought w p tenure.at sapi frame)
-brought-acts n w p tenure Zero frame n_is reached = acts-at refl (by_opening p.opens) where
+brought_acts : (n : ℕ) (w : Actors) (p : Mobile) (tenure : Tenure) (sapi : Sapi) (frame : List ℕ) → n ≢ 0 → is_reached w tenure ≡ true → Acts n w (brought w p tenure.at sapi frame)
+brought_acts n w p tenure Zero frame n_is reached = acts_at refl (by_opening p.opens) where
   base : BaseState
   base = base_of w tenure.at.station
 
   by_opening : (b : Bool) → Acts n w (with_base tenure.at.station (signalling_brought base tenure.at.number b frame) w)
   by_opening true = calling n tenure.at.station w w (establishes tenure.at.number Zero (Some frame) ∷ []) _ n_is (reached-up w tenure reached).0 (λ k. refl) (establishing base tenure.at.number Zero (Some frame) (reached-up w tenure reached).1) refl
   by_opening false = calling n tenure.at.station w w (brings_up tenure.at.number Zero frame ∷ []) _ n_is (reached-up w tenure reached).0 (λ k. refl) (bringing base tenure.at.number Zero frame (reached-up w tenure reached).1) refl
-brought-acts n w p tenure Three frame n_is reached = acts-at (base-with_spot tenure.at _ (with_base tenure.at.station (short_message_brought base tenure.at.number (spot_at w tenure.at).sapi_three_up frame) w) n) (by_link (spot_at w tenure.at).sapi_three_up) where
+brought_acts n w p tenure Three frame n_is reached = acts_at (base-with_spot tenure.at _ (with_base tenure.at.station (short_message_brought base tenure.at.number (spot_at w tenure.at).sapi_three_up frame) w) n) (by_link (spot_at w tenure.at).sapi_three_up) where
   base : BaseState
   base = base_of w tenure.at.station
 
@@ -144,31 +144,31 @@ brought-acts n w p tenure Three frame n_is reached = acts-at (base-with_spot ten
   by_link false = calling n tenure.at.station w w (establishes tenure.at.number Three None ∷ brings_up tenure.at.number Three frame ∷ []) _ n_is (reached-up w tenure reached).0 (λ k. refl)
       (bringing (after_establish base tenure.at.number Three None) tenure.at.number Three frame is_on ∙ ap (λ (b : BaseState). after_call b (brings_up tenure.at.number Three frame)) (establishing base tenure.at.number Three None is_on)) refl
 
-told-acts : (n m : ℕ) (message : Rsl) (w u : Actors) → n ≢ 0 → is_station_up w m ≡ true → SameEnds w u → is_told message ≡ true → Acts n w (told m message u)
-told-acts n m message w u n_is up same is =
+told_acts : (n m : ℕ) (message : Rsl) (w u : Actors) → n ≢ 0 → is_station_up w m ≡ true → SameEnds w u → is_told message ≡ true → Acts n w (told m message u)
+told_acts n m message w u n_is up same is =
     calling n m w u (tells message ∷ []) (after_tell (base_of u m) message) n_is up same
     (ap (λ (b : BaseState). after_tell b message) (same m) ∙ sym (ap (λ (b : Bool). if b then after_tell (base_of w m) message else base_of w m) is)) refl
 
-seated-acts : (n : ℕ) (w : Actors) (p : Mobile) (tenure : Tenure) (control : List ℕ) → n ≢ 0 → is_reached w tenure ≡ true → Acts n w (seated w p tenure control)
-seated-acts n w p tenure control n_is reached =
-    acts-at refl (calling n tenure.at.station w w (establishes tenure.at.number Zero None ∷ []) _ n_is (reached-up w tenure reached).0 (λ k. refl) (establishing (base_of w tenure.at.station) tenure.at.number Zero None (reached-up w tenure reached).1) refl)
+seated_acts : (n : ℕ) (w : Actors) (p : Mobile) (tenure : Tenure) (control : List ℕ) → n ≢ 0 → is_reached w tenure ≡ true → Acts n w (seated w p tenure control)
+seated_acts n w p tenure control n_is reached =
+    acts_at refl (calling n tenure.at.station w w (establishes tenure.at.number Zero None ∷ []) _ n_is (reached-up w tenure reached).0 (λ k. refl) (establishing (base_of w tenure.at.station) tenure.at.number Zero None (reached-up w tenure reached).1) refl)
 
-answered-acts : (n station channel : ℕ) (answer : Bool) (w u : Actors) → n ≢ 0 → is_station_up w station ≡ true → SameEnds w u → Acts n w (answered answer (place_at station channel) u)
-answered-acts n station channel answer w u n_is up same =
-    told-acts n station (link_answer answer channel) w _ n_is up (λ k. base-with_spot (place_at station channel) _ u k ∙ same k) (by_answer answer) where
+answered_acts : (n station channel : ℕ) (answer : Bool) (w u : Actors) → n ≢ 0 → is_station_up w station ≡ true → SameEnds w u → Acts n w (answered answer (place_at station channel) u)
+answered_acts n station channel answer w u n_is up same =
+    told_acts n station (link_answer answer channel) w _ n_is up (λ k. base-with_spot (place_at station channel) _ u k ∙ same k) (by_answer answer) where
       by_answer : (b : Bool) → is_told (link_answer b channel) ≡ true
       by_answer true = refl
       by_answer false = refl
 
-took-acts : (n station : ℕ) (target : Option Tenure) (o : Option Rsl) (w u : Actors) → n ≢ 0 → is_station_up w station ≡ true → SameEnds w u → OfTaken (Acts n w) (took station target o u)
-took-acts n station target o w u n_is up same = took-leads (Acts n w) station target o u (record {
+took_acts : (n station : ℕ) (target : Option Tenure) (o : Option Rsl) (w u : Actors) → n ≢ 0 → is_station_up w station ≡ true → SameEnds w u → OfTaken (Acts n w) (took station target o u)
+took_acts n station target o w u n_is up same = took-leads (Acts n w) station target o u (record {
   nothing = rests (same n);
-  activates = λ channel free. acts-at (base-with_spot (place_at station channel) _ (with_base station (after_activate (base_of u station) channel) u) n)
+  activates = λ channel free. acts_at (base-with_spot (place_at station channel) _ (with_base station (after_activate (base_of u station) channel) u) n)
       (calling n station w u (activates channel ∷ []) _ n_is up same (activating (base_of u station) channel free ∙ ap (λ (b : BaseState). after_call b (activates channel)) (same station)) refl);
   seats = λ p number channel _ _. rests (same n);
   airs = λ channel message _. rests (base-with_spot (place_at station channel) _ u n ∙ same n);
-  answers = λ answer channel. answered-acts n station channel answer w u n_is up same;
-  releases = λ channel. acts-at (base-with_spot (place_at station channel) _ (with_base station (after_release (base_of u station) channel) u) n)
+  answers = λ answer channel. answered_acts n station channel answer w u n_is up same;
+  releases = λ channel. acts_at (base-with_spot (place_at station channel) _ (with_base station (after_release (base_of u station) channel) u) n)
       (calling n station w u (releases channel ∷ []) _ n_is up same (ap (λ (b : BaseState). after_release b channel) (same station)) refl);
 })
 
@@ -185,10 +185,10 @@ pub data Plain (n : ℕ) (w : Actors) (event : Event) (v : Actors) : Type 0 wher
   next : (message : Rsl) → first_message (base_of w n) ≡ Some message → base_of v n ≡ after_next (base_of w n) → given n w event ≡ message ∷ [] → Plain n w event v
   ends_now : is_up v n ≡ false → (base_of v n).messages ≡ [] → given n w event ≡ [] → Plain n w event v
 
-plain-step : {n : ℕ} {w v : Actors} {event : Event} → Plain n w event v → Step n w event v
-plain-step (as_before same nothing) = acts_then (rests same) nothing
-plain-step (next message first is nows) = gives message first is nows
-plain-step (ends_now down left nothing) = breaks down left nothing
+plain_step : {n : ℕ} {w v : Actors} {event : Event} → Plain n w event v → Step n w event v
+plain_step (as_before same nothing) = acts_then (rests same) nothing
+plain_step (next message first is nows) = gives message first is nows
+plain_step (ends_now down left nothing) = breaks down left nothing
 
 acting : (n : ℕ) (w : Actors) (event : Event) (o : Option Actors) → given n w event ≡ [] → OfTaken (Acts n w) o → Step n w event (unwrap_or o w)
 acting n w event o nothing leads = acts_then (after-taken (Acts n w) o w leads (rests refl)) nothing
@@ -266,31 +266,31 @@ unfolding event_after FromAir OfTaken
 step n w (Upper number sapi message) n_is = acting n w (Upper number sapi message) (after_upper w number sapi message) refl (upper-leads (Acts n w) w number sapi message (λ p _. rests refl))
 step n w (Connect number station initial accepts) n_is =
     acting n w (Connect number station initial accepts) (after_connecting w number station initial accepts) refl
-    (connect-leads (Acts n w) w number station initial accepts (λ may. told-acts n station (channel_required number) w _ n_is (and-right (is_new w number) (is_station_up w station) (and-left (is_new w number && is_station_up w station) (is_none (refusal_of_connect (Some initial))) may)) (λ k. refl) refl))
+    (connect-leads (Acts n w) w number station initial accepts (λ may. told_acts n station (channel_required number) w _ n_is (and-right (is_new w number) (is_station_up w station) (and-left (is_new w number && is_station_up w station) (is_none (refusal_of_connect (Some initial))) may)) (λ k. refl) refl))
 step n w (AirUp number sapi) n_is =
-    acting n w (AirUp number sapi) (after_air_up w number sapi) refl (air_up-leads (Acts n w) w number sapi (λ p tenure command frame _ _ _ reached. brought-acts n w p tenure sapi frame n_is reached))
+    acting n w (AirUp number sapi) (after_air_up w number sapi) refl (air_up-leads (Acts n w) w number sapi (λ p tenure command frame _ _ _ reached. brought_acts n w p tenure sapi frame n_is reached))
 step n w (AirAck number sapi) n_is = acting n w (AirAck number sapi) (after_air_ack w number sapi) refl (air_ack-leads (Acts n w) w number sapi (λ p _. rests refl))
 step n w (AirDown number) n_is = acting n w (AirDown number) (after_air_down w number) refl (air_down-leads (Acts n w) w number (λ p tenure command _ _ _ first others _. rests (base-with_spot tenure.at _ w n)))
 step n w (AirDownLost number) n_is = acting n w (AirDownLost number) (after_air_down_lost w number) refl (air_down_lost-leads (Acts n w) w number (λ p tenure command _ _ _ first others _. rests (base-with_spot tenure.at _ w n)))
 step n w (Move number) n_is = acting n w (Move number) (after_move w number) refl (move-leads (Acts n w) w number (λ p tenure command _ _ _. rests (base-with_spot tenure.at _ w n)))
 step n w (Touch number) n_is =
-    acting n w (Touch number) (after_touch w number) refl (touch-leads (Acts n w) w number (λ command reached. told-acts n command.target.at.station (handover_detection command.target.at.number) w w n_is (reached-up w command.target reached).0 (λ k. refl) refl))
+    acting n w (Touch number) (after_touch w number) refl (touch-leads (Acts n w) w number (λ command reached. told_acts n command.target.at.station (handover_detection command.target.at.number) w w n_is (reached-up w command.target reached).0 (λ k. refl) refl))
 step n w (Arrive number) n_is =
-    acting n w (Arrive number) (after_arriving w number) refl (arrive-leads (Acts n w) w number (λ p from command _ _ reached. seated-acts n w p command.target (complete command.change) n_is reached))
+    acting n w (Arrive number) (after_arriving w number) refl (arrive-leads (Acts n w) w number (λ p from command _ _ reached. seated_acts n w p command.target (complete command.change) n_is reached))
 step n w (Return number) n_is =
-    acting n w (Return number) (after_return w number) refl (return-leads (Acts n w) w number (λ p from command _ _ reached. seated-acts n w p from (failure command.change) n_is reached))
+    acting n w (Return number) (after_return w number) refl (return-leads (Acts n w) w number (λ p from command _ _ reached. seated_acts n w p from (failure command.change) n_is reached))
 step n w (BaseTakes station) n_is =
-    acting n w (BaseTakes station) (after_base_takes w station) refl (base_takes-leads (Acts n w) w station (λ first others up _. took-acts n station first.target (rsl_in first.out.frame) w (with_outbox station others w) n_is up (λ k. refl)))
-step n w (BasePush source) n_is = plain-step (pushing n source w n_is)
+    acting n w (BaseTakes station) (after_base_takes w station) refl (base_takes-leads (Acts n w) w station (λ first others up _. took_acts n station first.target (rsl_in first.out.frame) w (with_outbox station others w) n_is up (λ k. refl)))
+step n w (BasePush source) n_is = plain_step (pushing n source w n_is)
 step n w Handle n_is =
     acting n w Handle (after_handle w) refl (handle-leads (Acts n w) w (λ item items _. turn-leads (Acts n w) (target_in w item.source item.what) (take item w.controller) (record w { inbox = items }) (λ links. rests refl)))
 step n w SwitchTakes n_is =
     acting n w SwitchTakes (after_switch_takes w) refl (switch_takes-leads (Acts n w) w (λ first others _ _. switch_took-leads (Acts n w) (with_outbox SWITCH_LINK others w) (sccp_in first.out.frame) (rests refl) (λ next made. rests refl)))
 step n w (SwitchDoes action) n_is = acting n w (SwitchDoes action) (after_switch_does w action) refl (does-leads (Acts n w) w action (λ next made. rests refl))
 step n w (Tick ms) n_is = acting n w (Tick ms) (after_tick w ms) refl (turn-leads (Acts n w) None (tick ms w.controller) w (λ links. rests refl))
-step n w (BaseDown source) n_is = plain-step (breaking n source w n_is)
+step n w (BaseDown source) n_is = plain_step (breaking n source w n_is)
 step n w (Report number report) n_is =
-    acting n w (Report number report) (after_report w number report) refl (report-leads (Acts n w) w number report (λ tenure reached. told-acts n tenure.at.station _ w _ n_is (reached-up w tenure reached).0 (λ k. base-with_spot tenure.at _ w k) refl))
+    acting n w (Report number report) (after_report w number report) refl (report-leads (Acts n w) w number report (λ tenure reached. told_acts n tenure.at.station _ w _ n_is (reached-up w tenure reached).0 (λ k. base-with_spot tenure.at _ w k) refl))
 
 -- ---- all events
 
@@ -304,12 +304,12 @@ messages_given-append base (x ∷ xs) ys =
     ap (λ (ms : List Rsl). messages_given_by_call base x ++ ms) (messages_given-append (after_call base x) xs ys)
     ∙ sym (append_assoc (messages_given_by_call base x) (messages_given (after_call base x) xs) (messages_given (after_calls (after_call base x) xs) ys))
 
-Tenures-front : {channel : ℕ} {start end : Bool} (xs ys : List Rsl) → Tenures channel start (xs ++ ys) end → (mid : Bool) × Tenures channel start xs mid
-Tenures-front {start} [] ys h = (start, over start)
-Tenures-front (x ∷ xs) ys (begins h) = let front = Tenures-front xs ys h in (front.0, begins front.1)
-Tenures-front (x ∷ xs) ys (brings is h) = let front = Tenures-front xs ys h in (front.0, brings is front.1)
-Tenures-front (x ∷ xs) ys (ends h) = let front = Tenures-front xs ys h in (front.0, ends front.1)
-Tenures-front (x ∷ xs) ys (apart free unbound h) = let front = Tenures-front xs ys h in (front.0, apart free unbound front.1)
+tenures_front : {channel : ℕ} {start end : Bool} (xs ys : List Rsl) → Tenures channel start (xs ++ ys) end → (mid : Bool) × Tenures channel start xs mid
+tenures_front {start} [] ys h = (start, over start)
+tenures_front (x ∷ xs) ys (begins h) = let front = tenures_front xs ys h in (front.0, begins front.1)
+tenures_front (x ∷ xs) ys (brings is h) = let front = tenures_front xs ys h in (front.0, brings is front.1)
+tenures_front (x ∷ xs) ys (ends h) = let front = tenures_front xs ys h in (front.0, ends front.1)
+tenures_front (x ∷ xs) ys (apart free unbound h) = let front = tenures_front xs ys h in (front.0, apart free unbound front.1)
 
 -- what was given so far, and the end now: calls made it so; or the link is down, and nothing waits
 pub data Kept (n : ℕ) (so_far : List Rsl) (w : Actors) : Type 0 where
@@ -319,11 +319,11 @@ pub data Kept (n : ℕ) (so_far : List Rsl) (w : Actors) : Type 0 where
 with_nothing : (so_far more : List Rsl) → more ≡ [] → so_far ++ more ≡ so_far
 with_nothing so_far more none = ap (λ (ms : List Rsl). so_far ++ ms) none ∙ append-nil so_far
 
-tenures-of : {channel : ℕ} {xs ys : List Rsl} → xs ≡ ys → (end : Bool) × Tenures channel false ys end → (end : Bool) × Tenures channel false xs end
-tenures-of {channel} is h = (h.0, subst (λ (ms : List Rsl). Tenures channel false ms h.0) (sym is) h.1)
+tenures_of : {channel : ℕ} {xs ys : List Rsl} → xs ≡ ys → (end : Bool) × Tenures channel false ys end → (end : Bool) × Tenures channel false xs end
+tenures_of {channel} is h = (h.0, subst (λ (ms : List Rsl). Tenures channel false ms h.0) (sym is) h.1)
 
-so_far-tenures : (channel station : ℕ) (calls : List BaseCall) → (end : Bool) × Tenures channel false (messages_given (new_base station) calls) end
-so_far-tenures channel station calls = Tenures-front (messages_given (new_base station) calls) (after_calls (new_base station) calls).messages (Tenures-given channel station calls)
+so_far_tenures : (channel station : ℕ) (calls : List BaseCall) → (end : Bool) × Tenures channel false (messages_given (new_base station) calls) end
+so_far_tenures channel station calls = tenures_front (messages_given (new_base station) calls) (after_calls (new_base station) calls).messages (Tenures-given channel station calls)
 
 up_and_down : {b : Bool} → b ≡ true → b ≡ false → ⊥
 up_and_down is_true is_false = impossible (sym is_true ∙ is_false) where
@@ -335,41 +335,41 @@ no_first base message none first = impossible (sym (ap first_of_messages none) �
   impossible : {message : Rsl} → None ≡ Some message → ⊥
   impossible h = absurd cc
 
-kept-by : (n : ℕ) (so_far : List Rsl) (w : Actors) (event : Event) (v : Actors) → Step n w event v → (is_up w n ≡ false → is_up v n ≡ false) → Kept n so_far w → Kept n (so_far ++ given n w event) v
-kept-by n so_far w event v (acts_then (rests same) nothing) stays (works station calls is gave) =
+kept_by : (n : ℕ) (so_far : List Rsl) (w : Actors) (event : Event) (v : Actors) → Step n w event v → (is_up w n ≡ false → is_up v n ≡ false) → Kept n so_far w → Kept n (so_far ++ given n w event) v
+kept_by n so_far w event v (acts_then (rests same) nothing) stays (works station calls is gave) =
     works station calls (same ∙ is) (with_nothing so_far (given n w event) nothing ∙ gave)
-kept-by n so_far w event v (acts_then (acts more up is_more none) nothing) stays (works station calls is gave) =
+kept_by n so_far w event v (acts_then (acts more up is_more none) nothing) stays (works station calls is gave) =
     works station (calls ++ more)
     (is_more ∙ ap (λ (b : BaseState). after_calls b more) is ∙ sym (after_calls-append (new_base station) calls more))
     (with_nothing so_far (given n w event) nothing ∙ gave ∙ sym (append-nil (messages_given (new_base station) calls))
     ∙ ap (λ (ms : List Rsl). messages_given (new_base station) calls ++ ms) (sym none ∙ ap (λ (b : BaseState). messages_given b more) is)
     ∙ sym (messages_given-append (new_base station) calls more))
-kept-by n so_far w event v (gives message first is_next gave_now) stays (works station calls is gave) =
+kept_by n so_far w event v (gives message first is_next gave_now) stays (works station calls is gave) =
     works station (calls ++ gives_next ∷ [])
     (is_next ∙ ap after_next is ∙ sym (after_calls-append (new_base station) calls (gives_next ∷ [])))
     (ap (λ (ms : List Rsl). so_far ++ ms) (gave_now ∙ sym (ap option_to_list (sym (ap first_message is) ∙ first)) ∙ sym (append-nil (option_to_list (first_message (after_calls (new_base station) calls)))))
     ∙ ap (λ (ms : List Rsl). ms ++ (option_to_list (first_message (after_calls (new_base station) calls)) ++ [])) gave
     ∙ sym (messages_given-append (new_base station) calls (gives_next ∷ [])))
-kept-by n so_far w event v (breaks down nothing_left nothing) stays (works station calls is gave) =
-    rested down nothing_left (λ channel. tenures-of (with_nothing so_far (given n w event) nothing ∙ gave) (so_far-tenures channel station calls))
-kept-by n so_far w event v (acts_then (rests same) nothing) stays (rested down nothing_left tenures) =
-    rested (stays down) (ap (λ (b : BaseState). b.messages) same ∙ nothing_left) (λ channel. tenures-of (with_nothing so_far (given n w event) nothing) (tenures channel))
-kept-by n so_far w event v (acts_then (acts more up is_more none) nothing) stays (rested down nothing_left tenures) = absurd (up_and_down up down)
-kept-by n so_far w event v (gives message first is_next gave_now) stays (rested down nothing_left tenures) = absurd (no_first (base_of w n) message nothing_left first)
-kept-by n so_far w event v (breaks down_now nothing_now nothing) stays (rested down nothing_left tenures) =
-    rested down_now nothing_now (λ channel. tenures-of (with_nothing so_far (given n w event) nothing) (tenures channel))
+kept_by n so_far w event v (breaks down nothing_left nothing) stays (works station calls is gave) =
+    rested down nothing_left (λ channel. tenures_of (with_nothing so_far (given n w event) nothing ∙ gave) (so_far_tenures channel station calls))
+kept_by n so_far w event v (acts_then (rests same) nothing) stays (rested down nothing_left tenures) =
+    rested (stays down) (ap (λ (b : BaseState). b.messages) same ∙ nothing_left) (λ channel. tenures_of (with_nothing so_far (given n w event) nothing) (tenures channel))
+kept_by n so_far w event v (acts_then (acts more up is_more none) nothing) stays (rested down nothing_left tenures) = absurd (up_and_down up down)
+kept_by n so_far w event v (gives message first is_next gave_now) stays (rested down nothing_left tenures) = absurd (no_first (base_of w n) message nothing_left first)
+kept_by n so_far w event v (breaks down_now nothing_now nothing) stays (rested down nothing_left tenures) =
+    rested down_now nothing_now (λ channel. tenures_of (with_nothing so_far (given n w event) nothing) (tenures channel))
 
 pub kept-all : (n : ℕ) (so_far : List Rsl) (w : Actors) (events : List Event) → n ≢ 0 → Kept n so_far w → Kept n (so_far ++ all_given n w events) (actors_after_all w events)
 kept-all n so_far w [] n_is kept = subst (λ (ms : List Rsl). Kept n ms w) (sym (append-nil so_far)) kept
 kept-all n so_far w (event ∷ events) n_is kept =
     subst (λ (ms : List Rsl). Kept n ms (actors_after_all (actors_after w event) events)) (append_assoc so_far (given n w event) (all_given n (actors_after w event) events))
-    (kept-all n (so_far ++ given n w event) (actors_after w event) events n_is (kept-by n so_far w event (actors_after w event) (step n w event n_is) (down-after n w event) kept))
+    (kept-all n (so_far ++ given n w event) (actors_after w event) events n_is (kept_by n so_far w event (actors_after w event) (step n w event n_is) (down-after n w event) kept))
 
 pub tenures-kept : (n channel : ℕ) (so_far : List Rsl) (w : Actors) → Kept n so_far w → (end : Bool) × Tenures channel false (so_far ++ (base_of w n).messages) end
 tenures-kept n channel so_far w (works station calls is gave) =
-    tenures-of (ap (λ (ms : List Rsl). ms ++ (base_of w n).messages) gave ∙ ap (λ (b : BaseState). messages_given (new_base station) calls ++ b.messages) is)
+    tenures_of (ap (λ (ms : List Rsl). ms ++ (base_of w n).messages) gave ∙ ap (λ (b : BaseState). messages_given (new_base station) calls ++ b.messages) is)
     (is_active (after_calls (new_base station) calls).active channel, Tenures-given channel station calls)
-tenures-kept n channel so_far w (rested down nothing_left tenures) = tenures-of (with_nothing so_far (base_of w n).messages nothing_left) (tenures channel)
+tenures-kept n channel so_far w (rested down nothing_left tenures) = tenures_of (with_nothing so_far (base_of w n).messages nothing_left) (tenures channel)
 
 -- a new station has a new end
 pub new_ends : (cells : List CellParameters) (from k : ℕ) → (station : ℕ) × ((get_or (stations_from from cells) k no_station).base ≡ new_base station)

@@ -19,9 +19,9 @@ use Rattle.world_model.proofs.Leads.{aerial-leads, taking-leads}
 abbrev Stays : Actors → Actors → Type 0
 Stays w v = v.inbox ≡ w.inbox
 
-joined-stays : (target : Option Tenure) (outs : List Out) (w : Actors) → Stays w (fold (joined_by target) w outs)
-joined-stays target [] w = refl
-joined-stays target (out ∷ outs) w = joined-stays target outs (joined_by target w out) ∙ by_link (is_up w out.to) where
+joined_stays : (target : Option Tenure) (outs : List Out) (w : Actors) → Stays w (fold (joined_by target) w outs)
+joined_stays target [] w = refl
+joined_stays target (out ∷ outs) w = joined_stays target outs (joined_by target w out) ∙ by_link (is_up w out.to) where
   by_link : (b : Bool) → Stays w (if b then with_outbox out.to (outbox_of w out.to ++ entry_of target out ∷ []) w else w)
   by_link true = refl
   by_link false = refl
@@ -34,50 +34,50 @@ Goes w event = w.inbox ++ pushed w event ≡ popped w event ++ (actors_after w e
 quietly : (w : Actors) (o : Option Actors) → OfTaken (Stays w) o → w.inbox ++ [] ≡ (unwrap_or o w).inbox
 quietly w o taken = append-nil w.inbox ∙ sym (after-taken (Stays w) o w taken refl)
 
-pushed_by_switch-goes : (w : Actors) (made : List Sccp) → w.inbox ++ map switch_item (first_of made) ≡ (unwrap_or (pushed_by_switch made w) w).inbox
-pushed_by_switch-goes w [] = append-nil w.inbox
-pushed_by_switch-goes w (first ∷ others) = refl
+pushed_by_switch_goes : (w : Actors) (made : List Sccp) → w.inbox ++ map switch_item (first_of made) ≡ (unwrap_or (pushed_by_switch made w) w).inbox
+pushed_by_switch_goes w [] = append-nil w.inbox
+pushed_by_switch_goes w (first ∷ others) = refl
 
-pushed_by_station-goes : (w : Actors) (station : ℕ) (o : Option Rsl) → w.inbox ++ map (station_item station) (option_to_list o) ≡ (unwrap_or (pushed_by_station station o w) w).inbox
-pushed_by_station-goes w station None = append-nil w.inbox
-pushed_by_station-goes w station (Some message) = refl
+pushed_by_station_goes : (w : Actors) (station : ℕ) (o : Option Rsl) → w.inbox ++ map (station_item station) (option_to_list o) ≡ (unwrap_or (pushed_by_station station o w) w).inbox
+pushed_by_station_goes w station None = append-nil w.inbox
+pushed_by_station_goes w station (Some message) = refl
 
-push-goes : (w : Actors) (source : ℕ) → w.inbox ++ made_item w source ≡ (unwrap_or (after_base_push w source) w).inbox
-push-goes w source = by_source (source == SWITCH_LINK) where
+push_goes : (w : Actors) (source : ℕ) → w.inbox ++ made_item w source ≡ (unwrap_or (after_base_push w source) w).inbox
+push_goes w source = by_source (source == SWITCH_LINK) where
   by_source : (b : Bool) → w.inbox ++ (if b then map switch_item (first_of w.switch_made) else map (station_item source) (option_to_list (first_message (base_of w source)))) ≡ (unwrap_or (if b then pushed_by_switch w.switch_made w else pushed_by_station source (first_message (base_of w source)) w) w).inbox
-  by_source true = pushed_by_switch-goes w w.switch_made
-  by_source false = pushed_by_station-goes w source (first_message (base_of w source))
+  by_source true = pushed_by_switch_goes w w.switch_made
+  by_source false = pushed_by_station_goes w source (first_message (base_of w source))
 
-without_made-stays : (source : ℕ) (w : Actors) → Stays w (without_made source w)
-without_made-stays source w = by_source (source == SWITCH_LINK) where
+without_made_stays : (source : ℕ) (w : Actors) → Stays w (without_made source w)
+without_made_stays source w = by_source (source == SWITCH_LINK) where
   by_source : (b : Bool) → Stays w (if b then record w { switch_made = [] } else with_base source (after_take_down (base_of w source)) w)
   by_source true = refl
   by_source false = refl
 
-break-goes : (w : Actors) (source : ℕ) → w.inbox ++ (if is_up w source then record { source = source; what = whats.Down } ∷ [] else []) ≡ (unwrap_or (after_break w source) w).inbox
-break-goes w source = by_link (is_up w source) where
+break_goes : (w : Actors) (source : ℕ) → w.inbox ++ (if is_up w source then record { source = source; what = whats.Down } ∷ [] else []) ≡ (unwrap_or (after_break w source) w).inbox
+break_goes w source = by_link (is_up w source) where
   by_link : (b : Bool) → w.inbox ++ (if b then record { source = source; what = whats.Down } ∷ [] else []) ≡ (unwrap_or (if b then Some (broken source w) else None) w).inbox
-  by_link true = ap (λ (items : List Item). items ++ record { source = source; what = whats.Down } ∷ []) (sym (without_made-stays source (with_link source broken_link w)))
+  by_link true = ap (λ (items : List Item). items ++ record { source = source; what = whats.Down } ∷ []) (sym (without_made_stays source (with_link source broken_link w)))
   by_link false = append-nil w.inbox
 
-turn-stays : (target : Option Tenure) (t : Turn) (w : Actors) → Stays w (with_turn target t w)
-turn-stays target t w = joined-stays target t.outs (record w { controller = t.next })
+turn_stays : (target : Option Tenure) (t : Turn) (w : Actors) → Stays w (with_turn target t w)
+turn_stays target t w = joined_stays target t.outs (record w { controller = t.next })
 
-handle-goes : (w : Actors) (items : List Item) → w.inbox ≡ items → items ≡ first_of items ++ (unwrap_or (handled items w) w).inbox
-handle-goes w [] is = sym is
-handle-goes w (item ∷ items) is =
-    ap (λ (others : List Item). item ∷ others) (sym (turn-stays (target_in w item.source item.what) (take item w.controller) (record w { inbox = items })))
+handle_goes : (w : Actors) (items : List Item) → w.inbox ≡ items → items ≡ first_of items ++ (unwrap_or (handled items w) w).inbox
+handle_goes w [] is = sym is
+handle_goes w (item ∷ items) is =
+    ap (λ (others : List Item). item ∷ others) (sym (turn_stays (target_in w item.source item.what) (take item w.controller) (record w { inbox = items })))
 
 pub inbox-goes : (w : Actors) (event : Event) → Goes w event
 unfolding event_after FromAir
 inbox-goes w (BaseTakes station) = quietly w (after_base_takes w station) (taking-leads (Stays w) w station (λ first others _ _ mobiles stations. refl))
-inbox-goes w (BasePush source) = push-goes w source
-inbox-goes w Handle = append-nil w.inbox ∙ handle-goes w w.inbox refl
+inbox-goes w (BasePush source) = push_goes w source
+inbox-goes w Handle = append-nil w.inbox ∙ handle_goes w w.inbox refl
 inbox-goes w SwitchTakes =
     quietly w (after_switch_takes w) (switch_takes-leads (Stays w) w (λ first others _ _. switch_took-leads (Stays w) (with_outbox SWITCH_LINK others w) (sccp_in first.out.frame) refl (λ next made. refl)))
 inbox-goes w (SwitchDoes action) = quietly w (after_switch_does w action) (does-leads (Stays w) w action (λ next made. refl))
-inbox-goes w (Tick ms) = append-nil w.inbox ∙ sym (turn-stays None (tick ms w.controller) w)
-inbox-goes w (BaseDown source) = break-goes w source
+inbox-goes w (Tick ms) = append-nil w.inbox ∙ sym (turn_stays None (tick ms w.controller) w)
+inbox-goes w (BaseDown source) = break_goes w source
 inbox-goes w event = quietly w (event_after w event) (aerial-leads (Stays w) w event refl (λ mobiles stations. refl))
 
 -- ---- all events
@@ -91,7 +91,7 @@ inbox-all w (event ∷ events) =
     ∙ ap (λ (items : List Item). popped w event ++ items) (inbox-all (actors_after w event) events)
     ∙ sym (append_assoc (popped w event) (all_popped (actors_after w event) events) (actors_after_all (actors_after w event) events).inbox)
 
-pub sources-all : (source : ℕ) (w : Actors) (events : List Event) → w.inbox ≡ [] → of_source source (all_pushed w events) ≡ of_source source (all_popped w events) ++ of_source source (actors_after_all w events).inbox
-sources-all source w events empty =
+pub sources_all : (source : ℕ) (w : Actors) (events : List Event) → w.inbox ≡ [] → of_source source (all_pushed w events) ≡ of_source source (all_popped w events) ++ of_source source (actors_after_all w events).inbox
+sources_all source w events empty =
     ap (of_source source) (ap (λ (items : List Item). items ++ all_pushed w events) (sym empty) ∙ inbox-all w events)
     ∙ filter-append (λ item. item.source == source) (all_popped w events) (actors_after_all w events).inbox

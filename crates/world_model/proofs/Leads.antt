@@ -40,22 +40,22 @@ unfoldable pub OfTaken : (Actors → Type 0) → Option Actors → Type 0
 OfTaken P None = Unit {0}
 OfTaken P (Some w) = P w
 
-some-leads : (P : Actors → Type 0) (w : Actors) → P w → OfTaken P (Some w)
+some_leads : (P : Actors → Type 0) (w : Actors) → P w → OfTaken P (Some w)
 unfolding OfTaken
-some-leads P w h = h
+some_leads P w h = h
 
 pub only_if-leads : (P : Actors → Type 0) (b : Bool) (w : Actors) → (b ≡ true → P w) → OfTaken P (only_if b w)
 unfolding OfTaken
 only_if-leads P true w h = h refl
 only_if-leads P false w h = tt
 
-found-leads : (P : Actors → Type 0) (o : Option Mobile) (act : Mobile → Option Actors) → ((p : Mobile) → o ≡ Some p → OfTaken P (act p)) → OfTaken P (option_and_then act o)
+found_leads : (P : Actors → Type 0) (o : Option Mobile) (act : Mobile → Option Actors) → ((p : Mobile) → o ≡ Some p → OfTaken P (act p)) → OfTaken P (option_and_then act o)
 unfolding OfTaken
-found-leads P None act h = tt
-found-leads P (Some p) act h = h p refl
+found_leads P None act h = tt
+found_leads P (Some p) act h = h p refl
 
 pub by_mobile-leads : (P : Actors → Type 0) (w : Actors) (number : ℕ) (act : Mobile → Option Actors) → ((p : Mobile) → mobile_of w number ≡ Some p → OfTaken P (act p)) → OfTaken P (by_mobile w number act)
-by_mobile-leads P w number act h = found-leads P (mobile_of w number) act h
+by_mobile-leads P w number act h = found_leads P (mobile_of w number) act h
 
 pub upper-leads : (P : Actors → Type 0) (w : Actors) (number : ℕ) (sapi : Sapi) (message : List ℕ) → ((p : Mobile) → mobile_of w number ≡ Some p → P (with_mobile (record p { end = after_queue p.end sapi message }) w)) → OfTaken P (after_upper w number sapi message)
 upper-leads P w number sapi message h =
@@ -65,71 +65,71 @@ pub connect-leads : (P : Actors → Type 0) (w : Actors) (number station : ℕ) 
 connect-leads P w number station initial accepts h =
     only_if-leads P (is_new w number && is_station_up w station && is_none (refusal_of_connect (Some initial))) (told station (channel_required number) (record w { mobiles = w.mobiles ++ connected w.modulus number initial accepts ∷ [] })) h
 
-framed-leads : (P : Actors → Type 0) (w : Actors) (sapi : Sapi) (p : Mobile) (tenure : Tenure) (o : Option (List ℕ)) → ((frame : List ℕ) → o ≡ Some frame → is_reached w tenure ≡ true → P (brought w p tenure.at sapi frame)) → OfTaken P (option_and_then (λ frame. only_if (is_reached w tenure) (brought w p tenure.at sapi frame)) o)
+framed_leads : (P : Actors → Type 0) (w : Actors) (sapi : Sapi) (p : Mobile) (tenure : Tenure) (o : Option (List ℕ)) → ((frame : List ℕ) → o ≡ Some frame → is_reached w tenure ≡ true → P (brought w p tenure.at sapi frame)) → OfTaken P (option_and_then (λ frame. only_if (is_reached w tenure) (brought w p tenure.at sapi frame)) o)
 unfolding OfTaken
-framed-leads P w sapi p tenure None h = tt
-framed-leads P w sapi p tenure (Some frame) h = only_if-leads P (is_reached w tenure) (brought w p tenure.at sapi frame) (h frame refl)
+framed_leads P w sapi p tenure None h = tt
+framed_leads P w sapi p tenure (Some frame) h = only_if-leads P (is_reached w tenure) (brought w p tenure.at sapi frame) (h frame refl)
 
-brought_up-leads : (P : Actors → Type 0) (w : Actors) (sapi : Sapi) (p : Mobile) (seat : Seat) → ((tenure : Tenure) (command : Option Command) (frame : List ℕ) → seat ≡ On tenure command → frame_in (frame_answer p.end sapi) ≡ Some frame → is_reached w tenure ≡ true → P (brought w p tenure.at sapi frame)) → OfTaken P (brought_up w sapi p seat)
+brought_up_leads : (P : Actors → Type 0) (w : Actors) (sapi : Sapi) (p : Mobile) (seat : Seat) → ((tenure : Tenure) (command : Option Command) (frame : List ℕ) → seat ≡ On tenure command → frame_in (frame_answer p.end sapi) ≡ Some frame → is_reached w tenure ≡ true → P (brought w p tenure.at sapi frame)) → OfTaken P (brought_up w sapi p seat)
 unfolding OfTaken
-brought_up-leads P w sapi p Asking h = tt
-brought_up-leads P w sapi p (On tenure command) h = framed-leads P w sapi p tenure (frame_in (frame_answer p.end sapi)) (λ frame is up. h tenure command frame refl is up)
-brought_up-leads P w sapi p (Moving from command) h = tt
-brought_up-leads P w sapi p Gone h = tt
+brought_up_leads P w sapi p Asking h = tt
+brought_up_leads P w sapi p (On tenure command) h = framed_leads P w sapi p tenure (frame_in (frame_answer p.end sapi)) (λ frame is up. h tenure command frame refl is up)
+brought_up_leads P w sapi p (Moving from command) h = tt
+brought_up_leads P w sapi p Gone h = tt
 
 pub air_up-leads : (P : Actors → Type 0) (w : Actors) (number : ℕ) (sapi : Sapi) → ((p : Mobile) (tenure : Tenure) (command : Option Command) (frame : List ℕ) → mobile_of w number ≡ Some p → p.seat ≡ On tenure command → frame_in (frame_answer p.end sapi) ≡ Some frame → is_reached w tenure ≡ true → P (brought w p tenure.at sapi frame)) → OfTaken P (after_air_up w number sapi)
 air_up-leads P w number sapi h =
-    by_mobile-leads P w number (λ p. brought_up w sapi p p.seat) (λ p is. brought_up-leads P w sapi p p.seat (λ tenure command frame. h p tenure command frame is))
+    by_mobile-leads P w number (λ p. brought_up w sapi p p.seat) (λ p is. brought_up_leads P w sapi p p.seat (λ tenure command frame. h p tenure command frame is))
 
-acknowledged-leads : (P : Actors → Type 0) (w : Actors) (sapi : Sapi) (p : Mobile) (seat : Seat) → P (with_mobile (record p { end = after_acked p.end sapi }) w) → OfTaken P (acknowledged w sapi p seat)
+acknowledged_leads : (P : Actors → Type 0) (w : Actors) (sapi : Sapi) (p : Mobile) (seat : Seat) → P (with_mobile (record p { end = after_acked p.end sapi }) w) → OfTaken P (acknowledged w sapi p seat)
 unfolding OfTaken
-acknowledged-leads P w sapi p Asking h = tt
-acknowledged-leads P w sapi p (On tenure command) h = only_if-leads P (is_reached w tenure && is_acknowledged p.end sapi) (with_mobile (record p { end = after_acked p.end sapi }) w) (λ _. h)
-acknowledged-leads P w sapi p (Moving from command) h = tt
-acknowledged-leads P w sapi p Gone h = tt
+acknowledged_leads P w sapi p Asking h = tt
+acknowledged_leads P w sapi p (On tenure command) h = only_if-leads P (is_reached w tenure && is_acknowledged p.end sapi) (with_mobile (record p { end = after_acked p.end sapi }) w) (λ _. h)
+acknowledged_leads P w sapi p (Moving from command) h = tt
+acknowledged_leads P w sapi p Gone h = tt
 
 pub air_ack-leads : (P : Actors → Type 0) (w : Actors) (number : ℕ) (sapi : Sapi) → ((p : Mobile) → mobile_of w number ≡ Some p → P (with_mobile (record p { end = after_acked p.end sapi }) w)) → OfTaken P (after_air_ack w number sapi)
-air_ack-leads P w number sapi h = by_mobile-leads P w number (λ p. acknowledged w sapi p p.seat) (λ p is. acknowledged-leads P w sapi p p.seat (h p is))
+air_ack-leads P w number sapi h = by_mobile-leads P w number (λ p. acknowledged w sapi p p.seat) (λ p is. acknowledged_leads P w sapi p p.seat (h p is))
 
 -- what the mobile makes of the first message of the list, at this place
 unfoldable pub FromAir : (Actors → Type 0) → Actors → (Mobile → AirMessage → Mobile) → Mobile → Tenure → Type 0
 FromAir P w hears p tenure =
     (first : AirMessage) (others : List AirMessage) → (spot_at w tenure.at).air ≡ first ∷ others → P (with_mobile (hears p first) (with_spot tenure.at (record (spot_at w tenure.at) { air = others }) w))
 
-taken_from_air-leads : (P : Actors → Type 0) (w : Actors) (hears : Mobile → AirMessage → Mobile) (p : Mobile) (tenure : Tenure) (air : List AirMessage) → (spot_at w tenure.at).air ≡ air → FromAir P w hears p tenure → OfTaken P (taken_from_air w hears p tenure.at air)
+taken_from_air_leads : (P : Actors → Type 0) (w : Actors) (hears : Mobile → AirMessage → Mobile) (p : Mobile) (tenure : Tenure) (air : List AirMessage) → (spot_at w tenure.at).air ≡ air → FromAir P w hears p tenure → OfTaken P (taken_from_air w hears p tenure.at air)
 unfolding OfTaken FromAir
-taken_from_air-leads P w hears p tenure [] is h = tt
-taken_from_air-leads P w hears p tenure (first ∷ others) is h = h first others is
+taken_from_air_leads P w hears p tenure [] is h = tt
+taken_from_air_leads P w hears p tenure (first ∷ others) is h = h first others is
 
 air_where : (P : Actors → Type 0) (b : Bool) (o : Option Actors) → (b ≡ true → OfTaken P o) → OfTaken P (if b then o else None)
 unfolding OfTaken
 air_where P true o h = h refl
 air_where P false o h = tt
 
-brought_down-leads : (P : Actors → Type 0) (w : Actors) (hears : Mobile → AirMessage → Mobile) (p : Mobile) (seat : Seat) → ((tenure : Tenure) (command : Option Command) → seat ≡ On tenure command → is_reached w tenure ≡ true → FromAir P w hears p tenure) → OfTaken P (brought_down w hears p seat)
+brought_down_leads : (P : Actors → Type 0) (w : Actors) (hears : Mobile → AirMessage → Mobile) (p : Mobile) (seat : Seat) → ((tenure : Tenure) (command : Option Command) → seat ≡ On tenure command → is_reached w tenure ≡ true → FromAir P w hears p tenure) → OfTaken P (brought_down w hears p seat)
 unfolding OfTaken
-brought_down-leads P w hears p Asking h = tt
-brought_down-leads P w hears p (On tenure command) h =
-    air_where P (is_reached w tenure) (taken_from_air w hears p tenure.at (spot_at w tenure.at).air) (λ up. taken_from_air-leads P w hears p tenure (spot_at w tenure.at).air refl (h tenure command refl up))
-brought_down-leads P w hears p (Moving from command) h = tt
-brought_down-leads P w hears p Gone h = tt
+brought_down_leads P w hears p Asking h = tt
+brought_down_leads P w hears p (On tenure command) h =
+    air_where P (is_reached w tenure) (taken_from_air w hears p tenure.at (spot_at w tenure.at).air) (λ up. taken_from_air_leads P w hears p tenure (spot_at w tenure.at).air refl (h tenure command refl up))
+brought_down_leads P w hears p (Moving from command) h = tt
+brought_down_leads P w hears p Gone h = tt
 
 pub air_down-leads : (P : Actors → Type 0) (w : Actors) (number : ℕ) → ((p : Mobile) (tenure : Tenure) (command : Option Command) → mobile_of w number ≡ Some p → p.seat ≡ On tenure command → is_reached w tenure ≡ true → FromAir P w hearing p tenure) → OfTaken P (after_air_down w number)
-air_down-leads P w number h = by_mobile-leads P w number (λ p. brought_down w hearing p p.seat) (λ p is. brought_down-leads P w hearing p p.seat (λ tenure command. h p tenure command is))
+air_down-leads P w number h = by_mobile-leads P w number (λ p. brought_down w hearing p p.seat) (λ p is. brought_down_leads P w hearing p p.seat (λ tenure command. h p tenure command is))
 
 pub air_down_lost-leads : (P : Actors → Type 0) (w : Actors) (number : ℕ) → ((p : Mobile) (tenure : Tenure) (command : Option Command) → mobile_of w number ≡ Some p → p.seat ≡ On tenure command → is_reached w tenure ≡ true → FromAir P w unheard p tenure) → OfTaken P (after_air_down_lost w number)
-air_down_lost-leads P w number h = by_mobile-leads P w number (λ p. brought_down w unheard p p.seat) (λ p is. brought_down-leads P w unheard p p.seat (λ tenure command. h p tenure command is))
+air_down_lost-leads P w number h = by_mobile-leads P w number (λ p. brought_down w unheard p p.seat) (λ p is. brought_down_leads P w unheard p p.seat (λ tenure command. h p tenure command is))
 
-moved-leads : (P : Actors → Type 0) (w : Actors) (p : Mobile) (seat : Seat) → ((tenure : Tenure) (command : Command) → seat ≡ On tenure (Some command) → is_reached w tenure ≡ true → P (left w p tenure command)) → OfTaken P (moved w p seat)
+moved_leads : (P : Actors → Type 0) (w : Actors) (p : Mobile) (seat : Seat) → ((tenure : Tenure) (command : Command) → seat ≡ On tenure (Some command) → is_reached w tenure ≡ true → P (left w p tenure command)) → OfTaken P (moved w p seat)
 unfolding OfTaken
-moved-leads P w p Asking h = tt
-moved-leads P w p (On tenure None) h = tt
-moved-leads P w p (On tenure (Some command)) h = only_if-leads P (is_reached w tenure) (left w p tenure command) (h tenure command refl)
-moved-leads P w p (Moving from command) h = tt
-moved-leads P w p Gone h = tt
+moved_leads P w p Asking h = tt
+moved_leads P w p (On tenure None) h = tt
+moved_leads P w p (On tenure (Some command)) h = only_if-leads P (is_reached w tenure) (left w p tenure command) (h tenure command refl)
+moved_leads P w p (Moving from command) h = tt
+moved_leads P w p Gone h = tt
 
 pub move-leads : (P : Actors → Type 0) (w : Actors) (number : ℕ) → ((p : Mobile) (tenure : Tenure) (command : Command) → mobile_of w number ≡ Some p → p.seat ≡ On tenure (Some command) → is_reached w tenure ≡ true → P (left w p tenure command)) → OfTaken P (after_move w number)
-move-leads P w number h = by_mobile-leads P w number (λ p. moved w p p.seat) (λ p is. moved-leads P w p p.seat (λ tenure command. h p tenure command is))
+move-leads P w number h = by_mobile-leads P w number (λ p. moved w p p.seat) (λ p is. moved_leads P w p p.seat (λ tenure command. h p tenure command is))
 
 pub and-right : (a b : Bool) → a && b ≡ true → b ≡ true
 and-right true b is = is
@@ -139,58 +139,58 @@ pub and-left : (a b : Bool) → a && b ≡ true → a ≡ true
 and-left true b is = refl
 and-left false b is = absurd cc
 
-touched-leads : (P : Actors → Type 0) (w : Actors) (seat : Seat) → ((from : Tenure) (command : Command) → seat ≡ Moving from command → is_reached w command.target ≡ true → P (told command.target.at.station (handover_detection command.target.at.number) w)) → OfTaken P (touched w seat)
+touched_leads : (P : Actors → Type 0) (w : Actors) (seat : Seat) → ((from : Tenure) (command : Command) → seat ≡ Moving from command → is_reached w command.target ≡ true → P (told command.target.at.station (handover_detection command.target.at.number) w)) → OfTaken P (touched w seat)
 unfolding OfTaken
-touched-leads P w Asking h = tt
-touched-leads P w (On tenure command) h = tt
-touched-leads P w (Moving from command) h =
+touched_leads P w Asking h = tt
+touched_leads P w (On tenure command) h = tt
+touched_leads P w (Moving from command) h =
     only_if-leads P (is_to_handover command.change && is_reached w command.target) (told command.target.at.station (handover_detection command.target.at.number) w) (λ both. h from command refl (and-right (is_to_handover command.change) (is_reached w command.target) both))
-touched-leads P w Gone h = tt
+touched_leads P w Gone h = tt
 
 pub touch-leads : (P : Actors → Type 0) (w : Actors) (number : ℕ) → ((command : Command) → is_reached w command.target ≡ true → P (told command.target.at.station (handover_detection command.target.at.number) w)) → OfTaken P (after_touch w number)
-touch-leads P w number h = by_mobile-leads P w number (λ p. touched w p.seat) (λ p is. touched-leads P w p.seat (λ from command is_seat. h command))
+touch-leads P w number h = by_mobile-leads P w number (λ p. touched w p.seat) (λ p is. touched_leads P w p.seat (λ from command is_seat. h command))
 
-arrived-leads : (P : Actors → Type 0) (w : Actors) (p : Mobile) (seat : Seat) → ((from : Tenure) (command : Command) → seat ≡ Moving from command → is_reached w command.target ≡ true → P (seated w p command.target (complete command.change))) → OfTaken P (arrived w p seat)
+arrived_leads : (P : Actors → Type 0) (w : Actors) (p : Mobile) (seat : Seat) → ((from : Tenure) (command : Command) → seat ≡ Moving from command → is_reached w command.target ≡ true → P (seated w p command.target (complete command.change))) → OfTaken P (arrived w p seat)
 unfolding OfTaken
-arrived-leads P w p Asking h = tt
-arrived-leads P w p (On tenure command) h = tt
-arrived-leads P w p (Moving from command) h = only_if-leads P (is_reached w command.target) (seated w p command.target (complete command.change)) (h from command refl)
-arrived-leads P w p Gone h = tt
+arrived_leads P w p Asking h = tt
+arrived_leads P w p (On tenure command) h = tt
+arrived_leads P w p (Moving from command) h = only_if-leads P (is_reached w command.target) (seated w p command.target (complete command.change)) (h from command refl)
+arrived_leads P w p Gone h = tt
 
 pub arrive-leads : (P : Actors → Type 0) (w : Actors) (number : ℕ) → ((p : Mobile) (from : Tenure) (command : Command) → mobile_of w number ≡ Some p → p.seat ≡ Moving from command → is_reached w command.target ≡ true → P (seated w p command.target (complete command.change))) → OfTaken P (after_arriving w number)
-arrive-leads P w number h = by_mobile-leads P w number (λ p. arrived w p p.seat) (λ p is. arrived-leads P w p p.seat (λ from command. h p from command is))
+arrive-leads P w number h = by_mobile-leads P w number (λ p. arrived w p p.seat) (λ p is. arrived_leads P w p p.seat (λ from command. h p from command is))
 
-returned-leads : (P : Actors → Type 0) (w : Actors) (p : Mobile) (seat : Seat) → ((from : Tenure) (command : Command) → seat ≡ Moving from command → is_reached w from ≡ true → P (seated w p from (failure command.change))) → OfTaken P (returned w p seat)
+returned_leads : (P : Actors → Type 0) (w : Actors) (p : Mobile) (seat : Seat) → ((from : Tenure) (command : Command) → seat ≡ Moving from command → is_reached w from ≡ true → P (seated w p from (failure command.change))) → OfTaken P (returned w p seat)
 unfolding OfTaken
-returned-leads P w p Asking h = tt
-returned-leads P w p (On tenure command) h = tt
-returned-leads P w p (Moving from command) h = only_if-leads P (is_reached w from) (seated w p from (failure command.change)) (h from command refl)
-returned-leads P w p Gone h = tt
+returned_leads P w p Asking h = tt
+returned_leads P w p (On tenure command) h = tt
+returned_leads P w p (Moving from command) h = only_if-leads P (is_reached w from) (seated w p from (failure command.change)) (h from command refl)
+returned_leads P w p Gone h = tt
 
 pub return-leads : (P : Actors → Type 0) (w : Actors) (number : ℕ) → ((p : Mobile) (from : Tenure) (command : Command) → mobile_of w number ≡ Some p → p.seat ≡ Moving from command → is_reached w from ≡ true → P (seated w p from (failure command.change))) → OfTaken P (after_return w number)
-return-leads P w number h = by_mobile-leads P w number (λ p. returned w p p.seat) (λ p is. returned-leads P w p p.seat (λ from command. h p from command is))
+return-leads P w number h = by_mobile-leads P w number (λ p. returned w p p.seat) (λ p is. returned_leads P w p p.seat (λ from command. h p from command is))
 
-reported-leads : (P : Actors → Type 0) (w : Actors) (report : List ℕ) (seat : Seat) → ((tenure : Tenure) → is_reached w tenure ≡ true → P (reported_at w tenure.at report)) → OfTaken P (reported w report seat)
+reported_leads : (P : Actors → Type 0) (w : Actors) (report : List ℕ) (seat : Seat) → ((tenure : Tenure) → is_reached w tenure ≡ true → P (reported_at w tenure.at report)) → OfTaken P (reported w report seat)
 unfolding OfTaken
-reported-leads P w report Asking h = tt
-reported-leads P w report (On tenure command) h =
+reported_leads P w report Asking h = tt
+reported_leads P w report (On tenure command) h =
     only_if-leads P (is_reached w tenure && (length report == REPORT_LENGTH)) (reported_at w tenure.at report) (λ both. h tenure (and-left (is_reached w tenure) (length report == REPORT_LENGTH) both))
-reported-leads P w report (Moving from command) h = tt
-reported-leads P w report Gone h = tt
+reported_leads P w report (Moving from command) h = tt
+reported_leads P w report Gone h = tt
 
 pub report-leads : (P : Actors → Type 0) (w : Actors) (number : ℕ) (report : List ℕ) → ((tenure : Tenure) → is_reached w tenure ≡ true → P (reported_at w tenure.at report)) → OfTaken P (after_report w number report)
-report-leads P w number report h = by_mobile-leads P w number (λ p. reported w report p.seat) (λ p is. reported-leads P w report p.seat h)
+report-leads P w number report h = by_mobile-leads P w number (λ p. reported w report p.seat) (λ p is. reported_leads P w report p.seat h)
 
 -- ---- stations, queues, the switch
 
-took_first-leads : (P : Actors → Type 0) (w : Actors) (station : ℕ) (entries : List OutboxEntry) → outbox_of w station ≡ entries → ((first : OutboxEntry) (others : List OutboxEntry) → outbox_of w station ≡ first ∷ others → OfTaken P (took station first.target (rsl_in first.out.frame) (with_outbox station others w))) → OfTaken P (took_first station entries w)
+took_first_leads : (P : Actors → Type 0) (w : Actors) (station : ℕ) (entries : List OutboxEntry) → outbox_of w station ≡ entries → ((first : OutboxEntry) (others : List OutboxEntry) → outbox_of w station ≡ first ∷ others → OfTaken P (took station first.target (rsl_in first.out.frame) (with_outbox station others w))) → OfTaken P (took_first station entries w)
 unfolding OfTaken
-took_first-leads P w station [] is h = tt
-took_first-leads P w station (first ∷ others) is h = h first others is
+took_first_leads P w station [] is h = tt
+took_first_leads P w station (first ∷ others) is h = h first others is
 
 pub base_takes-leads : (P : Actors → Type 0) (w : Actors) (station : ℕ) → ((first : OutboxEntry) (others : List OutboxEntry) → is_station_up w station ≡ true → outbox_of w station ≡ first ∷ others → OfTaken P (took station first.target (rsl_in first.out.frame) (with_outbox station others w))) → OfTaken P (after_base_takes w station)
 base_takes-leads P w station h =
-    air_where P (is_station_up w station) (took_first station (outbox_of w station) w) (λ up. took_first-leads P w station (outbox_of w station) refl (λ first others. h first others up))
+    air_where P (is_station_up w station) (took_first station (outbox_of w station) w) (λ up. took_first_leads P w station (outbox_of w station) refl (λ first others. h first others up))
 
 pub handle-leads : (P : Actors → Type 0) (w : Actors) → ((item : Item) (items : List Item) → w.inbox ≡ item ∷ items → P (with_turn (target_in w item.source item.what) (take item w.controller) (record w { inbox = items }))) → OfTaken P (after_handle w)
 unfolding OfTaken
@@ -216,32 +216,32 @@ switch_takes-leads P w h = air_where P (is_up w SWITCH_LINK) (switch_took_first 
 
 -- ---- sources and the switch
 
-switch_push-leads : (P : Actors → Type 0) (w : Actors) (made : List Sccp) → ((first : Sccp) (others : List Sccp) → P (with_item (switch_item first) (record w { switch_made = others }))) → OfTaken P (pushed_by_switch made w)
+switch_push_leads : (P : Actors → Type 0) (w : Actors) (made : List Sccp) → ((first : Sccp) (others : List Sccp) → P (with_item (switch_item first) (record w { switch_made = others }))) → OfTaken P (pushed_by_switch made w)
 unfolding OfTaken
-switch_push-leads P w [] h = tt
-switch_push-leads P w (first ∷ others) h = h first others
+switch_push_leads P w [] h = tt
+switch_push_leads P w (first ∷ others) h = h first others
 
-station_push-leads : (P : Actors → Type 0) (w : Actors) (station : ℕ) (o : Option Rsl) → first_message (base_of w station) ≡ o → ((message : Rsl) → first_message (base_of w station) ≡ Some message → P (with_item (station_item station message) (with_base station (after_next (base_of w station)) w))) → OfTaken P (pushed_by_station station o w)
+station_push_leads : (P : Actors → Type 0) (w : Actors) (station : ℕ) (o : Option Rsl) → first_message (base_of w station) ≡ o → ((message : Rsl) → first_message (base_of w station) ≡ Some message → P (with_item (station_item station message) (with_base station (after_next (base_of w station)) w))) → OfTaken P (pushed_by_station station o w)
 unfolding OfTaken
-station_push-leads P w station None is h = tt
-station_push-leads P w station (Some message) is h = h message is
+station_push_leads P w station None is h = tt
+station_push_leads P w station (Some message) is h = h message is
 
 pub push-leads : (P : Actors → Type 0) (w : Actors) (source : ℕ) → ((first : Sccp) (others : List Sccp) → P (with_item (switch_item first) (record w { switch_made = others }))) → ((message : Rsl) → first_message (base_of w source) ≡ Some message → P (with_item (station_item source message) (with_base source (after_next (base_of w source)) w))) → OfTaken P (after_base_push w source)
 push-leads P w source of_switch of_station = by_source (source == SWITCH_LINK) where
   by_source : (b : Bool) → OfTaken P (if b then pushed_by_switch w.switch_made w else pushed_by_station source (first_message (base_of w source)) w)
-  by_source true = switch_push-leads P w w.switch_made of_switch
-  by_source false = station_push-leads P w source (first_message (base_of w source)) refl of_station
+  by_source true = switch_push_leads P w w.switch_made of_switch
+  by_source false = station_push_leads P w source (first_message (base_of w source)) refl of_station
 
-sent_on-leads : (P : Actors → Type 0) (w : Actors) (connection : ℕ) (message : Bssap) (next : SwitchState) → ((made : List Sccp) → P (record w { switch = next; switch_made = made })) → OfTaken P (sent_on w connection message next)
-sent_on-leads P w connection message next h = air_where P (may_send_on w connection) (Some (record w { switch = next; switch_made = w.switch_made ++ data_forms_on (connection_of w.switch.connections connection) message })) (λ _. taken) where
+sent_on_leads : (P : Actors → Type 0) (w : Actors) (connection : ℕ) (message : Bssap) (next : SwitchState) → ((made : List Sccp) → P (record w { switch = next; switch_made = made })) → OfTaken P (sent_on w connection message next)
+sent_on_leads P w connection message next h = air_where P (may_send_on w connection) (Some (record w { switch = next; switch_made = w.switch_made ++ data_forms_on (connection_of w.switch.connections connection) message })) (λ _. taken) where
   taken : OfTaken P (Some (record w { switch = next; switch_made = w.switch_made ++ data_forms_on (connection_of w.switch.connections connection) message }))
-  taken = some-leads P _ (h (w.switch_made ++ data_forms_on (connection_of w.switch.connections connection) message))
+  taken = some_leads P _ (h (w.switch_made ++ data_forms_on (connection_of w.switch.connections connection) message))
 
 pub does-leads : (P : Actors → Type 0) (w : Actors) (action : SwitchAction) → ((next : SwitchState) (made : List Sccp) → P (record w { switch = next; switch_made = made })) → OfTaken P (after_switch_does w action)
-does-leads P w (Assign connection) h = sent_on-leads P w connection assignment_request w.switch (h w.switch)
-does-leads P w (Clear connection) h = sent_on-leads P w connection clear_command (after_clear w.switch connection) (h (after_clear w.switch connection))
+does-leads P w (Assign connection) h = sent_on_leads P w connection assignment_request w.switch (h w.switch)
+does-leads P w (Clear connection) h = sent_on_leads P w connection clear_command (after_clear w.switch connection) (h (after_clear w.switch connection))
 does-leads P w (Dtap connection sapi message) h =
-    air_where P (is_layer_3 message) (sent_on w connection (Transfer (dlci_for sapi) message) w.switch) (λ _. sent_on-leads P w connection (Transfer (dlci_for sapi) message) w.switch (h w.switch))
+    air_where P (is_layer_3 message) (sent_on w connection (Transfer (dlci_for sapi) message) w.switch) (λ _. sent_on_leads P w connection (Transfer (dlci_for sapi) message) w.switch (h w.switch))
 
 pub switch_took-leads : (P : Actors → Type 0) (w : Actors) (o : Option Sccp) → P w → ((next : SwitchState) (made : List Sccp) → P (record w { switch = next; switch_made = made })) → P (switch_took o w)
 switch_took-leads P w None stays h = stays
@@ -258,9 +258,9 @@ pub record Taking (P : Actors → Type 0) (station : ℕ) (target : Option Tenur
   pub answers : (answer : Bool) (channel : ℕ) → P (answered answer (place_at station channel) w)
   pub releases : (channel : ℕ) → P (released (place_at station channel) w)
 
-activated-leads : (P : Actors → Type 0) (station channel : ℕ) (target : Option Tenure) (w : Actors) (o : Option LinkFault) → refusal_of_activate (base_of w station) channel ≡ o → Taking P station target w → P (activated_unless o (place_at station channel) w)
-activated-leads P station channel target w None is h = h.activates channel is
-activated-leads P station channel target w (Some fault) is h = h.nothing
+activated_leads : (P : Actors → Type 0) (station channel : ℕ) (target : Option Tenure) (w : Actors) (o : Option LinkFault) → refusal_of_activate (base_of w station) channel ≡ o → Taking P station target w → P (activated_unless o (place_at station channel) w)
+activated_leads P station channel target w None is h = h.activates channel is
+activated_leads P station channel target w (Some fault) is h = h.nothing
 
 pub unless_last-leads : (P : Actors → Type 0) (b : Bool) (w : Actors) → P w → OfTaken P (if b then None else Some w)
 unfolding OfTaken
@@ -271,38 +271,38 @@ unless_last-leads P false w h = h
 unfoldable pub Seats : (Actors → Type 0) → ℕ → Actors → Type 0
 Seats P station w = (p : Mobile) (number channel : ℕ) → mobile_of w number ≡ Some p → p.seat ≡ Asking → P (with_mobile (record p { seat = On (tenure_at w (place_at station channel)) None }) w)
 
-seated_from-leads : (P : Actors → Type 0) (station number channel : ℕ) (w : Actors) (p : Mobile) (seat : Seat) → mobile_of w number ≡ Some p → p.seat ≡ seat → P w → Seats P station w → P (assigned_from seat (tenure_at w (place_at station channel)) p w)
+seated_from_leads : (P : Actors → Type 0) (station number channel : ℕ) (w : Actors) (p : Mobile) (seat : Seat) → mobile_of w number ≡ Some p → p.seat ≡ seat → P w → Seats P station w → P (assigned_from seat (tenure_at w (place_at station channel)) p w)
 unfolding Seats
-seated_from-leads P station number channel w p Asking found is nothing seats = seats p number channel found is
-seated_from-leads P station number channel w p (On tenure command) found is nothing seats = nothing
-seated_from-leads P station number channel w p (Moving from command) found is nothing seats = nothing
-seated_from-leads P station number channel w p Gone found is nothing seats = nothing
+seated_from_leads P station number channel w p Asking found is nothing seats = seats p number channel found is
+seated_from_leads P station number channel w p (On tenure command) found is nothing seats = nothing
+seated_from_leads P station number channel w p (Moving from command) found is nothing seats = nothing
+seated_from_leads P station number channel w p Gone found is nothing seats = nothing
 
-assigned_to-leads : (P : Actors → Type 0) (station number channel : ℕ) (w : Actors) (o : Option Mobile) → mobile_of w number ≡ o → P w → Seats P station w → P (assigned_to o (tenure_at w (place_at station channel)) w)
-assigned_to-leads P station number channel w None found nothing seats = nothing
-assigned_to-leads P station number channel w (Some p) found nothing seats = seated_from-leads P station number channel w p p.seat found refl nothing seats
+assigned_to_leads : (P : Actors → Type 0) (station number channel : ℕ) (w : Actors) (o : Option Mobile) → mobile_of w number ≡ o → P w → Seats P station w → P (assigned_to o (tenure_at w (place_at station channel)) w)
+assigned_to_leads P station number channel w None found nothing seats = nothing
+assigned_to_leads P station number channel w (Some p) found nothing seats = seated_from_leads P station number channel w p p.seat found refl nothing seats
 
-assigned_in-leads : (P : Actors → Type 0) (station number channel : ℕ) (w : Actors) (b : Bool) → P w → Seats P station w → P (if b then assigned_to (mobile_of w number) (tenure_at w (place_at station channel)) w else w)
-assigned_in-leads P station number channel w true nothing seats = assigned_to-leads P station number channel w (mobile_of w number) refl nothing seats
-assigned_in-leads P station number channel w false nothing seats = nothing
+assigned_in_leads : (P : Actors → Type 0) (station number channel : ℕ) (w : Actors) (b : Bool) → P w → Seats P station w → P (if b then assigned_to (mobile_of w number) (tenure_at w (place_at station channel)) w else w)
+assigned_in_leads P station number channel w true nothing seats = assigned_to_leads P station number channel w (mobile_of w number) refl nothing seats
+assigned_in_leads P station number channel w false nothing seats = nothing
 
 pub assigned-leads : (P : Actors → Type 0) (station : ℕ) (w : Actors) (r : Result RrMessage RrFault) → P w → Seats P station w → P (assigned station r w)
 assigned-leads P station w (Ok (ImmediateAssignment channel request advance)) nothing seats =
-    assigned_in-leads P station (slice_index_or request 0 0) channel.channel.0 w (is_channel channel.channel.0) nothing seats
+    assigned_in_leads P station (slice_index_or request 0 0) channel.channel.0 w (is_channel channel.channel.0) nothing seats
 assigned-leads P station w (Ok _) nothing seats = nothing
 assigned-leads P station w (Err fault) nothing seats = nothing
 
-aired-leads : (P : Actors → Type 0) (station channel : ℕ) (message : List ℕ) (target : Option Tenure) (w : Actors) (b : Bool) → is_active_at w (place_at station channel) ≡ b → Taking P station target w → P (if b then with_spot (place_at station channel) (record (spot_at w (place_at station channel)) { air = (spot_at w (place_at station channel)).air ++ record { message = message; target = target } ∷ [] }) w else w)
-aired-leads P station channel message target w true is h = h.airs channel message is
-aired-leads P station channel message target w false is h = h.nothing
+aired_leads : (P : Actors → Type 0) (station channel : ℕ) (message : List ℕ) (target : Option Tenure) (w : Actors) (b : Bool) → is_active_at w (place_at station channel) ≡ b → Taking P station target w → P (if b then with_spot (place_at station channel) (record (spot_at w (place_at station channel)) { air = (spot_at w (place_at station channel)).air ++ record { message = message; target = target } ∷ [] }) w else w)
+aired_leads P station channel message target w true is h = h.airs channel message is
+aired_leads P station channel message target w false is h = h.nothing
 
 pub took-leads : (P : Actors → Type 0) (station : ℕ) (target : Option Tenure) (o : Option Rsl) (w : Actors) → Taking P station target w → OfTaken P (took station target o w)
 unfolding OfTaken Seats
 took-leads P station target None w h = h.nothing
 took-leads P station target (Some (ChannelActivation a)) w h =
-    unless_last-leads P ((spot_at w (place_at station a.channel)).tenure == MAX_TENURE) (activated (place_at station a.channel) w) (activated-leads P station a.channel target w (refusal_of_activate (base_of w station) a.channel) refl h)
+    unless_last-leads P ((spot_at w (place_at station a.channel)).tenure == MAX_TENURE) (activated (place_at station a.channel) w) (activated_leads P station a.channel target w (refusal_of_activate (base_of w station) a.channel) refl h)
 took-leads P station target (Some (ImmediateAssignCommand i)) w h = assigned-leads P station w (rr_reading i.information) h.nothing h.seats
-took-leads P station target (Some (DataRequest d)) w h = aired-leads P station d.channel d.l3 target w (is_active_at w (place_at station d.channel)) refl h
+took-leads P station target (Some (DataRequest d)) w h = aired_leads P station d.channel d.l3 target w (is_active_at w (place_at station d.channel)) refl h
 took-leads P station target (Some (EstablishRequest l)) w h = h.answers (is_active_at w (place_at station l.channel) && accepts (mobile_on w (tenure_at w (place_at station l.channel)))) l.channel
 took-leads P station target (Some (RfChannelRelease channel)) w h = h.releases channel
 took-leads P station target (Some _) w h = h.nothing
@@ -365,8 +365,8 @@ aerial-leads P w (Return number) is h = return-leads P w number (λ p from comma
 aerial-leads P w (Report number report) is h = report-leads P w number report (λ tenure _. h _ _)
 aerial-leads P w _ is h = absurd cc
 
-pub aerial-after : (P : Actors → Type 0) (w : Actors) (event : Event) → is_aerial event ≡ true → ((mobiles : List Mobile) (stations : List Station) → P (record w { mobiles = mobiles; stations = stations })) → P (actors_after w event)
-aerial-after P w event is h = after-taken P (event_after w event) w (aerial-leads P w event is h) (h w.mobiles w.stations)
+pub aerial_after : (P : Actors → Type 0) (w : Actors) (event : Event) → is_aerial event ≡ true → ((mobiles : List Mobile) (stations : List Station) → P (record w { mobiles = mobiles; stations = stations })) → P (actors_after w event)
+aerial_after P w event is h = after-taken P (event_after w event) w (aerial-leads P w event is h) (h w.mobiles w.stations)
 
 -- and of a station that takes an entry, only its outbox changes beside
 pub taking-leads : (P : Actors → Type 0) (w : Actors) (station : ℕ) → ((first : OutboxEntry) (others : List OutboxEntry) → is_station_up w station ≡ true → outbox_of w station ≡ first ∷ others → (mobiles : List Mobile) (stations : List Station) → P (record (with_outbox station others w) { mobiles = mobiles; stations = stations })) → OfTaken P (after_base_takes w station)

@@ -35,15 +35,15 @@ still w o leads = after-taken (Stays w) o w leads refl
 turn-moves : (target : Option Tenure) (t : Turn) (w : Actors) → (with_turn target t w).controller ≡ t.next
 turn-moves target t w = turn-leads (λ v. v.controller ≡ t.next) target t w (λ links. refl)
 
-handle-moves : (w : Actors) (items : List Item) → (unwrap_or (handled items w) w).controller ≡ after_steps w.controller (first_taken items)
-handle-moves w [] = refl
-handle-moves w (item ∷ items) = turn-moves (target_in w item.source item.what) (take item w.controller) (record w { inbox = items })
+handle_moves : (w : Actors) (items : List Item) → (unwrap_or (handled items w) w).controller ≡ after_steps w.controller (first_taken items)
+handle_moves w [] = refl
+handle_moves w (item ∷ items) = turn-moves (target_in w item.source item.what) (take item w.controller) (record w { inbox = items })
 
 moves : (w : Actors) (event : Event) → Moves w event
 unfolding event_after FromAir Moves
 moves w (BaseTakes station) = still w (after_base_takes w station) (taking-leads (Stays w) w station (λ first others _ _ mobiles stations. refl))
 moves w (BasePush source) = still w (after_base_push w source) (push-leads (Stays w) w source (λ first others. refl) (λ message _. refl))
-moves w Handle = handle-moves w w.inbox
+moves w Handle = handle_moves w w.inbox
 moves w SwitchTakes =
     still w (after_switch_takes w) (switch_takes-leads (Stays w) w (λ first others _ _. switch_took-leads (Stays w) (with_outbox SWITCH_LINK others w) (sccp_in first.out.frame) refl (λ next made. refl)))
 moves w (SwitchDoes action) = still w (after_switch_does w action) (does-leads (Stays w) w action (λ next made. refl))
@@ -55,17 +55,17 @@ after_steps-append : (c : Controller) (xs ys : List Step) → after_steps c (xs 
 after_steps-append c [] ys = refl
 after_steps-append c (x ∷ xs) ys = after_steps-append (step c x).next xs ys
 
-moves-all : (w : Actors) (events : List Event) → (actors_after_all w events).controller ≡ after_steps w.controller (all_steps w events)
+moves_all : (w : Actors) (events : List Event) → (actors_after_all w events).controller ≡ after_steps w.controller (all_steps w events)
 unfolding Moves
-moves-all w [] = refl
-moves-all w (event ∷ events) =
-    moves-all (actors_after w event) events
+moves_all w [] = refl
+moves_all w (event ∷ events) =
+    moves_all (actors_after w event) events
     ∙ ap (λ (c : Controller). after_steps c (all_steps (actors_after w event) events)) (moves w event)
     ∙ sym (after_steps-append w.controller (step_at w event) (all_steps (actors_after w event) events))
 
 pub LivesByTable-new : (settings : Parameters) (events : List Event) → LivesByTable settings events
 unfolding life
-LivesByTable-new settings events = moves-all (new_actors settings) events
+LivesByTable-new settings events = moves_all (new_actors settings) events
 
 -- ---- what it put
 
@@ -88,17 +88,17 @@ outs-append : (c : Controller) (xs ys : List Step) → (each step c (xs ++ ys)).
 outs-append c [] ys = refl
 outs-append c (x ∷ xs) ys = ap (λ (outs : List Out). (step c x).outs ++ outs) (outs-append (step c x).next xs ys) ∙ sym (append_assoc (step c x).outs (each step (step c x).next xs).outs (each step (after_steps (step c x).next xs) ys).outs)
 
-puts-all : (w : Actors) (events : List Event) → all_outputs w events ≡ (each step w.controller (all_steps w events)).outs
+puts_all : (w : Actors) (events : List Event) → all_outputs w events ≡ (each step w.controller (all_steps w events)).outs
 unfolding Moves
-puts-all w [] = refl
-puts-all w (event ∷ events) =
+puts_all w [] = refl
+puts_all w (event ∷ events) =
     ap (λ (outs : List Out). outs ++ all_outputs (actors_after w event) events) (puts w event)
-    ∙ ap (λ (outs : List Out). (each step w.controller (step_at w event)).outs ++ outs) (puts-all (actors_after w event) events)
+    ∙ ap (λ (outs : List Out). (each step w.controller (step_at w event)).outs ++ outs) (puts_all (actors_after w event) events)
     ∙ ap (λ (c : Controller). (each step w.controller (step_at w event)).outs ++ (each step c (all_steps (actors_after w event) events)).outs) (moves w event)
     ∙ sym (outs-append w.controller (step_at w event) (all_steps (actors_after w event) events))
 
 pub RunsByTable-new : (settings : Parameters) (events : List Event) → RunsByTable settings events
 unfolding life
 RunsByTable-new settings events =
-    ap (λ (outs : List Out). turn outs (actors_after_all (new_actors settings) events).controller) (puts-all (new_actors settings) events)
-    ∙ ap (λ (c : Controller). turn (each step (new_controller settings) (all_steps (new_actors settings) events)).outs c) (moves-all (new_actors settings) events)
+    ap (λ (outs : List Out). turn outs (actors_after_all (new_actors settings) events).controller) (puts_all (new_actors settings) events)
+    ∙ ap (λ (c : Controller). turn (each step (new_controller settings) (all_steps (new_actors settings) events)).outs c) (moves_all (new_actors settings) events)

@@ -28,7 +28,7 @@ use Rattle.world_model.specs.Relay.{target_in}
 use Rattle.world_model.specs.Stations.{took, rsl_in}
 use Rattle.world_model.specs.SwitchSide.{sccp_in}
 use Rattle.world_model.specs.World.{Actors, Mobile, new_actors, modulus_in, has_number, mobile_of, put_back, with_mobile, with_outbox, is_station_up, tenure_at}
-use Rattle.world_model.proofs.Found.{back-found, back-other, found-number, new-found, new-other}
+use Rattle.world_model.proofs.Found.{back-found, back-other, found-number, new_found, new_other}
 use Rattle.world_model.proofs.Leads.{OfTaken, FromAir, and-left, and-right, only_if-leads, by_mobile-leads, connect-leads, air_up-leads, air_ack-leads, air_down-leads, air_down_lost-leads, move-leads, touch-leads, arrive-leads, return-leads, report-leads, base_takes-leads, took-leads, handle-leads, turn-leads, switch_takes-leads, switch_took-leads, push-leads, does-leads, broken-leads}
 
 -- ---- lists
@@ -44,22 +44,22 @@ pub behind-all : (P : Mobile → Type 0) (p : Mobile) (xs : List Mobile) → P p
 behind-all P p [] h all = (h, tt)
 behind-all P p (x ∷ xs) h all = (all.0, behind-all P p xs h all.1)
 
-some-same : {p q : Mobile} → Some p ≡ Some q → p ≡ q
-some-same {p} is = ap (λ (o : Option Mobile). unwrap_or o p) is
+some_same : {p q : Mobile} → Some p ≡ Some q → p ≡ q
+some_same {p} is = ap (λ (o : Option Mobile). unwrap_or o p) is
 
 pub found-all : (P : Mobile → Type 0) (number : ℕ) (xs : List Mobile) (p : Mobile) → AllByRecursion P xs → find (has_number number) xs ≡ Some p → P p
 found-all P number [] p all found = absurd cc
 found-all P number (x ∷ xs) p all found =
     elim (cases_Bool (has_number number x)) [
-      | inl hit ↦ subst P (some-same (sym (ap (λ (b : Bool). cond b (Some x) (find (has_number number) xs)) hit) ∙ found)) all.0
+      | inl hit ↦ subst P (some_same (sym (ap (λ (b : Bool). cond b (Some x) (find (has_number number) xs)) hit) ∙ found)) all.0
       | inr miss ↦ found-all P number xs p all.1 (sym (ap (λ (b : Bool). cond b (Some x) (find (has_number number) xs)) miss) ∙ found)
     ]
 
 -- ---- ends
 
-none-by : (o : Option MobileFault) → is_none o ≡ true → o ≡ None
-none-by None is = refl
-none-by (Some fault) is = absurd cc
+none_by : (o : Option MobileFault) → is_none o ≡ true → o ≡ None
+none_by None is = refl
+none_by (Some fault) is = absurd cc
 
 pub after_calls-append : (mobile : MobileState) (calls more : List Call) → after_calls mobile (calls ++ more) ≡ after_calls (after_calls mobile calls) more
 after_calls-append mobile [] more = refl
@@ -96,19 +96,19 @@ record Keeps (p q : Mobile) : Type 0 where
   end : q.end ≡ p.end
   place : place_in q.seat ≡ place_in p.seat
 
-becomes-kept : (p q : Mobile) → Keeps p q → p.end.place ≡ place_in p.seat → Becomes p [] q
-becomes-kept p q keeps place = record { ends = keeps.end; place = ap (λ (e : MobileState). e.place) keeps.end ∙ place ∙ sym keeps.place }
+becomes_kept : (p q : Mobile) → Keeps p q → p.end.place ≡ place_in p.seat → Becomes p [] q
+becomes_kept p q keeps place = record { ends = keeps.end; place = ap (λ (e : MobileState). e.place) keeps.end ∙ place ∙ sym keeps.place }
 
-takes-none : {m number : ℕ} {w v : Actors} → Stands m number w → v.mobiles ≡ w.mobiles → v.modulus ≡ w.modulus → Takes m number w [] v
-takes-none {m} {number} stands same numbers = record {
+takes_none : {m number : ℕ} {w v : Actors} → Stands m number w → v.mobiles ≡ w.mobiles → v.modulus ≡ w.modulus → Takes m number w [] v
+takes_none {m} {number} stands same numbers = record {
   ends = ap (λ (ms : List Mobile). end_of m (find (has_number number) ms)) same;
   stands = record { fits = subst (λ (ms : List Mobile). Fits (find (has_number number) ms)) (sym same) stands.fits; modulus = numbers ∙ stands.modulus };
 }
 
 -- one of them acts, and is put back
-takes-one : {m number : ℕ} {w u : Actors} (n : ℕ) (p q : Mobile) (calls : List Call) → Stands m number w → mobile_of w n ≡ Some p → u.mobiles ≡ w.mobiles → u.modulus ≡ w.modulus → q.number ≡ p.number
+takes_one : {m number : ℕ} {w u : Actors} (n : ℕ) (p q : Mobile) (calls : List Call) → Stands m number w → mobile_of w n ≡ Some p → u.mobiles ≡ w.mobiles → u.modulus ≡ w.modulus → q.number ≡ p.number
     → (p.end.place ≡ place_in p.seat → Becomes p calls q) → Takes m number w (if n == number then calls else []) (with_mobile q u)
-takes-one {m} {number} {w} {u} n p q calls stands found same numbers same_number becomes = by (nat_eq n number) refl where
+takes_one {m} {number} {w} {u} n p q calls stands found same numbers same_number becomes = by (nat_eq n number) refl where
   own_number : q.number ≡ n
   own_number = same_number ∙ found-number n w.mobiles p found
 
@@ -136,28 +136,28 @@ abbrev no_calls : List Call
 no_calls = []
 
 -- one is the same end, elsewhere
-takes-kept : {m number : ℕ} {w u : Actors} (n : ℕ) (p q : Mobile) → Stands m number w → mobile_of w n ≡ Some p → u.mobiles ≡ w.mobiles → u.modulus ≡ w.modulus → Keeps p q → Takes m number w [] (with_mobile q u)
-takes-kept {m} {number} {w} {u} n p q stands found same numbers keeps =
-    subst (λ (calls : List Call). Takes m number w calls (with_mobile q u)) (none (n == number)) (takes-one n p q [] stands found same numbers keeps.number (becomes-kept p q keeps)) where
+takes_kept : {m number : ℕ} {w u : Actors} (n : ℕ) (p q : Mobile) → Stands m number w → mobile_of w n ≡ Some p → u.mobiles ≡ w.mobiles → u.modulus ≡ w.modulus → Keeps p q → Takes m number w [] (with_mobile q u)
+takes_kept {m} {number} {w} {u} n p q stands found same numbers keeps =
+    subst (λ (calls : List Call). Takes m number w calls (with_mobile q u)) (none (n == number)) (takes_one n p q [] stands found same numbers keeps.number (becomes_kept p q keeps)) where
       none : (b : Bool) → (if b then no_calls else no_calls) ≡ no_calls
       none true = refl
       none false = refl
 
 -- a new one stands behind all others
-takes-new : {m number : ℕ} {w u : Actors} (q : Mobile) (calls : List Call) → Stands m number w → mobile_of w q.number ≡ None → u.mobiles ≡ w.mobiles ++ q ∷ [] → u.modulus ≡ w.modulus
+takes_new : {m number : ℕ} {w u : Actors} (q : Mobile) (calls : List Call) → Stands m number w → mobile_of w q.number ≡ None → u.mobiles ≡ w.mobiles ++ q ∷ [] → u.modulus ≡ w.modulus
     → q.end ≡ after_calls (new_mobile m) calls → q.end.place ≡ place_in q.seat → Takes m number w (if q.number == number then calls else []) u
-takes-new {m} {number} {w} {u} q calls stands none same numbers ends place = by (nat_eq q.number number) refl where
+takes_new {m} {number} {w} {u} q calls stands none same numbers ends place = by (nat_eq q.number number) refl where
   by : (b : Bool) → nat_eq q.number number ≡ b → Takes m number w (if b then calls else []) u
   by true hit =
       let k_is : q.number ≡ number = eqb-true q.number number hit in
-      let here : mobile_of u number ≡ Some q = ap (λ (ms : List Mobile). find (has_number number) ms) same ∙ ap (λ (k : ℕ). find (has_number k) (w.mobiles ++ q ∷ [])) (sym k_is) ∙ new-found q w.mobiles none in
+      let here : mobile_of u number ≡ Some q = ap (λ (ms : List Mobile). find (has_number number) ms) same ∙ ap (λ (k : ℕ). find (has_number k) (w.mobiles ++ q ∷ [])) (sym k_is) ∙ new_found q w.mobiles none in
       let there : mobile_of w number ≡ None = ap (mobile_of w) (sym k_is) ∙ none in
       record {
         ends = ap (end_of m) here ∙ ends ∙ sym (ap (λ (o : Option Mobile). after_calls (end_of m o) calls) there);
         stands = record { fits = subst Fits (sym here) place; modulus = numbers ∙ stands.modulus };
       }
   by false miss =
-      let here : mobile_of u number ≡ mobile_of w number = ap (λ (ms : List Mobile). find (has_number number) ms) same ∙ new-other q w.mobiles number (eqb-false q.number number miss) in
+      let here : mobile_of u number ≡ mobile_of w number = ap (λ (ms : List Mobile). find (has_number number) ms) same ∙ new_other q w.mobiles number (eqb-false q.number number miss) in
       record {
         ends = ap (end_of m) here;
         stands = record { fits = subst Fits (sym here) stands.fits; modulus = numbers ∙ stands.modulus };
@@ -191,9 +191,9 @@ place-acked mobile sapi = by_place mobile.place where
 
 -- ---- what happens to a mobile
 
-sends-becomes : (p : Mobile) (sapi : Sapi) (message : List ℕ) → is_none (refusal_of_send p.end sapi message) ≡ true → p.end.place ≡ place_in p.seat → Becomes p (sends sapi message ∷ []) (record p { end = after_queue p.end sapi message })
-sends-becomes p sapi message may place = record {
-  ends = sym (ap (λ (o : Option MobileFault). unless_refused o p.end (after_queue p.end sapi message)) (none-by (refusal_of_send p.end sapi message) may));
+sends_becomes : (p : Mobile) (sapi : Sapi) (message : List ℕ) → is_none (refusal_of_send p.end sapi message) ≡ true → p.end.place ≡ place_in p.seat → Becomes p (sends sapi message ∷ []) (record p { end = after_queue p.end sapi message })
+sends_becomes p sapi message may place = record {
+  ends = sym (ap (λ (o : Option MobileFault). unless_refused o p.end (after_queue p.end sapi message)) (none_by (refusal_of_send p.end sapi message) may));
   place = place-queue p.end sapi message ∙ place;
 }
 
@@ -230,9 +230,9 @@ control-failure Handover = refl
 pub may-come : (e : MobileState) (from : Tenure) (command : Command) (control : List ℕ) → e.place ≡ place_in (Moving from command) → is_control control ≡ true → may_arrive e control ≡ true
 may-come e from command control place is = ap (λ (at : Place). not (is_on_channel at) && is_control control) place ∙ is
 
-comes-becomes : (p : Mobile) (from tenure : Tenure) (command : Command) (control : List ℕ) → p.seat ≡ Moving from command → is_control control ≡ true → p.end.place ≡ place_in p.seat
+comes_becomes : (p : Mobile) (from tenure : Tenure) (command : Command) (control : List ℕ) → p.seat ≡ Moving from command → is_control control ≡ true → p.end.place ≡ place_in p.seat
     → after_arrival p.end control ≡ (if may_arrive p.end control then after_arrival p.end control else p.end)
-comes-becomes p from tenure command control seat is place =
+comes_becomes p from tenure command control seat is place =
     sym (ap (λ (b : Bool). if b then after_arrival p.end control else p.end) (may-come p.end from command control (place ∙ ap place_in seat) is))
 
 -- ---- each event
@@ -248,111 +248,111 @@ called w (Arrive mobile) number = if mobile == number then calls_to_arrive (seat
 called w (Return mobile) number = if mobile == number then calls_to_return (seat_of (mobile_of w mobile)) else []
 called w _ number = []
 
-brought-takes : {m number : ℕ} (w : Actors) (n : ℕ) (p : Mobile) (tenure : Tenure) (sapi : Sapi) (frame : List ℕ) → Stands m number w → mobile_of w n ≡ Some p
+brought_takes : {m number : ℕ} (w : Actors) (n : ℕ) (p : Mobile) (tenure : Tenure) (sapi : Sapi) (frame : List ℕ) → Stands m number w → mobile_of w n ≡ Some p
     → Takes m number w (if n == number then frames sapi ∷ [] else []) (brought w p tenure.at sapi frame)
-brought-takes w n p tenure Zero frame stands found =
-    takes-one n p (record (framed p Zero) { opens = false }) (frames Zero ∷ []) stands found refl refl refl (λ place. record { ends = refl; place = place-frame p.end Zero ∙ place })
-brought-takes w n p tenure Three frame stands found = takes-one n p (framed p Three) (frames Three ∷ []) stands found refl refl refl (λ place. record { ends = refl; place = place-frame p.end Three ∙ place })
+brought_takes w n p tenure Zero frame stands found =
+    takes_one n p (record (framed p Zero) { opens = false }) (frames Zero ∷ []) stands found refl refl refl (λ place. record { ends = refl; place = place-frame p.end Zero ∙ place })
+brought_takes w n p tenure Three frame stands found = takes_one n p (framed p Three) (frames Three ∷ []) stands found refl refl refl (λ place. record { ends = refl; place = place-frame p.end Three ∙ place })
 
-took-takes : {m number : ℕ} (w u : Actors) (station : ℕ) (target : Option Tenure) (o : Option Rsl) → Stands m number w → u.mobiles ≡ w.mobiles → u.modulus ≡ w.modulus → OfTaken (Takes m number w []) (took station target o u)
-took-takes {m} {number} w u station target o stands same numbers = took-leads (Takes m number w []) station target o u (record {
-  nothing = takes-none stands same numbers;
-  activates = λ channel _. takes-none stands same numbers;
-  seats = λ p n channel found asking. takes-kept n p (record p { seat = On (tenure_at u (place_at station channel)) None }) stands (ap (find (has_number n)) (sym same) ∙ found) same numbers
+took_takes : {m number : ℕ} (w u : Actors) (station : ℕ) (target : Option Tenure) (o : Option Rsl) → Stands m number w → u.mobiles ≡ w.mobiles → u.modulus ≡ w.modulus → OfTaken (Takes m number w []) (took station target o u)
+took_takes {m} {number} w u station target o stands same numbers = took-leads (Takes m number w []) station target o u (record {
+  nothing = takes_none stands same numbers;
+  activates = λ channel _. takes_none stands same numbers;
+  seats = λ p n channel found asking. takes_kept n p (record p { seat = On (tenure_at u (place_at station channel)) None }) stands (ap (find (has_number n)) (sym same) ∙ found) same numbers
       (record { number = refl; end = refl; place = sym (ap place_in asking) });
-  airs = λ channel message _. takes-none stands same numbers;
-  answers = λ answer channel. takes-none stands same numbers;
-  releases = λ channel. takes-none stands same numbers;
+  airs = λ channel message _. takes_none stands same numbers;
+  answers = λ answer channel. takes_none stands same numbers;
+  releases = λ channel. takes_none stands same numbers;
 })
 
 -- no mobile of this number is there yet
-none-there : (w : Actors) (n : ℕ) → is_new w n ≡ true → mobile_of w n ≡ None
-none-there w n new = by (mobile_of w n) (and-right (nat_lt 0 n) (is_none (mobile_of w n)) new) where
+none_there : (w : Actors) (n : ℕ) → is_new w n ≡ true → mobile_of w n ≡ None
+none_there w n new = by (mobile_of w n) (and-right (nat_lt 0 n) (is_none (mobile_of w n)) new) where
   by : (o : Option Mobile) → is_none o ≡ true → o ≡ None
   by None is = refl
   by (Some p) is = absurd cc
 
-connects-end : (m : ℕ) (initial : List ℕ) → is_none (refusal_of_connect (Some initial)) ≡ true → after_connect (new_mobile m) (Some initial) ≡ after_calls (new_mobile m) (connects (Some initial) ∷ [])
-connects-end m initial may = sym (ap (λ (o : Option MobileFault). unless_refused o (new_mobile m) (after_connect (new_mobile m) (Some initial))) (none-by (refusal_of_connect (Some initial)) may))
+connects_end : (m : ℕ) (initial : List ℕ) → is_none (refusal_of_connect (Some initial)) ≡ true → after_connect (new_mobile m) (Some initial) ≡ after_calls (new_mobile m) (connects (Some initial) ∷ [])
+connects_end m initial may = sym (ap (λ (o : Option MobileFault). unless_refused o (new_mobile m) (after_connect (new_mobile m) (Some initial))) (none_by (refusal_of_connect (Some initial)) may))
 
-takes-step : (m number : ℕ) (w : Actors) (event : Event) → Stands m number w → OfTaken (Takes m number w (called w event number)) (event_after w event)
+takes_step : (m number : ℕ) (w : Actors) (event : Event) → Stands m number w → OfTaken (Takes m number w (called w event number)) (event_after w event)
 unfolding event_after FromAir OfTaken
-takes-step m number w (Upper n sapi message) stands = by_mobile-leads (Takes m number w (called w (Upper n sapi message) number)) w n (sent_by w sapi message) (λ p found.
+takes_step m number w (Upper n sapi message) stands = by_mobile-leads (Takes m number w (called w (Upper n sapi message) number)) w n (sent_by w sapi message) (λ p found.
     only_if-leads (Takes m number w (called w (Upper n sapi message) number)) (may_send p.seat && is_none (refusal_of_send p.end sapi message)) (with_mobile (record p { end = after_queue p.end sapi message }) w)
-    (λ may. takes-one n p (record p { end = after_queue p.end sapi message }) (sends sapi message ∷ []) stands found refl refl refl
-    (sends-becomes p sapi message (and-right (may_send p.seat) (is_none (refusal_of_send p.end sapi message)) may))))
-takes-step m number w (Connect n station initial accepts) stands = connect-leads (Takes m number w (called w (Connect n station initial accepts) number)) w n station initial accepts (λ may.
+    (λ may. takes_one n p (record p { end = after_queue p.end sapi message }) (sends sapi message ∷ []) stands found refl refl refl
+    (sends_becomes p sapi message (and-right (may_send p.seat) (is_none (refusal_of_send p.end sapi message)) may))))
+takes_step m number w (Connect n station initial accepts) stands = connect-leads (Takes m number w (called w (Connect n station initial accepts) number)) w n station initial accepts (λ may.
     let of : is_none (refusal_of_connect (Some initial)) ≡ true = and-right (is_new w n && is_station_up w station) (is_none (refusal_of_connect (Some initial))) may in
     let new : is_new w n ≡ true = and-left (is_new w n) (is_station_up w station) (and-left (is_new w n && is_station_up w station) (is_none (refusal_of_connect (Some initial))) may) in
-    takes-new (connected w.modulus n initial accepts) (connects (Some initial) ∷ []) stands (none-there w n new) refl refl
-    (ap (λ (k : ℕ). after_connect (new_mobile k) (Some initial)) stands.modulus ∙ connects-end m initial of) (place-queue (new_mobile w.modulus) Zero initial))
-takes-step m number w (AirUp n sapi) stands = air_up-leads (Takes m number w (called w (AirUp n sapi) number)) w n sapi (λ p tenure command frame found _ _ _. brought-takes w n p tenure sapi frame stands found)
-takes-step m number w (AirAck n sapi) stands = air_ack-leads (Takes m number w (called w (AirAck n sapi) number)) w n sapi (λ p found.
-    takes-one n p (record p { end = after_acked p.end sapi }) (acknowledges sapi ∷ []) stands found refl refl refl (λ place. record { ends = refl; place = place-acked p.end sapi ∙ place }))
-takes-step m number w (AirDown n) stands = air_down-leads (Takes m number w []) w n (λ p tenure command found seat _ first others _. takes-kept n p (hearing p first) stands found refl refl (hears p tenure command first seat))
-takes-step m number w (AirDownLost n) stands = air_down_lost-leads (Takes m number w []) w n (λ p tenure command found _ _ first others _. takes-kept n p p stands found refl refl (record { number = refl; end = refl; place = refl }))
-takes-step m number w (Move n) stands = move-leads (Takes m number w (called w (Move n) number)) w n (λ p tenure command found _ _.
-    takes-one n p (record p { end = after_leave p.end; seat = Moving tenure command; opens = false }) (leaves ∷ []) stands found refl refl refl (λ place. record { ends = refl; place = refl }))
-takes-step m number w (Touch n) stands = touch-leads (Takes m number w []) w n (λ command _. takes-none stands refl refl)
-takes-step m number w (Arrive n) stands = arrive-leads (Takes m number w (called w (Arrive n) number)) w n (λ p from command found seat _.
+    takes_new (connected w.modulus n initial accepts) (connects (Some initial) ∷ []) stands (none_there w n new) refl refl
+    (ap (λ (k : ℕ). after_connect (new_mobile k) (Some initial)) stands.modulus ∙ connects_end m initial of) (place-queue (new_mobile w.modulus) Zero initial))
+takes_step m number w (AirUp n sapi) stands = air_up-leads (Takes m number w (called w (AirUp n sapi) number)) w n sapi (λ p tenure command frame found _ _ _. brought_takes w n p tenure sapi frame stands found)
+takes_step m number w (AirAck n sapi) stands = air_ack-leads (Takes m number w (called w (AirAck n sapi) number)) w n sapi (λ p found.
+    takes_one n p (record p { end = after_acked p.end sapi }) (acknowledges sapi ∷ []) stands found refl refl refl (λ place. record { ends = refl; place = place-acked p.end sapi ∙ place }))
+takes_step m number w (AirDown n) stands = air_down-leads (Takes m number w []) w n (λ p tenure command found seat _ first others _. takes_kept n p (hearing p first) stands found refl refl (hears p tenure command first seat))
+takes_step m number w (AirDownLost n) stands = air_down_lost-leads (Takes m number w []) w n (λ p tenure command found _ _ first others _. takes_kept n p p stands found refl refl (record { number = refl; end = refl; place = refl }))
+takes_step m number w (Move n) stands = move-leads (Takes m number w (called w (Move n) number)) w n (λ p tenure command found _ _.
+    takes_one n p (record p { end = after_leave p.end; seat = Moving tenure command; opens = false }) (leaves ∷ []) stands found refl refl refl (λ place. record { ends = refl; place = refl }))
+takes_step m number w (Touch n) stands = touch-leads (Takes m number w []) w n (λ command _. takes_none stands refl refl)
+takes_step m number w (Arrive n) stands = arrive-leads (Takes m number w (called w (Arrive n) number)) w n (λ p from command found seat _.
     let calls : calls_to_arrive (seat_of (mobile_of w n)) ≡ arrives (complete command.change) ∷ [] = ap (λ (o : Option Mobile). calls_to_arrive (seat_of o)) found ∙ ap calls_to_arrive seat in
     subst (λ (cs : List Call). Takes m number w (if n == number then cs else []) (seated w p command.target (complete command.change))) (sym calls)
-    (takes-one n p (record p { end = after_arrival p.end (complete command.change); seat = On command.target None }) (arrives (complete command.change) ∷ []) stands found refl refl refl
-    (λ place. record { ends = comes-becomes p from command.target command (complete command.change) seat (control-complete command.change) place; place = refl })))
-takes-step m number w (Return n) stands = return-leads (Takes m number w (called w (Return n) number)) w n (λ p from command found seat _.
+    (takes_one n p (record p { end = after_arrival p.end (complete command.change); seat = On command.target None }) (arrives (complete command.change) ∷ []) stands found refl refl refl
+    (λ place. record { ends = comes_becomes p from command.target command (complete command.change) seat (control-complete command.change) place; place = refl })))
+takes_step m number w (Return n) stands = return-leads (Takes m number w (called w (Return n) number)) w n (λ p from command found seat _.
     let calls : calls_to_return (seat_of (mobile_of w n)) ≡ gives_up (failure command.change) ∷ [] = ap (λ (o : Option Mobile). calls_to_return (seat_of o)) found ∙ ap calls_to_return seat in
     subst (λ (cs : List Call). Takes m number w (if n == number then cs else []) (seated w p from (failure command.change))) (sym calls)
-    (takes-one n p (record p { end = after_arrival p.end (failure command.change); seat = On from None }) (gives_up (failure command.change) ∷ []) stands found refl refl refl
-    (λ place. record { ends = comes-becomes p from from command (failure command.change) seat (control-failure command.change) place; place = refl })))
-takes-step m number w (BaseTakes station) stands = base_takes-leads (Takes m number w []) w station (λ first others _ _. took-takes w (with_outbox station others w) station first.target (rsl_in first.out.frame) stands refl refl)
-takes-step m number w (BasePush source) stands = push-leads (Takes m number w []) w source (λ first others. takes-none stands refl refl) (λ message _. takes-none stands refl refl)
-takes-step m number w Handle stands =
-    handle-leads (Takes m number w []) w (λ item items _. turn-leads (Takes m number w []) (target_in w item.source item.what) (take item w.controller) (record w { inbox = items }) (λ links. takes-none stands refl refl))
-takes-step m number w SwitchTakes stands =
-    switch_takes-leads (Takes m number w []) w (λ first others _ _. switch_took-leads (Takes m number w []) (with_outbox SWITCH_LINK others w) (sccp_in first.out.frame) (takes-none stands refl refl) (λ next made. takes-none stands refl refl))
-takes-step m number w (SwitchDoes action) stands = does-leads (Takes m number w []) w action (λ next made. takes-none stands refl refl)
-takes-step m number w (Tick ms) stands = turn-leads (Takes m number w []) None (tick ms w.controller) w (λ links. takes-none stands refl refl)
-takes-step m number w (BaseDown source) stands = broken-leads (Takes m number w []) w source (λ _ _. takes-none stands refl refl) (λ _ _. takes-none stands refl refl)
-takes-step m number w (Report n report) stands = report-leads (Takes m number w []) w n report (λ tenure _. takes-none stands refl refl)
+    (takes_one n p (record p { end = after_arrival p.end (failure command.change); seat = On from None }) (gives_up (failure command.change) ∷ []) stands found refl refl refl
+    (λ place. record { ends = comes_becomes p from from command (failure command.change) seat (control-failure command.change) place; place = refl })))
+takes_step m number w (BaseTakes station) stands = base_takes-leads (Takes m number w []) w station (λ first others _ _. took_takes w (with_outbox station others w) station first.target (rsl_in first.out.frame) stands refl refl)
+takes_step m number w (BasePush source) stands = push-leads (Takes m number w []) w source (λ first others. takes_none stands refl refl) (λ message _. takes_none stands refl refl)
+takes_step m number w Handle stands =
+    handle-leads (Takes m number w []) w (λ item items _. turn-leads (Takes m number w []) (target_in w item.source item.what) (take item w.controller) (record w { inbox = items }) (λ links. takes_none stands refl refl))
+takes_step m number w SwitchTakes stands =
+    switch_takes-leads (Takes m number w []) w (λ first others _ _. switch_took-leads (Takes m number w []) (with_outbox SWITCH_LINK others w) (sccp_in first.out.frame) (takes_none stands refl refl) (λ next made. takes_none stands refl refl))
+takes_step m number w (SwitchDoes action) stands = does-leads (Takes m number w []) w action (λ next made. takes_none stands refl refl)
+takes_step m number w (Tick ms) stands = turn-leads (Takes m number w []) None (tick ms w.controller) w (λ links. takes_none stands refl refl)
+takes_step m number w (BaseDown source) stands = broken-leads (Takes m number w []) w source (λ _ _. takes_none stands refl refl) (λ _ _. takes_none stands refl refl)
+takes_step m number w (Report n report) stands = report-leads (Takes m number w []) w n report (λ tenure _. takes_none stands refl refl)
 
 -- ---- whether it is taken or not
 
-by-guard : (m number : ℕ) (w : Actors) (o : Option Actors) (own : Bool) (calls : List Call) → Stands m number w → OfTaken (Takes m number w (if own then calls else [])) o → Takes m number w (if own && is_some o then calls else []) (unwrap_or o w)
+by_guard : (m number : ℕ) (w : Actors) (o : Option Actors) (own : Bool) (calls : List Call) → Stands m number w → OfTaken (Takes m number w (if own then calls else [])) o → Takes m number w (if own && is_some o then calls else []) (unwrap_or o w)
 unfolding OfTaken
-by-guard m number w None true calls stands leads = takes-none stands refl refl
-by-guard m number w None false calls stands leads = takes-none stands refl refl
-by-guard m number w (Some v) true calls stands leads = leads
-by-guard m number w (Some v) false calls stands leads = leads
+by_guard m number w None true calls stands leads = takes_none stands refl refl
+by_guard m number w None false calls stands leads = takes_none stands refl refl
+by_guard m number w (Some v) true calls stands leads = leads
+by_guard m number w (Some v) false calls stands leads = leads
 
-pub takes-at : (m number : ℕ) (w : Actors) (event : Event) → Stands m number w → Takes m number w (calls_at w event number) (actors_after w event)
-takes-at m number w (Upper n sapi message) stands = by-guard m number w (event_after w (Upper n sapi message)) (n == number) (sends sapi message ∷ []) stands (takes-step m number w (Upper n sapi message) stands)
-takes-at m number w (Connect n station initial accepts) stands =
-    by-guard m number w (event_after w (Connect n station initial accepts)) (n == number) (connects (Some initial) ∷ []) stands (takes-step m number w (Connect n station initial accepts) stands)
-takes-at m number w (AirUp n sapi) stands = by-guard m number w (event_after w (AirUp n sapi)) (n == number) (frames sapi ∷ []) stands (takes-step m number w (AirUp n sapi) stands)
-takes-at m number w (AirAck n sapi) stands = by-guard m number w (event_after w (AirAck n sapi)) (n == number) (acknowledges sapi ∷ []) stands (takes-step m number w (AirAck n sapi) stands)
-takes-at m number w (Move n) stands = by-guard m number w (event_after w (Move n)) (n == number) (leaves ∷ []) stands (takes-step m number w (Move n) stands)
-takes-at m number w (Arrive n) stands = by-guard m number w (event_after w (Arrive n)) (n == number) (calls_to_arrive (seat_of (mobile_of w n))) stands (takes-step m number w (Arrive n) stands)
-takes-at m number w (Return n) stands = by-guard m number w (event_after w (Return n)) (n == number) (calls_to_return (seat_of (mobile_of w n))) stands (takes-step m number w (Return n) stands)
-takes-at m number w event stands = by-guard m number w (event_after w event) false [] stands (takes-step m number w event stands)
+pub takes_at : (m number : ℕ) (w : Actors) (event : Event) → Stands m number w → Takes m number w (calls_at w event number) (actors_after w event)
+takes_at m number w (Upper n sapi message) stands = by_guard m number w (event_after w (Upper n sapi message)) (n == number) (sends sapi message ∷ []) stands (takes_step m number w (Upper n sapi message) stands)
+takes_at m number w (Connect n station initial accepts) stands =
+    by_guard m number w (event_after w (Connect n station initial accepts)) (n == number) (connects (Some initial) ∷ []) stands (takes_step m number w (Connect n station initial accepts) stands)
+takes_at m number w (AirUp n sapi) stands = by_guard m number w (event_after w (AirUp n sapi)) (n == number) (frames sapi ∷ []) stands (takes_step m number w (AirUp n sapi) stands)
+takes_at m number w (AirAck n sapi) stands = by_guard m number w (event_after w (AirAck n sapi)) (n == number) (acknowledges sapi ∷ []) stands (takes_step m number w (AirAck n sapi) stands)
+takes_at m number w (Move n) stands = by_guard m number w (event_after w (Move n)) (n == number) (leaves ∷ []) stands (takes_step m number w (Move n) stands)
+takes_at m number w (Arrive n) stands = by_guard m number w (event_after w (Arrive n)) (n == number) (calls_to_arrive (seat_of (mobile_of w n))) stands (takes_step m number w (Arrive n) stands)
+takes_at m number w (Return n) stands = by_guard m number w (event_after w (Return n)) (n == number) (calls_to_return (seat_of (mobile_of w n))) stands (takes_step m number w (Return n) stands)
+takes_at m number w event stands = by_guard m number w (event_after w event) false [] stands (takes_step m number w event stands)
 
 -- ---- all these events
 
-takes-all : (m number : ℕ) (w : Actors) (events : List Event) → Stands m number w → Takes m number w (all_calls w events number) (actors_after_all w events)
-takes-all m number w [] stands = takes-none stands refl refl
-takes-all m number w (event ∷ events) stands =
-    let first : Takes m number w (calls_at w event number) (actors_after w event) = takes-at m number w event stands in
-    let others : Takes m number (actors_after w event) (all_calls (actors_after w event) events number) (actors_after_all (actors_after w event) events) = takes-all m number (actors_after w event) events first.stands in
+takes_all : (m number : ℕ) (w : Actors) (events : List Event) → Stands m number w → Takes m number w (all_calls w events number) (actors_after_all w events)
+takes_all m number w [] stands = takes_none stands refl refl
+takes_all m number w (event ∷ events) stands =
+    let first : Takes m number w (calls_at w event number) (actors_after w event) = takes_at m number w event stands in
+    let others : Takes m number (actors_after w event) (all_calls (actors_after w event) events number) (actors_after_all (actors_after w event) events) = takes_all m number (actors_after w event) events first.stands in
     record {
       ends = others.ends ∙ ap (λ (e : MobileState). after_calls e (all_calls (actors_after w event) events number)) first.ends
           ∙ sym (after_calls-append (end_of m (mobile_of w number)) (calls_at w event number) (all_calls (actors_after w event) events number));
       stands = others.stands;
     }
 
-pub stands-new : (settings : Parameters) (number : ℕ) → Stands (modulus_in settings) number (new_actors settings)
-stands-new settings number = record { fits = tt; modulus = refl }
+pub stands_new : (settings : Parameters) (number : ℕ) → Stands (modulus_in settings) number (new_actors settings)
+stands_new settings number = record { fits = tt; modulus = refl }
 
 pub MobilesLive-new : (settings : Parameters) (events : List Event) → MobilesLive settings events
 MobilesLive-new settings events number p found =
     let takes : Takes (modulus_in settings) number (new_actors settings) (all_calls (new_actors settings) events number) (actors_after_all (new_actors settings) events) =
-    takes-all (modulus_in settings) number (new_actors settings) events (stands-new settings number) in
+    takes_all (modulus_in settings) number (new_actors settings) events (stands_new settings number) in
     record { is = sym (ap (end_of (modulus_in settings)) found) ∙ takes.ends; place = subst Fits found takes.stands.fits }

@@ -15,7 +15,7 @@ use Rattle.world_model.specs.Queues.{first_of, outputs_at, outputs, to_link, put
 use Rattle.world_model.specs.Relay.{after_base_push, entry_of, joined_by, with_turn, target_in, handled, without_made, broken, after_break}
 use Rattle.world_model.specs.Stations.{after_base_takes}
 use Rattle.world_model.specs.SwitchSide.{sccp_in, after_switch_takes, after_switch_does}
-use Rattle.world_model.proofs.Inboxes.{inbox-all, sources-all}
+use Rattle.world_model.proofs.Inboxes.{inbox-all, sources_all}
 use Rattle.world_model.specs.World.{Actors, Link, new_actors, new_link, link_of, is_up, broken_link, with_link, outbox_of, with_outbox, base_of, with_base}
 use Rattle.world_model.proofs.Leads.{OfTaken, FromAir, switch_takes-leads, switch_took-leads, push-leads, does-leads, after-taken}
 use Rattle.world_model.proofs.Leads.{aerial-leads, taking-leads}
@@ -134,8 +134,8 @@ all_join link target (out ∷ outs) w =
           ∙ ap (λ (entries : List OutboxEntry). outbox_of w link ++ entries) (both (is_up w link) link (entry_of target out) (map (entry_of target) outs));
     }
 
-turn-goes : (link : ℕ) (w : Actors) (event : Event) (target : Option Tenure) (t : Turn) (u : Actors) → Stays w u → outputs w event ≡ map (entry_of target) t.outs → taken link w event ≡ [] → Step link w event (with_turn target t u)
-turn-goes link w event target t u same puts nobody =
+turn_goes : (link : ℕ) (w : Actors) (event : Event) (target : Option Tenure) (t : Turn) (u : Actors) → Stays w u → outputs w event ≡ map (entry_of target) t.outs → taken link w event ≡ [] → Step link w event (with_turn target t u)
+turn_goes link w event target t u same puts nobody =
     let all : AllJoin link target (record u { controller = t.next }) t.outs (with_turn target t u) = all_join link target t.outs (record u { controller = t.next }) in
     let same_link : link_of u link ≡ link_of w link = ap (λ (links : List Link). get_or links link broken_link) same in
     goes (all.up ∙ ap (λ (l : Link). l.up) same_link)
@@ -144,10 +144,10 @@ turn-goes link w event target t u same puts nobody =
     ∙ sym all.outbox
     ∙ ap (λ (entries : List OutboxEntry). entries ++ outbox_of (with_turn target t u) link) (sym nobody))
 
-handle-step : (link : ℕ) (w : Actors) (items : List Item) → w.inbox ≡ items → Step link w Handle (unwrap_or (handled items w) w)
-handle-step link w [] is = quiet link w Handle w (ap (outputs_at w) is) refl refl
-handle-step link w (item ∷ items) is =
-    turn-goes link w Handle (target_in w item.source item.what) (take item w.controller) (record w { inbox = items }) refl (ap (outputs_at w) is) refl
+handle_step : (link : ℕ) (w : Actors) (items : List Item) → w.inbox ≡ items → Step link w Handle (unwrap_or (handled items w) w)
+handle_step link w [] is = quiet link w Handle w (ap (outputs_at w) is) refl refl
+handle_step link w (item ∷ items) is =
+    turn_goes link w Handle (target_in w item.source item.what) (take item w.controller) (record w { inbox = items }) refl (ap (outputs_at w) is) refl
 
 -- ---- what is taken
 
@@ -159,8 +159,8 @@ record Popped (link : ℕ) (w v : Actors) : Type 0 where
   stood : outbox_of w link ≡ first ∷ others
   links : Stays (with_outbox link others w) v
 
-popped-step : (link other : ℕ) (w : Actors) (event : Event) (v : Actors) → outputs w event ≡ [] → taken link w event ≡ (if other == link then first_of (outbox_of w link) else []) → Popped other w v → Step link w event v
-popped-step link other w event v none takes h =
+popped_step : (link other : ℕ) (w : Actors) (event : Event) (v : Actors) → outputs w event ≡ [] → taken link w event ≡ (if other == link then first_of (outbox_of w link) else []) → Popped other w v → Step link w event v
+popped_step link other w event v none takes h =
     elim (cases_Bool (nat_eq other link)) [
       | inl same ↦ here (eqb-true other link same) (takes ∙ ap (λ (b : Bool). if b then first_of (outbox_of w link) else []) same)
       | inr differs ↦ elsewhere differs (takes ∙ ap (λ (b : Bool). if b then first_of (outbox_of w link) else []) differs)
@@ -193,35 +193,35 @@ pub no_entries : (b : Bool) (entries : List OutboxEntry) → (if b then (if fals
 no_entries true entries = refl
 no_entries false entries = refl
 
-takes-step : (link other : ℕ) (w : Actors) (event : Event) (o : Option Actors) → outputs w event ≡ [] → taken link w event ≡ (if other == link then (if is_some o then first_of (outbox_of w link) else []) else []) → OfTaken (Popped other w) o → Step link w event (unwrap_or o w)
+takes_step : (link other : ℕ) (w : Actors) (event : Event) (o : Option Actors) → outputs w event ≡ [] → taken link w event ≡ (if other == link then (if is_some o then first_of (outbox_of w link) else []) else []) → OfTaken (Popped other w) o → Step link w event (unwrap_or o w)
 unfolding OfTaken
-takes-step link other w event None none takes h = quiet link w event w none (takes ∙ no_entries (other == link) (first_of (outbox_of w link))) refl
-takes-step link other w event (Some v) none takes h = popped-step link other w event v none takes h
+takes_step link other w event None none takes h = quiet link w event w none (takes ∙ no_entries (other == link) (first_of (outbox_of w link))) refl
+takes_step link other w event (Some v) none takes h = popped_step link other w event v none takes h
 
 pub right_of : (a b : Bool) → a && b ≡ true → b ≡ true
 right_of true b is = is
 right_of false b is = absurd cc
 
-base_takes-popped : (w : Actors) (station : ℕ) → OfTaken (Popped station w) (after_base_takes w station)
-base_takes-popped w station = taking-leads (Popped station w) w station (λ first others up stood mobiles stations.
+base_takes_popped : (w : Actors) (station : ℕ) → OfTaken (Popped station w) (after_base_takes w station)
+base_takes_popped w station = taking-leads (Popped station w) w station (λ first others up stood mobiles stations.
     record { first = first; others = others; up = right_of (not (station == SWITCH_LINK)) (is_up w station) up; stood = stood; links = refl })
 
-switch_takes-popped : (w : Actors) → OfTaken (Popped SWITCH_LINK w) (after_switch_takes w)
-switch_takes-popped w = switch_takes-leads (Popped SWITCH_LINK w) w (λ first others up stood.
+switch_takes_popped : (w : Actors) → OfTaken (Popped SWITCH_LINK w) (after_switch_takes w)
+switch_takes_popped w = switch_takes-leads (Popped SWITCH_LINK w) w (λ first others up stood.
     switch_took-leads (Popped SWITCH_LINK w) (with_outbox SWITCH_LINK others w) (sccp_in first.out.frame)
     (record { first = first; others = others; up = up; stood = stood; links = refl })
     (λ next made. record { first = first; others = others; up = up; stood = stood; links = refl }))
 
 -- ---- breaks
 
-without_made-stays : (source : ℕ) (w : Actors) → Stays w (without_made source w)
-without_made-stays source w = by_source (source == SWITCH_LINK) where
+without_made_stays : (source : ℕ) (w : Actors) → Stays w (without_made source w)
+without_made_stays source w = by_source (source == SWITCH_LINK) where
   by_source : (b : Bool) → Stays w (if b then record w { switch_made = [] } else with_base source (after_take_down (base_of w source)) w)
   by_source true = refl
   by_source false = refl
 
-broken-step : (link source : ℕ) (w : Actors) → is_up w source ≡ true → Step link w (BaseDown source) (broken source w)
-broken-step link source w up =
+broken_step : (link source : ℕ) (w : Actors) → is_up w source ≡ true → Step link w (BaseDown source) (broken source w)
+broken_step link source w up =
     elim (cases_Bool (nat_eq source link)) [
       | inl same ↦ breaks
           (ap (λ (links : List Link). get_or links link broken_link) links
@@ -235,25 +235,25 @@ broken-step link source w up =
           ∙ append-nil (outbox_of w link) ∙ ap (λ (l : Link). l.outbox) (sym same))
     ] where
       links : (broken source w).links ≡ set w.links source broken_link
-      links = without_made-stays source (with_link source broken_link w)
+      links = without_made_stays source (with_link source broken_link w)
 
-break-step : (link source : ℕ) (w : Actors) → Step link w (BaseDown source) (unwrap_or (after_break w source) w)
-break-step link source w = by_link (is_up w source) refl where
+break_step : (link source : ℕ) (w : Actors) → Step link w (BaseDown source) (unwrap_or (after_break w source) w)
+break_step link source w = by_link (is_up w source) refl where
   by_link : (b : Bool) → is_up w source ≡ b → Step link w (BaseDown source) (unwrap_or (if b then Some (broken source w) else None) w)
-  by_link true up = broken-step link source w up
+  by_link true up = broken_step link source w up
   by_link false down = quiet link w (BaseDown source) w refl refl refl
 
 -- ---- each event
 
 pub step : (link : ℕ) (w : Actors) (event : Event) → Step link w event (actors_after w event)
 unfolding event_after FromAir
-step link w (BaseTakes station) = takes-step link station w (BaseTakes station) (after_base_takes w station) refl refl (base_takes-popped w station)
+step link w (BaseTakes station) = takes_step link station w (BaseTakes station) (after_base_takes w station) refl refl (base_takes_popped w station)
 step link w (BasePush source) = quietly link w (BasePush source) (after_base_push w source) refl refl (push-leads (Stays w) w source (λ first others. refl) (λ message _. refl))
-step link w Handle = handle-step link w w.inbox refl
-step link w SwitchTakes = takes-step link SWITCH_LINK w SwitchTakes (after_switch_takes w) refl refl (switch_takes-popped w)
+step link w Handle = handle_step link w w.inbox refl
+step link w SwitchTakes = takes_step link SWITCH_LINK w SwitchTakes (after_switch_takes w) refl refl (switch_takes_popped w)
 step link w (SwitchDoes action) = quietly link w (SwitchDoes action) (after_switch_does w action) refl refl (does-leads (Stays w) w action (λ next made. refl))
-step link w (Tick ms) = turn-goes link w (Tick ms) None (tick ms w.controller) w refl refl refl
-step link w (BaseDown source) = break-step link source w
+step link w (Tick ms) = turn_goes link w (Tick ms) None (tick ms w.controller) w refl refl refl
+step link w (BaseDown source) = break_step link source w
 step link w event = quietly link w event (event_after w event) refl refl (aerial-leads (Stays w) w event refl (λ mobiles stations. refl))
 
 -- ---- a link that is down stays so, and nothing is put there
@@ -261,56 +261,56 @@ step link w event = quietly link w event (event_after w event) refl refl (aerial
 abbrev IsDown : ℕ → Actors → Type 0
 IsDown link w = is_up w link ≡ false
 
-down-by : {link : ℕ} {w v : Actors} {event : Event} → Step link w event v → IsDown link w → IsDown link v
-down-by (goes same all) down = same ∙ down
-down-by (breaks broken nothing nobody) down = ap (λ (l : Link). l.up) broken
+down_by : {link : ℕ} {w v : Actors} {event : Event} → Step link w event v → IsDown link w → IsDown link v
+down_by (goes same all) down = same ∙ down
+down_by (breaks broken nothing nobody) down = ap (λ (l : Link). l.up) broken
 
-down-puts : (link : ℕ) (w : Actors) (event : Event) → IsDown link w → put link w event ≡ []
-down-puts link w event down = ap (λ (b : Bool). if b then to_link link (outputs w event) else []) down
+down_puts : (link : ℕ) (w : Actors) (event : Event) → IsDown link w → put link w event ≡ []
+down_puts link w event down = ap (λ (b : Bool). if b then to_link link (outputs w event) else []) down
 
-down-puts_all : (link : ℕ) (w : Actors) (events : List Event) → IsDown link w → all_put link w events ≡ []
-down-puts_all link w [] down = refl
-down-puts_all link w (event ∷ events) down =
-    ap (λ (entries : List OutboxEntry). entries ++ all_put link (actors_after w event) events) (down-puts link w event down)
-    ∙ down-puts_all link (actors_after w event) events (down-by (step link w event) down)
+down_puts_all : (link : ℕ) (w : Actors) (events : List Event) → IsDown link w → all_put link w events ≡ []
+down_puts_all link w [] down = refl
+down_puts_all link w (event ∷ events) down =
+    ap (λ (entries : List OutboxEntry). entries ++ all_put link (actors_after w event) events) (down_puts link w event down)
+    ∙ down_puts_all link (actors_after w event) events (down_by (step link w event) down)
 
-down-stays : (link : ℕ) (w : Actors) (events : List Event) → IsDown link w → IsDown link (actors_after_all w events)
-down-stays link w [] down = down
-down-stays link w (event ∷ events) down = down-stays link (actors_after w event) events (down-by (step link w event) down)
+down_stays : (link : ℕ) (w : Actors) (events : List Event) → IsDown link w → IsDown link (actors_after_all w events)
+down_stays link w [] down = down
+down_stays link w (event ∷ events) down = down_stays link (actors_after w event) events (down_by (step link w event) down)
 
 pub down-after : (link : ℕ) (w : Actors) (event : Event) → is_up w link ≡ false → is_up (actors_after w event) link ≡ false
-down-after link w event down = down-by (step link w event) down
+down-after link w event down = down_by (step link w event) down
 
-Front-empty : {X : Type 0} (xs ys : List X) → xs ++ ys ≡ [] → xs ≡ []
-Front-empty [] ys is = refl
-Front-empty (x ∷ xs) ys is = absurd cc
+front_empty : {X : Type 0} (xs ys : List X) → xs ++ ys ≡ [] → xs ≡ []
+front_empty [] ys is = refl
+front_empty (x ∷ xs) ys is = absurd cc
 
 -- nothing is taken of a link that is down and has nothing, and it has nothing then
 pub Both-empty : {X : Type 0} (xs ys : List X) → [] ≡ xs ++ ys → (xs ≡ []) × (ys ≡ [])
 Both-empty [] ys is = (refl, sym is)
 Both-empty (x ∷ xs) ys is = absurd cc
 
-empty-by : {link : ℕ} {w v : Actors} {event : Event} → Step link w event v → IsDown link w → outbox_of w link ≡ [] → (taken link w event ≡ []) × (outbox_of v link ≡ [])
-empty-by {link} {w} {v} {event} (goes same all) down none =
-    Both-empty (taken link w event) (outbox_of v link) (sym (sym all ∙ ap (λ (entries : List OutboxEntry). entries ++ put link w event) none ∙ down-puts link w event down))
-empty-by (breaks broken nothing nobody) down none = (nobody, ap (λ (l : Link). l.outbox) broken)
+empty_by : {link : ℕ} {w v : Actors} {event : Event} → Step link w event v → IsDown link w → outbox_of w link ≡ [] → (taken link w event ≡ []) × (outbox_of v link ≡ [])
+empty_by {link} {w} {v} {event} (goes same all) down none =
+    Both-empty (taken link w event) (outbox_of v link) (sym (sym all ∙ ap (λ (entries : List OutboxEntry). entries ++ put link w event) none ∙ down_puts link w event down))
+empty_by (breaks broken nothing nobody) down none = (nobody, ap (λ (l : Link). l.outbox) broken)
 
-pub down-empty : (link : ℕ) (w : Actors) (event : Event) → is_up w link ≡ false → outbox_of w link ≡ [] → (taken link w event ≡ []) × (outbox_of (actors_after w event) link ≡ [])
-down-empty link w event down none = empty-by (step link w event) down none
+pub down_empty : (link : ℕ) (w : Actors) (event : Event) → is_up w link ≡ false → outbox_of w link ≡ [] → (taken link w event ≡ []) × (outbox_of (actors_after w event) link ≡ [])
+down_empty link w event down none = empty_by (step link w event) down none
 
 -- a link that is down has nothing
-emptied-by : {link : ℕ} {w v : Actors} {event : Event} → Step link w event v → (is_up w link ≡ false → outbox_of w link ≡ []) → is_up v link ≡ false → outbox_of v link ≡ []
-emptied-by {link} {w} {v} {event} (goes same all) none down = (empty-by {link = link} {w = w} {v = v} {event = event} (goes same all) (sym same ∙ down) (none (sym same ∙ down))).1
-emptied-by (breaks broken nothing nobody) none down = ap (λ (l : Link). l.outbox) broken
+emptied_by : {link : ℕ} {w v : Actors} {event : Event} → Step link w event v → (is_up w link ≡ false → outbox_of w link ≡ []) → is_up v link ≡ false → outbox_of v link ≡ []
+emptied_by {link} {w} {v} {event} (goes same all) none down = (empty_by {link = link} {w = w} {v = v} {event = event} (goes same all) (sym same ∙ down) (none (sym same ∙ down))).1
+emptied_by (breaks broken nothing nobody) none down = ap (λ (l : Link). l.outbox) broken
 
 pub down-outbox : (link : ℕ) (w : Actors) (event : Event) → (is_up w link ≡ false → outbox_of w link ≡ []) → is_up (actors_after w event) link ≡ false → outbox_of (actors_after w event) link ≡ []
-down-outbox link w event none down = emptied-by (step link w event) none down
+down-outbox link w event none down = emptied_by (step link w event) none down
 
 -- ---- all events
 
 -- what is taken is the beginning of what stands there and is put
-begins-by : (link : ℕ) (w : Actors) (event : Event) (events : List Event) → Step link w event (actors_after w event) → IsPrefix (all_taken link (actors_after w event) events) (outbox_of (actors_after w event) link ++ all_put link (actors_after w event) events) → IsPrefix (all_taken link w (event ∷ events)) (outbox_of w link ++ all_put link w (event ∷ events))
-begins-by link w event events (goes same all) (rest, is) = (
+begins_by : (link : ℕ) (w : Actors) (event : Event) (events : List Event) → Step link w event (actors_after w event) → IsPrefix (all_taken link (actors_after w event) events) (outbox_of (actors_after w event) link ++ all_put link (actors_after w event) events) → IsPrefix (all_taken link w (event ∷ events)) (outbox_of w link ++ all_put link w (event ∷ events))
+begins_by link w event events (goes same all) (rest, is) = (
   rest,
   append_assoc (taken link w event) (all_taken link (actors_after w event) events) rest
       ∙ ap (λ (entries : List OutboxEntry). taken link w event ++ entries) is
@@ -318,48 +318,48 @@ begins-by link w event events (goes same all) (rest, is) = (
       ∙ ap (λ (entries : List OutboxEntry). entries ++ all_put link (actors_after w event) events) (sym all)
       ∙ append_assoc (outbox_of w link) (put link w event) (all_put link (actors_after w event) events),
 )
-begins-by link w event events (breaks broken nothing nobody) (rest, is) =
+begins_by link w event events (breaks broken nothing nobody) (rest, is) =
     let down : IsDown link (actors_after w event) = ap (λ (l : Link). l.up) broken in
-    let none : all_put link (actors_after w event) events ≡ [] = down-puts_all link (actors_after w event) events down in
+    let none : all_put link (actors_after w event) events ≡ [] = down_puts_all link (actors_after w event) events down in
     let empty : all_taken link (actors_after w event) events ++ rest ≡ [] =
     is ∙ ap (λ (l : Link). l.outbox ++ all_put link (actors_after w event) events) broken ∙ none in (
       outbox_of w link ++ all_put link w (event ∷ events),
       ap (λ (entries : List OutboxEntry). (entries ++ all_taken link (actors_after w event) events) ++ (outbox_of w link ++ all_put link w (event ∷ events))) nobody
-          ∙ ap (λ (entries : List OutboxEntry). entries ++ (outbox_of w link ++ all_put link w (event ∷ events))) (Front-empty (all_taken link (actors_after w event) events) rest empty),
+          ∙ ap (λ (entries : List OutboxEntry). entries ++ (outbox_of w link ++ all_put link w (event ∷ events))) (front_empty (all_taken link (actors_after w event) events) rest empty),
     )
 
-begins-all : (link : ℕ) (w : Actors) (events : List Event) → IsPrefix (all_taken link w events) (outbox_of w link ++ all_put link w events)
-begins-all link w [] = (outbox_of w link, sym (append-nil (outbox_of w link)))
-begins-all link w (event ∷ events) = begins-by link w event events (step link w event) (begins-all link (actors_after w event) events)
+begins_all : (link : ℕ) (w : Actors) (events : List Event) → IsPrefix (all_taken link w events) (outbox_of w link ++ all_put link w events)
+begins_all link w [] = (outbox_of w link, sym (append-nil (outbox_of w link)))
+begins_all link w (event ∷ events) = begins_by link w event events (step link w event) (begins_all link (actors_after w event) events)
 
 -- while the link is up, the rest is left
 Left : ℕ → Actors → List Event → Type 0
 Left link w events = is_up (actors_after_all w events) link ≡ true → outbox_of w link ++ all_put link w events ≡ all_taken link w events ++ outbox_of (actors_after_all w events) link
 
-left-by : (link : ℕ) (w : Actors) (event : Event) (events : List Event) → Step link w event (actors_after w event) → Left link (actors_after w event) events → Left link w (event ∷ events)
+left_by : (link : ℕ) (w : Actors) (event : Event) (events : List Event) → Step link w event (actors_after w event) → Left link (actors_after w event) events → Left link w (event ∷ events)
 unfolding Left
-left-by link w event events (goes same all) left up =
+left_by link w event events (goes same all) left up =
     sym (append_assoc (outbox_of w link) (put link w event) (all_put link (actors_after w event) events))
     ∙ ap (λ (entries : List OutboxEntry). entries ++ all_put link (actors_after w event) events) all
     ∙ append_assoc (taken link w event) (outbox_of (actors_after w event) link) (all_put link (actors_after w event) events)
     ∙ ap (λ (entries : List OutboxEntry). taken link w event ++ entries) (left up)
     ∙ sym (append_assoc (taken link w event) (all_taken link (actors_after w event) events) (outbox_of (actors_after_all (actors_after w event) events) link))
-left-by link w event events (breaks broken nothing nobody) left up = absurd (false_true (sym (down-stays link (actors_after w event) events (ap (λ (l : Link). l.up) broken)) ∙ up)) where
+left_by link w event events (breaks broken nothing nobody) left up = absurd (false_true (sym (down_stays link (actors_after w event) events (ap (λ (l : Link). l.up) broken)) ∙ up)) where
   false_true : false ≡ true → ⊥
   false_true is = absurd cc
 
-left-all : (link : ℕ) (w : Actors) (events : List Event) → Left link w events
+left_all : (link : ℕ) (w : Actors) (events : List Event) → Left link w events
 unfolding Left
-left-all link w [] up = append-nil (outbox_of w link)
-left-all link w (event ∷ events) up = left-by link w event events (step link w event) (left-all link (actors_after w event) events) up
+left_all link w [] up = append-nil (outbox_of w link)
+left_all link w (event ∷ events) up = left_by link w event events (step link w event) (left_all link (actors_after w event) events) up
 
-pub outboxes-all : (link : ℕ) (w : Actors) (events : List Event) → outbox_of w link ≡ [] → IsPrefix (all_taken link w events) (all_put link w events)
-outboxes-all link w events empty =
-    subst (λ (entries : List OutboxEntry). IsPrefix (all_taken link w events) (entries ++ all_put link w events)) empty (begins-all link w events)
+pub outboxes_all : (link : ℕ) (w : Actors) (events : List Event) → outbox_of w link ≡ [] → IsPrefix (all_taken link w events) (all_put link w events)
+outboxes_all link w events empty =
+    subst (λ (entries : List OutboxEntry). IsPrefix (all_taken link w events) (entries ++ all_put link w events)) empty (begins_all link w events)
 
-pub rest-all : (link : ℕ) (w : Actors) (events : List Event) → outbox_of w link ≡ [] → is_up (actors_after_all w events) link ≡ true → all_put link w events ≡ all_taken link w events ++ outbox_of (actors_after_all w events) link
+pub rest_all : (link : ℕ) (w : Actors) (events : List Event) → outbox_of w link ≡ [] → is_up (actors_after_all w events) link ≡ true → all_put link w events ≡ all_taken link w events ++ outbox_of (actors_after_all w events) link
 unfolding Left
-rest-all link w events empty up = ap (λ (entries : List OutboxEntry). entries ++ all_put link w events) (sym empty) ∙ left-all link w events up
+rest_all link w events empty up = ap (λ (entries : List OutboxEntry). entries ++ all_put link w events) (sym empty) ∙ left_all link w events up
 
 pub new_outbox : (count number : ℕ) → (get_or (replicate count new_link) number broken_link).outbox ≡ []
 new_outbox zero number = refl
@@ -369,7 +369,7 @@ new_outbox (suc count) (suc number) = new_outbox count number
 pub KeepsQueues-new : (settings : Parameters) (events : List Event) → KeepsQueues (new_actors settings) events
 KeepsQueues-new settings events = record {
   inbox = inbox-all (new_actors settings) events;
-  sources = λ source. sources-all source (new_actors settings) events refl;
-  outboxes = λ link. outboxes-all link (new_actors settings) events (new_outbox (length settings.cells + 1) link);
-  left = λ link. rest-all link (new_actors settings) events (new_outbox (length settings.cells + 1) link);
+  sources = λ source. sources_all source (new_actors settings) events refl;
+  outboxes = λ link. outboxes_all link (new_actors settings) events (new_outbox (length settings.cells + 1) link);
+  left = λ link. rest_all link (new_actors settings) events (new_outbox (length settings.cells + 1) link);
 }

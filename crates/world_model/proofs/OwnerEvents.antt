@@ -16,7 +16,7 @@ use Rattle.world_model.proofs.Heard.{Good}
 use Rattle.world_model.proofs.Inboxes.{inbox-goes}
 use Rattle.world_model.proofs.Outboxes.{step as outbox-step, Step as OutboxStep}
 use Rattle.world_model.proofs.Outboxes.Step.{goes, breaks}
-use Rattle.world_model.proofs.OwnerKeeping.{agrees-lost, agrees-takes, said-pushed}
+use Rattle.world_model.proofs.OwnerKeeping.{agrees_lost, agrees_takes, said-pushed}
 use Rattle.world_model.proofs.OwnerTenures.{beside-step, is_beside}
 use Rattle.world_model.proofs.Piping.{acks-append, due-append, step as pipe-step, Step as PipeStep}
 use Rattle.world_model.proofs.Piping.Step.{flows, stops}
@@ -49,8 +49,8 @@ came at w event at_is pops good =
     ∙ acks-append at.number (flat_map (said at.station) w.inbox) (flat_map (said at.station) (pushed w event))
     ∙ ap (λ (ms : List Rsl). acknowledged_in at w.inbox ++ acknowledgements at.number ms) (said-pushed at.station w event at_is good)
 
-pub rests-keep : (owner : Tenure → ℕ) (at : Place) (w : Actors) (event : Event) → IsThere at w → Good w → Rests at w event → Agrees owner w at → Agrees owner (actors_after w event) at
-rests-keep owner at w event there good rests agrees = by (outbox-step n w event) (pipe-step n k w event there.station there.among there.none) where
+pub rests_keep : (owner : Tenure → ℕ) (at : Place) (w : Actors) (event : Event) → IsThere at w → Good w → Rests at w event → Agrees owner w at → Agrees owner (actors_after w event) at
+rests_keep owner at w event there good rests agrees = by (outbox-step n w event) (pipe-step n k w event there.station there.among there.none) where
   v : Actors
   v = actors_after w event
 
@@ -83,7 +83,7 @@ rests-keep owner at w event there good rests agrees = by (outbox-step n w event)
       ∙ ap (λ (xs : List Rsl). xs ++ rest) (sym (acks-append k (given n w event) (base_of v n).messages)))
 
   by : OutboxStep n w event v → PipeStep n k w event v → Agrees owner v at
-  by (goes up all) (flows acks active) = agrees-takes owner at w v (taken n w event) (record {
+  by (goes up all) (flows acks active) = agrees_takes owner at w v (taken n w event) (record {
     outbox = outbox;
     active = active;
     tenure = rests.tenure;
@@ -100,7 +100,7 @@ rests-keep owner at w event there good rests agrees = by (outbox-step n w event)
   }) agrees where
     outbox : outbox_of w n ≡ taken n w event ++ outbox_of v n
     outbox = sym (append-nil (outbox_of w n)) ∙ ap (λ (entries : List OutboxEntry). outbox_of w n ++ entries) (sym (nothing-put n w event rests.outputs)) ∙ all
-  by (breaks broken nothing nobody) (flows acks active) = agrees-lost owner at w v (record {
+  by (breaks broken nothing nobody) (flows acks active) = agrees_lost owner at w v (record {
     outbox = ap (λ (l : Link). l.outbox) broken;
     down = ap (λ (l : Link). l.up) broken;
     made = [];
@@ -115,7 +115,7 @@ rests-keep owner at w event there good rests agrees = by (outbox-step n w event)
         ∙ grouped []
         ∙ ap (λ (xs : List Rsl). before ++ xs) (append-nil (acknowledgements k (given n w event ++ (base_of v n).messages)) ∙ acks
         ∙ ap (λ (entries : List OutboxEntry). made ++ due k (is_active_at w at) entries) nobody ∙ append-nil made)
-  by outboxes (stops down left dropped nothing nobody) = agrees-lost owner at w v (record {
+  by outboxes (stops down left dropped nothing nobody) = agrees_lost owner at w v (record {
     outbox = dropped;
     down = down;
     made = made;
@@ -133,30 +133,30 @@ rests-keep owner at w event there good rests agrees = by (outbox-step n w event)
 
 -- ---- the events of mobiles and of the switch, pushes and breaks
 
-no-outputs : (w : Actors) (event : Event) → is_beside event ≡ true → outputs w event ≡ []
-no-outputs w Handle is = absurd cc
-no-outputs w (Tick ms) is = absurd cc
-no-outputs w _ is = refl
+no_outputs : (w : Actors) (event : Event) → is_beside event ≡ true → outputs w event ≡ []
+no_outputs w Handle is = absurd cc
+no_outputs w (Tick ms) is = absurd cc
+no_outputs w _ is = refl
 
-no-pops : (w : Actors) (event : Event) → is_beside event ≡ true → popped w event ≡ []
-no-pops w Handle is = absurd cc
-no-pops w _ is = refl
+no_pops : (w : Actors) (event : Event) → is_beside event ≡ true → popped w event ≡ []
+no_pops w Handle is = absurd cc
+no_pops w _ is = refl
 
-none-taken : (n : ℕ) (w : Actors) (event : Event) → n ≢ SWITCH_LINK → is_beside event ≡ true → taken n w event ≡ []
-none-taken n w (BaseTakes station) n_is is = absurd cc
-none-taken n w SwitchTakes n_is is = ap (λ (b : Bool). if b then (if is_some (event_after w SwitchTakes) then first_of (outbox_of w n) else []) else []) (ne_eqb SWITCH_LINK n (λ same. n_is (sym same)))
-none-taken n w _ n_is is = refl
+none_taken : (n : ℕ) (w : Actors) (event : Event) → n ≢ SWITCH_LINK → is_beside event ≡ true → taken n w event ≡ []
+none_taken n w (BaseTakes station) n_is is = absurd cc
+none_taken n w SwitchTakes n_is is = ap (λ (b : Bool). if b then (if is_some (event_after w SwitchTakes) then first_of (outbox_of w n) else []) else []) (ne_eqb SWITCH_LINK n (λ same. n_is (sym same)))
+none_taken n w _ n_is is = refl
 
 pub beside-rests : (at : Place) (w : Actors) (event : Event) → is_beside event ≡ true → IsThere at w → Rests at w event
 beside-rests at w event is there =
     let b = beside-step w event is in
     record {
-      outputs = no-outputs w event is;
-      pops = no-pops w event is;
+      outputs = no_outputs w event is;
+      pops = no_pops w event is;
       controller = b.controller;
-      tenure = b.tenures at there.station ∙ sym (ap (tenure_all at.number (is_active_at w at) (spot_at w at).tenure) (none-taken at.station w event there.station is));
+      tenure = b.tenures at there.station ∙ sym (ap (tenure_all at.number (is_active_at w at) (spot_at w at).tenure) (none_taken at.station w event there.station is));
     }
 
 -- Each of them keeps the agreement of each channel.
-pub beside-keeps : (owner : Tenure → ℕ) (at : Place) (w : Actors) (event : Event) → is_beside event ≡ true → IsThere at w → Good w → Agrees owner w at → Agrees owner (actors_after w event) at
-beside-keeps owner at w event is there good agrees = rests-keep owner at w event there good (beside-rests at w event is there) agrees
+pub beside_keeps : (owner : Tenure → ℕ) (at : Place) (w : Actors) (event : Event) → is_beside event ≡ true → IsThere at w → Good w → Agrees owner w at → Agrees owner (actors_after w event) at
+beside_keeps owner at w event is there good agrees = rests_keep owner at w event there good (beside-rests at w event is there) agrees

@@ -30,8 +30,8 @@ pub record IsKnownItem (item : Item) : Type 0 where
   pub station : item.source ≢ SWITCH_LINK → IsKnown item.what
   pub switch : item.source ≡ SWITCH_LINK → IsNoRsl item.what
 
-known-pushed : (w : Actors) (event : Event) → Good w → AllByRecursion IsKnownItem (pushed w event)
-known-pushed w (BasePush source) good = by_source (nat_eq source SWITCH_LINK) refl where
+known_pushed : (w : Actors) (event : Event) → Good w → AllByRecursion IsKnownItem (pushed w event)
+known_pushed w (BasePush source) good = by_source (nat_eq source SWITCH_LINK) refl where
   of_switch : source ≡ SWITCH_LINK → (made : List Sccp) → AllByRecursion IsKnownItem (map switch_item (first_of made))
   of_switch is [] = tt
   of_switch is (first ∷ others) = (record { station = λ other. absurd (other refl); switch = λ same. refl }, tt)
@@ -43,21 +43,21 @@ known-pushed w (BasePush source) good = by_source (nat_eq source SWITCH_LINK) re
   by_source : (b : Bool) → nat_eq source SWITCH_LINK ≡ b → AllByRecursion IsKnownItem (if b then map switch_item (first_of w.switch_made) else map (station_item source) (option_to_list (first_message (base_of w source))))
   by_source true is = of_switch (eqb-true source SWITCH_LINK is) w.switch_made
   by_source false is = of_station (eqb-false source SWITCH_LINK is) (base_of w source).messages (end-of w source good).made
-known-pushed w (BaseDown source) good = by_link (is_up w source) where
+known_pushed w (BaseDown source) good = by_link (is_up w source) where
   by_link : (b : Bool) → AllByRecursion IsKnownItem (if b then record { source = source; what = whats.Down } ∷ [] else [])
   by_link true = (record { station = λ other. tt; switch = λ same. tt }, tt)
   by_link false = tt
-known-pushed w _ good = tt
+known_pushed w _ good = tt
 
 behind : (P : Item → Type 0) (xs ys : List Item) → AllByRecursion P (xs ++ ys) → AllByRecursion P ys
 behind P [] ys all = all
 behind P (x ∷ xs) ys all = behind P xs ys all.1
 
-known-all : (w : Actors) (events : List Event) → Good w → AllByRecursion IsKnownItem w.inbox → AllByRecursion IsKnownItem (actors_after_all w events).inbox
-known-all w [] good known = known
-known-all w (event ∷ events) good known =
-    known-all (actors_after w event) events (good-step w event good)
-    (behind IsKnownItem (popped w event) (actors_after w event).inbox (subst (AllByRecursion IsKnownItem) (inbox-goes w event) (AllByRecursion-append IsKnownItem w.inbox (pushed w event) known (known-pushed w event good))))
+known_all : (w : Actors) (events : List Event) → Good w → AllByRecursion IsKnownItem w.inbox → AllByRecursion IsKnownItem (actors_after_all w events).inbox
+known_all w [] good known = known
+known_all w (event ∷ events) good known =
+    known_all (actors_after w event) events (good-step w event good)
+    (behind IsKnownItem (popped w event) (actors_after w event).inbox (subst (AllByRecursion IsKnownItem) (inbox-goes w event) (AllByRecursion-append IsKnownItem w.inbox (pushed w event) known (known_pushed w event good))))
 
 pub known-inbox : (settings : Parameters) (events : List Event) → AllByRecursion IsKnownItem (actors_after_all (new_actors settings) events).inbox
-known-inbox settings events = known-all (new_actors settings) events (good-new settings) tt
+known-inbox settings events = known_all (new_actors settings) events (good-new settings) tt

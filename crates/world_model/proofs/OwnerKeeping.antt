@@ -18,7 +18,7 @@ use Rattle.world_model.specs.Queues.{first_of, pushed}
 use Rattle.world_model.specs.Relay.{station_item, switch_item}
 use Rattle.world_model.specs.World.{Actors, base_of, is_active_at, is_up, outbox_of, spot_at}
 use Rattle.world_model.proofs.Heard.{Good, end-of}
-use Rattle.world_model.proofs.OwnerLines.{fitting-behind, none-due, tenure-append}
+use Rattle.world_model.proofs.OwnerLines.{fitting_behind, none-due, tenure-append}
 use Rattle.world_model.proofs.Outboxes.{Both-empty}
 use Rattle.world_model.proofs.Piping.{active-append}
 use Rattle.world_model.proofs.Soundness.{IsSound, sound-read}
@@ -33,14 +33,14 @@ pub record TakesOn (at : Place) (w : Actors) (took : List OutboxEntry) (v : Acto
   pub controller : v.controller ≡ w.controller
   pub up : is_up v at.station ≡ is_up w at.station
 
-still-active : (at : Place) (w v : Actors) (took : List OutboxEntry) → TakesOn at w took v → active_behind v at ≡ active_behind w at
-still-active at w v took takes =
+still_active : (at : Place) (w v : Actors) (took : List OutboxEntry) → TakesOn at w took v → active_behind v at ≡ active_behind w at
+still_active at w v took takes =
     ap (λ (b : Bool). active_all at.number b (outbox_of v at.station)) takes.active
     ∙ sym (active-append at.number (is_active_at w at) took (outbox_of v at.station))
     ∙ ap (active_all at.number (is_active_at w at)) (sym takes.outbox)
 
-still-tenure : (at : Place) (w v : Actors) (took : List OutboxEntry) → TakesOn at w took v → tenure_behind v at ≡ tenure_behind w at
-still-tenure at w v took takes = ap (λ (n : ℕ). record { at = at; number = n })
+still_tenure : (at : Place) (w v : Actors) (took : List OutboxEntry) → TakesOn at w took v → tenure_behind v at ≡ tenure_behind w at
+still_tenure at w v took takes = ap (λ (n : ℕ). record { at = at; number = n })
     (ap (λ (b : Bool). tenure_all at.number b (spot_at v at).tenure (outbox_of v at.station)) takes.active
     ∙ ap (λ (n : ℕ). tenure_all at.number (active_all at.number (is_active_at w at) took) n (outbox_of v at.station)) takes.tenure
     ∙ sym (tenure-append at.number (is_active_at w at) (spot_at w at).tenure took (outbox_of v at.station))
@@ -50,21 +50,21 @@ abbrev OwnIn : (Tenure → ℕ) → Actors → Place → Controller → Type 0
 OwnIn owner v at c = (number mobile : ℕ) → hears c at.station ≡ true → channel_state c at ≡ InUse number → asker c number ≡ Some mobile
     → (is_up v at.station ≡ false → to_come v at ≡ [] → ⊥) → owner (tenure_behind v at) ≡ mobile
 
-pub agrees-takes : (owner : Tenure → ℕ) (at : Place) (w v : Actors) (took : List OutboxEntry) → TakesOn at w took v → Agrees owner w at → Agrees owner v at
-agrees-takes owner at w v took takes agrees = record {
+pub agrees_takes : (owner : Tenure → ℕ) (at : Place) (w v : Actors) (took : List OutboxEntry) → TakesOn at w took v → Agrees owner w at → Agrees owner v at
+agrees_takes owner at w v took takes agrees = record {
   line = subst (λ (b : Bool). AreFitting owner at b (spot_at v at).tenure (outbox_of v at.station)) (sym takes.active)
       (subst (λ (n : ℕ). AreFitting owner at (active_all at.number (is_active_at w at) took) n (outbox_of v at.station)) (sym takes.tenure)
-      (fitting-behind owner at (is_active_at w at) (spot_at w at).tenure took (outbox_of v at.station) (subst (AreFitting owner at (is_active_at w at) (spot_at w at).tenure) takes.outbox agrees.line)));
+      (fitting_behind owner at (is_active_at w at) (spot_at w at).tenure took (outbox_of v at.station) (subst (AreFitting owner at (is_active_at w at) (spot_at w at).tenure) takes.outbox agrees.line)));
   way = subst (λ (c : Controller). hears c at.station ≡ true → IsOnItsWay v at (channel_state c at)) (sym takes.controller) (λ heard.
       let way = agrees.way heard in
       record {
         lost = way.lost;
         comes = subst (λ (xs : List Rsl). Comes at.number (channel_state w.controller at) (xs ++ way.lost)) (sym takes.comes) way.comes;
         all = λ up. way.all (sym takes.up ∙ up);
-        active = λ up. still-active at w v took takes ∙ way.active (sym takes.up ∙ up);
+        active = λ up. still_active at w v took takes ∙ way.active (sym takes.up ∙ up);
       });
   own = subst (OwnIn owner v at) (sym takes.controller) (λ number mobile heard used asks reaches.
-      ap owner (still-tenure at w v took takes) ∙ agrees.own number mobile heard used asks (λ down silent. reaches (takes.up ∙ down) (takes.comes ∙ silent)));
+      ap owner (still_tenure at w v took takes) ∙ agrees.own number mobile heard used asks (λ down silent. reaches (takes.up ∙ down) (takes.comes ∙ silent)));
 }
 
 -- ---- its link breaks: of what was to come what stands in the inbox is left
@@ -91,8 +91,8 @@ one-at-most channel number (InUse n) (one ∷ two ∷ rest) (x ∷ xs) ys comes 
 one-at-most channel number Free all (x ∷ xs) ys comes used is some = absurd cc
 one-at-most channel number (Releasing n) all (x ∷ xs) ys comes used is some = absurd cc
 
-pub agrees-lost : (owner : Tenure → ℕ) (at : Place) (w v : Actors) → Loses at w v → Agrees owner w at → Agrees owner v at
-agrees-lost owner at w v loses agrees = record {
+pub agrees_lost : (owner : Tenure → ℕ) (at : Place) (w v : Actors) → Loses at w v → Agrees owner w at → Agrees owner v at
+agrees_lost owner at w v loses agrees = record {
   line = subst (AreFitting owner at (is_active_at v at) (spot_at v at).tenure) (sym loses.outbox) tt;
   way = subst (λ (c : Controller). hears c at.station ≡ true → IsOnItsWay v at (channel_state c at)) (sym loses.controller) (λ heard.
       let way = agrees.way heard in
@@ -121,8 +121,8 @@ agrees-lost owner at w v loses agrees = record {
 
 -- ---- what a station gives to the inbox is what is said there
 
-read-item : (n : ℕ) (message : Rsl) → IsSound message → said n (station_item n message) ≡ message ∷ []
-read-item n message sound = by (n == n) (eqb-refl n) where
+read_item : (n : ℕ) (message : Rsl) → IsSound message → said n (station_item n message) ≡ message ∷ []
+read_item n message sound = by (n == n) (eqb-refl n) where
   eqb-refl : (n : ℕ) → (n == n) ≡ true
   eqb-refl n = eq-eqb n n refl
 
@@ -130,8 +130,8 @@ read-item n message sound = by (n == n) (eqb-refl n) where
   by true is = ap (λ (r : _). option_to_list (result_ok r)) (sound-read message sound)
   by false is = absurd cc
 
-other-item : (n : ℕ) (item : Item) → (item.source == n) ≡ false → said n item ≡ []
-other-item n item other = ap (λ (b : Bool). if b then said_by item.what else []) other
+other_item : (n : ℕ) (item : Item) → (item.source == n) ≡ false → said n item ≡ []
+other_item n item other = ap (λ (b : Bool). if b then said_by item.what else []) other
 
 pub said-pushed : (n : ℕ) (w : Actors) (event : Event) → n ≢ SWITCH_LINK → Good w → flat_map (said n) (pushed w event) ≡ given n w event
 said-pushed n w (BasePush source) n_is good = by_source (source == SWITCH_LINK) refl where
@@ -140,15 +140,15 @@ said-pushed n w (BasePush source) n_is good = by_source (source == SWITCH_LINK) 
 
   of_switch : (made : List Sccp) → flat_map (said n) (map switch_item (first_of made)) ≡ []
   of_switch [] = refl
-  of_switch (first ∷ others) = ap (λ (xs : List Rsl). xs ++ []) (other-item n (switch_item first) (ne_eqb SWITCH_LINK n (λ same. n_is (sym same))))
+  of_switch (first ∷ others) = ap (λ (xs : List Rsl). xs ++ []) (other_item n (switch_item first) (ne_eqb SWITCH_LINK n (λ same. n_is (sym same))))
 
   own : (messages : List Rsl) → AllByRecursion IsSound messages → flat_map (said n) (map (station_item n) (option_to_list (first_of_messages messages))) ≡ option_to_list (first_of_messages messages)
   own [] all = refl
-  own (first ∷ others) all = ap (λ (xs : List Rsl). xs ++ []) (read-item n first all.0)
+  own (first ∷ others) all = ap (λ (xs : List Rsl). xs ++ []) (read_item n first all.0)
 
   elsewhere : (source == n) ≡ false → (messages : List Rsl) → flat_map (said n) (map (station_item source) (option_to_list (first_of_messages messages))) ≡ []
   elsewhere other [] = refl
-  elsewhere other (first ∷ others) = ap (λ (xs : List Rsl). xs ++ []) (other-item n (station_item source first) other)
+  elsewhere other (first ∷ others) = ap (λ (xs : List Rsl). xs ++ []) (other_item n (station_item source first) other)
 
   of_station : (b : Bool) → (source == n) ≡ b → flat_map (said n) (map (station_item source) (option_to_list (first_message (base_of w source)))) ≡ given n w (BasePush source)
   of_station true same =

@@ -24,71 +24,71 @@ pub tenure-append : (channel : ℕ) (active : Bool) (tenure : ℕ) (xs ys : List
 tenure-append channel active tenure [] ys = refl
 tenure-append channel active tenure (x ∷ xs) ys = tenure-append channel (is_active_then channel active (rsl_in x.out.frame)) (tenure_then channel active tenure (rsl_in x.out.frame)) xs ys
 
-pub fitting-append : (owner : Tenure → ℕ) (at : Place) (active : Bool) (tenure : ℕ) (xs ys : List OutboxEntry) → AreFitting owner at active tenure xs → AreFitting owner at (active_all at.number active xs) (tenure_all at.number active tenure xs) ys → AreFitting owner at active tenure (xs ++ ys)
-fitting-append owner at active tenure [] ys fits rest = rest
-fitting-append owner at active tenure (x ∷ xs) ys fits rest = (
+pub fitting_append : (owner : Tenure → ℕ) (at : Place) (active : Bool) (tenure : ℕ) (xs ys : List OutboxEntry) → AreFitting owner at active tenure xs → AreFitting owner at (active_all at.number active xs) (tenure_all at.number active tenure xs) ys → AreFitting owner at active tenure (xs ++ ys)
+fitting_append owner at active tenure [] ys fits rest = rest
+fitting_append owner at active tenure (x ∷ xs) ys fits rest = (
   fits.0,
-  fitting-append owner at (is_active_then at.number active (rsl_in x.out.frame)) (tenure_then at.number active tenure (rsl_in x.out.frame)) xs ys fits.1 rest,
+  fitting_append owner at (is_active_then at.number active (rsl_in x.out.frame)) (tenure_then at.number active tenure (rsl_in x.out.frame)) xs ys fits.1 rest,
 )
 
-pub fitting-behind : (owner : Tenure → ℕ) (at : Place) (active : Bool) (tenure : ℕ) (xs ys : List OutboxEntry) → AreFitting owner at active tenure (xs ++ ys) → AreFitting owner at (active_all at.number active xs) (tenure_all at.number active tenure xs) ys
-fitting-behind owner at active tenure [] ys fits = fits
-fitting-behind owner at active tenure (x ∷ xs) ys fits = fitting-behind owner at (is_active_then at.number active (rsl_in x.out.frame)) (tenure_then at.number active tenure (rsl_in x.out.frame)) xs ys fits.1
+pub fitting_behind : (owner : Tenure → ℕ) (at : Place) (active : Bool) (tenure : ℕ) (xs ys : List OutboxEntry) → AreFitting owner at active tenure (xs ++ ys) → AreFitting owner at (active_all at.number active xs) (tenure_all at.number active tenure xs) ys
+fitting_behind owner at active tenure [] ys fits = fits
+fitting_behind owner at active tenure (x ∷ xs) ys fits = fitting_behind owner at (is_active_then at.number active (rsl_in x.out.frame)) (tenure_then at.number active tenure (rsl_in x.out.frame)) xs ys fits.1
 
 -- where no acknowledgement is due, no tenure begins
-due-none : (channel : ℕ) (active : Bool) (tenure : ℕ) (o : Option Rsl) → acknowledgement channel active o ≡ [] → tenure_then channel active tenure o ≡ tenure
-due-none channel active tenure (Some (ChannelActivation a)) none = by ((a.channel == channel) && not active) none where
+due_none : (channel : ℕ) (active : Bool) (tenure : ℕ) (o : Option Rsl) → acknowledgement channel active o ≡ [] → tenure_then channel active tenure o ≡ tenure
+due_none channel active tenure (Some (ChannelActivation a)) none = by ((a.channel == channel) && not active) none where
   by : (b : Bool) → (if b then activation_ack channel ∷ [] else []) ≡ [] → (if b then tenure + 1 else tenure) ≡ tenure
   by true is = absurd cc
   by false is = refl
-due-none channel active tenure None none = refl
-due-none channel active tenure (Some _) none = refl
+due_none channel active tenure None none = refl
+due_none channel active tenure (Some _) none = refl
 
 pub none-due : (channel : ℕ) (active : Bool) (tenure : ℕ) (entries : List OutboxEntry) → due channel active entries ≡ [] → tenure_all channel active tenure entries ≡ tenure
 none-due channel active tenure [] none = refl
 none-due channel active tenure (x ∷ xs) none =
     let o : Option Rsl = rsl_in x.out.frame in
     let parts = Both-empty (acknowledgement channel active o) (due channel (is_active_then channel active o) xs) (sym none) in
-    none-due channel (is_active_then channel active o) (tenure_then channel active tenure o) xs parts.1 ∙ due-none channel active tenure o parts.0
+    none-due channel (is_active_then channel active o) (tenure_then channel active tenure o) xs parts.1 ∙ due_none channel active tenure o parts.0
 
 -- ---- what a station takes is by the owner of its tenures
 
-assigns-by : (owner : Tenure → ℕ) (w : Actors) (station : ℕ) (r : Result RrMessage RrFault) → ((number : ℕ) → AssignsIn owner (place_at station number) (spot_at w (place_at station number)).tenure r) → AssignsBy owner w station r
-assigns-by owner w station (Ok (ImmediateAssignment channel request advance)) fits = fits channel.channel.0 refl
-assigns-by owner w station (Ok _) fits = tt
-assigns-by owner w station (Err fault) fits = tt
+assigns_by : (owner : Tenure → ℕ) (w : Actors) (station : ℕ) (r : Result RrMessage RrFault) → ((number : ℕ) → AssignsIn owner (place_at station number) (spot_at w (place_at station number)).tenure r) → AssignsBy owner w station r
+assigns_by owner w station (Ok (ImmediateAssignment channel request advance)) fits = fits channel.channel.0 refl
+assigns_by owner w station (Ok _) fits = tt
+assigns_by owner w station (Err fault) fits = tt
 
-takes-by : (owner : Tenure → ℕ) (w : Actors) (station : ℕ) (target : Option Tenure) (o : Option Rsl) → ((number : ℕ) → FitsTenure owner (place_at station number) (is_active_at w (place_at station number)) (spot_at w (place_at station number)).tenure target o) → TakesBy owner w station target o
-takes-by owner w station target (Some (ImmediateAssignCommand i)) fits = assigns-by owner w station (rr_reading i.information) fits
-takes-by owner w station target (Some (DataRequest d)) fits = fits d.channel refl
-takes-by owner w station target None fits = tt
-takes-by owner w station target (Some _) fits = tt
+takes_by : (owner : Tenure → ℕ) (w : Actors) (station : ℕ) (target : Option Tenure) (o : Option Rsl) → ((number : ℕ) → FitsTenure owner (place_at station number) (is_active_at w (place_at station number)) (spot_at w (place_at station number)).tenure target o) → TakesBy owner w station target o
+takes_by owner w station target (Some (ImmediateAssignCommand i)) fits = assigns_by owner w station (rr_reading i.information) fits
+takes_by owner w station target (Some (DataRequest d)) fits = fits d.channel refl
+takes_by owner w station target None fits = tt
+takes_by owner w station target (Some _) fits = tt
 
-takes-first : (owner : Tenure → ℕ) (w : Actors) (station : ℕ) (entries : List OutboxEntry) → ((number : ℕ) → AreFitting owner (place_at station number) (is_active_at w (place_at station number)) (spot_at w (place_at station number)).tenure entries) → TakesFirstBy owner w station entries
-takes-first owner w station [] fits = tt
-takes-first owner w station (first ∷ others) fits = takes-by owner w station first.target (rsl_in first.out.frame) (λ number. (fits number).0)
+takes_first : (owner : Tenure → ℕ) (w : Actors) (station : ℕ) (entries : List OutboxEntry) → ((number : ℕ) → AreFitting owner (place_at station number) (is_active_at w (place_at station number)) (spot_at w (place_at station number)).tenure entries) → TakesFirstBy owner w station entries
+takes_first owner w station [] fits = tt
+takes_first owner w station (first ∷ others) fits = takes_by owner w station first.target (rsl_in first.out.frame) (λ number. (fits number).0)
 
 -- So what the station takes agrees with the ownership.
-pub takes-agreed : (settings : Parameters) (owner : Tenure → ℕ) (w : Actors) (station : ℕ) → 1 ≤ station → station ≤ length settings.cells → AllAgree settings owner w → TakesFirstBy owner w station (outbox_of w station)
-takes-agreed settings owner w station least most agree = takes-first owner w station (outbox_of w station) (λ number. (agree (place_at station number) least most).line)
+pub takes_agreed : (settings : Parameters) (owner : Tenure → ℕ) (w : Actors) (station : ℕ) → 1 ≤ station → station ≤ length settings.cells → AllAgree settings owner w → TakesFirstBy owner w station (outbox_of w station)
+takes_agreed settings owner w station least most agree = takes_first owner w station (outbox_of w station) (λ number. (agree (place_at station number) least most).line)
 
 -- ---- at the beginning
 
-all-free : (count number : ℕ) → slice_index_or (replicate count Free) number Free ≡ Free
-all-free zero number = refl
-all-free (suc count) zero = refl
-all-free (suc count) (suc number) = all-free count number
+all_free : (count number : ℕ) → slice_index_or (replicate count Free) number Free ≡ Free
+all_free zero number = refl
+all_free (suc count) zero = refl
+all_free (suc count) (suc number) = all_free count number
 
-rows-free : (count station number : ℕ) → slice_index_or (slice_index_or (replicate count free_channels) station []) number Free ≡ Free
-rows-free zero station number = refl
-rows-free (suc count) zero number = all-free CHANNEL_NUMBERS number
-rows-free (suc count) (suc station) number = rows-free count station number
+rows_free : (count station number : ℕ) → slice_index_or (slice_index_or (replicate count free_channels) station []) number Free ≡ Free
+rows_free zero station number = refl
+rows_free (suc count) zero number = all_free CHANNEL_NUMBERS number
+rows_free (suc count) (suc station) number = rows_free count station number
 
 pub new-free : (settings : Parameters) (at : Place) → channel_state (new_actors settings).controller at ≡ Free
-new-free settings at = rows-free (length settings.cells + 1) at.station at.number
+new-free settings at = rows_free (length settings.cells + 1) at.station at.number
 
-free-unused : (number : ℕ) → Free ≡ InUse number → ⊥
-free-unused number is = absurd cc
+free_unused : (number : ℕ) → Free ≡ InUse number → ⊥
+free_unused number is = absurd cc
 
 pub AllAgree-new : (settings : Parameters) (owner : Tenure → ℕ) → AllAgree settings owner (new_actors settings)
 AllAgree-new settings owner at least most =
@@ -105,5 +105,5 @@ AllAgree-new settings owner at least most =
         all = λ _. refl;
         active = λ _. ap (active_all at.number (is_active_at w at)) empty ∙ start.1 ∙ sym (ap is_in_use free);
       };
-      own = λ number mobile _ used _ _. absurd (free-unused number (sym free ∙ used));
+      own = λ number mobile _ used _ _. absurd (free_unused number (sym free ∙ used));
     }

@@ -95,16 +95,16 @@ pub record Works (owner : Tenure → ℕ) (at : Place) (active : Bool) (tenure :
   pub active_then : active_all at.number active entries ≡ is_in_use end
   pub tenure_then : tenure_all at.number active tenure entries ≡ last
 
-works-over : (owner : Tenure → ℕ) (at : Place) (active : Bool) (tenure : ℕ) (state : ChannelState) → active ≡ is_in_use state → Works owner at active tenure [] state state tenure
-works-over owner at active tenure state is = record {
+works_over : (owner : Tenure → ℕ) (at : Place) (active : Bool) (tenure : ℕ) (state : ChannelState) → active ≡ is_in_use state → Works owner at active tenure [] state state tenure
+works_over owner at active tenure state is = record {
   fits = tt;
   comes = λ xs comes. subst (Comes at.number state) (sym (append-nil xs)) comes;
   active_then = is;
   tenure_then = refl;
 }
 
-works-behind : (owner : Tenure → ℕ) (at : Place) (active : Bool) (tenure : ℕ) (x : OutboxEntry) (entries : List OutboxEntry) (state end : ChannelState) (last : ℕ) → Passing owner at active tenure x.target (rsl_in x.out.frame) → Works owner at active tenure entries state end last → Works owner at active tenure (x ∷ entries) state end last
-works-behind owner at active tenure x entries state end last p works =
+works_behind : (owner : Tenure → ℕ) (at : Place) (active : Bool) (tenure : ℕ) (x : OutboxEntry) (entries : List OutboxEntry) (state end : ChannelState) (last : ℕ) → Passing owner at active tenure x.target (rsl_in x.out.frame) → Works owner at active tenure entries state end last → Works owner at active tenure (x ∷ entries) state end last
+works_behind owner at active tenure x entries state end last p works =
     let o : Option Rsl = rsl_in x.out.frame in
     record {
       fits = (p.fits, subst (λ (b : Bool). AreFitting owner at b (tenure_then at.number active tenure o) entries) (sym p.stays) (subst (λ (n : ℕ). AreFitting owner at active n entries) (sym p.same) works.fits));
@@ -113,15 +113,15 @@ works-behind owner at active tenure x entries state end last p works =
       tenure_then = ap (λ (b : Bool). tenure_all at.number b (tenure_then at.number active tenure o) entries) p.stays ∙ ap (λ (n : ℕ). tenure_all at.number active n entries) p.same ∙ works.tenure_then;
     }
 
-released-comes : (k number : ℕ) (state : ChannelState) (xs : List Rsl) → state ≡ InUse number → Comes k state xs → Comes k (Releasing number) (xs ++ RfChannelReleaseAck k ∷ [])
-released-comes k number (InUse m) xs is began = ends
-released-comes k number (InUse m) xs is begins = begins_and_ends
-released-comes k number Free xs is comes = absurd cc
-released-comes k number (Releasing m) xs is comes = absurd cc
+released_comes : (k number : ℕ) (state : ChannelState) (xs : List Rsl) → state ≡ InUse number → Comes k state xs → Comes k (Releasing number) (xs ++ RfChannelReleaseAck k ∷ [])
+released_comes k number (InUse m) xs is began = ends
+released_comes k number (InUse m) xs is begins = begins_and_ends
+released_comes k number Free xs is comes = absurd cc
+released_comes k number (Releasing m) xs is comes = absurd cc
 
 -- a release of a channel that is in use
-works-release : (owner : Tenure → ℕ) (at : Place) (number tenure : ℕ) (x : OutboxEntry) (entries : List OutboxEntry) (end : ChannelState) → rsl_in x.out.frame ≡ Some (RfChannelRelease at.number) → Works owner at false tenure entries (Releasing number) end tenure → Works owner at true tenure (x ∷ entries) (InUse number) end tenure
-works-release owner at number tenure x entries end says works =
+works_release : (owner : Tenure → ℕ) (at : Place) (number tenure : ℕ) (x : OutboxEntry) (entries : List OutboxEntry) (end : ChannelState) → rsl_in x.out.frame ≡ Some (RfChannelRelease at.number) → Works owner at false tenure entries (Releasing number) end tenure → Works owner at true tenure (x ∷ entries) (InUse number) end tenure
+works_release owner at number tenure x entries end says works =
     let hit : (at.number == at.number) ≡ true = eq-eqb at.number at.number refl in
     let off : is_active_then at.number true (rsl_in x.out.frame) ≡ false = ap (is_active_then at.number true) says ∙ ap (λ (b : Bool). not b && true) hit in
     let same : tenure_then at.number true tenure (rsl_in x.out.frame) ≡ tenure = ap (tenure_then at.number true tenure) says in
@@ -134,17 +134,17 @@ works-release owner at number tenure x entries end says works =
       comes = λ xs comes.
           subst (Comes at.number end) (append_assoc xs (RfChannelReleaseAck at.number ∷ []) (due at.number false entries)
           ∙ sym (ap (λ (ys : List Rsl). xs ++ (ys ++ due at.number (is_active_then at.number true (rsl_in x.out.frame)) entries)) asks ∙ ap (λ (b : Bool). xs ++ (RfChannelReleaseAck at.number ∷ [] ++ due at.number b entries)) off))
-          (works.comes (xs ++ RfChannelReleaseAck at.number ∷ []) (released-comes at.number number (InUse number) xs refl comes));
+          (works.comes (xs ++ RfChannelReleaseAck at.number ∷ []) (released_comes at.number number (InUse number) xs refl comes));
       active_then = ap (λ (b : Bool). active_all at.number b entries) off ∙ works.active_then;
       tenure_then = ap (λ (b : Bool). tenure_all at.number b (tenure_then at.number true tenure (rsl_in x.out.frame)) entries) off ∙ ap (λ (n : ℕ). tenure_all at.number false n entries) same ∙ works.tenure_then;
     }
 
-began-comes : (k number : ℕ) (xs : List Rsl) → Comes k Free xs → Comes k (InUse number) (xs ++ activation_ack k ∷ [])
-began-comes k number xs nothing = begins
+began_comes : (k number : ℕ) (xs : List Rsl) → Comes k Free xs → Comes k (InUse number) (xs ++ activation_ack k ∷ [])
+began_comes k number xs nothing = begins
 
 -- an activation of a channel that is free
-works-activation : (owner : Tenure → ℕ) (at : Place) (number tenure last : ℕ) (x : OutboxEntry) (a : Activation) (entries : List OutboxEntry) (end : ChannelState) → rsl_in x.out.frame ≡ Some (ChannelActivation a) → a.channel ≡ at.number → at.number < CHANNEL_NUMBERS → Works owner at true (tenure + 1) entries (InUse number) end last → Works owner at false tenure (x ∷ entries) Free end last
-works-activation owner at number tenure last x a entries end says is few works =
+works_activation : (owner : Tenure → ℕ) (at : Place) (number tenure last : ℕ) (x : OutboxEntry) (a : Activation) (entries : List OutboxEntry) (end : ChannelState) → rsl_in x.out.frame ≡ Some (ChannelActivation a) → a.channel ≡ at.number → at.number < CHANNEL_NUMBERS → Works owner at true (tenure + 1) entries (InUse number) end last → Works owner at false tenure (x ∷ entries) Free end last
+works_activation owner at number tenure last x a entries end says is few works =
     let hit : (a.channel == at.number) ≡ true = eq-eqb a.channel at.number is in
     let on : is_active_then at.number false (rsl_in x.out.frame) ≡ true = ap (is_active_then at.number false) says ∙ hit in
     let next : tenure_then at.number false tenure (rsl_in x.out.frame) ≡ tenure + 1 = ap (tenure_then at.number false tenure) says ∙ ap (λ (b : Bool). if b && true then tenure + 1 else tenure) hit in
@@ -157,7 +157,7 @@ works-activation owner at number tenure last x a entries end says is few works =
       comes = λ xs comes.
           subst (Comes at.number end) (append_assoc xs (activation_ack at.number ∷ []) (due at.number true entries)
           ∙ sym (ap (λ (ys : List Rsl). xs ++ (ys ++ due at.number (is_active_then at.number false (rsl_in x.out.frame)) entries)) asks ∙ ap (λ (b : Bool). xs ++ (activation_ack at.number ∷ [] ++ due at.number b entries)) on))
-          (works.comes (xs ++ activation_ack at.number ∷ []) (began-comes at.number number xs comes));
+          (works.comes (xs ++ activation_ack at.number ∷ []) (began_comes at.number number xs comes));
       active_then = ap (λ (b : Bool). active_all at.number b entries) on ∙ works.active_then;
       tenure_then = ap (λ (b : Bool). tenure_all at.number b (tenure_then at.number false tenure (rsl_in x.out.frame)) entries) on ∙ ap (λ (n : ℕ). tenure_all at.number true n entries) next ∙ works.tenure_then;
     }
@@ -182,39 +182,39 @@ entries-other at target out outs is =
     ∙ ap (λ (b : Bool). cond b (entry_of target out ∷ entries_to at target outs) (entries_to at target outs)) is
 
 -- what is said to the station is the entry's message
-own-says : (at : Place) (target : Option Tenure) (out : Out) → (out.to == at.station) ≡ true → rsl_in (entry_of target out).out.frame ≡ said_to at out
-own-says at target out is = ap (λ (o : Out). rsl_in o.frame) (entry-out target out) ∙ sym (ap (λ (b : Bool). if b then rsl_in out.frame else None) is)
+own_says : (at : Place) (target : Option Tenure) (out : Out) → (out.to == at.station) ≡ true → rsl_in (entry_of target out).out.frame ≡ said_to at out
+own_says at target out is = ap (λ (o : Out). rsl_in o.frame) (entry-out target out) ∙ sym (ap (λ (b : Bool). if b then rsl_in out.frame else None) is)
 
-other-says : (at : Place) (out : Out) → (out.to == at.station) ≡ false → said_to at out ≡ None
-other-says at out is = ap (λ (b : Bool). if b then rsl_in out.frame else None) is
+other_says : (at : Place) (out : Out) → (out.to == at.station) ≡ false → said_to at out ≡ None
+other_says at out is = ap (λ (b : Bool). if b then rsl_in out.frame else None) is
 
-never-none : {m : Rsl} → None ≡ Some m → ⊥
-never-none is = absurd cc
+never_none : {m : Rsl} → None ≡ Some m → ⊥
+never_none is = absurd cc
 
 true_false : true ≡ false → ⊥
 true_false is = absurd cc
 
-works-passes : (owner : Tenure → ℕ) (at : Place) (target : Option Tenure) (active : Bool) (tenure : ℕ) (out : Out) (outs : List Out) (state end : ChannelState) (last : ℕ) → Passes at.number (said_to at out) → FitsOut owner at tenure target out → Works owner at active tenure (entries_to at target outs) state end last → Works owner at active tenure (entries_to at target (out ∷ outs)) state end last
-works-passes owner at target active tenure out outs state end last beside fits works =
+works_passes : (owner : Tenure → ℕ) (at : Place) (target : Option Tenure) (active : Bool) (tenure : ℕ) (out : Out) (outs : List Out) (state end : ChannelState) (last : ℕ) → Passes at.number (said_to at out) → FitsOut owner at tenure target out → Works owner at active tenure (entries_to at target outs) state end last → Works owner at active tenure (entries_to at target (out ∷ outs)) state end last
+works_passes owner at target active tenure out outs state end last beside fits works =
     elim (cases_Bool (out.to == at.station)) [
       | inl own ↦
           subst (λ (es : List OutboxEntry). Works owner at active tenure es state end last) (sym (entries-own at target out outs own))
-          (works-behind owner at active tenure (entry_of target out) (entries_to at target outs) state end last
-          (subst (Passing owner at active tenure (entry_of target out).target) (sym (own-says at target out own)) (passing owner at active tenure (entry_of target out).target (said_to at out) beside fits)) works)
+          (works_behind owner at active tenure (entry_of target out) (entries_to at target outs) state end last
+          (subst (Passing owner at active tenure (entry_of target out).target) (sym (own_says at target out own)) (passing owner at active tenure (entry_of target out).target (said_to at out) beside fits)) works)
       | inr other ↦ subst (λ (es : List OutboxEntry). Works owner at active tenure es state end last) (sym (entries-other at target out outs other)) works
     ]
 
-pub runs-work : (owner : Tenure → ℕ) (at : Place) (target : Option Tenure) (tenure : ℕ) {state end : ChannelState} {outs : List Out} → Runs at state outs end → AllByRecursion (FitsOut owner at tenure target) outs → (active : Bool) → active ≡ is_in_use state → Works owner at active tenure (entries_to at target outs) state end tenure
-runs-work owner at target tenure {state} over fits active is = works-over owner at active tenure state is
-runs-work owner at target tenure {state} {end} (passes {out} {outs} beside rest) fits active is =
-    works-passes owner at target active tenure out outs state end tenure beside fits.0 (runs-work owner at target tenure rest fits.1 active is)
-runs-work owner at target tenure {end} (releases {number} {out} {outs} says rest) fits active is =
+pub runs_work : (owner : Tenure → ℕ) (at : Place) (target : Option Tenure) (tenure : ℕ) {state end : ChannelState} {outs : List Out} → Runs at state outs end → AllByRecursion (FitsOut owner at tenure target) outs → (active : Bool) → active ≡ is_in_use state → Works owner at active tenure (entries_to at target outs) state end tenure
+runs_work owner at target tenure {state} over fits active is = works_over owner at active tenure state is
+runs_work owner at target tenure {state} {end} (passes {out} {outs} beside rest) fits active is =
+    works_passes owner at target active tenure out outs state end tenure beside fits.0 (runs_work owner at target tenure rest fits.1 active is)
+runs_work owner at target tenure {end} (releases {number} {out} {outs} says rest) fits active is =
     elim (cases_Bool (out.to == at.station)) [
       | inl own ↦
           subst (λ (es : List OutboxEntry). Works owner at active tenure es (InUse number) end tenure) (sym (entries-own at target out outs own))
           (subst (λ (b : Bool). Works owner at b tenure (entry_of target out ∷ entries_to at target outs) (InUse number) end tenure) (sym is)
-          (works-release owner at number tenure (entry_of target out) (entries_to at target outs) end (own-says at target out own ∙ says) (runs-work owner at target tenure rest fits.1 false refl)))
-      | inr other ↦ absurd (never-none (sym (other-says at out other) ∙ says))
+          (works_release owner at number tenure (entry_of target out) (entries_to at target outs) end (own_says at target out own ∙ says) (runs_work owner at target tenure rest fits.1 false refl)))
+      | inr other ↦ absurd (never_none (sym (other_says at out other) ∙ says))
     ]
 
 -- either no tenure begins, and the channel was in use by whom it is; or one does
@@ -230,14 +230,14 @@ FitAll owner at target tenure state outs = (number : ℕ) → (number ≡ tenure
 pub goes-put : (owner : Tenure → ℕ) (at : Place) (target : Option Tenure) (tenure : ℕ) {state end : ChannelState} {outs : List Out} → Goes at state outs end → FitAll owner at target tenure state outs → (active : Bool) → active ≡ is_in_use state → Puts owner at active tenure (entries_to at target outs) state end
 goes-put owner at target tenure (runs all) fits active is = record {
   last = tenure;
-  works = runs-work owner at target tenure all (fits tenure (inl refl)) active is;
+  works = runs_work owner at target tenure all (fits tenure (inl refl)) active is;
   counts = inl (refl, λ number same. runs-kept number all same);
 }
 goes-put owner at target tenure {state} {end} (first_passes {out} {outs} beside rest) fits active is =
     let puts = goes-put owner at target tenure rest (λ number which. (fits number which).1) active is in
     record {
       last = puts.last;
-      works = works-passes owner at target active tenure out outs state end puts.last beside (fits tenure (inl refl)).0 puts.works;
+      works = works_passes owner at target active tenure out outs state end puts.last beside (fits tenure (inl refl)).0 puts.works;
       counts = puts.counts;
     }
 goes-put owner at target tenure {end} (activates {number} {out} {outs} a says channel few rest) fits active is =
@@ -246,26 +246,26 @@ goes-put owner at target tenure {end} (activates {number} {out} {outs} a says ch
         last = tenure + 1;
         works = subst (λ (es : List OutboxEntry). Works owner at active tenure es Free end (tenure + 1)) (sym (entries-own at target out outs own))
             (subst (λ (b : Bool). Works owner at b tenure (entry_of target out ∷ entries_to at target outs) Free end (tenure + 1)) (sym is)
-            (works-activation owner at number tenure (tenure + 1) (entry_of target out) a (entries_to at target outs) end (own-says at target out own ∙ says) channel few
-            (runs-work owner at target (tenure + 1) rest (fits (tenure + 1) (inr refl)).1 true refl)));
+            (works_activation owner at number tenure (tenure + 1) (entry_of target out) a (entries_to at target outs) end (own_says at target out own ∙ says) channel few
+            (runs_work owner at target (tenure + 1) rest (fits (tenure + 1) (inr refl)).1 true refl)));
         counts = inr (refl, refl);
       }
-      | inr other ↦ absurd (never-none (sym (other-says at out other) ∙ says))
+      | inr other ↦ absurd (never_none (sym (other_says at out other) ∙ says))
     ]
 
 -- ---- where the link is down, nothing is put, and what was to come is lost
 
-runs-lost : {at : Place} {state end : ChannelState} {outs : List Out} → Runs at state outs end → (xs lost : List Rsl) → Comes at.number state (xs ++ lost) → (more : List Rsl) × Comes at.number end (xs ++ more)
-runs-lost over xs lost comes = (lost, comes)
-runs-lost (passes beside rest) xs lost comes = runs-lost rest xs lost comes
-runs-lost {at} (releases {number} says rest) xs lost comes =
-    runs-lost rest xs (lost ++ RfChannelReleaseAck at.number ∷ [])
-    (subst (Comes at.number (Releasing number)) (append_assoc xs lost (RfChannelReleaseAck at.number ∷ [])) (released-comes at.number number (InUse number) (xs ++ lost) refl comes))
+runs_lost : {at : Place} {state end : ChannelState} {outs : List Out} → Runs at state outs end → (xs lost : List Rsl) → Comes at.number state (xs ++ lost) → (more : List Rsl) × Comes at.number end (xs ++ more)
+runs_lost over xs lost comes = (lost, comes)
+runs_lost (passes beside rest) xs lost comes = runs_lost rest xs lost comes
+runs_lost {at} (releases {number} says rest) xs lost comes =
+    runs_lost rest xs (lost ++ RfChannelReleaseAck at.number ∷ [])
+    (subst (Comes at.number (Releasing number)) (append_assoc xs lost (RfChannelReleaseAck at.number ∷ [])) (released_comes at.number number (InUse number) (xs ++ lost) refl comes))
 
-pub goes-lost : {at : Place} {state end : ChannelState} {outs : List Out} → Goes at state outs end → (xs lost : List Rsl) → Comes at.number state (xs ++ lost) → ((more : List Rsl) × Comes at.number end (xs ++ more)) × (((number : ℕ) → end ≡ InUse number → state ≡ InUse number) ⊎ (state ≡ Free))
-goes-lost (runs all) xs lost comes = (runs-lost all xs lost comes, inl (λ number is. runs-kept number all is))
-goes-lost (first_passes beside rest) xs lost comes = goes-lost rest xs lost comes
-goes-lost {at} (activates {number} a says channel few rest) xs lost comes = (
-  runs-lost rest xs (lost ++ activation_ack at.number ∷ []) (subst (Comes at.number (InUse number)) (append_assoc xs lost (activation_ack at.number ∷ [])) (began-comes at.number number (xs ++ lost) comes)),
+pub goes_lost : {at : Place} {state end : ChannelState} {outs : List Out} → Goes at state outs end → (xs lost : List Rsl) → Comes at.number state (xs ++ lost) → ((more : List Rsl) × Comes at.number end (xs ++ more)) × (((number : ℕ) → end ≡ InUse number → state ≡ InUse number) ⊎ (state ≡ Free))
+goes_lost (runs all) xs lost comes = (runs_lost all xs lost comes, inl (λ number is. runs-kept number all is))
+goes_lost (first_passes beside rest) xs lost comes = goes_lost rest xs lost comes
+goes_lost {at} (activates {number} a says channel few rest) xs lost comes = (
+  runs_lost rest xs (lost ++ activation_ack at.number ∷ []) (subst (Comes at.number (InUse number)) (append_assoc xs lost (activation_ack at.number ∷ [])) (began_comes at.number number (xs ++ lost) comes)),
   inr refl,
 )

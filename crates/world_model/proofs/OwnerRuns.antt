@@ -23,10 +23,10 @@ use Rattle.world_model.proofs.Counting.{same-stations}
 use Rattle.world_model.proofs.Heard.{Good, good-new, good-step}
 use Rattle.world_model.proofs.Honesty.{up-right}
 use Rattle.world_model.proofs.Leads.{turn-leads}
-use Rattle.world_model.proofs.OwnerEvents.{IsThere, Rests, beside-keeps, beside-rests}
-use Rattle.world_model.proofs.OwnerLines.{AllAgree-new, takes-agreed, tenure-append}
+use Rattle.world_model.proofs.OwnerEvents.{IsThere, Rests, beside_keeps, beside-rests}
+use Rattle.world_model.proofs.OwnerLines.{AllAgree-new, takes_agreed, tenure-append}
 use Rattle.world_model.proofs.OwnerPuts.{entries_to}
-use Rattle.world_model.proofs.OwnerTakes.{takes-keep, takes-rests, takes-spots}
+use Rattle.world_model.proofs.OwnerTakes.{takes_keep, takes-rests, takes_spots}
 use Rattle.world_model.proofs.OwnerTenures.{HaveSpots, HaveSpots-new, beside-step, is_beside}
 use Rattle.world_model.proofs.OwnerTurn.{BeginsBy, IsOne, Serves, Turned, turn-agrees}
 use Rattle.world_model.proofs.Outboxes.{AllJoin, all_join, down-after, down-outbox, new_outbox, step as outbox-step, Step as OutboxStep}
@@ -36,18 +36,18 @@ use Rattle.world_model.proofs.Piping.Step.{flows, stops}
 
 -- ---- a turn, in the world
 
-no-entries : (up : Bool) (entries : List OutboxEntry) → up ≡ false → (if up then entries else []) ≡ []
-no-entries false entries is = refl
-no-entries true entries is = absurd cc
+no_entries : (up : Bool) (entries : List OutboxEntry) → up ≡ false → (if up then entries else []) ≡ []
+no_entries false entries is = refl
+no_entries true entries is = absurd cc
 
-turned-by : (w u : Actors) (at : Place) (target : Option Tenure) (t : Turn) (heard : List Rsl) → u.links ≡ w.links → u.stations ≡ w.stations → acknowledged_in at w.inbox ≡ heard ++ acknowledged_in at u.inbox → IsOne heard → Turned w (with_turn target t u) at target t heard
-turned-by w u at target t heard links stations inbox one =
+turned_by : (w u : Actors) (at : Place) (target : Option Tenure) (t : Turn) (heard : List Rsl) → u.links ≡ w.links → u.stations ≡ w.stations → acknowledged_in at w.inbox ≡ heard ++ acknowledged_in at u.inbox → IsOne heard → Turned w (with_turn target t u) at target t heard
+turned_by w u at target t heard links stations inbox one =
     let all : AllJoin at.station target (record u { controller = t.next }) t.outs (with_turn target t u) = all_join at.station target t.outs (record u { controller = t.next }) in
     record {
       entries = if is_up w at.station then entries_to at target t.outs else [];
       outbox = all.outbox ∙ ap (λ (ls : _). (slice_index_or ls at.station broken_link).outbox ++ (if (slice_index_or ls at.station broken_link).up then entries_to at target t.outs else [])) links;
       joins = λ up. ap (λ (b : Bool). if b then entries_to at target t.outs else []) up;
-      down = no-entries (is_up w at.station) (entries_to at target t.outs);
+      down = no_entries (is_up w at.station) (entries_to at target t.outs);
       up = all.up ∙ ap (λ (ls : _). (slice_index_or ls at.station broken_link).up) links;
       base = turn-leads (λ v. base_of v at.station ≡ base_of w at.station) target t u (λ ls. ap (λ (ss : _). (slice_index_or ss (at.station - 1) no_station).base) stations);
       tenure = turn-leads (λ v. (spot_at v at).tenure ≡ (spot_at w at).tenure) target t u (λ ls. ap (λ (ss : _). (slice_index_or (slice_index_or ss (at.station - 1) no_station).spots at.number new_spot).tenure) stations);
@@ -60,61 +60,61 @@ turned-by w u at target t heard links stations inbox one =
 abbrev pub heard_of : Place → Item → List Rsl
 heard_of at item = acknowledgements at.number (said at.station item)
 
-one-filtered : (k : ℕ) (o : Option Rsl) → IsOne (acknowledgements k (option_to_list o))
-one-filtered k None = inl refl
-one-filtered k (Some m) = by (is_bound_of k m) where
+one_filtered : (k : ℕ) (o : Option Rsl) → IsOne (acknowledgements k (option_to_list o))
+one_filtered k None = inl refl
+one_filtered k (Some m) = by (is_bound_of k m) where
   by : (b : Bool) → IsOne (cond b (m ∷ []) [])
   by true = inr (m, refl)
   by false = inl refl
 
-one-heard : (at : Place) (item : Item) → IsOne (heard_of at item)
-one-heard at item = by (item.source == at.station) item.what where
+one_heard : (at : Place) (item : Item) → IsOne (heard_of at item)
+one_heard at item = by (item.source == at.station) item.what where
   by : (b : Bool) (what : What) → IsOne (acknowledgements at.number (if b then said_by what else []))
-  by true (whats.Frame frame) = one-filtered at.number (rsl_in frame)
+  by true (whats.Frame frame) = one_filtered at.number (rsl_in frame)
   by true whats.Down = inl refl
   by false what = inl refl
 
 pub handle-turned : (w : Actors) (at : Place) (item : Item) (items : List Item) → w.inbox ≡ item ∷ items → Turned w (with_turn (target_in w item.source item.what) (take item w.controller) (record w { inbox = items })) at (target_in w item.source item.what) (take item w.controller) (heard_of at item)
 handle-turned w at item items is =
-    turned-by w (record w { inbox = items }) at (target_in w item.source item.what) (take item w.controller) (heard_of at item) refl refl
-    (ap (acknowledged_in at) is ∙ acks-append at.number (said at.station item) (flat_map (said at.station) items)) (one-heard at item)
+    turned_by w (record w { inbox = items }) at (target_in w item.source item.what) (take item w.controller) (heard_of at item) refl refl
+    (ap (acknowledged_in at) is ∙ acks-append at.number (said at.station item) (flat_map (said at.station) items)) (one_heard at item)
 
 pub tick-turned : (w : Actors) (at : Place) (ms : ℕ) → Turned w (with_turn None (tick ms w.controller) w) at None (tick ms w.controller) []
-tick-turned w at ms = turned-by w w at None (tick ms w.controller) [] refl refl refl (inl refl)
+tick-turned w at ms = turned_by w w at None (tick ms w.controller) [] refl refl refl (inl refl)
 
 -- ---- the number of the last tenure behind all that waits, while the link is up
 
-then-more : (k : ℕ) (active : Bool) (tenure : ℕ) (o : Option Rsl) → tenure ≤ tenure_then k active tenure o
-then-more k active tenure (Some (ChannelActivation a)) = by ((a.channel == k) && not active) where
+then_more : (k : ℕ) (active : Bool) (tenure : ℕ) (o : Option Rsl) → tenure ≤ tenure_then k active tenure o
+then_more k active tenure (Some (ChannelActivation a)) = by ((a.channel == k) && not active) where
   by : (b : Bool) → tenure ≤ (if b then tenure + 1 else tenure)
   by true = omega arith
   by false = omega arith
-then-more k active tenure None = omega arith
-then-more k active tenure (Some _) = omega arith
+then_more k active tenure None = omega arith
+then_more k active tenure (Some _) = omega arith
 
-all-more : (k : ℕ) (active : Bool) (tenure : ℕ) (entries : List OutboxEntry) → tenure ≤ tenure_all k active tenure entries
-all-more k active tenure [] = omega arith
-all-more k active tenure (x ∷ xs) =
-    let one = then-more k active tenure (rsl_in x.out.frame) in
-    let others = all-more k (is_active_then k active (rsl_in x.out.frame)) (tenure_then k active tenure (rsl_in x.out.frame)) xs in
+all_more : (k : ℕ) (active : Bool) (tenure : ℕ) (entries : List OutboxEntry) → tenure ≤ tenure_all k active tenure entries
+all_more k active tenure [] = omega arith
+all_more k active tenure (x ∷ xs) =
+    let one = then_more k active tenure (rsl_in x.out.frame) in
+    let others = all_more k (is_active_then k active (rsl_in x.out.frame)) (tenure_then k active tenure (rsl_in x.out.frame)) xs in
     omega (arith, one, others)
 
 -- behind a turn there are no fewer
-turned-more : (w v : Actors) (at : Place) (target : Option Tenure) (t : Turn) (heard : List Rsl) → Turned w v at target t heard → (tenure_behind w at).number ≤ (tenure_behind v at).number
-turned-more w v at target t heard turned =
+turned_more : (w v : Actors) (at : Place) (target : Option Tenure) (t : Turn) (heard : List Rsl) → Turned w v at target t heard → (tenure_behind w at).number ≤ (tenure_behind v at).number
+turned_more w v at target t heard turned =
     let same : (tenure_behind v at).number ≡ tenure_all at.number (active_all at.number (is_active_at w at) (outbox_of w at.station)) (tenure_behind w at).number turned.entries =
     ap (λ (b : _). tenure_all at.number (is_active b at.number) (spot_at v at).tenure (outbox_of v at.station)) (ap (λ (b : _). b.active) turned.base)
     ∙ ap (λ (m : ℕ). tenure_all at.number (is_active_at w at) m (outbox_of v at.station)) turned.tenure
     ∙ ap (tenure_all at.number (is_active_at w at) (spot_at w at).tenure) turned.outbox
     ∙ tenure-append at.number (is_active_at w at) (spot_at w at).tenure (outbox_of w at.station) turned.entries in
-    subst (λ (m : ℕ). (tenure_behind w at).number ≤ m) (sym same) (all-more at.number (active_all at.number (is_active_at w at) (outbox_of w at.station)) (tenure_behind w at).number turned.entries)
+    subst (λ (m : ℕ). (tenure_behind w at).number ≤ m) (sym same) (all_more at.number (active_all at.number (is_active_at w at) (outbox_of w at.station)) (tenure_behind w at).number turned.entries)
 
 false_true : false ≡ true → ⊥
 false_true is = absurd cc
 
 -- where the controller rests it is the same
-rests-number : (at : Place) (w : Actors) (event : Event) → IsThere at w → Rests at w event → is_up (actors_after w event) at.station ≡ true → (tenure_behind (actors_after w event) at).number ≡ (tenure_behind w at).number
-rests-number at w event there rests up = by (outbox-step at.station w event) (pipe-step at.station at.number w event there.station there.among there.none) where
+rests_number : (at : Place) (w : Actors) (event : Event) → IsThere at w → Rests at w event → is_up (actors_after w event) at.station ≡ true → (tenure_behind (actors_after w event) at).number ≡ (tenure_behind w at).number
+rests_number at w event there rests up = by (outbox-step at.station w event) (pipe-step at.station at.number w event there.station there.among there.none) where
   v : Actors
   v = actors_after w event
 
@@ -134,10 +134,10 @@ rests-number at w event there rests up = by (outbox-step at.station w event) (pi
       ∙ ap (tenure_all at.number (is_active_at w at) (spot_at w at).tenure) (sym all ∙ ap (λ (es : List OutboxEntry). outbox_of w at.station ++ es) none-put ∙ append-nil (outbox_of w at.station))
 
 pub beside-number : (at : Place) (w : Actors) (event : Event) → is_beside event ≡ true → IsThere at w → is_up (actors_after w event) at.station ≡ true → (tenure_behind (actors_after w event) at).number ≡ (tenure_behind w at).number
-beside-number at w event is there up = rests-number at w event there (beside-rests at w event is there) up
+beside-number at w event is there up = rests_number at w event there (beside-rests at w event is there) up
 
 pub takes-number : (owner : Tenure → ℕ) (at : Place) (w : Actors) (station : ℕ) → IsThere at w → HaveSpots w → Agrees owner w at → is_up (actors_after w (BaseTakes station)) at.station ≡ true → (tenure_behind (actors_after w (BaseTakes station)) at).number ≡ (tenure_behind w at).number
-takes-number owner at w station there spots agrees up = rests-number at w (BaseTakes station) there (takes-rests owner at w station there spots agrees) up
+takes-number owner at w station there spots agrees up = rests_number at w (BaseTakes station) there (takes-rests owner at w station there spots agrees) up
 
 -- ---- the ownership of a run, from an event on
 
@@ -145,13 +145,13 @@ takes-number owner at w station there spots agrees up = rests-number at w (BaseT
 unfoldable pub Follows : ℕ → (Tenure → ℕ) → Actors → List Event → Type 0
 Follows last owner w events = (t : Tenure) → 1 ≤ t.at.station → t.at.station ≤ last → is_up w t.at.station ≡ true → (tenure_behind w t.at).number < t.number → owner t ≡ owner_in w events t
 
-begun-less : (a b c : ℕ) → a < b → b ≤ c → nat_lt a b && nat_le b c ≡ true
-begun-less a b c less most = ap (λ (x : Bool). x && nat_le b c) (less-is a b less) ∙ le-leb b c most where
+begun_less : (a b c : ℕ) → a < b → b ≤ c → nat_lt a b && nat_le b c ≡ true
+begun_less a b c less most = ap (λ (x : Bool). x && nat_le b c) (less-is a b less) ∙ le-leb b c most where
   less-is : (a b : ℕ) → a < b → nat_lt a b ≡ true
   less-is a b less = grind arith
 
-not-begun : (a b c : ℕ) → c < b → nat_lt a b && nat_le b c ≡ false
-not-begun a b c less = by (nat_lt a b) (more b c less) where
+not_begun : (a b c : ℕ) → c < b → nat_lt a b && nat_le b c ≡ false
+not_begun a b c less = by (nat_lt a b) (more b c less) where
   more : (b c : ℕ) → c < b → nat_le b c ≡ false
   more b c less = grind arith
 
@@ -159,24 +159,24 @@ not-begun a b c less = by (nat_lt a b) (more b c less) where
   by true is = is
   by false is = refl
 
-follows-begins : (last : ℕ) (owner : Tenure → ℕ) (w : Actors) (event : Event) (events : List Event) (at : Place) → 1 ≤ at.station → at.station ≤ last → Follows last owner w (event ∷ events) → BeginsBy owner w (actors_after w event) at (actors_after w event).controller
+follows_begins : (last : ℕ) (owner : Tenure → ℕ) (w : Actors) (event : Event) (events : List Event) (at : Place) → 1 ≤ at.station → at.station ≤ last → Follows last owner w (event ∷ events) → BeginsBy owner w (actors_after w event) at (actors_after w event).controller
 unfolding Follows
-follows-begins last owner w event events at least most follows number mobile up used asks next =
+follows_begins last owner w event events at least most follows number mobile up used asks next =
     let v : Actors = actors_after w event in
     let t : Tenure = tenure_behind v at in
-    let begun : is_begun w event t ≡ true = begun-less (tenure_behind w at).number t.number t.number (omega (arith, next)) (omega arith) in
+    let begun : is_begun w event t ≡ true = begun_less (tenure_behind w at).number t.number t.number (omega (arith, next)) (omega arith) in
     follows t least most up (omega (arith, next))
     ∙ cond-true _ (user_of v.controller at) (owner_in v events t) begun
     ∙ ap (user_by v.controller) used
     ∙ ap (λ (o : Option ℕ). unwrap_or o 0) asks
 
-follows-on : (last : ℕ) (owner : Tenure → ℕ) (w : Actors) (event : Event) (events : List Event) → ((at : Place) → 1 ≤ at.station → at.station ≤ last → is_up (actors_after w event) at.station ≡ true → (tenure_behind w at).number ≤ (tenure_behind (actors_after w event) at).number) → Follows last owner w (event ∷ events) → Follows last owner (actors_after w event) events
+follows_on : (last : ℕ) (owner : Tenure → ℕ) (w : Actors) (event : Event) (events : List Event) → ((at : Place) → 1 ≤ at.station → at.station ≤ last → is_up (actors_after w event) at.station ≡ true → (tenure_behind w at).number ≤ (tenure_behind (actors_after w event) at).number) → Follows last owner w (event ∷ events) → Follows last owner (actors_after w event) events
 unfolding Follows
-follows-on last owner w event events more follows t from to up later =
+follows_on last owner w event events more follows t from to up later =
     let v : Actors = actors_after w event in
     let least = more t.at from to up in
     follows t from to (still-up (is_up w t.at.station) refl) (omega (arith, least, later))
-    ∙ cond-false _ (user_of v.controller t.at) (owner_in v events t) (not-begun (tenure_behind w t.at).number t.number (tenure_behind v t.at).number later)
+    ∙ cond-false _ (user_of v.controller t.at) (owner_in v events t) (not_begun (tenure_behind w t.at).number t.number (tenure_behind v t.at).number later)
   where
     still-up : (b : Bool) → is_up w t.at.station ≡ b → is_up w t.at.station ≡ true
     still-up true is = is
@@ -224,81 +224,81 @@ there-of settings owner w events at right least most = record {
   zero-less is = absurd (omega (arith, is, least))
 
 -- after an event at which the channels agree still, and no last tenure goes
-right-after : (settings : Parameters) (owner : Tenure → ℕ) (w : Actors) (event : Event) (events : List Event) → Right settings owner w (event ∷ events) → AllAgree settings owner (actors_after w event) → HaveSpots (actors_after w event)
+right_after : (settings : Parameters) (owner : Tenure → ℕ) (w : Actors) (event : Event) (events : List Event) → Right settings owner w (event ∷ events) → AllAgree settings owner (actors_after w event) → HaveSpots (actors_after w event)
     → ((at : Place) → 1 ≤ at.station → at.station ≤ length settings.cells → is_up (actors_after w event) at.station ≡ true → (tenure_behind w at).number ≤ (tenure_behind (actors_after w event) at).number) → Right settings owner (actors_after w event) events
-right-after settings owner w event events right agree spots more = record {
+right_after settings owner w event events right agree spots more = record {
   agree = agree;
   good = good-step w event right.good;
   spots = spots;
   stations = same-stations w event ∙ right.stations;
   none = λ link down. down-outbox link w event (right.none link) down;
   beyond = λ link past. down-after link w event (right.beyond link past);
-  follows = follows-on (length settings.cells) owner w event events more right.follows;
+  follows = follows_on (length settings.cells) owner w event events more right.follows;
 }
 
-same-less : (a b : ℕ) → b ≡ a → a ≤ b
-same-less a b is = omega (arith, is)
+same_less : (a b : ℕ) → b ≡ a → a ≤ b
+same_less a b is = omega (arith, is)
 
-beside-right : (settings : Parameters) (owner : Tenure → ℕ) (w : Actors) (event : Event) (events : List Event) → is_beside event ≡ true → Right settings owner w (event ∷ events) → Right settings owner (actors_after w event) events
-beside-right settings owner w event events is right =
-    right-after settings owner w event events right
-    (λ at least most. beside-keeps owner at w event is (there-of settings owner w (event ∷ events) at right least most) right.good (right.agree at least most))
+beside_right : (settings : Parameters) (owner : Tenure → ℕ) (w : Actors) (event : Event) (events : List Event) → is_beside event ≡ true → Right settings owner w (event ∷ events) → Right settings owner (actors_after w event) events
+beside_right settings owner w event events is right =
+    right_after settings owner w event events right
+    (λ at least most. beside_keeps owner at w event is (there-of settings owner w (event ∷ events) at right least most) right.good (right.agree at least most))
     ((beside-step w event is).spots right.spots)
-    (λ at least most up. same-less (tenure_behind w at).number (tenure_behind (actors_after w event) at).number (beside-number at w event is (there-of settings owner w (event ∷ events) at right least most) up))
+    (λ at least most up. same_less (tenure_behind w at).number (tenure_behind (actors_after w event) at).number (beside-number at w event is (there-of settings owner w (event ∷ events) at right least most) up))
 
-takes-right : (settings : Parameters) (owner : Tenure → ℕ) (w : Actors) (station : ℕ) (events : List Event) → Right settings owner w (BaseTakes station ∷ events) → Right settings owner (actors_after w (BaseTakes station)) events
-takes-right settings owner w station events right =
-    right-after settings owner w (BaseTakes station) events right
-    (λ at least most. takes-keep owner at w station (there-of settings owner w (BaseTakes station ∷ events) at right least most) right.good right.spots (right.agree at least most))
-    (takes-spots w station right.spots)
-    (λ at least most up. same-less (tenure_behind w at).number (tenure_behind (actors_after w (BaseTakes station)) at).number (takes-number owner at w station (there-of settings owner w (BaseTakes station ∷ events) at right least most) right.spots (right.agree at least most) up))
+takes_right : (settings : Parameters) (owner : Tenure → ℕ) (w : Actors) (station : ℕ) (events : List Event) → Right settings owner w (BaseTakes station ∷ events) → Right settings owner (actors_after w (BaseTakes station)) events
+takes_right settings owner w station events right =
+    right_after settings owner w (BaseTakes station) events right
+    (λ at least most. takes_keep owner at w station (there-of settings owner w (BaseTakes station ∷ events) at right least most) right.good right.spots (right.agree at least most))
+    (takes_spots w station right.spots)
+    (λ at least most up. same_less (tenure_behind w at).number (tenure_behind (actors_after w (BaseTakes station)) at).number (takes-number owner at w station (there-of settings owner w (BaseTakes station ∷ events) at right least most) right.spots (right.agree at least most) up))
 
 -- a turn of the controller
-turn-right : (settings : Parameters) (owner : Tenure → ℕ) (w v : Actors) (event : Event) (events : List Event) (target : Option Tenure) (t : Turn) (heard : Place → List Rsl) → actors_after w event ≡ v → HaveSpots v → ((at : Place) → Turned w v at target t (heard at))
+turn_right : (settings : Parameters) (owner : Tenure → ℕ) (w v : Actors) (event : Event) (events : List Event) (target : Option Tenure) (t : Turn) (heard : Place → List Rsl) → actors_after w event ≡ v → HaveSpots v → ((at : Place) → Turned w v at target t (heard at))
     → ((at : Place) → 1 ≤ at.station → at.station ≤ length settings.cells → Serves owner w at target t (heard at)) → Right settings owner w (event ∷ events) → Right settings owner v events
-turn-right settings owner w v event events target t heard is spots turned serves right =
+turn_right settings owner w v event events target t heard is spots turned serves right =
     subst (λ (u : Actors). Right settings owner u events) is
-    (right-after settings owner w event events right
+    (right_after settings owner w event events right
     (subst (AllAgree settings owner) (sym is) (λ at least most.
     turn-agrees owner w v at target t (heard at) (turned at) (serves at least most)
-    (subst (BeginsBy owner w v at) (turned at).controller (subst (λ (u : Actors). BeginsBy owner w u at u.controller) is (follows-begins (length settings.cells) owner w event events at least most right.follows)))
+    (subst (BeginsBy owner w v at) (turned at).controller (subst (λ (u : Actors). BeginsBy owner w u at u.controller) is (follows_begins (length settings.cells) owner w event events at least most right.follows)))
     (right.agree at least most)))
     (subst HaveSpots (sym is) spots)
-    (λ at least most up. subst (λ (u : Actors). (tenure_behind w at).number ≤ (tenure_behind u at).number) (sym is) (turned-more w v at target t (heard at) (turned at))))
+    (λ at least most up. subst (λ (u : Actors). (tenure_behind w at).number ≤ (tenure_behind u at).number) (sym is) (turned_more w v at target t (heard at) (turned at))))
 
-handle-right : (settings : Parameters) (owner : Tenure → ℕ) (w : Actors) (events : List Event) → ServesAt settings owner w Handle → Right settings owner w (Handle ∷ events) → Right settings owner (actors_after w Handle) events
+handle_right : (settings : Parameters) (owner : Tenure → ℕ) (w : Actors) (events : List Event) → ServesAt settings owner w Handle → Right settings owner w (Handle ∷ events) → Right settings owner (actors_after w Handle) events
 unfolding ServesAt event_after
-handle-right settings owner w events serves right = by w.inbox refl where
+handle_right settings owner w events serves right = by w.inbox refl where
   by : (items : List Item) → w.inbox ≡ items → Right settings owner (actors_after w Handle) events
   by [] is =
       let same : actors_after w Handle ≡ w = ap (λ (items : List Item). unwrap_or (handled items w) w) is in
-      right-after settings owner w Handle events right (subst (AllAgree settings owner) (sym same) right.agree) (subst HaveSpots (sym same) right.spots)
-      (λ at least most up. same-less (tenure_behind w at).number (tenure_behind (actors_after w Handle) at).number (ap (λ (u : Actors). (tenure_behind u at).number) same))
+      right_after settings owner w Handle events right (subst (AllAgree settings owner) (sym same) right.agree) (subst HaveSpots (sym same) right.spots)
+      (λ at least most up. same_less (tenure_behind w at).number (tenure_behind (actors_after w Handle) at).number (ap (λ (u : Actors). (tenure_behind u at).number) same))
   by (item ∷ items) is =
       let v : Actors = with_turn (target_in w item.source item.what) (take item w.controller) (record w { inbox = items }) in
       let same : actors_after w Handle ≡ v = ap (λ (all : List Item). unwrap_or (handled all w) w) is in
       subst (λ (u : Actors). Right settings owner u events) (sym same)
-      (turn-right settings owner w v Handle events (target_in w item.source item.what) (take item w.controller) (λ at. heard_of at item) same
+      (turn_right settings owner w v Handle events (target_in w item.source item.what) (take item w.controller) (λ at. heard_of at item) same
       (turn-leads HaveSpots (target_in w item.source item.what) (take item w.controller) (record w { inbox = items }) (λ links. right.spots))
       (λ at. handle-turned w at item items is) (serves item items is) right)
 
-tick-right : (settings : Parameters) (owner : Tenure → ℕ) (w : Actors) (ms : ℕ) (events : List Event) → ServesAt settings owner w (Tick ms) → Right settings owner w (Tick ms ∷ events) → Right settings owner (actors_after w (Tick ms)) events
+tick_right : (settings : Parameters) (owner : Tenure → ℕ) (w : Actors) (ms : ℕ) (events : List Event) → ServesAt settings owner w (Tick ms) → Right settings owner w (Tick ms ∷ events) → Right settings owner (actors_after w (Tick ms)) events
 unfolding ServesAt event_after
-tick-right settings owner w ms events serves right =
-    turn-right settings owner w (with_turn None (tick ms w.controller) w) (Tick ms) events None (tick ms w.controller) (λ at. []) refl (turn-leads HaveSpots None (tick ms w.controller) w (λ links. right.spots)) (λ at. tick-turned w at ms) serves right
+tick_right settings owner w ms events serves right =
+    turn_right settings owner w (with_turn None (tick ms w.controller) w) (Tick ms) events None (tick ms w.controller) (λ at. []) refl (turn-leads HaveSpots None (tick ms w.controller) w (λ links. right.spots)) (λ at. tick-turned w at ms) serves right
 
 pub right-step : (settings : Parameters) (owner : Tenure → ℕ) (w : Actors) (event : Event) (events : List Event) → ServesAt settings owner w event → Right settings owner w (event ∷ events) → Right settings owner (actors_after w event) events
 right-step settings owner w event events = kinds (λ (e : Event). ServesAt settings owner w e → Right settings owner w (e ∷ events) → Right settings owner (actors_after w e) events)
-    (λ e is serves right. beside-right settings owner w e events is right)
-    (handle-right settings owner w events)
-    (λ ms. tick-right settings owner w ms events)
-    (λ station serves right. takes-right settings owner w station events right)
+    (λ e is serves right. beside_right settings owner w e events is right)
+    (handle_right settings owner w events)
+    (λ ms. tick_right settings owner w ms events)
+    (λ station serves right. takes_right settings owner w station events right)
     event
 
 -- ---- so what stations take agrees
 
-is-by : (settings : Parameters) (owner : Tenure → ℕ) (w : Actors) (event : Event) (events : List Event) → Right settings owner w events → IsBy owner w event
-is-by settings owner w (BaseTakes station) events right = λ up. by up (nat_le station (length settings.cells)) refl where
+is_by : (settings : Parameters) (owner : Tenure → ℕ) (w : Actors) (event : Event) (events : List Event) → Right settings owner w events → IsBy owner w event
+is_by settings owner w (BaseTakes station) events right = λ up. by up (nat_le station (length settings.cells)) refl where
   one : station ≢ 0 → 1 ≤ station
   one is = omega (arith, is)
 
@@ -306,16 +306,16 @@ is-by settings owner w (BaseTakes station) events right = λ up. by up (nat_le s
   past a b is = grind arith
 
   by : is_station_up w station ≡ true → (b : Bool) → nat_le station (length settings.cells) ≡ b → TakesFirstBy owner w station (outbox_of w station)
-  by up true is = takes-agreed settings owner w station (one (up-right station w up).0) (leb-true station (length settings.cells) is) right.agree
+  by up true is = takes_agreed settings owner w station (one (up-right station w up).0) (leb-true station (length settings.cells) is) right.agree
   by up false is = absurd (false_true (sym (right.beyond station (past station (length settings.cells) is)) ∙ (up-right station w up).1))
-is-by settings owner w _ events right = tt
+is_by settings owner w _ events right = tt
 
-all-by : (settings : Parameters) (owner : Tenure → ℕ) (w : Actors) (events : List Event) → ServesThrough settings owner w events → Right settings owner w events → AllAreBy owner w events
+all_by : (settings : Parameters) (owner : Tenure → ℕ) (w : Actors) (events : List Event) → ServesThrough settings owner w events → Right settings owner w events → AllAreBy owner w events
 unfolding ServesThrough
-all-by settings owner w [] serves right = tt
-all-by settings owner w (event ∷ events) serves right = (
-  is-by settings owner w event (event ∷ events) right,
-  all-by settings owner (actors_after w event) events serves.1 (right-step settings owner w event events (serves.0 right.agree) right),
+all_by settings owner w [] serves right = tt
+all_by settings owner w (event ∷ events) serves right = (
+  is_by settings owner w event (event ∷ events) right,
+  all_by settings owner (actors_after w event) events serves.1 (right-step settings owner w event events (serves.0 right.agree) right),
 )
 
 -- from the beginning on
@@ -339,4 +339,4 @@ right-new settings events =
     }
 
 pub owned-run : (settings : Parameters) (events : List Event) → ServesThrough settings (owner_in (new_actors settings) events) (new_actors settings) events → AllAreBy (owner_in (new_actors settings) events) (new_actors settings) events
-owned-run settings events serves = all-by settings (owner_in (new_actors settings) events) (new_actors settings) events serves (right-new settings events)
+owned-run settings events serves = all_by settings (owner_in (new_actors settings) events) (new_actors settings) events serves (right-new settings events)

@@ -17,34 +17,34 @@ use Rattle.world_model.specs.World.{Actors, Spot, Station, base_of, is_active_at
 use Rattle.world_model.proofs.Heard.{Good}
 use Rattle.world_model.proofs.Honesty.{up-right}
 use Rattle.world_model.proofs.Leads.{OfTaken, Seats, after-taken, assigned-leads, base_takes-leads, took-leads, unless_last-leads}
-use Rattle.world_model.proofs.OwnerEvents.{IsThere, Rests, rests-keep}
-use Rattle.world_model.proofs.OwnerTenures.{HaveSpots, set-spotted, spotted-at}
-use Rattle.world_model.proofs.Ticketing.{spot-all, spot-with_base}
+use Rattle.world_model.proofs.OwnerEvents.{IsThere, Rests, rests_keep}
+use Rattle.world_model.proofs.OwnerTenures.{HaveSpots, set_spotted, spotted_at}
+use Rattle.world_model.proofs.Ticketing.{spot_all, spot-with_base}
 
 -- ---- stations have all channels still
 
-spots-based : (u : Actors) (n : ℕ) (base : BaseState) → HaveSpots u → HaveSpots (with_base n base u)
-spots-based u n base all = set-spotted u.stations (n - 1) (record (station_of u n) { base = base }) refl all
+spots_based : (u : Actors) (n : ℕ) (base : BaseState) → HaveSpots u → HaveSpots (with_base n base u)
+spots_based u n base all = set_spotted u.stations (n - 1) (record (station_of u n) { base = base }) refl all
 
-spots-spotted : (u : Actors) (p : Place) (spot : Spot) → HaveSpots u → HaveSpots (with_spot p spot u)
-spots-spotted u p spot all = set-spotted u.stations (p.station - 1) _ (length-set (station_of u p.station).spots p.number spot) all
+spots_spotted : (u : Actors) (p : Place) (spot : Spot) → HaveSpots u → HaveSpots (with_spot p spot u)
+spots_spotted u p spot all = set_spotted u.stations (p.station - 1) _ (length-set (station_of u p.station).spots p.number spot) all
 
-took-spots : (station : ℕ) (target : Option Tenure) (o : Option Rsl) (u : Actors) → HaveSpots u → OfTaken HaveSpots (took station target o u)
-took-spots station target o u all = took-leads HaveSpots station target o u (record {
+took_spots : (station : ℕ) (target : Option Tenure) (o : Option Rsl) (u : Actors) → HaveSpots u → OfTaken HaveSpots (took station target o u)
+took_spots station target o u all = took-leads HaveSpots station target o u (record {
   nothing = all;
-  activates = λ channel _. spots-spotted (with_base station (after_activate (base_of u station) channel) u) (place_at station channel) _ (spots-based u station (after_activate (base_of u station) channel) all);
+  activates = λ channel _. spots_spotted (with_base station (after_activate (base_of u station) channel) u) (place_at station channel) _ (spots_based u station (after_activate (base_of u station) channel) all);
   seats = λ p number channel _ _. all;
-  airs = λ channel message _. spots-spotted u (place_at station channel) _ all;
+  airs = λ channel message _. spots_spotted u (place_at station channel) _ all;
   answers = λ answer channel.
       let middle : Actors = with_spot (place_at station channel) (record (spot_at u (place_at station channel)) { sapi_three_up = answer }) u in
-      spots-based middle station (after_tell (base_of middle station) (link_answer answer channel)) (spots-spotted u (place_at station channel) _ all);
-  releases = λ channel. spots-spotted (with_base station (after_release (base_of u station) channel) u) (place_at station channel) _ (spots-based u station (after_release (base_of u station) channel) all);
+      spots_based middle station (after_tell (base_of middle station) (link_answer answer channel)) (spots_spotted u (place_at station channel) _ all);
+  releases = λ channel. spots_spotted (with_base station (after_release (base_of u station) channel) u) (place_at station channel) _ (spots_based u station (after_release (base_of u station) channel) all);
 })
 
-pub takes-spots : (w : Actors) (station : ℕ) → HaveSpots w → HaveSpots (actors_after w (BaseTakes station))
+pub takes_spots : (w : Actors) (station : ℕ) → HaveSpots w → HaveSpots (actors_after w (BaseTakes station))
 unfolding event_after
-takes-spots w station all = after-taken HaveSpots (after_base_takes w station) w
-    (base_takes-leads HaveSpots w station (λ first others up stood. took-spots station first.target (rsl_in first.out.frame) (with_outbox station others w) all)) all
+takes_spots w station all = after-taken HaveSpots (after_base_takes w station) w
+    (base_takes-leads HaveSpots w station (λ first others up stood. took_spots station first.target (rsl_in first.out.frame) (with_outbox station others w) all)) all
 
 -- ---- the number of a tenure
 
@@ -61,33 +61,33 @@ IsSameTenure u at spot = spot.tenure ≡ (spot_at u at).tenure
 unfoldable pub HasTenure : ℕ → Actors → Place → Option Rsl → Actors → Type 0
 HasTenure n u at o v = (spot_at v at).tenure ≡ tenure_then at.number (is_active_at u at) (spot_at u at).tenure o
 
-same-tenure : (n : ℕ) (u : Actors) (p at : Place) (spot : Spot) → p.station ≢ 0 → at.station ≢ 0 → spot.tenure ≡ (spot_at u p).tenure → (spot_at (with_spot p spot u) at).tenure ≡ (spot_at u at).tenure
-same-tenure n u p at spot p_is at_is same = spot-all (IsSameTenure u) u p spot p_is same (λ q q_is. refl) at at_is
+same_tenure : (n : ℕ) (u : Actors) (p at : Place) (spot : Spot) → p.station ≢ 0 → at.station ≢ 0 → spot.tenure ≡ (spot_at u p).tenure → (spot_at (with_spot p spot u) at).tenure ≡ (spot_at u at).tenure
+same_tenure n u p at spot p_is at_is same = spot_all (IsSameTenure u) u p spot p_is same (λ q q_is. refl) at at_is
 
-based-tenure : (n : ℕ) (base : BaseState) (u : Actors) (at : Place) → (spot_at (with_base n base u) at).tenure ≡ (spot_at u at).tenure
-based-tenure n base u at = ap (λ (s : Spot). s.tenure) (spot-with_base n base u at)
+based_tenure : (n : ℕ) (base : BaseState) (u : Actors) (at : Place) → (spot_at (with_base n base u) at).tenure ≡ (spot_at u at).tenure
+based_tenure n base u at = ap (λ (s : Spot). s.tenure) (spot-with_base n base u at)
 
 -- a channel of a station that is there, whatever its end
-here-tenure : (u : Actors) (n k : ℕ) (base : BaseState) → n - 1 < length u.stations → HaveSpots u → k < CHANNEL_NUMBERS → (spot_at (with_spot (place_at n k) (new_tenure (spot_at u (place_at n k))) (with_base n base u)) (place_at n k)).tenure ≡ (spot_at u (place_at n k)).tenure + 1
-here-tenure u n k base there all few =
+here_tenure : (u : Actors) (n k : ℕ) (base : BaseState) → n - 1 < length u.stations → HaveSpots u → k < CHANNEL_NUMBERS → (spot_at (with_spot (place_at n k) (new_tenure (spot_at u (place_at n k))) (with_base n base u)) (place_at n k)).tenure ≡ (spot_at u (place_at n k)).tenure + 1
+here_tenure u n k base there all few =
     let u2 : Actors = with_base n base u in
     let there2 : n - 1 < length u2.stations = subst (λ (l : ℕ). n - 1 < l) (sym (length-set u.stations (n - 1) _)) there in
-    let spots2 : length (station_of u2 n).spots ≡ CHANNEL_NUMBERS = spotted-at u2.stations (n - 1) there2 (spots-based u n base all) in
+    let spots2 : length (station_of u2 n).spots ≡ CHANNEL_NUMBERS = spotted_at u2.stations (n - 1) there2 (spots_based u n base all) in
     ap (λ (s : Spot). s.tenure) (spot-here u2 (place_at n k) (new_tenure (spot_at u (place_at n k))) there2 (subst (λ (l : ℕ). k < l) (sym spots2) few))
 
-begun-tenure : (n k : ℕ) (u : Actors) (a : Activation) → n ≢ 0 → n - 1 < length u.stations → HaveSpots u → (a.channel ≡ k → k < CHANNEL_NUMBERS) → is_active (base_of u n).active a.channel ≡ false → HasTenure n u (place_at n k) (Some (ChannelActivation a)) (activated_unless None (place_at n a.channel) u)
+begun_tenure : (n k : ℕ) (u : Actors) (a : Activation) → n ≢ 0 → n - 1 < length u.stations → HaveSpots u → (a.channel ≡ k → k < CHANNEL_NUMBERS) → is_active (base_of u n).active a.channel ≡ false → HasTenure n u (place_at n k) (Some (ChannelActivation a)) (activated_unless None (place_at n a.channel) u)
 unfolding HasTenure
-begun-tenure n k u a n_is there all few idle =
+begun_tenure n k u a n_is there all few idle =
     elim (cases_Bool (nat_eq a.channel k)) [
       | inl hit ↦
           let same : a.channel ≡ k = eqb-true a.channel k hit in
           let off : is_active_at u (place_at n k) ≡ false = ap (is_active (base_of u n).active) (sym same) ∙ idle in
-          subst (λ (c : ℕ). (spot_at (with_spot (place_at n c) (new_tenure (spot_at u (place_at n c))) (with_base n base u)) (place_at n k)).tenure ≡ (spot_at u (place_at n k)).tenure + 1) (sym same) (here-tenure u n k base there all (few same))
+          subst (λ (c : ℕ). (spot_at (with_spot (place_at n c) (new_tenure (spot_at u (place_at n c))) (with_base n base u)) (place_at n k)).tenure ≡ (spot_at u (place_at n k)).tenure + 1) (sym same) (here_tenure u n k base there all (few same))
           ∙ sym (ap (λ (b : Bool). if b && not (is_active_at u (place_at n k)) then (spot_at u (place_at n k)).tenure + 1 else (spot_at u (place_at n k)).tenure) hit
           ∙ ap (λ (b : Bool). if true && not b then (spot_at u (place_at n k)).tenure + 1 else (spot_at u (place_at n k)).tenure) off)
       | inr miss ↦
-          spot-all (λ (q : Place) (s : Spot). (q.number == a.channel) ≡ false → s.tenure ≡ (spot_at u q).tenure) (with_base n base u) (place_at n a.channel) (new_tenure (spot_at u (place_at n a.channel))) n_is
-          (λ other. absurd (self other)) (λ q q_is other. based-tenure n base u q) (place_at n k) n_is (ne_eqb k a.channel (λ same. eqb-false a.channel k miss (sym same)))
+          spot_all (λ (q : Place) (s : Spot). (q.number == a.channel) ≡ false → s.tenure ≡ (spot_at u q).tenure) (with_base n base u) (place_at n a.channel) (new_tenure (spot_at u (place_at n a.channel))) n_is
+          (λ other. absurd (self other)) (λ q q_is other. based_tenure n base u q) (place_at n k) n_is (ne_eqb k a.channel (λ same. eqb-false a.channel k miss (sym same)))
           ∙ sym (ap (λ (b : Bool). if b && not (is_active_at u (place_at n k)) then (spot_at u (place_at n k)).tenure + 1 else (spot_at u (place_at n k)).tenure) miss)
     ] where
       base : BaseState
@@ -96,13 +96,13 @@ begun-tenure n k u a n_is there all few idle =
       self : (a.channel == a.channel) ≡ false → ⊥
       self other = eqb-false a.channel a.channel other refl
 
-took-tenure : (n k : ℕ) (target : Option Tenure) (o : Option Rsl) (u : Actors) → n ≢ 0 → n - 1 < length u.stations → HaveSpots u → ((a : Activation) → o ≡ Some (ChannelActivation a) → a.channel ≡ k → k < CHANNEL_NUMBERS) → OfTaken (HasTenure n u (place_at n k) o) (took n target o u)
+took_tenure : (n k : ℕ) (target : Option Tenure) (o : Option Rsl) (u : Actors) → n ≢ 0 → n - 1 < length u.stations → HaveSpots u → ((a : Activation) → o ≡ Some (ChannelActivation a) → a.channel ≡ k → k < CHANNEL_NUMBERS) → OfTaken (HasTenure n u (place_at n k) o) (took n target o u)
 unfolding OfTaken Seats HasTenure
-took-tenure n k target None u n_is there all few = refl
-took-tenure n k target (Some (ChannelActivation a)) u n_is there all few =
+took_tenure n k target None u n_is there all few = refl
+took_tenure n k target (Some (ChannelActivation a)) u n_is there all few =
     unless_last-leads (HasTenure n u (place_at n k) (Some (ChannelActivation a))) ((spot_at u (place_at n a.channel)).tenure == MAX_TENURE) (activated (place_at n a.channel) u) (by_activity (is_active (base_of u n).active a.channel) refl) where
       by_activity : (b : Bool) → is_active (base_of u n).active a.channel ≡ b → HasTenure n u (place_at n k) (Some (ChannelActivation a)) (activated_unless (if b then Some Busy else None) (place_at n a.channel) u)
-      by_activity false idle = begun-tenure n k u a n_is there all (few a refl) idle
+      by_activity false idle = begun_tenure n k u a n_is there all (few a refl) idle
       by_activity true busy = elim (cases_Bool (nat_eq a.channel k)) [
         | inl hit ↦
             let on : is_active_at u (place_at n k) ≡ true = ap (is_active (base_of u n).active) (sym (eqb-true a.channel k hit)) ∙ busy in
@@ -110,51 +110,51 @@ took-tenure n k target (Some (ChannelActivation a)) u n_is there all few =
             ∙ ap (λ (b : Bool). if true && not b then (spot_at u (place_at n k)).tenure + 1 else (spot_at u (place_at n k)).tenure) on)
         | inr miss ↦ sym (ap (λ (b : Bool). if b && not (is_active_at u (place_at n k)) then (spot_at u (place_at n k)).tenure + 1 else (spot_at u (place_at n k)).tenure) miss)
       ]
-took-tenure n k target (Some (ImmediateAssignCommand i)) u n_is there all few =
+took_tenure n k target (Some (ImmediateAssignCommand i)) u n_is there all few =
     assigned-leads (HasTenure n u (place_at n k) (Some (ImmediateAssignCommand i))) n u (rr_reading i.information) refl (λ p number channel _ _. refl)
-took-tenure n k target (Some (DataRequest d)) u n_is there all few = by_activity (is_active_at u (place_at n d.channel)) where
+took_tenure n k target (Some (DataRequest d)) u n_is there all few = by_activity (is_active_at u (place_at n d.channel)) where
   by_activity : (b : Bool) → HasTenure n u (place_at n k) (Some (DataRequest d)) (if b then with_spot (place_at n d.channel) (record (spot_at u (place_at n d.channel)) { air = (spot_at u (place_at n d.channel)).air ++ record { message = d.l3; target = target } ∷ [] }) u else u)
-  by_activity true = same-tenure n u (place_at n d.channel) (place_at n k) _ n_is n_is refl
+  by_activity true = same_tenure n u (place_at n d.channel) (place_at n k) _ n_is n_is refl
   by_activity false = refl
-took-tenure n k target (Some (EstablishRequest l)) u n_is there all few =
+took_tenure n k target (Some (EstablishRequest l)) u n_is there all few =
     let answer : Bool = is_active_at u (place_at n l.channel) && accepts (mobile_on u (tenure_at u (place_at n l.channel))) in
     let middle : Actors = with_spot (place_at n l.channel) (record (spot_at u (place_at n l.channel)) { sapi_three_up = answer }) u in
-    based-tenure n (after_tell (base_of middle n) (link_answer answer l.channel)) middle (place_at n k) ∙ same-tenure n u (place_at n l.channel) (place_at n k) _ n_is n_is refl
-took-tenure n k target (Some (RfChannelRelease number)) u n_is there all few =
+    based_tenure n (after_tell (base_of middle n) (link_answer answer l.channel)) middle (place_at n k) ∙ same_tenure n u (place_at n l.channel) (place_at n k) _ n_is n_is refl
+took_tenure n k target (Some (RfChannelRelease number)) u n_is there all few =
     let middle : Actors = with_base n (after_release (base_of u n) number) u in
-    same-tenure n middle (place_at n number) (place_at n k) _ n_is n_is (sym (based-tenure n (after_release (base_of u n) number) u (place_at n number))) ∙ based-tenure n (after_release (base_of u n) number) u (place_at n k)
-took-tenure n k target (Some _) u n_is there all few = refl
+    same_tenure n middle (place_at n number) (place_at n k) _ n_is n_is (sym (based_tenure n (after_release (base_of u n) number) u (place_at n number))) ∙ based_tenure n (after_release (base_of u n) number) u (place_at n k)
+took_tenure n k target (Some _) u n_is there all few = refl
 
 -- another station takes an entry
 unfoldable pub OtherTenure : Actors → Place → Actors → Type 0
 OtherTenure w at v = (spot_at v at).tenure ≡ (spot_at w at).tenure
 
-other-tenure : (at : Place) (s : ℕ) (w : Actors) → at.station ≢ 0 → s ≢ 0 → at.station ≢ s → (target : Option Tenure) (o : Option Rsl) (u : Actors) → OtherTenure w at u → OfTaken (OtherTenure w at) (took s target o u)
+other_tenure : (at : Place) (s : ℕ) (w : Actors) → at.station ≢ 0 → s ≢ 0 → at.station ≢ s → (target : Option Tenure) (o : Option Rsl) (u : Actors) → OtherTenure w at u → OfTaken (OtherTenure w at) (took s target o u)
 unfolding OtherTenure
-other-tenure at s w at_is s_is differ target o u same = took-leads (OtherTenure w at) s target o u (record {
+other_tenure at s w at_is s_is differ target o u same = took-leads (OtherTenure w at) s target o u (record {
   nothing = same;
-  activates = λ channel _. elsewhere (with_base s (after_activate (base_of u s) channel) u) (place_at s channel) _ s_is differ (based-tenure s (after_activate (base_of u s) channel) u at ∙ same);
+  activates = λ channel _. elsewhere (with_base s (after_activate (base_of u s) channel) u) (place_at s channel) _ s_is differ (based_tenure s (after_activate (base_of u s) channel) u at ∙ same);
   seats = λ p number channel _ _. same;
   airs = λ channel message _. elsewhere u (place_at s channel) _ s_is differ same;
   answers = λ answer channel.
       let middle : Actors = with_spot (place_at s channel) (record (spot_at u (place_at s channel)) { sapi_three_up = answer }) u in
-      based-tenure s (after_tell (base_of middle s) (link_answer answer channel)) middle at ∙ elsewhere u (place_at s channel) _ s_is differ same;
-  releases = λ channel. elsewhere (with_base s (after_release (base_of u s) channel) u) (place_at s channel) _ s_is differ (based-tenure s (after_release (base_of u s) channel) u at ∙ same);
+      based_tenure s (after_tell (base_of middle s) (link_answer answer channel)) middle at ∙ elsewhere u (place_at s channel) _ s_is differ same;
+  releases = λ channel. elsewhere (with_base s (after_release (base_of u s) channel) u) (place_at s channel) _ s_is differ (based_tenure s (after_release (base_of u s) channel) u at ∙ same);
 }) where
   elsewhere : (x : Actors) (p : Place) (spot : Spot) → p.station ≢ 0 → at.station ≢ p.station → (spot_at x at).tenure ≡ (spot_at w at).tenure → (spot_at (with_spot p spot x) at).tenure ≡ (spot_at w at).tenure
   elsewhere x p spot p_is apart is =
-      spot-all (λ (q : Place) (t : Spot). q.station ≢ p.station → t.tenure ≡ (spot_at x q).tenure) x p spot p_is (λ other. absurd (other refl)) (λ q q_is other. refl) at at_is apart ∙ is
+      spot_all (λ (q : Place) (t : Spot). q.station ≢ p.station → t.tenure ≡ (spot_at x q).tenure) x p spot p_is (λ other. absurd (other refl)) (λ q q_is other. refl) at at_is apart ∙ is
 
 -- ---- so the agreement is kept
 
-lead-on : (P Q : Actors → Type 0) → ((v : Actors) → P v → Q v) → (o : Option Actors) → OfTaken P o → OfTaken Q o
+lead_on : (P Q : Actors → Type 0) → ((v : Actors) → P v → Q v) → (o : Option Actors) → OfTaken P o → OfTaken Q o
 unfolding OfTaken
-lead-on P Q h None leads = tt
-lead-on P Q h (Some v) leads = h v leads
+lead_on P Q h None leads = tt
+lead_on P Q h (Some v) leads = h v leads
 
-own-takes : (owner : Tenure → ℕ) (at : Place) (w : Actors) (o : Option Actors) → o ≡ after_base_takes w at.station → IsThere at w → HaveSpots w → Agrees owner w at → (spot_at (unwrap_or o w) at).tenure ≡ tenure_all at.number (is_active_at w at) (spot_at w at).tenure (if is_some o then first_of (outbox_of w at.station) else [])
+own_takes : (owner : Tenure → ℕ) (at : Place) (w : Actors) (o : Option Actors) → o ≡ after_base_takes w at.station → IsThere at w → HaveSpots w → Agrees owner w at → (spot_at (unwrap_or o w) at).tenure ≡ tenure_all at.number (is_active_at w at) (spot_at w at).tenure (if is_some o then first_of (outbox_of w at.station) else [])
 unfolding OfTaken HasTenure
-own-takes owner at w o is there all agrees = subst (λ (p : Option Actors). (spot_at (unwrap_or p w) at).tenure ≡ tenure_all at.number (is_active_at w at) (spot_at w at).tenure (if is_some p then first_of (outbox_of w at.station) else [])) (sym is)
+own_takes owner at w o is there all agrees = subst (λ (p : Option Actors). (spot_at (unwrap_or p w) at).tenure ≡ tenure_all at.number (is_active_at w at) (spot_at w at).tenure (if is_some p then first_of (outbox_of w at.station) else [])) (sym is)
     (of-taken (after_base_takes w at.station) (base_takes-leads OwnTook w at.station (λ first others up stood. lift first others stood))) where
       OwnTook : Actors → Type 0
       OwnTook v = (spot_at v at).tenure ≡ tenure_all at.number (is_active_at w at) (spot_at w at).tenure (first_of (outbox_of w at.station))
@@ -165,9 +165,9 @@ own-takes owner at w o is there all agrees = subst (λ (p : Option Actors). (spo
 
       lift : (first : OutboxEntry) (others : List OutboxEntry) → outbox_of w at.station ≡ first ∷ others → OfTaken OwnTook (took at.station first.target (rsl_in first.out.frame) (with_outbox at.station others w))
       lift first others stood =
-          lead-on (HasTenure at.station (with_outbox at.station others w) at (rsl_in first.out.frame)) OwnTook (λ v now. now ∙ ap (tenure_all at.number (is_active_at w at) (spot_at w at).tenure) (sym (ap first_of stood)))
+          lead_on (HasTenure at.station (with_outbox at.station others w) at (rsl_in first.out.frame)) OwnTook (λ v now. now ∙ ap (tenure_all at.number (is_active_at w at) (spot_at w at).tenure) (sym (ap first_of stood)))
           (took at.station first.target (rsl_in first.out.frame) (with_outbox at.station others w))
-          (took-tenure at.station at.number first.target (rsl_in first.out.frame) (with_outbox at.station others w) there.station there.among all
+          (took_tenure at.station at.number first.target (rsl_in first.out.frame) (with_outbox at.station others w) there.station there.among all
           (λ a activates same. ((subst (FitsTenure owner at (is_active_at w at) (spot_at w at).tenure first.target) activates (subst (AreFitting owner at (is_active_at w at) (spot_at w at).tenure) stood agrees.line).0) same).1))
 
 pub kept-controller : (w : Actors) (s : ℕ) → (actors_after w (BaseTakes s)).controller ≡ w.controller
@@ -186,16 +186,16 @@ kept-controller w s = after-taken Kept (after_base_takes w s) w (base_takes-lead
     releases = λ channel. refl;
   })
 
-taken-tenure : (owner : Tenure → ℕ) (at : Place) (w : Actors) (s : ℕ) → IsThere at w → HaveSpots w → Agrees owner w at → (spot_at (actors_after w (BaseTakes s)) at).tenure ≡ tenure_all at.number (is_active_at w at) (spot_at w at).tenure (taken at.station w (BaseTakes s))
+taken_tenure : (owner : Tenure → ℕ) (at : Place) (w : Actors) (s : ℕ) → IsThere at w → HaveSpots w → Agrees owner w at → (spot_at (actors_after w (BaseTakes s)) at).tenure ≡ tenure_all at.number (is_active_at w at) (spot_at w at).tenure (taken at.station w (BaseTakes s))
 unfolding event_after OtherTenure
-taken-tenure owner at w s there all agrees = elim (cases_Bool (nat_eq s at.station)) [
+taken_tenure owner at w s there all agrees = elim (cases_Bool (nat_eq s at.station)) [
   | inl hit ↦
       let same : s ≡ at.station = eqb-true s at.station hit in
-      own-takes owner at w (after_base_takes w s) (ap (after_base_takes w) same) there all agrees
+      own_takes owner at w (after_base_takes w s) (ap (after_base_takes w) same) there all agrees
       ∙ ap (tenure_all at.number (is_active_at w at) (spot_at w at).tenure) (sym (ap (λ (b : Bool). if b then (if is_some (after_base_takes w s) then first_of (outbox_of w at.station) else []) else []) hit))
   | inr miss ↦
       after-taken (OtherTenure w at) (after_base_takes w s) w (base_takes-leads (OtherTenure w at) w s (λ first others up stood.
-      other-tenure at s w there.station (up-right s w up).0 (λ same. eqb-false s at.station miss (sym same)) first.target (rsl_in first.out.frame) (with_outbox s others w) refl)) refl
+      other_tenure at s w there.station (up-right s w up).0 (λ same. eqb-false s at.station miss (sym same)) first.target (rsl_in first.out.frame) (with_outbox s others w) refl)) refl
       ∙ ap (tenure_all at.number (is_active_at w at) (spot_at w at).tenure) (sym (ap (λ (b : Bool). if b then (if is_some (after_base_takes w s) then first_of (outbox_of w at.station) else []) else []) miss))
 ]
 
@@ -204,8 +204,8 @@ takes-rests owner at w s there all agrees = record {
   outputs = refl;
   pops = refl;
   controller = kept-controller w s;
-  tenure = taken-tenure owner at w s there all agrees;
+  tenure = taken_tenure owner at w s there all agrees;
 }
 
-pub takes-keep : (owner : Tenure → ℕ) (at : Place) (w : Actors) (s : ℕ) → IsThere at w → Good w → HaveSpots w → Agrees owner w at → Agrees owner (actors_after w (BaseTakes s)) at
-takes-keep owner at w s there good all agrees = rests-keep owner at w (BaseTakes s) there good (takes-rests owner at w s there all agrees) agrees
+pub takes_keep : (owner : Tenure → ℕ) (at : Place) (w : Actors) (s : ℕ) → IsThere at w → Good w → HaveSpots w → Agrees owner w at → Agrees owner (actors_after w (BaseTakes s)) at
+takes_keep owner at w s there good all agrees = rests_keep owner at w (BaseTakes s) there good (takes-rests owner at w s there all agrees) agrees

@@ -11,7 +11,7 @@ use Rattle.world_model.specs.Relay.{after_base_push, after_break}
 use Rattle.world_model.specs.SwitchSide.{sccp_in, after_switch_takes, after_switch_does}
 use Rattle.world_model.specs.World.{Actors, Mobile, Spot, Station, new_actors, new_spot, no_station, spot_at, station_of, stations_from, with_base, with_mobile, with_outbox, with_spot}
 use Rattle.world_model.proofs.Leads.{OfTaken, switch_takes-leads, switch_took-leads, push-leads, does-leads, broken-leads, after-taken}
-use Rattle.world_model.proofs.Ticketing.{spot-all, spot-with_base}
+use Rattle.world_model.proofs.Ticketing.{spot_all, spot-with_base}
 use Rattle.std.proofs.lemmas.Bool.{true≢false}
 use Rattle.world_model.proofs.Footprints.{Respots, air-after, is_on_air}
 use Rattle.world_model.proofs.Footprints.Respots.{airs, asks_up, counts, goes_down, is_left, short_up}
@@ -24,15 +24,15 @@ HasSpots s = length s.spots ≡ CHANNEL_NUMBERS
 abbrev pub HaveSpots : Actors → Type 0
 HaveSpots w = AllByRecursion HasSpots w.stations
 
-pub set-spotted : (stations : List Station) (k : ℕ) (station : Station) → length station.spots ≡ length (get_or stations k no_station).spots → AllByRecursion HasSpots stations → AllByRecursion HasSpots (set stations k station)
-set-spotted [] k station same all = tt
-set-spotted (first ∷ stations) zero station same all = (same ∙ all.0, all.1)
-set-spotted (first ∷ stations) (suc k) station same all = (all.0, set-spotted stations k station same all.1)
+pub set_spotted : (stations : List Station) (k : ℕ) (station : Station) → length station.spots ≡ length (get_or stations k no_station).spots → AllByRecursion HasSpots stations → AllByRecursion HasSpots (set stations k station)
+set_spotted [] k station same all = tt
+set_spotted (first ∷ stations) zero station same all = (same ∙ all.0, all.1)
+set_spotted (first ∷ stations) (suc k) station same all = (all.0, set_spotted stations k station same all.1)
 
-pub spotted-at : (stations : List Station) (k : ℕ) → k < length stations → AllByRecursion HasSpots stations → HasSpots (get_or stations k no_station)
-spotted-at [] k less all = absurd (omega arith)
-spotted-at (first ∷ stations) zero less all = all.0
-spotted-at (first ∷ stations) (suc k) less all = spotted-at stations k (omega arith) all.1
+pub spotted_at : (stations : List Station) (k : ℕ) → k < length stations → AllByRecursion HasSpots stations → HasSpots (get_or stations k no_station)
+spotted_at [] k less all = absurd (omega arith)
+spotted_at (first ∷ stations) zero less all = all.0
+spotted_at (first ∷ stations) (suc k) less all = spotted_at stations k (omega arith) all.1
 
 -- ---- an event beside the controller that activates nothing
 
@@ -41,23 +41,23 @@ pub record Beside (w v : Actors) : Type 0 where
   pub controller : v.controller ≡ w.controller
   pub spots : HaveSpots w → HaveSpots v
 
-pub beside-itself : (w : Actors) → Beside w w
-beside-itself w = record { tenures = λ at at_is. refl; controller = refl; spots = λ all. all }
+pub beside_itself : (w : Actors) → Beside w w
+beside_itself w = record { tenures = λ at at_is. refl; controller = refl; spots = λ all. all }
 
 -- an end of a station changes
 pub based : {w u : Actors} (n : ℕ) (base : BaseState) → Beside w u → Beside w (with_base n base u)
 based {w} {u} n base b = record {
   tenures = λ at at_is. ap (λ (s : Spot). s.tenure) (spot-with_base n base u at) ∙ b.tenures at at_is;
   controller = b.controller;
-  spots = λ all. set-spotted u.stations (n - 1) (record (station_of u n) { base = base }) refl (b.spots all);
+  spots = λ all. set_spotted u.stations (n - 1) (record (station_of u n) { base = base }) refl (b.spots all);
 }
 
 -- a channel changes, but not its tenure
 pub spotted : {w u : Actors} (p : Place) (spot : Spot) → p.station ≢ SWITCH_LINK → spot.tenure ≡ (spot_at u p).tenure → Beside w u → Beside w (with_spot p spot u)
 spotted {w} {u} p spot p_is same b = record {
-  tenures = spot-all (λ (at : Place) (s : Spot). s.tenure ≡ (spot_at w at).tenure) u p spot p_is (same ∙ b.tenures p p_is) b.tenures;
+  tenures = spot_all (λ (at : Place) (s : Spot). s.tenure ≡ (spot_at w at).tenure) u p spot p_is (same ∙ b.tenures p p_is) b.tenures;
   controller = b.controller;
-  spots = λ all. set-spotted u.stations (p.station - 1) _ (length-set (station_of u p.station).spots p.number spot) (b.spots all);
+  spots = λ all. set_spotted u.stations (p.station - 1) _ (length-set (station_of u p.station).spots p.number spot) (b.spots all);
 }
 
 -- a mobile changes
@@ -65,7 +65,7 @@ pub put : {w u : Actors} (p : Mobile) → Beside w u → Beside w (with_mobile p
 put p b = record { tenures = b.tenures; controller = b.controller; spots = b.spots }
 
 besides : (w : Actors) (o : Option Actors) → OfTaken (Beside w) o → Beside w (unwrap_or o w)
-besides w o leads = after-taken (Beside w) o w leads (beside-itself w)
+besides w o leads = after-taken (Beside w) o w leads (beside_itself w)
 
 -- the controller does nothing, and no station takes an entry
 abbrev pub is_beside : Event → Bool
@@ -75,31 +75,31 @@ is_beside (BaseTakes station) = false
 is_beside event = true
 
 -- a channel has the tenure that it had
-respot-tenure : {w u : Actors} {event : Event} {at : Place} {spot : Spot} → Respots w u event at spot → spot.tenure ≡ (spot_at u at).tenure
-respot-tenure (short_up number tenure reached) = refl
-respot-tenure (goes_down tenure first others reached stood) = refl
-respot-tenure (is_left number tenure reached) = refl
-respot-tenure (counts number report tenure reached) = refl
-respot-tenure (airs station d taken active) = refl
-respot-tenure (asks_up station l answer taken) = refl
+respot_tenure : {w u : Actors} {event : Event} {at : Place} {spot : Spot} → Respots w u event at spot → spot.tenure ≡ (spot_at u at).tenure
+respot_tenure (short_up number tenure reached) = refl
+respot_tenure (goes_down tenure first others reached stood) = refl
+respot_tenure (is_left number tenure reached) = refl
+respot_tenure (counts number report tenure reached) = refl
+respot_tenure (airs station d taken active) = refl
+respot_tenure (asks_up station l answer taken) = refl
 
-air-beside : (w : Actors) (event : Event) → is_on_air event ≡ true → is_beside event ≡ true → Beside w (actors_after w event)
-air-beside w event on is = air-after (Beside w) w event on (record {
+air_beside : (w : Actors) (event : Event) → is_on_air event ≡ true → is_beside event ≡ true → Beside w (actors_after w event)
+air_beside w event on is = air-after (Beside w) w event on (record {
   puts = λ u number p q _ _ _ b. put q b;
   joins = λ number initial accepts _ b. record { tenures = b.tenures; controller = b.controller; spots = b.spots };
   tells = λ u n message _ _ b. based n _ b;
-  spots = λ u at spot at_is how b. spotted at spot at_is (respot-tenure how) b;
+  spots = λ u at spot at_is how b. spotted at spot at_is (respot_tenure how) b;
   pops = λ station others _ b. record { tenures = b.tenures; controller = b.controller; spots = b.spots };
   activates = λ u s a taken _ b. absurd (true≢false (sym is ∙ ap is_beside taken.event_is));
   releases = λ u s channel taken b. absurd (true≢false (sym is ∙ ap is_beside taken.event_is));
-}) (beside-itself w)
+}) (beside_itself w)
 
 pub beside-step : (w : Actors) (event : Event) → is_beside event ≡ true → Beside w (actors_after w event)
 unfolding event_after
 beside-step w (BaseTakes station) is = absurd cc
 beside-step w (BasePush source) is =
     besides w (after_base_push w source) (push-leads (Beside w) w source (λ first others. record { tenures = λ at at_is. refl; controller = refl; spots = λ all. all })
-    (λ message _. let b = based source _ (beside-itself w) in record { tenures = b.tenures; controller = b.controller; spots = b.spots }))
+    (λ message _. let b = based source _ (beside_itself w) in record { tenures = b.tenures; controller = b.controller; spots = b.spots }))
 beside-step w Handle is = absurd cc
 beside-step w SwitchTakes is =
     besides w (after_switch_takes w) (switch_takes-leads (Beside w) w (λ first others _ _. switch_took-leads (Beside w) (with_outbox SWITCH_LINK others w) (sccp_in first.out.frame) (record { tenures = λ at at_is. refl; controller = refl; spots = λ all. all })
@@ -111,15 +111,15 @@ beside-step w (BaseDown source) is =
     (λ _ _. record {
       tenures = λ at at_is. ap (λ (s : Spot). s.tenure) (spot-with_base source _ w at);
       controller = refl;
-      spots = λ all. set-spotted w.stations (source - 1) _ refl all;
+      spots = λ all. set_spotted w.stations (source - 1) _ refl all;
     }))
-beside-step w event is = air-beside w event refl is
+beside-step w event is = air_beside w event refl is
 
 -- ---- at the beginning
 
-stations-spotted : (from : ℕ) (cells : List CellParameters) → AllByRecursion HasSpots (stations_from from cells)
-stations-spotted from [] = tt
-stations-spotted from (cell ∷ cells) = (length-replicate CHANNEL_NUMBERS new_spot, stations-spotted (from + 1) cells)
+stations_spotted : (from : ℕ) (cells : List CellParameters) → AllByRecursion HasSpots (stations_from from cells)
+stations_spotted from [] = tt
+stations_spotted from (cell ∷ cells) = (length-replicate CHANNEL_NUMBERS new_spot, stations_spotted (from + 1) cells)
 
 pub HaveSpots-new : (settings : Parameters) → HaveSpots (new_actors settings)
-HaveSpots-new settings = stations-spotted 1 settings.cells
+HaveSpots-new settings = stations_spotted 1 settings.cells

@@ -9,8 +9,8 @@ use Rattle.world_model.specs.OwnerLines.{Agrees, AreFitting, Comes, IsOnItsWay, 
 use Rattle.world_model.specs.OwnerLines.Comes.{nothing, began, begins, ends, begins_and_ends}
 use Rattle.world_model.specs.Pipe.{acknowledgements, active_all, due}
 use Rattle.world_model.specs.World.{Actors, base_of, is_active_at, is_up, outbox_of, spot_at}
-use Rattle.world_model.proofs.OwnerLines.{fitting-append, tenure-append}
-use Rattle.world_model.proofs.OwnerPuts.{FitAll, Goes, Puts, entries_to, goes-lost, goes-put}
+use Rattle.world_model.proofs.OwnerLines.{fitting_append, tenure-append}
+use Rattle.world_model.proofs.OwnerPuts.{FitAll, Goes, Puts, entries_to, goes_lost, goes-put}
 use Rattle.world_model.proofs.Outboxes.{Both-empty}
 use Rattle.world_model.proofs.Piping.{active-append, due-append}
 
@@ -32,33 +32,33 @@ hear-use (RfChannelReleaseAck channel ∷ rest) Free = refl
 hear-use (RfChannelReleaseAck channel ∷ rest) (InUse number) = refl
 hear-use (_ ∷ rest) state = refl
 
-hear-in_use : (heard : List Rsl) (state : ChannelState) (number : ℕ) → hear heard state ≡ InUse number → state ≡ InUse number
-hear-in_use [] state number is = is
-hear-in_use (RfChannelReleaseAck channel ∷ rest) (Releasing m) number is = absurd cc
-hear-in_use (RfChannelReleaseAck channel ∷ rest) Free number is = is
-hear-in_use (RfChannelReleaseAck channel ∷ rest) (InUse m) number is = is
-hear-in_use (_ ∷ rest) state number is = is
+hear_in_use : (heard : List Rsl) (state : ChannelState) (number : ℕ) → hear heard state ≡ InUse number → state ≡ InUse number
+hear_in_use [] state number is = is
+hear_in_use (RfChannelReleaseAck channel ∷ rest) (Releasing m) number is = absurd cc
+hear_in_use (RfChannelReleaseAck channel ∷ rest) Free number is = is
+hear_in_use (RfChannelReleaseAck channel ∷ rest) (InUse m) number is = is
+hear_in_use (_ ∷ rest) state number is = is
 
-comes-one : (k : ℕ) (m : Rsl) (state : ChannelState) (all rest : List Rsl) → Comes k state all → all ≡ m ∷ rest → Comes k (hear (m ∷ []) state) rest
-comes-one k m Free all rest nothing is = absurd cc
-comes-one k m (InUse number) all rest began is = absurd cc
-comes-one k m (InUse number) all rest begins is =
+comes_one : (k : ℕ) (m : Rsl) (state : ChannelState) (all rest : List Rsl) → Comes k state all → all ≡ m ∷ rest → Comes k (hear (m ∷ []) state) rest
+comes_one k m Free all rest nothing is = absurd cc
+comes_one k m (InUse number) all rest began is = absurd cc
+comes_one k m (InUse number) all rest begins is =
     let first : activation_ack k ≡ m = cc in
     let others : [] ≡ rest = cc in
     subst (λ (x : Rsl). Comes k (hear (x ∷ []) (InUse number)) rest) first (subst (Comes k (InUse number)) others began)
-comes-one k m (Releasing number) all rest ends is =
+comes_one k m (Releasing number) all rest ends is =
     let first : RfChannelReleaseAck k ≡ m = cc in
     let others : [] ≡ rest = cc in
     subst (λ (x : Rsl). Comes k (hear (x ∷ []) (Releasing number)) rest) first (subst (Comes k Free) others nothing)
-comes-one k m (Releasing number) all rest begins_and_ends is =
+comes_one k m (Releasing number) all rest begins_and_ends is =
     let first : activation_ack k ≡ m = cc in
     let others : RfChannelReleaseAck k ∷ [] ≡ rest = cc in
     subst (λ (x : Rsl). Comes k (hear (x ∷ []) (Releasing number)) rest) first (subst (Comes k (Releasing number)) others ends)
 
-comes-heard : (k : ℕ) (heard : List Rsl) (state : ChannelState) (rest : List Rsl) → IsOne heard → Comes k state (heard ++ rest) → Comes k (hear heard state) rest
-comes-heard k heard state rest (inl none) comes = subst (λ (h : List Rsl). Comes k (hear h state) rest) (sym none) (subst (λ (h : List Rsl). Comes k state (h ++ rest)) none comes)
-comes-heard k heard state rest (inr (m, one)) comes =
-    subst (λ (h : List Rsl). Comes k (hear h state) rest) (sym one) (comes-one k m state (heard ++ rest) rest comes (ap (λ (h : List Rsl). h ++ rest) one))
+comes_heard : (k : ℕ) (heard : List Rsl) (state : ChannelState) (rest : List Rsl) → IsOne heard → Comes k state (heard ++ rest) → Comes k (hear heard state) rest
+comes_heard k heard state rest (inl none) comes = subst (λ (h : List Rsl). Comes k (hear h state) rest) (sym none) (subst (λ (h : List Rsl). Comes k state (h ++ rest)) none comes)
+comes_heard k heard state rest (inr (m, one)) comes =
+    subst (λ (h : List Rsl). Comes k (hear h state) rest) (sym one) (comes_one k m state (heard ++ rest) rest comes (ap (λ (h : List Rsl). h ++ rest) one))
 
 -- ---- a turn, in the world
 
@@ -132,7 +132,7 @@ module _ (owner : Tenure → ℕ) (w v : Actors) (at : Place) (target : Option T
 
   -- what comes after the acknowledgement was taken
   heard-comes : (way : IsOnItsWay w at state) → Comes k (hear heard state) (rest ++ way.lost)
-  heard-comes way = comes-heard k heard state (rest ++ way.lost) turned.one (subst (Comes k state) (ap (λ (xs : List Rsl). xs ++ way.lost) came ∙ append_assoc heard rest way.lost) way.comes)
+  heard-comes way = comes_heard k heard state (rest ++ way.lost) turned.one (subst (Comes k state) (ap (λ (xs : List Rsl). xs ++ way.lost) came ∙ append_assoc heard rest way.lost) way.comes)
 
   -- ---- the link is up, and the controller hears it
 
@@ -146,7 +146,7 @@ module _ (owner : Tenure → ℕ) (w v : Actors) (at : Place) (target : Option T
       subst (λ (b : Bool). AreFitting owner at b (spot_at v at).tenure (outbox_of v n)) (sym active-same)
       (subst (λ (m : ℕ). AreFitting owner at (is_active_at w at) m (outbox_of v n)) (sym turned.tenure)
       (subst (AreFitting owner at (is_active_at w at) (spot_at w at).tenure) (sym (turned.outbox ∙ ap (λ (xs : List OutboxEntry). outbox_of w n ++ xs) is))
-      (fitting-append owner at (is_active_at w at) (spot_at w at).tenure (outbox_of w n) es agrees.line fits)))
+      (fitting_append owner at (is_active_at w at) (spot_at w at).tenure (outbox_of w n) es agrees.line fits)))
 
   line-by : (up hearing : Bool) → is_up w n ≡ up → hears t.next n ≡ hearing → AreFitting owner at (is_active_at v at) (spot_at v at).tenure (outbox_of v n)
   line-by false hearing down h = line-of [] (turned.down down) tt
@@ -166,7 +166,7 @@ module _ (owner : Tenure → ℕ) (w v : Actors) (at : Place) (target : Option T
       }
   way-by hearing false down =
       let way = agrees.way (serves.hearing hearing) in
-      let lost = (goes-lost (serves.goes hearing) rest way.lost (heard-comes way)).0 in
+      let lost = (goes_lost (serves.goes hearing) rest way.lost (heard-comes way)).0 in
       let same : to_come v at ≡ rest = comes-then ∙ ap (λ (es : List OutboxEntry). rest ++ due k (active_behind w at) es) (turned.down down) ∙ append-nil rest in
       record {
         lost = lost.0;
@@ -177,7 +177,7 @@ module _ (owner : Tenure → ℕ) (w v : Actors) (at : Place) (target : Option T
 
   own-kept : (number mobile : ℕ) → hears t.next n ≡ true → asker t.next number ≡ Some mobile → hear heard state ≡ InUse number → (tenure_behind v at).number ≡ (tenure_behind w at).number → (is_up w n ≡ false → to_come w at ≡ [] → ⊥) → owner (tenure_behind v at) ≡ mobile
   own-kept number mobile hearing asks used same reaches =
-      let was : state ≡ InUse number = hear-in_use heard state number used in
+      let was : state ≡ InUse number = hear_in_use heard state number used in
       ap (λ (m : ℕ). owner (record { at = at; number = m })) same ∙ agrees.own number mobile (serves.hearing hearing) was (serves.users number mobile asks was) reaches
 
   own-by : (number mobile : ℕ) → hears t.next n ≡ true → channel_state t.next at ≡ InUse number → asker t.next number ≡ Some mobile → (is_up v n ≡ false → to_come v at ≡ [] → ⊥) → (up : Bool) → is_up w n ≡ up → owner (tenure_behind v at) ≡ mobile
@@ -191,7 +191,7 @@ module _ (owner : Tenure → ℕ) (w v : Actors) (at : Place) (target : Option T
   own-by number mobile hearing used asks reaches false down =
       let way = agrees.way (serves.hearing hearing) in
       let same : to_come v at ≡ rest = comes-then ∙ ap (λ (es : List OutboxEntry). rest ++ due k (active_behind w at) es) (turned.down down) ∙ append-nil rest in
-      elim (goes-lost (serves.goes hearing) rest way.lost (heard-comes way)).1 [
+      elim (goes_lost (serves.goes hearing) rest way.lost (heard-comes way)).1 [
         | inl kept ↦ own-kept number mobile hearing asks (kept number used) (tenure-then ∙ ap (tenure_all k (active_behind w at) (tenure_behind w at).number) (turned.down down))
             (λ gone silent. reaches (turned.up ∙ gone) (same ∙ (Both-empty heard rest (sym silent ∙ came)).1))
         | inr free ↦ absurd (reaches (turned.up ∙ down) (same ∙ (Both-empty rest way.lost (sym (none-free (rest ++ way.lost) (hear heard state) free (heard-comes way)))).0))

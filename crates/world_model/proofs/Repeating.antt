@@ -17,7 +17,7 @@ use Rattle.world_model.specs.Lives.{place_in}
 use Rattle.world_model.specs.Mobiles.{complete, failure}
 use Rattle.world_model.specs.World.{Actors, Mobile, mobile_of, modulus_in, new_actors}
 use Rattle.world_model.proofs.Leads.{OfTaken, and-left, and-right, arrive-leads, return-leads}
-use Rattle.world_model.proofs.Mobility.{Fits, MobilesLive-new, Stands, Takes, control-complete, control-failure, end_of, may-come, stands-new, takes-at}
+use Rattle.world_model.proofs.Mobility.{Fits, MobilesLive-new, Stands, Takes, control-complete, control-failure, end_of, may-come, stands_new, takes_at}
 
 -- ---- one event
 
@@ -28,31 +28,31 @@ IsTurn e calls comes taken =
     (so_far : List (List ℕ)) (rest : List Call)
     → establishments e so_far (calls ++ rest) ≡ (if comes then so_far ∷ establishments (after_calls e calls) [] rest else establishments (after_calls e calls) (so_far ++ taken) rest)
 
-turn-none : (e : MobileState) → IsTurn e [] false []
+turn_none : (e : MobileState) → IsTurn e [] false []
 unfolding IsTurn
-turn-none e so_far rest = ap (λ (xs : List (List ℕ)). establishments e xs rest) (sym (append-nil so_far))
+turn_none e so_far rest = ap (λ (xs : List (List ℕ)). establishments e xs rest) (sym (append-nil so_far))
 
-turn-one : (e : MobileState) (call : Call) (comes : Bool) (taken : List (List ℕ)) → begins e call ≡ comes → taken_by_call e call ≡ taken → IsTurn e (call ∷ []) comes taken
+turn_one : (e : MobileState) (call : Call) (comes : Bool) (taken : List (List ℕ)) → begins e call ≡ comes → taken_by_call e call ≡ taken → IsTurn e (call ∷ []) comes taken
 unfolding IsTurn
-turn-one e call comes taken begun gives so_far rest =
+turn_one e call comes taken begun gives so_far rest =
     ap (λ (b : Bool). if b then so_far ∷ establishments (after_call e call) [] rest else establishments (after_call e call) (so_far ++ taken_by_call e call) rest) begun
     ∙ ap (λ (xs : List (List ℕ)). if comes then so_far ∷ establishments (after_call e call) [] rest else establishments (after_call e call) (so_far ++ xs) rest) gives
 
 -- a call of which stations take nothing
-turn-silent : (e : MobileState) (call : Call) (b : Bool) → begins e call ≡ false → taken_by_call e call ≡ [] → IsTurn e (if b then call ∷ [] else []) false []
-turn-silent e call true begun gives = turn-one e call false [] begun gives
-turn-silent e call false begun gives = turn-none e
+turn_silent : (e : MobileState) (call : Call) (b : Bool) → begins e call ≡ false → taken_by_call e call ≡ [] → IsTurn e (if b then call ∷ [] else []) false []
+turn_silent e call true begun gives = turn_one e call false [] begun gives
+turn_silent e call false begun gives = turn_none e
 
 -- a frame that a station takes
 pub frame-same : (m : ℕ) (o : Option Mobile) → frame_lent (frame_answer (end_of m o) Zero) ≡ frame_of o
 frame-same m None = refl
 frame-same m (Some p) = refl
 
-turn-frame : (m number : ℕ) (w : Actors) (n : ℕ) (taken b : Bool) → (n == number) && taken ≡ b → IsTurn (end_of m (mobile_of w number)) (if b then frames Zero ∷ [] else []) false (if b then frame_of (mobile_of w n) else [])
-turn-frame m number w n taken true does =
-    turn-one (end_of m (mobile_of w number)) (frames Zero) false (frame_of (mobile_of w n)) refl
+turn_frame : (m number : ℕ) (w : Actors) (n : ℕ) (taken b : Bool) → (n == number) && taken ≡ b → IsTurn (end_of m (mobile_of w number)) (if b then frames Zero ∷ [] else []) false (if b then frame_of (mobile_of w n) else [])
+turn_frame m number w n taken true does =
+    turn_one (end_of m (mobile_of w number)) (frames Zero) false (frame_of (mobile_of w n)) refl
     (frame-same m (mobile_of w number) ∙ ap (λ (k : ℕ). frame_of (mobile_of w k)) (sym (eqb-true n number (and-left (n == number) taken does))))
-turn-frame m number w n taken false doesnt = turn-none (end_of m (mobile_of w number))
+turn_frame m number w n taken false doesnt = turn_none (end_of m (mobile_of w number))
 
 -- ---- it comes to a channel
 
@@ -64,83 +64,83 @@ pub record IsBetween (w : Actors) (n : ℕ) : Type 0 where
   pub command : Command
   pub seat : p.seat ≡ Moving from command
 
-taken-so : {P : Type 0} (o : Option Actors) → OfTaken (λ _. P) o → is_some o ≡ true → P
+taken_so : {P : Type 0} (o : Option Actors) → OfTaken (λ _. P) o → is_some o ≡ true → P
 unfolding OfTaken
-taken-so None leads is = absurd cc
-taken-so (Some v) leads is = leads
+taken_so None leads is = absurd cc
+taken_so (Some v) leads is = leads
 
 pub arriving : (w : Actors) (n : ℕ) → is_some (event_after w (Arrive n)) ≡ true → IsBetween w n
 unfolding event_after
-arriving w n is = taken-so (event_after w (Arrive n)) (arrive-leads (λ _. IsBetween w n) w n (λ p from command found seat _. record { p = p; found = found; from = from; command = command; seat = seat })) is
+arriving w n is = taken_so (event_after w (Arrive n)) (arrive-leads (λ _. IsBetween w n) w n (λ p from command found seat _. record { p = p; found = found; from = from; command = command; seat = seat })) is
 
 pub returning : (w : Actors) (n : ℕ) → is_some (event_after w (Return n)) ≡ true → IsBetween w n
 unfolding event_after
-returning w n is = taken-so (event_after w (Return n)) (return-leads (λ _. IsBetween w n) w n (λ p from command found seat _. record { p = p; found = found; from = from; command = command; seat = seat })) is
+returning w n is = taken_so (event_after w (Return n)) (return-leads (λ _. IsBetween w n) w n (λ p from command found seat _. record { p = p; found = found; from = from; command = command; seat = seat })) is
 
 -- its end is between two channels
-pub place-between : {m number : ℕ} {w : Actors} (n : ℕ) → Stands m number w → n ≡ number → (between : IsBetween w n) → Fits (Some between.p)
-place-between {w = w} n stands same between = subst Fits (ap (mobile_of w) (sym same) ∙ between.found) stands.fits
+pub place_between : {m number : ℕ} {w : Actors} (n : ℕ) → Stands m number w → n ≡ number → (between : IsBetween w n) → Fits (Some between.p)
+place_between {w = w} n stands same between = subst Fits (ap (mobile_of w) (sym same) ∙ between.found) stands.fits
 
 pub end-between : (m number : ℕ) (w : Actors) (n : ℕ) → n ≡ number → (between : IsBetween w n) → end_of m (mobile_of w number) ≡ between.p.end
 end-between m number w n same between = ap (end_of m) (ap (mobile_of w) (sym same) ∙ between.found)
 
-turn-arrive : (m number : ℕ) (w : Actors) (n : ℕ) (b : Bool) → (n == number) && is_some (event_after w (Arrive n)) ≡ b → Stands m number w
+turn_arrive : (m number : ℕ) (w : Actors) (n : ℕ) (b : Bool) → (n == number) && is_some (event_after w (Arrive n)) ≡ b → Stands m number w
     → IsTurn (end_of m (mobile_of w number)) (if b then calls_to_arrive (seat_of (mobile_of w n)) else []) b []
-turn-arrive m number w n true does stands =
+turn_arrive m number w n true does stands =
     let same : n ≡ number = eqb-true n number (and-left (n == number) (is_some (event_after w (Arrive n))) does) in
     let at : IsBetween w n = arriving w n (and-right (n == number) (is_some (event_after w (Arrive n))) does) in
     let calls : calls_to_arrive (seat_of (mobile_of w n)) ≡ arrives (complete at.command.change) ∷ [] = ap (λ (o : Option Mobile). calls_to_arrive (seat_of o)) at.found ∙ ap calls_to_arrive at.seat in
     let end : end_of m (mobile_of w number) ≡ at.p.end = end-between m number w n same at in
     subst (λ (cs : List Call). IsTurn (end_of m (mobile_of w number)) cs true []) (sym calls)
-    (turn-one (end_of m (mobile_of w number)) (arrives (complete at.command.change)) true []
-    (ap (λ (e : MobileState). begins e (arrives (complete at.command.change))) end ∙ may-come at.p.end at.from at.command (complete at.command.change) (place-between n stands same at ∙ ap place_in at.seat) (control-complete at.command.change)) refl)
-turn-arrive m number w n false doesnt stands = turn-none (end_of m (mobile_of w number))
+    (turn_one (end_of m (mobile_of w number)) (arrives (complete at.command.change)) true []
+    (ap (λ (e : MobileState). begins e (arrives (complete at.command.change))) end ∙ may-come at.p.end at.from at.command (complete at.command.change) (place_between n stands same at ∙ ap place_in at.seat) (control-complete at.command.change)) refl)
+turn_arrive m number w n false doesnt stands = turn_none (end_of m (mobile_of w number))
 
-turn-return : (m number : ℕ) (w : Actors) (n : ℕ) (b : Bool) → (n == number) && is_some (event_after w (Return n)) ≡ b → Stands m number w
+turn_return : (m number : ℕ) (w : Actors) (n : ℕ) (b : Bool) → (n == number) && is_some (event_after w (Return n)) ≡ b → Stands m number w
     → IsTurn (end_of m (mobile_of w number)) (if b then calls_to_return (seat_of (mobile_of w n)) else []) b []
-turn-return m number w n true does stands =
+turn_return m number w n true does stands =
     let same : n ≡ number = eqb-true n number (and-left (n == number) (is_some (event_after w (Return n))) does) in
     let at : IsBetween w n = returning w n (and-right (n == number) (is_some (event_after w (Return n))) does) in
     let calls : calls_to_return (seat_of (mobile_of w n)) ≡ gives_up (failure at.command.change) ∷ [] = ap (λ (o : Option Mobile). calls_to_return (seat_of o)) at.found ∙ ap calls_to_return at.seat in
     let end : end_of m (mobile_of w number) ≡ at.p.end = end-between m number w n same at in
     subst (λ (cs : List Call). IsTurn (end_of m (mobile_of w number)) cs true []) (sym calls)
-    (turn-one (end_of m (mobile_of w number)) (gives_up (failure at.command.change)) true []
-    (ap (λ (e : MobileState). begins e (gives_up (failure at.command.change))) end ∙ may-come at.p.end at.from at.command (failure at.command.change) (place-between n stands same at ∙ ap place_in at.seat) (control-failure at.command.change)) refl)
-turn-return m number w n false doesnt stands = turn-none (end_of m (mobile_of w number))
+    (turn_one (end_of m (mobile_of w number)) (gives_up (failure at.command.change)) true []
+    (ap (λ (e : MobileState). begins e (gives_up (failure at.command.change))) end ∙ may-come at.p.end at.from at.command (failure at.command.change) (place_between n stands same at ∙ ap place_in at.seat) (control-failure at.command.change)) refl)
+turn_return m number w n false doesnt stands = turn_none (end_of m (mobile_of w number))
 
 -- ---- each event
 
-turn-at : (m number : ℕ) (w : Actors) (event : Event) → Stands m number w → IsTurn (end_of m (mobile_of w number)) (calls_at w event number) (comes_at w event number) (taken_at w event number)
-turn-at m number w (Connect n station initial accepts) stands = turn-silent (end_of m (mobile_of w number)) (connects (Some initial)) ((n == number) && is_some (event_after w (Connect n station initial accepts))) refl refl
-turn-at m number w (Upper n sapi message) stands = turn-silent (end_of m (mobile_of w number)) (sends sapi message) ((n == number) && is_some (event_after w (Upper n sapi message))) refl refl
-turn-at m number w (AirUp n Zero) stands = turn-frame m number w n (is_some (event_after w (AirUp n Zero))) ((n == number) && is_some (event_after w (AirUp n Zero))) refl
-turn-at m number w (AirUp n Three) stands = turn-silent (end_of m (mobile_of w number)) (frames Three) ((n == number) && is_some (event_after w (AirUp n Three))) refl refl
-turn-at m number w (AirAck n sapi) stands = turn-silent (end_of m (mobile_of w number)) (acknowledges sapi) ((n == number) && is_some (event_after w (AirAck n sapi))) refl refl
-turn-at m number w (Move n) stands = turn-silent (end_of m (mobile_of w number)) leaves ((n == number) && is_some (event_after w (Move n))) refl refl
-turn-at m number w (Arrive n) stands = turn-arrive m number w n ((n == number) && is_some (event_after w (Arrive n))) refl stands
-turn-at m number w (Return n) stands = turn-return m number w n ((n == number) && is_some (event_after w (Return n))) refl stands
-turn-at m number w _ stands = turn-none (end_of m (mobile_of w number))
+turn_at : (m number : ℕ) (w : Actors) (event : Event) → Stands m number w → IsTurn (end_of m (mobile_of w number)) (calls_at w event number) (comes_at w event number) (taken_at w event number)
+turn_at m number w (Connect n station initial accepts) stands = turn_silent (end_of m (mobile_of w number)) (connects (Some initial)) ((n == number) && is_some (event_after w (Connect n station initial accepts))) refl refl
+turn_at m number w (Upper n sapi message) stands = turn_silent (end_of m (mobile_of w number)) (sends sapi message) ((n == number) && is_some (event_after w (Upper n sapi message))) refl refl
+turn_at m number w (AirUp n Zero) stands = turn_frame m number w n (is_some (event_after w (AirUp n Zero))) ((n == number) && is_some (event_after w (AirUp n Zero))) refl
+turn_at m number w (AirUp n Three) stands = turn_silent (end_of m (mobile_of w number)) (frames Three) ((n == number) && is_some (event_after w (AirUp n Three))) refl refl
+turn_at m number w (AirAck n sapi) stands = turn_silent (end_of m (mobile_of w number)) (acknowledges sapi) ((n == number) && is_some (event_after w (AirAck n sapi))) refl refl
+turn_at m number w (Move n) stands = turn_silent (end_of m (mobile_of w number)) leaves ((n == number) && is_some (event_after w (Move n))) refl refl
+turn_at m number w (Arrive n) stands = turn_arrive m number w n ((n == number) && is_some (event_after w (Arrive n))) refl stands
+turn_at m number w (Return n) stands = turn_return m number w n ((n == number) && is_some (event_after w (Return n))) refl stands
+turn_at m number w _ stands = turn_none (end_of m (mobile_of w number))
 
 -- ---- all these events
 
-channels-same : (m number : ℕ) (w : Actors) (so_far : List (List ℕ)) (events : List Event) → Stands m number w → establishments (end_of m (mobile_of w number)) so_far (all_calls w events number) ≡ taken_by_channel w number so_far events
+channels_same : (m number : ℕ) (w : Actors) (so_far : List (List ℕ)) (events : List Event) → Stands m number w → establishments (end_of m (mobile_of w number)) so_far (all_calls w events number) ≡ taken_by_channel w number so_far events
 unfolding IsTurn
-channels-same m number w so_far [] stands = refl
-channels-same m number w so_far (event ∷ events) stands =
+channels_same m number w so_far [] stands = refl
+channels_same m number w so_far (event ∷ events) stands =
     let e : MobileState = end_of m (mobile_of w number) in
     let rest : List Call = all_calls (actors_after w event) events number in
-    let takes : Takes m number w (calls_at w event number) (actors_after w event) = takes-at m number w event stands in
-    turn-at m number w event stands so_far rest
+    let takes : Takes m number w (calls_at w event number) (actors_after w event) = takes_at m number w event stands in
+    turn_at m number w event stands so_far rest
     ∙ ap (λ (end : MobileState). if comes_at w event number then so_far ∷ establishments end [] rest else establishments end (so_far ++ taken_at w event number) rest) (sym takes.ends)
     ∙ ap (λ (xs : List (List (List ℕ))). if comes_at w event number then so_far ∷ xs else establishments (end_of m (mobile_of (actors_after w event) number)) (so_far ++ taken_at w event number) rest)
-    (channels-same m number (actors_after w event) [] events takes.stands)
+    (channels_same m number (actors_after w event) [] events takes.stands)
     ∙ ap (λ (xs : List (List (List ℕ))). if comes_at w event number then so_far ∷ taken_by_channel (actors_after w event) number [] events else xs)
-    (channels-same m number (actors_after w event) (so_far ++ taken_at w event number) events takes.stands)
+    (channels_same m number (actors_after w event) (so_far ++ taken_at w event number) events takes.stands)
 
-pub MobilesRepeatAtMostOne-new : (settings : Parameters) (events : List Event) → MobilesRepeatAtMostOne settings events
-MobilesRepeatAtMostOne-new settings events number p found =
+pub mobiles_repeat_at_most_one_new : (settings : Parameters) (events : List Event) → MobilesRepeatAtMostOne settings events
+mobiles_repeat_at_most_one_new settings events number p found =
     let m : ℕ = modulus_in settings in
     let calls : List Call = all_calls (new_actors settings) events number in
     let lives = MobilesLive-new settings events number p found in
-    subst (λ (lists : List (List (List ℕ))). OneRepeat m p.end.sent 0 lists) (channels-same m number (new_actors settings) [] events (stands-new settings number))
+    subst (λ (lists : List (List (List ℕ))). OneRepeat m p.end.sent 0 lists) (channels_same m number (new_actors settings) [] events (stands_new settings number))
     (subst (λ (e : MobileState). OneRepeat m e.sent 0 (establishments (new_mobile m) [] calls)) (sym lives.is) (OneRepeat-calls m [] (new_mobile m) [] calls (IsGoing-new m)))

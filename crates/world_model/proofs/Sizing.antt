@@ -24,53 +24,53 @@ use Rattle.world_model.specs.Sized.{Sized, HasSized}
 
 -- ---- links
 
-waits-sized : (link : DataLinkState) (message : List ℕ) → IsL3 (Some message) → Sized link → Sized (waits link message)
-waits-sized link message is sized = record { waiting = AllByRecursion-append (λ message. IsL3 (Some message)) link.waiting (message ∷ []) sized.waiting (is, tt); air = sized.air }
+waits_sized : (link : DataLinkState) (message : List ℕ) → IsL3 (Some message) → Sized link → Sized (waits link message)
+waits_sized link message is sized = record { waiting = AllByRecursion-append (λ message. IsL3 (Some message)) link.waiting (message ∷ []) sized.waiting (is, tt); air = sized.air }
 
-load-sized : (waiting : List (List ℕ)) (air : Air) → AllByRecursion (λ message. IsL3 (Some message)) waiting → IsL3 (message_in air) → Sized (after_load_from waiting air)
-load-sized [] Empty all is = record { waiting = tt; air = tt }
-load-sized (first ∷ others) Empty all is = record { waiting = all.1; air = all.0 }
-load-sized waiting (Given message) all is = record { waiting = all; air = is }
-load-sized waiting (Reached message) all is = record { waiting = all; air = is }
+load_sized : (waiting : List (List ℕ)) (air : Air) → AllByRecursion (λ message. IsL3 (Some message)) waiting → IsL3 (message_in air) → Sized (after_load_from waiting air)
+load_sized [] Empty all is = record { waiting = tt; air = tt }
+load_sized (first ∷ others) Empty all is = record { waiting = all.1; air = all.0 }
+load_sized waiting (Given message) all is = record { waiting = all; air = is }
+load_sized waiting (Reached message) all is = record { waiting = all; air = is }
 
-offered-sized : (air : Air) → IsL3 (message_in air) → IsL3 (offered_message air)
-offered-sized Empty is = tt
-offered-sized (Given message) is = is
-offered-sized (Reached message) is = tt
+offered_sized : (air : Air) → IsL3 (message_in air) → IsL3 (offered_message air)
+offered_sized Empty is = tt
+offered_sized (Given message) is = is
+offered_sized (Reached message) is = tt
 
-reach-sized : (air : Air) → IsL3 (message_in air) → IsL3 (message_in (after_reach air))
-reach-sized Empty is = tt
-reach-sized (Given message) is = is
-reach-sized (Reached message) is = is
+reach_sized : (air : Air) → IsL3 (message_in air) → IsL3 (message_in (after_reach air))
+reach_sized Empty is = tt
+reach_sized (Given message) is = is
+reach_sized (Reached message) is = is
 
-pub lent-sized : (link : DataLinkState) → Sized link → IsL3 (lent_message link)
-lent-sized link sized = offered-sized (after_load link).air (load-sized link.waiting link.air sized.waiting sized.air).air
+pub lent_sized : (link : DataLinkState) → Sized link → IsL3 (lent_message link)
+lent_sized link sized = offered_sized (after_load link).air (load_sized link.waiting link.air sized.waiting sized.air).air
 
-lending-sized : (link : DataLinkState) → Sized link → Sized (after_lending link)
-lending-sized link sized =
-    let loaded : Sized (after_load link) = load-sized link.waiting link.air sized.waiting sized.air in
-    record { waiting = loaded.waiting; air = reach-sized (after_load link).air loaded.air }
+lending_sized : (link : DataLinkState) → Sized link → Sized (after_lending link)
+lending_sized link sized =
+    let loaded : Sized (after_load link) = load_sized link.waiting link.air sized.waiting sized.air in
+    record { waiting = loaded.waiting; air = reach_sized (after_load link).air loaded.air }
 
-acknowledged-sized : (link : DataLinkState) → Sized link → Sized (after_acknowledgement link)
-acknowledged-sized link sized = record { waiting = sized.waiting; air = by_air link.air sized.air } where
+acknowledged_sized : (link : DataLinkState) → Sized link → Sized (after_acknowledgement link)
+acknowledged_sized link sized = record { waiting = sized.waiting; air = by_air link.air sized.air } where
   by_air : (air : Air) → IsL3 (message_in air) → IsL3 (message_in (after_ack air))
   by_air Empty is = tt
   by_air (Given message) is = is
   by_air (Reached message) is = tt
 
-in-air : (o : Option (List ℕ)) → IsL3 o → AllByRecursion (λ message. IsL3 (Some message)) (option_to_list o)
-in-air None is = tt
-in-air (Some message) is = (is, tt)
+in_air : (o : Option (List ℕ)) → IsL3 o → AllByRecursion (λ message. IsL3 (Some message)) (option_to_list o)
+in_air None is = tt
+in_air (Some message) is = (is, tt)
 
-resume-sized : (link : DataLinkState) (control : List ℕ) → IsL3 (Some control) → Sized link → Sized (after_resume link control)
-resume-sized link control is sized = record {
+resume_sized : (link : DataLinkState) (control : List ℕ) → IsL3 (Some control) → Sized link → Sized (after_resume link control)
+resume_sized link control is sized = record {
   waiting = AllByRecursion-filter (λ message. IsL3 (Some message)) (λ message. not (is_control message)) (outstanding_messages link)
-      (AllByRecursion-append (λ message. IsL3 (Some message)) (option_to_list (message_in link.air)) link.waiting (in-air (message_in link.air) sized.air) sized.waiting);
+      (AllByRecursion-append (λ message. IsL3 (Some message)) (option_to_list (message_in link.air)) link.waiting (in_air (message_in link.air) sized.air) sized.waiting);
   air = is;
 }
 
-repeat-sized : (link : DataLinkState) → Sized link → Sized (after_repeat link)
-repeat-sized link sized = record { waiting = sized.waiting; air = by_air link.air sized.air } where
+repeat_sized : (link : DataLinkState) → Sized link → Sized (after_repeat link)
+repeat_sized link sized = record { waiting = sized.waiting; air = by_air link.air sized.air } where
   by_air : (air : Air) → IsL3 (message_in air) → IsL3 (message_in (air_after_repeat air))
   by_air Empty is = tt
   by_air (Given message) is = is
@@ -78,41 +78,41 @@ repeat-sized link sized = record { waiting = sized.waiting; air = by_air link.ai
 
 -- ---- a mobile's links
 
-pub link-sized : (mobile : MobileState) (sapi : Sapi) → HasSized mobile → Sized (link_of mobile sapi)
-link-sized mobile Zero sized = sized.zero
-link-sized mobile Three sized = sized.three
+pub link_sized : (mobile : MobileState) (sapi : Sapi) → HasSized mobile → Sized (link_of mobile sapi)
+link_sized mobile Zero sized = sized.zero
+link_sized mobile Three sized = sized.three
 
-with_link-sized : (mobile : MobileState) (sapi : Sapi) (link : DataLinkState) → Sized link → HasSized mobile → HasSized (with_link mobile sapi link)
-with_link-sized mobile Zero link is sized = record { zero = is; three = sized.three }
-with_link-sized mobile Three link is sized = record { zero = sized.zero; three = is }
+with_link_sized : (mobile : MobileState) (sapi : Sapi) (link : DataLinkState) → Sized link → HasSized mobile → HasSized (with_link mobile sapi link)
+with_link_sized mobile Zero link is sized = record { zero = is; three = sized.three }
+with_link_sized mobile Three link is sized = record { zero = sized.zero; three = is }
 
-numbered-sized : (number : ℕ) (message : List ℕ) → IsL3 (Some message) → IsL3 (Some (with_number number message))
-numbered-sized number [] is = is
-numbered-sized number (first ∷ []) is = is
-numbered-sized number (first ∷ second ∷ rest) is = is
+numbered_sized : (number : ℕ) (message : List ℕ) → IsL3 (Some message) → IsL3 (Some (with_number number message))
+numbered_sized number [] is = is
+numbered_sized number (first ∷ []) is = is
+numbered_sized number (first ∷ second ∷ rest) is = is
 
 pub queue-sized : (mobile : MobileState) (sapi : Sapi) (message : List ℕ) → IsL3 (Some message) → HasSized mobile → HasSized (after_queue mobile sapi message)
 queue-sized mobile sapi message is sized = by_flow (is_flow_message message) where
   by_flow : (b : Bool) → HasSized (if b then after_number mobile message else with_link mobile sapi (waits (link_of mobile sapi) message))
-  by_flow true = record { zero = waits-sized mobile.zero _ (numbered-sized _ message is) sized.zero; three = sized.three }
-  by_flow false = with_link-sized mobile sapi (waits (link_of mobile sapi) message) (waits-sized (link_of mobile sapi) message is (link-sized mobile sapi sized)) sized
+  by_flow true = record { zero = waits_sized mobile.zero _ (numbered_sized _ message is) sized.zero; three = sized.three }
+  by_flow false = with_link_sized mobile sapi (waits (link_of mobile sapi) message) (waits_sized (link_of mobile sapi) message is (link_sized mobile sapi sized)) sized
 
-pub frame-sized : (mobile : MobileState) (sapi : Sapi) → HasSized mobile → HasSized (after_frame mobile sapi)
-frame-sized mobile sapi sized = by_state mobile.stage mobile.place where
+pub frame_sized : (mobile : MobileState) (sapi : Sapi) → HasSized mobile → HasSized (after_frame mobile sapi)
+frame_sized mobile sapi sized = by_state mobile.stage mobile.place where
   by_state : (stage : Stage) (place : Place) → HasSized (after_frame_at stage place mobile sapi)
   by_state New places.OnChannel = sized
   by_state New places.Moving = sized
-  by_state Connected places.OnChannel = with_link-sized mobile sapi (after_lending (link_of mobile sapi)) (lending-sized (link_of mobile sapi) (link-sized mobile sapi sized)) sized
+  by_state Connected places.OnChannel = with_link_sized mobile sapi (after_lending (link_of mobile sapi)) (lending_sized (link_of mobile sapi) (link_sized mobile sapi sized)) sized
   by_state Connected places.Moving = sized
 
-pub acked-sized : (mobile : MobileState) (sapi : Sapi) → HasSized mobile → HasSized (after_acked mobile sapi)
-acked-sized mobile sapi sized = by_place mobile.place where
+pub acked_sized : (mobile : MobileState) (sapi : Sapi) → HasSized mobile → HasSized (after_acked mobile sapi)
+acked_sized mobile sapi sized = by_place mobile.place where
   by_place : (place : Place) → HasSized (after_acked_at place mobile sapi)
-  by_place places.OnChannel = with_link-sized mobile sapi (after_acknowledgement (link_of mobile sapi)) (acknowledged-sized (link_of mobile sapi) (link-sized mobile sapi sized)) sized
+  by_place places.OnChannel = with_link_sized mobile sapi (after_acknowledgement (link_of mobile sapi)) (acknowledged_sized (link_of mobile sapi) (link_sized mobile sapi sized)) sized
   by_place places.Moving = sized
 
 pub arrival-sized : (mobile : MobileState) (control : List ℕ) → IsL3 (Some control) → HasSized mobile → HasSized (after_arrival mobile control)
-arrival-sized mobile control is sized = record { zero = resume-sized mobile.zero control is sized.zero; three = repeat-sized mobile.three sized.three }
+arrival-sized mobile control is sized = record { zero = resume_sized mobile.zero control is sized.zero; three = repeat_sized mobile.three sized.three }
 
 -- ---- what may be sent
 
@@ -120,31 +120,31 @@ front : (a b c : Bool) → a && b && c ≡ true → a ≡ true
 front true b c is = refl
 front false b c is = absurd cc
 
-one-octet : (first : ℕ) (rest : List ℕ) → 0 < length (first ∷ rest)
-one-octet first rest = omega arith
+one_octet : (first : ℕ) (rest : List ℕ) → 0 < length (first ∷ rest)
+one_octet first rest = omega arith
 
-lawful-by : (b : Bool) → is_none (if b then None else Some BadMessage) ≡ true → b ≡ true
-lawful-by true is = refl
-lawful-by false is = absurd cc
+lawful_by : (b : Bool) → is_none (if b then None else Some BadMessage) ≡ true → b ≡ true
+lawful_by true is = refl
+lawful_by false is = absurd cc
 
 pub sendable-sized : (mobile : MobileState) (sapi : Sapi) (message : List ℕ) → is_none (refusal_of_send mobile sapi message) ≡ true → IsL3 (Some message)
 sendable-sized mobile sapi message may = by_stage mobile.stage refl where
   sized : (message : List ℕ) → is_sendable sapi message ≡ true → IsL3 (Some message)
   sized [] is = absurd cc
-  sized (first ∷ rest) is = (one-octet first rest, leb-true (length (first ∷ rest)) MESSAGE_LIMIT (front (nat_le (length (first ∷ rest)) MESSAGE_LIMIT) (takes_sapi sapi (first % 16)) (has_clear_number (first ∷ rest)) is))
+  sized (first ∷ rest) is = (one_octet first rest, leb-true (length (first ∷ rest)) MESSAGE_LIMIT (front (nat_le (length (first ∷ rest)) MESSAGE_LIMIT) (takes_sapi sapi (first % 16)) (has_clear_number (first ∷ rest)) is))
 
   by_stage : (stage : Stage) → mobile.stage ≡ stage → IsL3 (Some message)
   by_stage New is = absurd (impossible (sym (ap (λ (s : Stage). is_none (first_refusal (refusal_before_connect s) (if is_sendable sapi message then None else Some BadMessage))) is) ∙ may)) where
     impossible : false ≡ true → ⊥
     impossible h = absurd cc
-  by_stage Connected is = sized message (lawful-by (is_sendable sapi message) (sym (ap (λ (s : Stage). is_none (first_refusal (refusal_before_connect s) (if is_sendable sapi message then None else Some BadMessage))) is) ∙ may))
+  by_stage Connected is = sized message (lawful_by (is_sendable sapi message) (sym (ap (λ (s : Stage). is_none (first_refusal (refusal_before_connect s) (if is_sendable sapi message then None else Some BadMessage))) is) ∙ may))
 
-pub initial-sized : (message : List ℕ) → is_none (refusal_of_connect (Some message)) ≡ true → IsL3 (Some message)
-initial-sized message may = sized message (lawful-by (is_initial message) may) where
+pub initial_sized : (message : List ℕ) → is_none (refusal_of_connect (Some message)) ≡ true → IsL3 (Some message)
+initial_sized message may = sized message (lawful_by (is_initial message) may) where
   longer : (n : ℕ) → n ≤ INITIAL_LIMIT → n ≤ MESSAGE_LIMIT
   longer n h = omega arith
 
   sized : (message : List ℕ) → is_initial message ≡ true → IsL3 (Some message)
   sized [] is = absurd cc
   sized (first ∷ rest) is =
-      (one-octet first rest, longer (length (first ∷ rest)) (leb-true (length (first ∷ rest)) INITIAL_LIMIT (front (nat_le (length (first ∷ rest)) INITIAL_LIMIT) ((first % 16 == MOBILITY_MANAGEMENT) || (first % 16 == RADIO_RESOURCE)) (has_clear_number (first ∷ rest)) is)))
+      (one_octet first rest, longer (length (first ∷ rest)) (leb-true (length (first ∷ rest)) INITIAL_LIMIT (front (nat_le (length (first ∷ rest)) INITIAL_LIMIT) ((first % 16 == MOBILITY_MANAGEMENT) || (first % 16 == RADIO_RESOURCE)) (has_clear_number (first ∷ rest)) is)))

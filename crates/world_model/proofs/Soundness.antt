@@ -34,8 +34,8 @@ pub sound-read : (message : Rsl) → IsSound message → rsl_reading (rsl_text m
 sound-read message sound = text_is_read (rsl_text message) message
     (subst (λ (octets : List ℕ). IsRsl octets message) (append-nil (rsl_text message)) (rsl_text_is_text message [] sound.lawful sound.written tt))
 
-fault-free : (l3 : List ℕ) → IsL3 (Some l3) → cond (nat_eq (length l3) 0) (Some Short) (cond (nat_lt MESSAGE_LIMIT (length l3) || false) (Some TooLong) None) ≡ None
-fault-free l3 (some, few) =
+fault_free : (l3 : List ℕ) → IsL3 (Some l3) → cond (nat_eq (length l3) 0) (Some Short) (cond (nat_lt MESSAGE_LIMIT (length l3) || false) (Some TooLong) None) ≡ None
+fault_free l3 (some, few) =
     ap (λ (b : Bool). cond b (Some Short) (cond (nat_lt MESSAGE_LIMIT (length l3) || false) (Some TooLong) None)) (ne_eqb (length l3) 0 (λ is. none is))
     ∙ ap (λ (b : Bool). cond (b || false) (Some TooLong) None) (short (length l3) few) where
       none : length l3 ≡ 0 → ⊥
@@ -44,44 +44,44 @@ fault-free l3 (some, few) =
       short : (n : ℕ) → n ≤ MESSAGE_LIMIT → nat_lt MESSAGE_LIMIT n ≡ false
       short n few = grind arith
 
-sound-ack : (channel : ℕ) → is_channel channel ≡ true → IsSound (activation_ack channel)
+sound_ack : (channel : ℕ) → is_channel channel ≡ true → IsSound (activation_ack channel)
 unfolding rsl_write_fault
-sound-ack channel is = record { kind = refl; lawful = (is, tt); written = refl }
+sound_ack channel is = record { kind = refl; lawful = (is, tt); written = refl }
 
-sound-release : (channel : ℕ) → is_channel channel ≡ true → IsSound (RfChannelReleaseAck channel)
+sound_release : (channel : ℕ) → is_channel channel ≡ true → IsSound (RfChannelReleaseAck channel)
 unfolding rsl_write_fault
-sound-release channel is = record { kind = refl; lawful = (is, tt); written = refl }
+sound_release channel is = record { kind = refl; lawful = (is, tt); written = refl }
 
-pub sound-answer : (answer : Bool) (channel : ℕ) → is_channel channel ≡ true → IsSound (link_answer answer channel)
+pub sound_answer : (answer : Bool) (channel : ℕ) → is_channel channel ≡ true → IsSound (link_answer answer channel)
 unfolding rsl_write_fault
-sound-answer true channel is = record { kind = refl; lawful = (is, tt); written = refl }
-sound-answer false channel is = record { kind = refl; lawful = (is, tt); written = refl }
+sound_answer true channel is = record { kind = refl; lawful = (is, tt); written = refl }
+sound_answer false channel is = record { kind = refl; lawful = (is, tt); written = refl }
 
-pub sound-request : (number : ℕ) → IsSound (channel_required number)
+pub sound_request : (number : ℕ) → IsSound (channel_required number)
 unfolding rsl_write_fault
-sound-request number = record { kind = refl; lawful = (refl, tt); written = refl }
+sound_request number = record { kind = refl; lawful = (refl, tt); written = refl }
 
-pub sound-detection : (channel : ℕ) → is_channel channel ≡ true → IsSound (handover_detection channel)
+pub sound_detection : (channel : ℕ) → is_channel channel ≡ true → IsSound (handover_detection channel)
 unfolding rsl_write_fault
-sound-detection channel is = record { kind = refl; lawful = (is, tt); written = refl }
+sound_detection channel is = record { kind = refl; lawful = (is, tt); written = refl }
 
-pub sound-establishment : (channel : ℕ) (sapi : Sapi) → is_channel channel ≡ true → IsSound (establish_indication channel sapi None)
+pub sound_establishment : (channel : ℕ) (sapi : Sapi) → is_channel channel ≡ true → IsSound (establish_indication channel sapi None)
 unfolding rsl_write_fault
-sound-establishment channel sapi is = record { kind = refl; lawful = (is, tt); written = refl }
+sound_establishment channel sapi is = record { kind = refl; lawful = (is, tt); written = refl }
 
-pub sound-initial : (channel : ℕ) (frame : List ℕ) → is_channel channel ≡ true → IsL3 (Some frame) → IsSound (establish_indication channel Zero (Some frame))
+pub sound_initial : (channel : ℕ) (frame : List ℕ) → is_channel channel ≡ true → IsL3 (Some frame) → IsSound (establish_indication channel Zero (Some frame))
 unfolding rsl_write_fault
-sound-initial channel frame is l3 = record { kind = refl; lawful = (is, l3); written = fault-free frame l3 }
+sound_initial channel frame is l3 = record { kind = refl; lawful = (is, l3); written = fault_free frame l3 }
 
-pub sound-data : (channel : ℕ) (sapi : Sapi) (frame : List ℕ) → is_channel channel ≡ true → IsL3 (Some frame) → IsSound (data_indication channel sapi frame)
+pub sound_data : (channel : ℕ) (sapi : Sapi) (frame : List ℕ) → is_channel channel ≡ true → IsL3 (Some frame) → IsSound (data_indication channel sapi frame)
 unfolding rsl_write_fault
-sound-data channel sapi frame is l3 = record { kind = refl; lawful = (is, l3); written = fault-free frame l3 }
+sound_data channel sapi frame is l3 = record { kind = refl; lawful = (is, l3); written = fault_free frame l3 }
 
-pub sound-report : (channel number : ℕ) (report : List ℕ) → is_channel channel ≡ true → length report ≡ 16 → IsSound (measurement_result channel number report)
+pub sound_report : (channel number : ℕ) (report : List ℕ) → is_channel channel ≡ true → length report ≡ 16 → IsSound (measurement_result channel number report)
 unfolding rsl_write_fault
-sound-report channel number report is sixteen =
+sound_report channel number report is sixteen =
     let l3 : IsL3 (Some (0x06 ∷ 0x15 ∷ report)) = (some (length report), few (length report) sixteen) in
-    record { kind = refl; lawful = (is, l3); written = fault-free (0x06 ∷ 0x15 ∷ report) l3 } where
+    record { kind = refl; lawful = (is, l3); written = fault_free (0x06 ∷ 0x15 ∷ report) l3 } where
       some : (n : ℕ) → 0 < suc (suc n)
       some n = omega arith
 
@@ -94,31 +94,31 @@ pub record SoundEnd (base : BaseState) : Type 0 where
   pub channels : AllByRecursion (λ channel. is_channel channel ≡ true) base.active
   pub made : AllByRecursion IsSound base.messages
 
-pub sound-tell : (base : BaseState) (message : Rsl) → IsSound message → SoundEnd base → SoundEnd (after_tell base message)
-sound-tell base message is sound = record { channels = sound.channels; made = AllByRecursion-append IsSound base.messages (message ∷ []) sound.made (is, tt) }
+pub sound_tell : (base : BaseState) (message : Rsl) → IsSound message → SoundEnd base → SoundEnd (after_tell base message)
+sound_tell base message is sound = record { channels = sound.channels; made = AllByRecursion-append IsSound base.messages (message ∷ []) sound.made (is, tt) }
 
-pub sound-activated : (base : BaseState) (channel : ℕ) → is_channel channel ≡ true → SoundEnd base → SoundEnd (after_activate base channel)
-sound-activated base channel is sound = record {
+pub sound_activated : (base : BaseState) (channel : ℕ) → is_channel channel ≡ true → SoundEnd base → SoundEnd (after_activate base channel)
+sound_activated base channel is sound = record {
   channels = AllByRecursion-append (λ channel. is_channel channel ≡ true) base.active (channel ∷ []) sound.channels (is, tt);
-  made = AllByRecursion-append IsSound base.messages (activation_ack channel ∷ []) sound.made (sound-ack channel is, tt);
+  made = AllByRecursion-append IsSound base.messages (activation_ack channel ∷ []) sound.made (sound_ack channel is, tt);
 }
 
-pub sound-released : (base : BaseState) (channel : ℕ) → is_channel channel ≡ true → SoundEnd base → SoundEnd (after_release base channel)
-sound-released base channel is sound = record {
+pub sound_released : (base : BaseState) (channel : ℕ) → is_channel channel ≡ true → SoundEnd base → SoundEnd (after_release base channel)
+sound_released base channel is sound = record {
   channels = AllByRecursion-filter (λ channel. is_channel channel ≡ true) (λ number. not (nat_eq number channel)) base.active sound.channels;
-  made = AllByRecursion-append IsSound base.messages (RfChannelReleaseAck channel ∷ []) sound.made (sound-release channel is, tt);
+  made = AllByRecursion-append IsSound base.messages (RfChannelReleaseAck channel ∷ []) sound.made (sound_release channel is, tt);
 }
 
-pub sound-behind : (messages : List Rsl) → AllByRecursion IsSound messages → AllByRecursion IsSound (messages_behind_first messages)
-sound-behind [] all = tt
-sound-behind (first ∷ others) all = all.1
+pub sound_behind : (messages : List Rsl) → AllByRecursion IsSound messages → AllByRecursion IsSound (messages_behind_first messages)
+sound_behind [] all = tt
+sound_behind (first ∷ others) all = all.1
 
-pub active-lawful : (active : List ℕ) (channel : ℕ) → AllByRecursion (λ channel. is_channel channel ≡ true) active → is_active active channel ≡ true → is_channel channel ≡ true
-active-lawful [] channel all is = absurd cc
-active-lawful (first ∷ others) channel all is =
+pub active_lawful : (active : List ℕ) (channel : ℕ) → AllByRecursion (λ channel. is_channel channel ≡ true) active → is_active active channel ≡ true → is_channel channel ≡ true
+active_lawful [] channel all is = absurd cc
+active_lawful (first ∷ others) channel all is =
     elim (cases_Bool (nat_eq first channel)) [
       | inl same ↦ subst (λ (n : ℕ). is_channel n ≡ true) (eqb-true first channel same) all.0
-      | inr other ↦ active-lawful others channel all.1 (sym (ap (λ (b : Bool). b || is_active others channel) other) ∙ is)
+      | inr other ↦ active_lawful others channel all.1 (sym (ap (λ (b : Bool). b || is_active others channel) other) ∙ is)
     ]
 
 -- ---- all ends
@@ -126,9 +126,9 @@ active-lawful (first ∷ others) channel all is =
 unfoldable pub Ends : List Station → Type 0
 Ends stations = (k : ℕ) → SoundEnd (get_or stations k no_station).base
 
-pub ends-set : (stations : List Station) (k : ℕ) (station : Station) → SoundEnd station.base → Ends stations → Ends (set stations k station)
+pub ends_set : (stations : List Station) (k : ℕ) (station : Station) → SoundEnd station.base → Ends stations → Ends (set stations k station)
 unfolding Ends
-ends-set stations k station sound ends j =
+ends_set stations k station sound ends j =
     elim (cases_Bool (nat_eq j k)) [
       | inl same ↦ subst (λ (i : ℕ). SoundEnd (get_or (set stations k station) i no_station).base) (sym (eqb-true j k same)) own
       | inr other ↦ subst (λ (s : Station). SoundEnd s.base) (sym (set-elsewhere stations k j station (eqb-false j k other))) (ends j)

@@ -20,23 +20,23 @@ use Rattle.world_laws.specs.LineUps.{commanded_target, waiting_of}
 use Rattle.world_laws.specs.Lives.{IsUnconfirmed}
 use Rattle.world_laws.specs.OthersFrame.{IsHad}
 use Rattle.world_laws.specs.Staying.{AreLinedUp}
-use Rattle.world_laws.proofs.BesideRelay.{MobilesKeepLineUps-new}
-use Rattle.world_laws.proofs.Breaks.{StationBreaksKeepLineUps-new}
-use Rattle.world_laws.proofs.MobileEvents.{quiet-stays}
+use Rattle.world_laws.proofs.BesideRelay.{mobiles_keep_line_ups_new}
+use Rattle.world_laws.proofs.Breaks.{station_breaks_keep_line_ups_new}
+use Rattle.world_laws.proofs.MobileEvents.{quiet_stays}
 use Rattle.world_laws.proofs.Seeing.{SameTenures, SeesSame}
 use Rattle.world_laws.proofs.Spots.{set-apart, set-same}
-use Rattle.world_laws.proofs.Standing.{ConnectionsStand-new}
-use Rattle.world_laws.proofs.SwitchTakes.{SwitchKeepsLineUps-new}
+use Rattle.world_laws.proofs.Standing.{connections_stand_new}
+use Rattle.world_laws.proofs.SwitchTakes.{switch_keeps_line_ups_new}
 use Rattle.world_laws.specs.Access.Arriving.{IsKnown, is_of_others}
-use Rattle.world_laws.proofs.Access.Beginning.{bare-of}
-use Rattle.world_laws.proofs.Access.Passes.{Passes, passes-itself}
-use Rattle.world_laws.proofs.Access.Travels.{event-passes}
+use Rattle.world_laws.proofs.Access.Beginning.{bare_of}
+use Rattle.world_laws.proofs.Access.Passes.{Passes, passes_itself}
+use Rattle.world_laws.proofs.Access.Travels.{event_passes}
 
 -- ---- what is so of the connection
 
 -- its channel is of a station
-pub serving-placed : (settings : Parameters) (done : List Event) (s : Connection) → AreAllowed settings → IsHad (actors_after_all (new_actors settings) done) s → s.serving.station ≢ SWITCH_LINK
-serving-placed settings done s allowed had is =
+pub serving_placed : (settings : Parameters) (done : List Event) (s : Connection) → AreAllowed settings → IsHad (actors_after_all (new_actors settings) done) s → s.serving.station ≢ SWITCH_LINK
+serving_placed settings done s allowed had is =
     let c : Controller = (life settings (all_steps (new_actors settings) done)).next in
     let there : connection_of c s.number ≡ Some s = subst (λ (d : Controller). connection_of d s.number ≡ Some s) (LivesByTable-new settings done) had.there in
     let owns : Owns c.channels c.links s.number (roles_of s) = (subst (OwnsOpen c.channels c.links s.number) there (life_owns settings (all_steps (new_actors settings) done) s.number allowed)) had.is_open in
@@ -46,19 +46,19 @@ serving-placed settings done s allowed had is =
     absurd (let both : Free ≡ InUse s.number = sym free ∙ here in cc)
 
 -- it has no command
-pub None-target : (state : State) → state ≡ WaitEstablish → commanded_target state ≡ None
-None-target state is = rw (is) refl
+pub none_target : (state : State) → state ≡ WaitEstablish → commanded_target state ≡ None
+none_target state is = rw (is) refl
 
 -- ---- the link of the switch breaks
 
-switch-breaks : (w : Actors) (s : Connection) → s.state ≡ WaitEstablish → s.draining ≡ [] → s.serving.station ≢ SWITCH_LINK → waiting_of w s.number ≡ []
+switch_breaks : (w : Actors) (s : Connection) → s.state ≡ WaitEstablish → s.draining ≡ [] → s.serving.station ≢ SWITCH_LINK → waiting_of w s.number ≡ []
     → SeesSame w (with_item (record { source = SWITCH_LINK; what = whats.Down }) (record (with_link SWITCH_LINK broken_link w) { switch_made = [] })) s
 unfolding SameTenures forwarded
-switch-breaks w s state draining placed unsaid = record {
+switch_breaks w s state draining placed unsaid = record {
   coming = rw (draining, state) (same-coming s.serving, tt);
   up = λ n. same-up n;
   serving = ap (λ (link : Link). flat_map leading_from_air (spot_at w (place_of s.serving)).air ++ flat_map (leading_from_outbox s.serving.number) link.outbox) (set-apart w.links broken_link SWITCH_LINK s.serving.station broken_link placed);
-  target = λ t is. absurd (let both : None ≡ Some t = sym (None-target s.state state) ∙ is in cc);
+  target = λ t is. absurd (let both : None ≡ Some t = sym (none_target s.state state) ∙ is in cc);
   tenures = λ at. refl;
   waiting = set-same (λ (link : Link). map (λ f. f.message) (forwarded (map (λ entry. entry.out) link.outbox) s.number)) w.links broken_link SWITCH_LINK SWITCH_LINK broken_link (nothing-waits ∙ sym unsaid);
   taken = refl;
@@ -106,9 +106,9 @@ module _ (settings : Parameters) (done : List Event) (mobile : ℕ) (s : Connect
   switch-lined state had known lined = elim (cases_Bool (is_up world SWITCH_LINK)) [
     | inr down ↦ subst (λ (v : Actors). AreLinedUp (modulus_in settings) v mobile s) (sym (switch-not-up down)) lined
     | inl up ↦ elim (known.delivers up) [
-      | inl delivers ↦ SwitchKeepsLineUps-new settings done mobile s delivers lined
+      | inl delivers ↦ switch_keeps_line_ups_new settings done mobile s delivers lined
       | inr unheard ↦
-          let passes : Passes world (actors_after world events.SwitchTakes) = after-taken (Passes world) (event_after world events.SwitchTakes) world (event-passes world events.SwitchTakes refl (good-all (new_actors settings) done (good-new settings))) (passes-itself world) in
+          let passes : Passes world (actors_after world events.SwitchTakes) = after-taken (Passes world) (event_after world events.SwitchTakes) world (event_passes world events.SwitchTakes refl (good-all (new_actors settings) done (good-new settings))) (passes_itself world) in
           let there : connection_of (actors_after world events.SwitchTakes).controller s.number ≡ Some s = ap (λ (c : Controller). connection_of c s.number) passes.controller ∙ had.there in
           absurd (unconfirmed s.state state (subst IsUnconfirmed there unheard.unconfirmed))
     ]
@@ -117,19 +117,19 @@ module _ (settings : Parameters) (done : List Event) (mobile : ℕ) (s : Connect
   breaks-lined : (source : ℕ) → s.state ≡ WaitEstablish → s.draining ≡ [] → s.serving.station ≢ SWITCH_LINK → IsKnown (modulus_in settings) world mobile s → AreLinedUp (modulus_in settings) world mobile s → AreLinedUp (modulus_in settings) (actors_after world (events.BaseDown source)) mobile s
   unfolding event_after
   breaks-lined source state draining placed known lined = elim (cases_Bool (nat_eq source SWITCH_LINK)) [
-    | inr miss ↦ StationBreaksKeepLineUps-new settings done source mobile s (eqb-false source SWITCH_LINK miss) (rw (draining) tt) lined
+    | inr miss ↦ station_breaks_keep_line_ups_new settings done source mobile s (eqb-false source SWITCH_LINK miss) (rw (draining) tt) lined
     | inl hit ↦
         let P : Actors → Type 0 = λ v. AreLinedUp (modulus_in settings) v mobile s in
         after-taken P (event_after world (events.BaseDown source)) world
         (broken-leads P world source
-        (λ up is. subst (λ (n : ℕ). P (with_item (record { source = n; what = whats.Down }) (record (with_link n broken_link world) { switch_made = [] }))) (sym is) (quiet-stays world _ mobile lined.one lined.found refl (switch-breaks world s state draining placed known.none_waits) lined.lined))
+        (λ up is. subst (λ (n : ℕ). P (with_item (record { source = n; what = whats.Down }) (record (with_link n broken_link world) { switch_made = [] }))) (sym is) (quiet_stays world _ mobile lined.one lined.found refl (switch_breaks world s state draining placed known.none_waits) lined.lined))
         (λ up isnt. absurd (isnt (eqb-true source SWITCH_LINK hit)))) lined
   ]
 
   pub stays-lined : (event : Event) → is_of_others event ≡ true → s.state ≡ WaitEstablish → AreAllowed settings → IsHad world s → IsKnown (modulus_in settings) world mobile s → AreLinedUp (modulus_in settings) world mobile s → AreLinedUp (modulus_in settings) (actors_after world event) mobile s
   stays-lined (events.BaseTakes station) is state allowed had known lined = takes-lined station state known lined
   stays-lined events.SwitchTakes is state allowed had known lined = switch-lined state had known lined
-  stays-lined (events.BaseDown source) is state allowed had known lined = breaks-lined source state (bare-of s state (ConnectionsStand-new settings done s.number s had.there)).draining (serving-placed settings done s allowed had) known lined
+  stays-lined (events.BaseDown source) is state allowed had known lined = breaks-lined source state (bare_of s state (connections_stand_new settings done s.number s had.there)).draining (serving_placed settings done s allowed had) known lined
   stays-lined events.Handle is state allowed had known lined = absurd cc
   stays-lined (events.Tick ms) is state allowed had known lined = absurd cc
-  stays-lined event is state allowed had known lined = MobilesKeepLineUps-new settings done event mobile s refl known.alone lined
+  stays-lined event is state allowed had known lined = mobiles_keep_line_ups_new settings done event mobile s refl known.alone lined

@@ -10,7 +10,7 @@ use Rattle.world_laws.specs.LineUp.Alive.Stands.{opens}
 use Rattle.world_laws.specs.LineUp.Alive.Stays.{remains}
 use Rattle.world_laws.specs.LineUp.Places.{Item, flow, fresh, messages_in}
 use Rattle.world_laws.specs.LineUp.Places.Seat.{on_serving}
-use Rattle.world_laws.proofs.LineUp.Following.{Follows-line}
+use Rattle.world_laws.proofs.LineUp.Following.{follows_line}
 use Rattle.mobile_end.specs.GoesOn.{GoesOn}
 use Rattle.world_laws.specs.ComingUp.{coming_up}
 use Rattle.world_laws.specs.GoingDown.{going_down}
@@ -21,10 +21,10 @@ use Rattle.world_laws.specs.Seated.Sits.{stays}
 use Rattle.world_laws.specs.Access.Coming.{IsNew}
 
 -- nothing came, and the link of its station is up: the initial message, whatever it is, is to come
-begin-alive : {m : ℕ} (sent : List (List ℕ)) (link : DataLinkState) (items : List Item) → messages_in items ≡ [] → GoesOn m sent [] link
+begin_alive : {m : ℕ} (sent : List (List ℕ)) (link : DataLinkState) (items : List Item) → messages_in items ≡ [] → GoesOn m sent [] link
     → Alive m (assembled sent link on_serving WaitEstablish 0 [] (record { hold = []; items = items; is_lost = false; is_done = false }) fresh [] [])
-begin-alive {m} sent link items none goes = record {
-  follows = Follows-line (ap (λ (xs : List (List ℕ)). flow xs ++ []) (sym none)) (goes_on goes);
+begin_alive {m} sent link items none goes = record {
+  follows = follows_line (ap (λ (xs : List (List ℕ)). flow xs ++ []) (sym none)) (goes_on goes);
   first = λ is. refl;
   stands = opens remains refl;
   condition = sound;
@@ -36,13 +36,13 @@ pub record IsBareOf (s : Connection) : Type 0 where
   pub draining : s.draining ≡ []
   pub tenures : s.up.tenures ≡ empty_tenure ∷ []
 
-pub bare-of : (s : Connection) → s.state ≡ WaitEstablish → Stands s → IsBareOf s
-bare-of s is stands = let bare = (subst (λ (x : _). StandsBy x s.draining s.down s.up.tenures s.link s.waits) is stands.state).0 in record { draining = bare.none_drains; tenures = bare.one_tenure }
+pub bare_of : (s : Connection) → s.state ≡ WaitEstablish → Stands s → IsBareOf s
+bare_of s is stands = let bare = (subst (λ (x : _). StandsBy x s.draining s.down s.up.tenures s.link s.waits) is stands.state).0 in record { draining = bare.none_drains; tenures = bare.one_tenure }
 
-pub begins-lined : {m : ℕ} (w : Actors) (p : Mobile) (s : Connection) → s.state ≡ WaitEstablish → IsBareOf s → s.serving.station ≢ SWITCH_LINK → p.seat ≡ On (tenure_at w (place_of s.serving)) None → IsNew m p → is_station_up w s.serving.station ≡ true
+pub begins_lined : {m : ℕ} (w : Actors) (p : Mobile) (s : Connection) → s.state ≡ WaitEstablish → IsBareOf s → s.serving.station ≢ SWITCH_LINK → p.seat ≡ On (tenure_at w (place_of s.serving)) None → IsNew m p → is_station_up w s.serving.station ≡ true
     → messages_in (coming_up w (place_of s.serving)) ≡ [] → going_down w (place_of s.serving) ≡ [] → waiting_of w s.number ≡ [] → taken_of w s.number ≡ [] → LinedUp m w p s
-begins-lined {m} w p s state bare placed seat new up none uncommanded unsaid untaken = record {
-  alive = subst (Alive m) (sym reads) (begin-alive p.end.sent p.end.zero (coming_up w (place_of s.serving)) none new.goes_on);
+begins_lined {m} w p s state bare placed seat new up none uncommanded unsaid untaken = record {
+  alive = subst (Alive m) (sym reads) (begin_alive p.end.sent p.end.zero (coming_up w (place_of s.serving)) none new.goes_on);
   sits = rw (state, seat) (stays refl nothing);
   led = rw (uncommanded) tt;
   none_on_target = rw (state) tt;

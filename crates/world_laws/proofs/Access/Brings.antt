@@ -15,7 +15,7 @@ use Rattle.conn_rules.specs.declared.input.Input.TheVariants as inputs
 use Rattle.controller_model.specs.Reading.{word_of}
 use Rattle.dtap_codec.specs.RrReading.{rr_reading}
 use Rattle.rsl_codec.specs.declared.rsl.Rsl.TheVariants as rsl
-use Rattle.world_laws.proofs.OwnFrames.{carried_by, control-only}
+use Rattle.world_laws.proofs.OwnFrames.{carried_by, control_only}
 
 -- it says one with an initial message only where it is one
 abbrev pub Establishes : ℕ → Option Rsl → Word → Type 0
@@ -24,9 +24,9 @@ Establishes source o (OnChannel holds (inputs.EstablishIndication at Zero (Some 
 Establishes source o (OnConnection number (inputs.EstablishIndication at sapi message)) = ⊥
 Establishes source o _ = Unit {0}
 
-of-link-sapi : (station : ℕ) (m : Rsl) (at : Place) (sapi : Option Sapi) (input : Sapi → Input) → ((s : Sapi) → Establishes station (Some m) (OnChannel at (input s))) → Establishes station (Some m) (of_sapi at sapi input)
-of-link-sapi station m at None input all = tt
-of-link-sapi station m at (Some sapi) input all = all sapi
+of_link_sapi : (station : ℕ) (m : Rsl) (at : Place) (sapi : Option Sapi) (input : Sapi → Input) → ((s : Sapi) → Establishes station (Some m) (OnChannel at (input s))) → Establishes station (Some m) (of_sapi at sapi input)
+of_link_sapi station m at None input all = tt
+of_link_sapi station m at (Some sapi) input all = all sapi
 
 establishing : (station : ℕ) (e : Establishment) (sapi : Option Sapi) (l3 : Option (List ℕ)) → sapi_of e.link ≡ sapi → e.l3 ≡ l3 → Establishes station (Some (rsl.EstablishIndication e)) (of_sapi (place_at station e.channel) sapi (λ s. inputs.EstablishIndication (place_at station e.channel) s l3))
 establishing station e None l3 is some = tt
@@ -42,12 +42,12 @@ changing station m at (Ok (HandoverFailure cause)) = tt
 changing station m at (Ok _) = tt
 changing station m at (Err fault) = tt
 
-with-data : (station : ℕ) (m : Rsl) (b : Bool) (at : Place) (sapi : Option Sapi) (l3 : List ℕ) → Establishes station (Some m) (data_word b at sapi l3)
-with-data station m true at None l3 = tt
-with-data station m true at (Some sapi) l3 = tt
-with-data station m false at None l3 = tt
-with-data station m false at (Some Three) l3 = tt
-with-data station m false at (Some Zero) l3 = changing station m at (rr_reading l3)
+with_data : (station : ℕ) (m : Rsl) (b : Bool) (at : Place) (sapi : Option Sapi) (l3 : List ℕ) → Establishes station (Some m) (data_word b at sapi l3)
+with_data station m true at None l3 = tt
+with_data station m true at (Some sapi) l3 = tt
+with_data station m false at None l3 = tt
+with_data station m false at (Some Three) l3 = tt
+with_data station m false at (Some Zero) l3 = changing station m at (rr_reading l3)
 
 measured : (station : ℕ) (m : Rsl) (at : Place) (number : ℕ) (l3 : Option (List ℕ)) → Establishes station (Some m) (result_word at number l3)
 measured station m at number None = tt
@@ -60,57 +60,57 @@ measured station m at number (Some l3) = by (rr_reading l3) where
   by (Ok _) = tt
   by (Err fault) = tt
 
-of-message : (station : ℕ) (m : Rsl) → Establishes station (Some m) (rsl_word station m)
-of-message station (rsl.ChannelRequired r) = tt
-of-message station (rsl.ChannelActivationAck a) = tt
-of-message station (rsl.ChannelActivationNack f) = tt
-of-message station (rsl.EstablishIndication e) = establishing station e (sapi_of e.link) e.l3 refl refl
-of-message station (rsl.EstablishConfirm l) = of-link-sapi station (rsl.EstablishConfirm l) (place_at station l.channel) (sapi_of l.link) (λ s. inputs.EstablishConfirm (place_at station l.channel) s) (λ s. tt)
-of-message station (rsl.ReleaseIndication l) = of-link-sapi station (rsl.ReleaseIndication l) (place_at station l.channel) (sapi_of l.link) (λ s. inputs.ReleaseIndication (place_at station l.channel) s) (λ s. tt)
-of-message station (rsl.ErrorIndication e) = of-link-sapi station (rsl.ErrorIndication e) (place_at station e.channel) (sapi_of e.link) (λ s. inputs.ErrorIndication (place_at station e.channel) s) (λ s. tt)
-of-message station (rsl.ConnectionFailure f) = tt
-of-message station (rsl.DataIndication d) = with-data station (rsl.DataIndication d) (is_dtap d.l3) (place_at station d.channel) (sapi_of d.link) d.l3
-of-message station (rsl.MeasurementResult m) = measured station (rsl.MeasurementResult m) (place_at station m.channel) m.number.0 m.l3
-of-message station (rsl.RfChannelReleaseAck channel) = tt
-of-message station _ = tt
+of_message : (station : ℕ) (m : Rsl) → Establishes station (Some m) (rsl_word station m)
+of_message station (rsl.ChannelRequired r) = tt
+of_message station (rsl.ChannelActivationAck a) = tt
+of_message station (rsl.ChannelActivationNack f) = tt
+of_message station (rsl.EstablishIndication e) = establishing station e (sapi_of e.link) e.l3 refl refl
+of_message station (rsl.EstablishConfirm l) = of_link_sapi station (rsl.EstablishConfirm l) (place_at station l.channel) (sapi_of l.link) (λ s. inputs.EstablishConfirm (place_at station l.channel) s) (λ s. tt)
+of_message station (rsl.ReleaseIndication l) = of_link_sapi station (rsl.ReleaseIndication l) (place_at station l.channel) (sapi_of l.link) (λ s. inputs.ReleaseIndication (place_at station l.channel) s) (λ s. tt)
+of_message station (rsl.ErrorIndication e) = of_link_sapi station (rsl.ErrorIndication e) (place_at station e.channel) (sapi_of e.link) (λ s. inputs.ErrorIndication (place_at station e.channel) s) (λ s. tt)
+of_message station (rsl.ConnectionFailure f) = tt
+of_message station (rsl.DataIndication d) = with_data station (rsl.DataIndication d) (is_dtap d.l3) (place_at station d.channel) (sapi_of d.link) d.l3
+of_message station (rsl.MeasurementResult m) = measured station (rsl.MeasurementResult m) (place_at station m.channel) m.number.0 m.l3
+of_message station (rsl.RfChannelReleaseAck channel) = tt
+of_message station _ = tt
 
-of-station : (source : ℕ) (r : Result Rsl RslFault) → Establishes source (result_ok r) (station_word source r)
-of-station source (Ok message) = of-message source message
-of-station source (Err fault) = tt
+of_station : (source : ℕ) (r : Result Rsl RslFault) → Establishes source (result_ok r) (station_word source r)
+of_station source (Ok message) = of_message source message
+of_station source (Err fault) = tt
 
-of-management : (source number : ℕ) (o : Option Rsl) (message : Bssmap) → Establishes source o (management_word number message)
-of-management source number o (bssmap.AssignmentRequest channel_type) = tt
-of-management source number o (bssmap.ClearCommand cause) = tt
-of-management source number o bssmap.CipherModeCommand = tt
-of-management source number o _ = tt
+of_management : (source number : ℕ) (o : Option Rsl) (message : Bssmap) → Establishes source o (management_word number message)
+of_management source number o (bssmap.AssignmentRequest channel_type) = tt
+of_management source number o (bssmap.ClearCommand cause) = tt
+of_management source number o bssmap.CipherModeCommand = tt
+of_management source number o _ = tt
 
-of-bssap : (source number : ℕ) (o : Option Rsl) (r : Result Bssap InterfaceFault) → Establishes source o (bssap_word number r)
-of-bssap source number o (Ok (Management message)) = of-management source number o message
-of-bssap source number o (Ok (Transfer dlci message)) = tt
-of-bssap source number o (Err fault) = tt
+of_bssap : (source number : ℕ) (o : Option Rsl) (r : Result Bssap InterfaceFault) → Establishes source o (bssap_word number r)
+of_bssap source number o (Ok (Management message)) = of_management source number o message
+of_bssap source number o (Ok (Transfer dlci message)) = tt
+of_bssap source number o (Err fault) = tt
 
-of-switch : (source : ℕ) (o : Option Rsl) (r : Result Sccp InterfaceFault) → Establishes source o (switch_word r)
-of-switch source o (Ok (sccp.ConnectionConfirm destination number)) = tt
-of-switch source o (Ok (sccp.ConnectionRefused destination)) = tt
-of-switch source o (Ok (sccp.Released destination number)) = tt
-of-switch source o (Ok (sccp.DataForm1 destination user)) = of-bssap source destination o (bssap_reading user)
-of-switch source o (Ok _) = tt
-of-switch source o (Err fault) = tt
+of_switch : (source : ℕ) (o : Option Rsl) (r : Result Sccp InterfaceFault) → Establishes source o (switch_word r)
+of_switch source o (Ok (sccp.ConnectionConfirm destination number)) = tt
+of_switch source o (Ok (sccp.ConnectionRefused destination)) = tt
+of_switch source o (Ok (sccp.Released destination number)) = tt
+of_switch source o (Ok (sccp.DataForm1 destination user)) = of_bssap source destination o (bssap_reading user)
+of_switch source o (Ok _) = tt
+of_switch source o (Err fault) = tt
 
-of-link : (source : ℕ) (o : Option Rsl) (body : List ℕ) → Establishes source o (management_of_link body)
-of-link source o [] = tt
-of-link source o (first ∷ rest) = by (first == PING) where
+of_link : (source : ℕ) (o : Option Rsl) (body : List ℕ) → Establishes source o (management_of_link body)
+of_link source o [] = tt
+of_link source o (first ∷ rest) = by (first == PING) where
   by : (b : Bool) → Establishes source o (if b then Ping else Nothing)
   by true = tt
   by false = tt
 
-pub frame-establishes : (source : ℕ) (frame : Frame) → Establishes source (rsl_in frame) (word_of source frame)
+pub frame_establishes : (source : ℕ) (frame : Frame) → Establishes source (rsl_in frame) (word_of source frame)
 unfolding word_of
-frame-establishes source frame = by (frame.stream == CCM_STREAM) (source == SWITCH_LINK) (frame.stream == SCCP_STREAM) (frame.stream == RSL_STREAM) refl (control-only frame.stream) where
+frame_establishes source frame = by (frame.stream == CCM_STREAM) (source == SWITCH_LINK) (frame.stream == SCCP_STREAM) (frame.stream == RSL_STREAM) refl (control_only frame.stream) where
   by : (a b c d : Bool) → (frame.stream == RSL_STREAM) ≡ d → (c ≡ true → (frame.stream == RSL_STREAM) ≡ false) → Establishes source (if d then result_ok (rsl_reading frame.body) else None) (body_word (carried_by a b c d) source frame.body)
-  by true b c d is alone = of-link source (if d then result_ok (rsl_reading frame.body) else None) frame.body
+  by true b c d is alone = of_link source (if d then result_ok (rsl_reading frame.body) else None) frame.body
   by false true true true is alone = absurd (true≢false (sym is ∙ alone refl))
-  by false true true false is alone = of-switch source None (sccp_reading frame.body)
+  by false true true false is alone = of_switch source None (sccp_reading frame.body)
   by false true false d is alone = tt
-  by false false c true is alone = of-station source (rsl_reading frame.body)
+  by false false c true is alone = of_station source (rsl_reading frame.body)
   by false false c false is alone = tt

@@ -20,18 +20,18 @@ use Rattle.world_laws.specs.Seated.{Leads, LinedUp}
 use Rattle.world_laws.specs.Seated.Remembers.{nothing}
 use Rattle.world_laws.specs.Seated.Sits.{stays as sits_stays}
 use Rattle.world_laws.specs.Staying.{AreLinedUp}
-use Rattle.world_laws.proofs.Others.{turn-mobiles}
-use Rattle.world_laws.proofs.OwnTurn.{turn-stations}
-use Rattle.world_laws.proofs.Sublists.{Sub, sub-append, sub-behind, sub-flat_map, sub-itself, sub-length, sub-nothing}
+use Rattle.world_laws.proofs.Others.{turn_mobiles}
+use Rattle.world_laws.proofs.OwnTurn.{turn_stations}
+use Rattle.world_laws.proofs.Sublists.{Sub, sub_append, sub_behind, sub_flat_map, sub_itself, sub_length, sub_nothing}
 use Rattle.world_laws.specs.Access.Coming.{AreAssigned, BeginsOnce, Comes, IsComing, data_by, data_up}
 use Rattle.world_laws.specs.Access.Coming.BeginsOnce.{began, to_begin}
 use Rattle.world_laws.specs.Access.Coming.Comes.{arrived, asks}
 use Rattle.world_laws.specs.Access.Requested.{Came}
 use Rattle.world_laws.specs.Access.Requested.Came.{comes as still_comes}
-use Rattle.world_laws.proofs.Access.Arriving.{None-target}
+use Rattle.world_laws.proofs.Access.Arriving.{none_target}
 use Rattle.world_laws.proofs.Access.Beginning.{IsBareOf}
-use Rattle.world_laws.proofs.Access.Behind.{controls-sub}
-use Rattle.world_laws.proofs.Access.Requesting.{of_items, requests-alive}
+use Rattle.world_laws.proofs.Access.Behind.{controls_sub}
+use Rattle.world_laws.proofs.Access.Requesting.{of_items, requests_alive}
 use Rattle.world_laws.specs.References.Taken.{IsEarlyIn}
 
 -- ---- time changes nothing of it
@@ -42,27 +42,27 @@ pub record IsLike (s x : Connection) : Type 0 where
   pub request : x.request ≡ s.request
   pub serving : x.serving ≡ s.serving
 
-pub aged-like : (s x : Connection) → IsAged s x → IsLike s x
-aged-like s x aged = aged_holds (λ (y : Connection). IsLike s y) (λ ms y like. record { number = like.number; state = like.state; request = like.request; serving = like.serving }) s x aged (record { number = refl; state = refl; request = refl; serving = refl })
+pub aged_like : (s x : Connection) → IsAged s x → IsLike s x
+aged_like s x aged = aged_holds (λ (y : Connection). IsLike s y) (λ ms y like. record { number = like.number; state = like.state; request = like.request; serving = like.serving }) s x aged (record { number = refl; state = refl; request = refl; serving = refl })
 
-passes-lined : {m : ℕ} {v : Actors} {one : Mobile} (ms : ℕ) (x : Connection) → LinedUp m v one x → LinedUp m v one (after_pass ms x)
-passes-lined ms x lined = record { alive = lined.alive; sits = lined.sits; led = lined.led; none_on_target = lined.none_on_target; apart = lined.apart; placed = lined.placed }
+passes_lined : {m : ℕ} {v : Actors} {one : Mobile} (ms : ℕ) (x : Connection) → LinedUp m v one x → LinedUp m v one (after_pass ms x)
+passes_lined ms x lined = record { alive = lined.alive; sits = lined.sits; led = lined.led; none_on_target = lined.none_on_target; apart = lined.apart; placed = lined.placed }
 
-passes-comes : {m : ℕ} {v : Actors} {one : Mobile} (ms : ℕ) (x : Connection) → Comes m v x one → Comes m v (after_pass ms x) one
-passes-comes ms x (asks seat new none uncommanded) = asks seat new none uncommanded
-passes-comes ms x (arrived state seat lined begun) = arrived state seat (passes-lined ms x lined) begun
+passes_comes : {m : ℕ} {v : Actors} {one : Mobile} (ms : ℕ) (x : Connection) → Comes m v x one → Comes m v (after_pass ms x) one
+passes_comes ms x (asks seat new none uncommanded) = asks seat new none uncommanded
+passes_comes ms x (arrived state seat lined begun) = arrived state seat (passes_lined ms x lined) begun
 
-aged-comes : {m : ℕ} {v : Actors} {one : Mobile} (s x : Connection) → IsAged s x → Comes m v s one → Comes m v x one
-aged-comes {m} {v} {one} s x aged comes = aged_holds (λ (y : Connection). Comes m v y one) (λ ms y c. passes-comes ms y c) s x aged comes
+aged_comes : {m : ℕ} {v : Actors} {one : Mobile} (s x : Connection) → IsAged s x → Comes m v s one → Comes m v x one
+aged_comes {m} {v} {one} s x aged comes = aged_holds (λ (y : Connection). Comes m v y one) (λ ms y c. passes_comes ms y c) s x aged comes
 
-aged-assigned : (v : Actors) (mobile : ℕ) (s x : Connection) → IsAged s x → AreAssigned v mobile s → AreAssigned v mobile x
-aged-assigned v mobile s x aged assigned = aged_holds (λ (y : Connection). AreAssigned v mobile y) (λ ms y a. a) s x aged assigned
+aged_assigned : (v : Actors) (mobile : ℕ) (s x : Connection) → IsAged s x → AreAssigned v mobile s → AreAssigned v mobile x
+aged_assigned v mobile s x aged assigned = aged_holds (λ (y : Connection). AreAssigned v mobile y) (λ ms y a. a) s x aged assigned
 
 -- ---- no command goes down where the mobile has none
 
-none-led : (w : Actors) (xs : List AirMessage) → AllByRecursion (λ a. Leads w a None) xs → xs ≡ []
-none-led w [] all = refl
-none-led w (a ∷ xs) all = absurd (elim all.0 [ ])
+none_led : (w : Actors) (xs : List AirMessage) → AllByRecursion (λ a. Leads w a None) xs → xs ≡ []
+none_led w [] all = refl
+none_led w (a ∷ xs) all = absurd (elim all.0 [ ])
 
 module _ (settings : Parameters) (done : List Event) (mobile : ℕ) (s : Connection) where
   abbrev world : Actors
@@ -86,7 +86,7 @@ module _ (settings : Parameters) (done : List Event) (mobile : ℕ) (s : Connect
   v-controller target t items = turn-leads (λ v. v.controller ≡ t.next) target t (before items) (λ links. refl)
 
   pub v-mobile : (target : Option Tenure) (t : Turn) (items : List RelayItem) (k : ℕ) → mobile_of (turned target t items) k ≡ mobile_of world k
-  v-mobile target t items k = ap (λ (ms : List Mobile). find (has_number k) ms) (turn-mobiles target t.outs (record (before items) { controller = t.next }))
+  v-mobile target t items k = ap (λ (ms : List Mobile). find (has_number k) ms) (turn_mobiles target t.outs (record (before items) { controller = t.next }))
 
   pub v-coming : (target : Option Tenure) (t : Turn) (items : List RelayItem) (p : Place) → coming_up (turned target t items) p ≡ coming_up (before items) p
   v-coming target t items p = turn-leads (λ v. coming_up v p ≡ coming_up (before items) p) target t (before items) (λ links. refl)
@@ -114,31 +114,31 @@ module _ (settings : Parameters) (done : List Event) (mobile : ℕ) (s : Connect
 
   pub behind-less : (item : RelayItem) (items : List RelayItem) → world.inbox ≡ item ∷ items → IsLess items
   behind-less item items stood = record {
-    messages = subst (Sub (messages_in (coming_up (before items) at))) (sym (ap messages_in (first-of item items stood) ∙ messages_in-append (brings_in at item) (coming_up (before items) at))) (sub-behind (messages_in (brings_in at item)) (messages_in (coming_up (before items) at)));
-    initials = sub-flat_map (initial_by at.number) ups;
-    later = sub-flat_map (data_by at.number) ups;
+    messages = subst (Sub (messages_in (coming_up (before items) at))) (sym (ap messages_in (first-of item items stood) ∙ messages_in-append (brings_in at item) (coming_up (before items) at))) (sub_behind (messages_in (brings_in at item)) (messages_in (coming_up (before items) at)));
+    initials = sub_flat_map (initial_by at.number) ups;
+    later = sub_flat_map (data_by at.number) ups;
   } where
     ups : Sub (messages_up (before items) at.station) (messages_up world at.station)
-    ups = sub-append (subst (λ (xs : List RelayItem). Sub (flat_map (read_of at.station) items) (flat_map (read_of at.station) xs)) (sym stood) (sub-behind (read_of at.station item) (flat_map (read_of at.station) items))) (sub-itself (base_of world at.station).messages)
+    ups = sub_append (subst (λ (xs : List RelayItem). Sub (flat_map (read_of at.station) items) (flat_map (read_of at.station) xs)) (sym stood) (sub_behind (read_of at.station item) (flat_map (read_of at.station) items))) (sub_itself (base_of world at.station).messages)
 
   -- ---- it stays as it is
 
   pub turn-comes : (target : Option Tenure) (t : Turn) (items : List RelayItem) (one : Mobile) → IsLess items → going_down (turned target t items) at ≡ going_down world at → (s.state ≡ WaitEstablish → AreLinedUp modulus world mobile s → AreLinedUp modulus (turned target t items) mobile s)
       → mobile_of world mobile ≡ Some one → Comes modulus world s one → Comes modulus (turned target t items) s one
   turn-comes target t items one less down lined found (asks seat new none uncommanded) =
-      asks seat new (ap messages_in (v-coming target t items at) ∙ sub-nothing (subst (Sub (messages_in (coming_up (before items) at))) none less.messages)) (down ∙ uncommanded)
+      asks seat new (ap messages_in (v-coming target t items at) ∙ sub_nothing (subst (Sub (messages_in (coming_up (before items) at))) none less.messages)) (down ∙ uncommanded)
   turn-comes target t items one less down lined found (arrived state seat own begun) =
       let after = lined state (record { one = one; found = found; lined = own }) in
       arrived state (seat ∙ ap (λ (x : Tenure). On x None) (sym (v-tenure target t items at))) (subst (λ (x : Mobile). LinedUp modulus (turned target t items) x s) (same_Some _ _ (sym after.found ∙ v-mobile target t items mobile ∙ found)) after.lined) (once begun) where
         once : BeginsOnce world one at → BeginsOnce (turned target t items) one at
-        once (to_begin opens none behind) = to_begin opens (ap messages_in (v-coming target t items at) ∙ sub-nothing (subst (Sub (messages_in (coming_up (before items) at))) none less.messages)) behind
+        once (to_begin opens none behind) = to_begin opens (ap messages_in (v-coming target t items at) ∙ sub_nothing (subst (Sub (messages_in (coming_up (before items) at))) none less.messages)) behind
         once (began opens few none) =
-            began opens (let fewer = sub-length less.initials in let same = ap length (v-initials target t items at) in omega (arith, few, fewer, same))
-            (let fewer = controls-sub less.later in let same = ap controls_of (v-data target t items at) in omega (arith, none, fewer, same))
+            began opens (let fewer = sub_length less.initials in let same = ap length (v-initials target t items at) in omega (arith, few, fewer, same))
+            (let fewer = controls_sub less.later in let same = ap controls_of (v-data target t items at) in omega (arith, none, fewer, same))
 
   pub stays-came : (target : Option Tenure) (t : Turn) (items : List RelayItem) (x : Connection) (coming : IsComing modulus world mobile s) → IsAged s x → connection_of t.next s.number ≡ Some x → Comes modulus (turned target t items) s coming.one → AreAssigned (turned target t items) mobile s → Came (IsComing modulus) modulus (turned target t items) mobile s.number
   stays-came target t items x coming aged there comes assigned =
-      let like : IsLike s x = aged-like s x aged in
+      let like : IsLike s x = aged_like s x aged in
       still_comes x like.number (record {
         had = record {
           there = ap (connection_of (turned target t items).controller) like.number ∙ ap (λ (c : Controller). connection_of c s.number) (v-controller target t items) ∙ there;
@@ -149,15 +149,15 @@ module _ (settings : Parameters) (done : List Event) (mobile : ℕ) (s : Connect
         asked = ap (λ (r : _). r.access) like.request ∙ coming.asked;
         one = coming.one;
         found = v-mobile target t items mobile ∙ coming.found;
-        comes = aged-comes s x aged comes;
-        assigned = aged-assigned (turned target t items) mobile s x aged assigned;
+        comes = aged_comes s x aged comes;
+        assigned = aged_assigned (turned target t items) mobile s x aged assigned;
       })
 
   -- ---- its channel was activated: its mobile is told
 
   pub told-comes : (target : Option Tenure) (t : Turn) (items : List RelayItem) (one : Mobile) → s.state ≡ WaitActivation → IsLess items → going_down (turned target t items) at ≡ going_down world at → Comes modulus world s one → Comes modulus (turned target t items) (enter WaitEstablish s) one
   told-comes target t items one state less down (asks seat new none uncommanded) =
-      asks seat new (ap messages_in (v-coming target t items at) ∙ sub-nothing (subst (Sub (messages_in (coming_up (before items) at))) none less.messages)) (down ∙ uncommanded)
+      asks seat new (ap messages_in (v-coming target t items at) ∙ sub_nothing (subst (Sub (messages_in (coming_up (before items) at))) none less.messages)) (down ∙ uncommanded)
   told-comes target t items one state less down (arrived other seat own begun) = absurd (let both : WaitActivation ≡ WaitEstablish = sym state ∙ other in cc)
 
   passes-told : {v : Actors} {one : Mobile} (ms : ℕ) (x : Connection) → Comes modulus v (enter WaitEstablish x) one → Comes modulus v (enter WaitEstablish (after_pass ms x)) one
@@ -167,7 +167,7 @@ module _ (settings : Parameters) (done : List Event) (mobile : ℕ) (s : Connect
   pub told-came : (target : Option Tenure) (t : Turn) (items : List RelayItem) (x : Connection) (coming : IsComing modulus world mobile s) → IsAged s x → connection_of t.next s.number ≡ Some (enter WaitEstablish x) → Comes modulus (turned target t items) (enter WaitEstablish s) coming.one → AreAssigned (turned target t items) mobile (enter WaitEstablish s)
       → Came (IsComing modulus) modulus (turned target t items) mobile s.number
   told-came target t items x coming aged there comes assigned =
-      let like : IsLike s x = aged-like s x aged in
+      let like : IsLike s x = aged_like s x aged in
       let v : Actors = turned target t items in
       still_comes (enter WaitEstablish x) like.number (record {
         had = record {
@@ -192,7 +192,7 @@ module _ (settings : Parameters) (done : List Event) (mobile : ℕ) (s : Connect
       → coming_up world at ≡ brought initial ∷ coming_up (turned target t items) at → going_down (turned target t items) at ≡ going_down world at → waiting_of world s.number ≡ [] → taken_of world s.number ≡ [] → waiting_of (turned target t items) s.number ≡ initial ∷ []
       → controls_in (coming_up (turned target t items) at) + controls_of (to_be_taken one.end.zero) ≡ 0 → LinedUp modulus (turned target t items) one (enter WaitConfirm s)
   asks-lined target t items initial one state bare seat lined placed came down unsaid untaken said left = record {
-    alive = subst (Alive modulus) (sym reads) (requests-alive one.end.sent one.end.zero initial (coming_up v at) (not (is_station_up world s.serving.station)) left (subst (Alive modulus) was lined.alive));
+    alive = subst (Alive modulus) (sym reads) (requests_alive one.end.sent one.end.zero initial (coming_up v at) (not (is_station_up world s.serving.station)) left (subst (Alive modulus) was lined.alive));
     sits = rw (seat, sym (v-tenure target t items at)) (sits_stays refl nothing);
     led = rw (down, quiet) tt;
     none_on_target = tt;
@@ -203,10 +203,10 @@ module _ (settings : Parameters) (done : List Event) (mobile : ℕ) (s : Connect
     v = turned target t items
 
     quiet : going_down world at ≡ []
-    quiet = none-led world (going_down world at) (subst (λ (o : Option _). AllByRecursion (λ a. Leads world a o) (going_down world at)) (None-target s.state state) lined.led)
+    quiet = none_led world (going_down world at) (subst (λ (o : Option _). AllByRecursion (λ a. Leads world a o) (going_down world at)) (none_target s.state state) lined.led)
 
     up : is_station_up v s.serving.station ≡ is_station_up world s.serving.station
-    up = turn-stations target t.outs (record (before items) { controller = t.next }) s.serving.station
+    up = turn_stations target t.outs (record (before items) { controller = t.next }) s.serving.station
 
     was : line_up world one s ≡ assembled one.end.sent one.end.zero on_serving WaitEstablish 0 [] (of_items (brought initial ∷ coming_up v at) (not (is_station_up world s.serving.station))) fresh [] []
     was = rw (state, bare.draining, bare.tenures, seat, here, quiet, unsaid, untaken, came) refl

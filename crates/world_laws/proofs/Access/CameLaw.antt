@@ -21,32 +21,32 @@ use Rattle.world_laws.specs.ComingUp.{coming_up}
 use Rattle.world_laws.specs.Lives.{initials_up, AcksAgree}
 use Rattle.world_laws.specs.OthersFrame.{CameInOctets}
 use Rattle.world_laws.specs.Staying.{AreLinedUp, IsForOthers, IsOthers, BringsNothing}
-use Rattle.world_laws.proofs.Others.{RelayLeavesOthers-new, TimeLeavesOthers-new}
-use Rattle.world_laws.proofs.OwnerRun.{MobilesSitOnTheirs-new}
-use Rattle.world_laws.proofs.Standing.{ConnectionsStand-new}
-use Rattle.world_laws.proofs.Sublists.{sub-itself}
+use Rattle.world_laws.proofs.Others.{relay_leaves_others_new, time_leaves_others_new}
+use Rattle.world_laws.proofs.OwnerRun.{mobiles_sit_on_theirs_new}
+use Rattle.world_laws.proofs.Standing.{connections_stand_new}
+use Rattle.world_laws.proofs.Sublists.{sub_itself}
 use Rattle.world_laws.specs.Access.Arriving.{IsKnown}
 use Rattle.world_laws.specs.Access.Coming.{IsComing, data_up}
 use Rattle.world_laws.specs.Access.Requested.{AreBeside, AssignsAnother, Came, ControllerBringsComing, IsBeside, AreForOthers, AreOneEach}
 use Rattle.world_laws.specs.Access.Requested.Came.{comes as still_comes, goes as is_gone}
-use Rattle.world_laws.proofs.Access.Beginning.{IsBareOf, bare-of}
-use Rattle.world_laws.proofs.Access.EarlyRows.{EarlyRow, early-row}
+use Rattle.world_laws.proofs.Access.Beginning.{IsBareOf, bare_of}
+use Rattle.world_laws.proofs.Access.EarlyRows.{EarlyRow, early_row}
 use Rattle.world_laws.proofs.Access.EarlyRows.EarlyRow.{acked, asked as asks_switch, gone as row_gone}
-use Rattle.world_laws.proofs.Access.Came.{IsLess, IsLike, aged-like, behind-less, turned, v-controller}
-use Rattle.world_laws.proofs.Access.CameSteps.{Opens, acked-came, asked-came, not-time, opening-of, opens-with, quiet-came}
-use Rattle.world_laws.proofs.Access.Ignored.{ignored-silent, none-of-data}
-use Rattle.world_laws.proofs.Access.ForOthers.{all-without, item-others}
+use Rattle.world_laws.proofs.Access.Came.{IsLess, IsLike, aged_like, behind-less, turned, v-controller}
+use Rattle.world_laws.proofs.Access.CameSteps.{Opens, acked-came, asked-came, not_time, opening_of, opens-with, quiet-came}
+use Rattle.world_laws.proofs.Access.Ignored.{ignored-silent, none_of_data}
+use Rattle.world_laws.proofs.Access.ForOthers.{all_without, item-others}
 use Rattle.world_laws.proofs.Access.Numbered.{step-another}
-use Rattle.world_laws.proofs.Apart.{all-both}
-use Rattle.world_laws.proofs.Events.{snoc-actors, snoc-steps}
-use Rattle.world_laws.proofs.Framing.{all-left, all-right}
+use Rattle.world_laws.proofs.Apart.{all_both}
+use Rattle.world_laws.proofs.Events.{snoc_actors, snoc_steps}
+use Rattle.world_laws.proofs.Framing.{all_left, all_right}
 use Rattle.world_laws.specs.References.Taken.{IsEarlyIn}
 
 -- ---- lists of events
 
 -- no row that times bring is of an ESTABLISH INDICATION
-timer-not : (place : Place) (initial : List ℕ) → IsTimer (inputs.EstablishIndication place Zero (Some initial)) → ⊥
-timer-not place initial timer = timer
+timer_not : (place : Place) (initial : List ℕ) → IsTimer (inputs.EstablishIndication place Zero (Some initial)) → ⊥
+timer_not place initial timer = timer
 
 module _ (settings : Parameters) (done : List Event) (mobile : ℕ) (s : Connection) where
   abbrev world : Actors
@@ -80,12 +80,12 @@ module _ (settings : Parameters) (done : List Event) (mobile : ℕ) (s : Connect
   acts-came st target items owner coming allowed known switch h next up was now put (ages old x by_time is aged silent is_now) there leads outs =
       quiet-came settings done mobile s target (step world.controller st) items x coming h.less (subst (λ (o : Connection). IsAged o x) (same_Some _ _ (sym is ∙ there)) aged) (leads ∙ is_now) (outs ∙ ap (outs_of s.number) silent) h.beside (h.aging by_time)
   acts-came st target items owner coming allowed known switch h next up was now put (begins is linked channel request delay none_brought none put_is is_now) there leads outs = absurd (let both : None ≡ Some s = sym none ∙ there in cc)
-  acts-came st target items owner coming allowed known switch h next up was now put (goes_by old s1 input offer r is aged brought_it fits put_is is_now) there leads outs = by (early-row s1 input offer r (subst IsEarlyIn (sym like.state) coming.early) fits) where
+  acts-came st target items owner coming allowed known switch h next up was now put (goes_by old s1 input offer r is aged brought_it fits put_is is_now) there leads outs = by (early_row s1 input offer r (subst IsEarlyIn (sym like.state) coming.early) fits) where
     own_aged : IsAged s s1
     own_aged = subst (λ (o : Connection). IsAged o s1) (same_Some _ _ (sym is ∙ there)) aged
 
     like : IsLike s s1
-    like = aged-like s s1 own_aged
+    like = aged_like s s1 own_aged
 
     own : connection_of (step world.controller st).next s.number ≡ kept r.next
     own = leads ∙ is_now
@@ -113,7 +113,7 @@ module _ (settings : Parameters) (done : List Event) (mobile : ℕ) (s : Connect
       let steps : List Step = all_steps (new_actors settings) done in
       let lives = LivesByTable-new settings done in
       let numbered : IsNumbered world.controller = subst IsNumbered (sym lives) (life_fits settings steps 1 (omega arith)).numbered in
-      all-both (λ (out : Out). out.conn ≢ s.number → IsForOthers target s out) (λ (out : Out). out.conn ≢ s.number → AssignsAnother mobile (rsl_in out.frame)) (λ (out : Out). out.conn ≢ s.number → IsBeside target mobile s out) (step world.controller st).outs
+      all_both (λ (out : Out). out.conn ≢ s.number → IsForOthers target s out) (λ (out : Out). out.conn ≢ s.number → AssignsAnother mobile (rsl_in out.frame)) (λ (out : Out). out.conn ≢ s.number → IsBeside target mobile s out) (step world.controller st).outs
       (λ out one two. λ differs. record { for_others = one differs; assigns = two differs }) others
       (step-another world.controller s.number mobile s.serving (λ m t is same. one_each m s.number t s is coming.had.there (same ∙ sym coming.asked)) st numbered sent
       (λ m least. subst (λ (c : Controller). NamesItsMobile m c st) (sym lives) (life_names settings steps st m least)))
@@ -122,7 +122,7 @@ module _ (settings : Parameters) (done : List Event) (mobile : ℕ) (s : Connect
   sends-at st allowed octets own = subst (λ (c : Controller). AllByRecursion IsSent (step c st).outs) (sym (LivesByTable-new settings done)) (life_sends settings (all_steps (new_actors settings) done) st allowed octets own)
 
   sits-after : (event : Event) → AreAllowed settings → CameInOctets settings (done ++ event ∷ []) → AllSitBy (owner_in (new_actors settings) (done ++ event ∷ [])) (actors_after world event)
-  sits-after event allowed octets = subst (AllSitBy (owner_in (new_actors settings) (done ++ event ∷ []))) (snoc-actors (new_actors settings) done event) (MobilesSitOnTheirs-new settings (done ++ event ∷ []) allowed octets)
+  sits-after event allowed octets = subst (AllSitBy (owner_in (new_actors settings) (done ++ event ∷ []))) (snoc_actors (new_actors settings) done event) (mobiles_sit_on_theirs_new settings (done ++ event ∷ []) allowed octets)
 
   -- ---- it handles an item
 
@@ -133,7 +133,7 @@ module _ (settings : Parameters) (done : List Event) (mobile : ℕ) (s : Connect
   handle-came : AreAllowed settings → CameInOctets settings (done ++ events.Handle ∷ []) → is_up world SWITCH_LINK ≡ true → IsKnown modulus world mobile s → AcksAgree world s → AreOneEach world → IsComing modulus world mobile s → Came (IsComing modulus) modulus (actors_after world events.Handle) mobile s.number
   handle-came allowed octets switch known acks one_each coming = by world.inbox refl where
     both : AllByRecursion ComesInOctets (all_steps (new_actors settings) done ++ step_at world events.Handle)
-    both = subst (AllByRecursion ComesInOctets) (snoc-steps (new_actors settings) done events.Handle) octets
+    both = subst (AllByRecursion ComesInOctets) (snoc_steps (new_actors settings) done events.Handle) octets
 
     by : (items : List RelayItem) → world.inbox ≡ items → Came (IsComing modulus) modulus (actors_after world events.Handle) mobile s.number
     by [] stood = subst (λ (v : Actors). Came (IsComing modulus) modulus v mobile s.number) (sym (handled-is [] stood)) (still_comes s refl coming)
@@ -145,25 +145,25 @@ module _ (settings : Parameters) (done : List Event) (mobile : ℕ) (s : Connect
       owner = owner_in (new_actors settings) (done ++ events.Handle ∷ [])
 
       own_octets : ComesInOctets (Take item)
-      own_octets = (subst (λ (xs : List RelayItem). AllByRecursion ComesInOctets (first_taken xs)) stood (all-right ComesInOctets (all_steps (new_actors settings) done) (step_at world events.Handle) both)).0
+      own_octets = (subst (λ (xs : List RelayItem). AllByRecursion ComesInOctets (first_taken xs)) stood (all_right ComesInOctets (all_steps (new_actors settings) done) (step_at world events.Handle) both)).0
 
       keeps_off : AreBeside target mobile s (take item world.controller).outs
-      keeps_off = beside-all (Take item) target one_each coming (sends-at (Take item) allowed (all-left ComesInOctets (all_steps (new_actors settings) done) (step_at world events.Handle) both) own_octets) (item-others settings done s item allowed (all-left ComesInOctets (all_steps (new_actors settings) done) (step_at world events.Handle) both) own_octets coming.had.from_one coming.had)
+      keeps_off = beside-all (Take item) target one_each coming (sends-at (Take item) allowed (all_left ComesInOctets (all_steps (new_actors settings) done) (step_at world events.Handle) both) own_octets) (item-others settings done s item allowed (all_left ComesInOctets (all_steps (new_actors settings) done) (step_at world events.Handle) both) own_octets coming.had.from_one coming.had)
 
       still : FitsNone (brought_in world.controller s.number (Take item)) (Some s) → AllByRecursion (IsForOthers target s) (take item world.controller).outs → s.state ≡ WaitEstablish → AreLinedUp modulus world mobile s → AreLinedUp modulus (after target (take item world.controller) items) mobile s
       still fits_none others state lined =
-          let bare : IsBareOf s = bare-of s state (ConnectionsStand-new settings done s.number s coming.had.there) in
-          let silent : BringsNothing s item = rw (bare.draining, state) (ignored-silent settings done mobile s item items allowed coming.had stood acks state (none-of-data coming.comes) fits_none, tt) in
-          subst (λ (v : Actors). AreLinedUp modulus v mobile s) (handled-is (item ∷ items) stood) (RelayLeavesOthers-new settings done mobile s (subst (IsOthers world s) (sym stood) (silent, others)) lined)
+          let bare : IsBareOf s = bare_of s state (connections_stand_new settings done s.number s coming.had.there) in
+          let silent : BringsNothing s item = rw (bare.draining, state) (ignored-silent settings done mobile s item items allowed coming.had stood acks state (none_of_data coming.comes) fits_none, tt) in
+          subst (λ (v : Actors). AreLinedUp modulus v mobile s) (handled-is (item ∷ items) stood) (relay_leaves_others_new settings done mobile s (subst (IsOthers world s) (sym stood) (silent, others)) lined)
 
       stepping : Stepping (Take item) target items owner
       stepping = record {
         less = behind-less settings done mobile s item items stood;
-        sent = sends-at (Take item) allowed (all-left ComesInOctets (all_steps (new_actors settings) done) (step_at world events.Handle) both) own_octets;
+        sent = sends-at (Take item) allowed (all_left ComesInOctets (all_steps (new_actors settings) done) (step_at world events.Handle) both) own_octets;
         beside = keeps_off;
         still = still;
-        aging = λ by_time. absurd (not-time world.controller s.number item by_time);
-        opening = λ place initial brought_it here. opens-with settings done mobile s item items place initial stood (opening-of world.controller s.number item place initial brought_it) here;
+        aging = λ by_time. absurd (not_time world.controller s.number item by_time);
+        opening = λ place initial brought_it here. opens-with settings done mobile s item items place initial stood (opening_of world.controller s.number item place initial brought_it) here;
         sits = subst (AllSitBy owner) (handled-is (item ∷ items) stood) (sits-after events.Handle allowed octets);
       }
 
@@ -179,23 +179,23 @@ module _ (settings : Parameters) (done : List Event) (mobile : ℕ) (s : Connect
     owner = owner_in (new_actors settings) (done ++ events.Tick ms ∷ [])
 
     both : AllByRecursion ComesInOctets (all_steps (new_actors settings) done ++ step_at world (events.Tick ms))
-    both = subst (AllByRecursion ComesInOctets) (snoc-steps (new_actors settings) done (events.Tick ms)) octets
+    both = subst (AllByRecursion ComesInOctets) (snoc_steps (new_actors settings) done (events.Tick ms)) octets
 
     ages_on : AllByRecursion (IsForOthers None s) (tick ms world.controller).outs → s.state ≡ WaitEstablish → AreLinedUp modulus world mobile s → AreLinedUp modulus (after None (tick ms world.controller) world.inbox) mobile s
-    ages_on others state lined = subst (λ (v : Actors). AreLinedUp modulus v mobile s) (tick-is ms) (TimeLeavesOthers-new settings done ms mobile s others lined)
+    ages_on others state lined = subst (λ (v : Actors). AreLinedUp modulus v mobile s) (tick-is ms) (time_leaves_others_new settings done ms mobile s others lined)
 
     stepping : Stepping (Tick ms) None world.inbox owner
     stepping = record {
-      less = record { messages = sub-itself (messages_in (coming_up world at)); initials = sub-itself (initials_up world at); later = sub-itself (data_up world at) };
-      sent = sends-at (Tick ms) allowed (all-left ComesInOctets (all_steps (new_actors settings) done) (step_at world (events.Tick ms)) both) tt;
-      beside = beside-all (Tick ms) None one_each coming (sends-at (Tick ms) allowed (all-left ComesInOctets (all_steps (new_actors settings) done) (step_at world (events.Tick ms)) both) tt) (all-without s (tick ms world.controller).outs);
+      less = record { messages = sub_itself (messages_in (coming_up world at)); initials = sub_itself (initials_up world at); later = sub_itself (data_up world at) };
+      sent = sends-at (Tick ms) allowed (all_left ComesInOctets (all_steps (new_actors settings) done) (step_at world (events.Tick ms)) both) tt;
+      beside = beside-all (Tick ms) None one_each coming (sends-at (Tick ms) allowed (all_left ComesInOctets (all_steps (new_actors settings) done) (step_at world (events.Tick ms)) both) tt) (all_without s (tick ms world.controller).outs);
       still = λ fits_none. ages_on;
       aging = λ by_time. ages_on;
-      opening = λ place initial brought_it here. absurd (timer-not place initial brought_it);
+      opening = λ place initial brought_it here. absurd (timer_not place initial brought_it);
       sits = subst (AllSitBy owner) (tick-is ms) (sits-after (events.Tick ms) allowed octets);
     }
 
-pub ControllerBringsComing-new : (settings : Parameters) (done : List Event) (event : Event) → ControllerBringsComing settings done event
-ControllerBringsComing-new settings done events.Handle mobile s is allowed octets switch known acks one_each coming = handle-came settings done mobile s allowed octets switch known acks one_each coming
-ControllerBringsComing-new settings done (events.Tick ms) mobile s is allowed octets switch known acks one_each coming = tick-came settings done mobile s ms allowed octets switch known one_each coming
-ControllerBringsComing-new settings done event mobile s is allowed octets switch known acks one_each coming = absurd cc
+pub controller_brings_coming_new : (settings : Parameters) (done : List Event) (event : Event) → ControllerBringsComing settings done event
+controller_brings_coming_new settings done events.Handle mobile s is allowed octets switch known acks one_each coming = handle-came settings done mobile s allowed octets switch known acks one_each coming
+controller_brings_coming_new settings done (events.Tick ms) mobile s is allowed octets switch known acks one_each coming = tick-came settings done mobile s ms allowed octets switch known one_each coming
+controller_brings_coming_new settings done event mobile s is allowed octets switch known acks one_each coming = absurd cc

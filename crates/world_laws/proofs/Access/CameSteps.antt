@@ -29,26 +29,26 @@ use Rattle.world_laws.specs.Lives.{initial_by, initials_up}
 use Rattle.world_laws.specs.Seated.{LinedUp}
 use Rattle.world_laws.specs.Staying.{AreLinedUp, IsForOthers}
 use Rattle.world_laws.proofs.Others.{entry-out}
-use Rattle.world_laws.proofs.OwnTurn.{turn-waiting}
-use Rattle.world_laws.proofs.Standing.{ConnectionsStand-new}
+use Rattle.world_laws.proofs.OwnTurn.{turn_waiting}
+use Rattle.world_laws.proofs.Standing.{connections_stand_new}
 use Rattle.world_laws.specs.Access.Arriving.{IsKnown}
 use Rattle.world_laws.specs.Access.Coming.{AreAssigned, Assigns, AssignsBy, AssignsIn, BeginsOnce, Comes, IsComing}
 use Rattle.world_laws.specs.Access.Coming.BeginsOnce.{began, to_begin}
 use Rattle.world_laws.specs.Access.Coming.Comes.{arrived, asks}
 use Rattle.world_laws.specs.Access.Requested.{AreBeside, Came, IsBeside}
 use Rattle.world_laws.specs.Access.Requested.Came.{requests as has_requested}
-use Rattle.world_laws.proofs.Access.Arriving.{serving-placed}
-use Rattle.world_laws.proofs.Access.Beginning.{IsBareOf, bare-of}
-use Rattle.world_laws.proofs.Access.Behind.{controls-sub}
-use Rattle.world_laws.proofs.Access.Brings.{Establishes, frame-establishes}
-use Rattle.world_laws.proofs.Access.Served.{served-by}
-use Rattle.world_laws.proofs.Access.Turning.{all-down, all-zero, another-assigns, assigned-turn, assigns-own, command_of, none-own, of-all}
-use Rattle.world_laws.proofs.Access.Turning.{own-among, own-assigns, own-leads}
-use Rattle.world_laws.proofs.Access.Came.{IsLess, IsLike, aged-like, asks-lined, before, stays-came, told-came, told-comes, turn-comes}
+use Rattle.world_laws.proofs.Access.Arriving.{serving_placed}
+use Rattle.world_laws.proofs.Access.Beginning.{IsBareOf, bare_of}
+use Rattle.world_laws.proofs.Access.Behind.{controls_sub}
+use Rattle.world_laws.proofs.Access.Brings.{Establishes, frame_establishes}
+use Rattle.world_laws.proofs.Access.Served.{served_by}
+use Rattle.world_laws.proofs.Access.Turning.{all_down, all_zero, another_assigns, assigned_turn, assigns_own, command_of, none_own, of_all}
+use Rattle.world_laws.proofs.Access.Turning.{own_among, own_assigns, own_leads}
+use Rattle.world_laws.proofs.Access.Came.{IsLess, IsLike, aged_like, asks-lined, before, stays-came, told-came, told-comes, turn-comes}
 use Rattle.world_laws.proofs.Access.Came.{turned, v-controller, v-initials, v-mobile, v-tenure, v-coming}
 use Rattle.world_laws.proofs.Access.Upcoming.{controls-up}
 use Rattle.dtap_codec.specs.RrReading.{rr_reading}
-use Rattle.world_laws.proofs.Apart.{all-both}
+use Rattle.world_laws.proofs.Apart.{all_both}
 
 -- ---- a frame that says an ESTABLISH INDICATION to the connection
 
@@ -61,25 +61,25 @@ pub record SaysOpening (item : RelayItem) (place : Place) (initial : List ℕ) :
   l3 : establishment.l3 ≡ Some initial
   channel : place ≡ place_at item.source establishment.channel
 
-by-word : (c : Controller) (n source : ℕ) (frame : Frame) (word : Word) (place : Place) (initial : List ℕ) → Establishes source (rsl_in frame) word → IsBrought (brought_by c n word) (inputs.EstablishIndication place Zero (Some initial)) → Establishes source (rsl_in frame) (OnChannel place (inputs.EstablishIndication place Zero (Some initial)))
-by-word c n source frame (OnChannel holds input) place initial says brought_it = by (holder (channel_state c holds)) brought_it where
+by_word : (c : Controller) (n source : ℕ) (frame : Frame) (word : Word) (place : Place) (initial : List ℕ) → Establishes source (rsl_in frame) word → IsBrought (brought_by c n word) (inputs.EstablishIndication place Zero (Some initial)) → Establishes source (rsl_in frame) (OnChannel place (inputs.EstablishIndication place Zero (Some initial)))
+by_word c n source frame (OnChannel holds input) place initial says brought_it = by (holder (channel_state c holds)) brought_it where
   by : (o : Option ℕ) → IsBrought (if_held n o input) (inputs.EstablishIndication place Zero (Some initial)) → Establishes source (rsl_in frame) (OnChannel place (inputs.EstablishIndication place Zero (Some initial)))
   by None none = absurd none
   by (Some k) own = either (k == n) own where
     either : (b : Bool) → IsBrought (if b then brings_input input else brings_nothing) (inputs.EstablishIndication place Zero (Some initial)) → Establishes source (rsl_in frame) (OnChannel place (inputs.EstablishIndication place Zero (Some initial)))
     either true is = subst (λ (i : Input). Establishes source (rsl_in frame) (OnChannel holds i)) (sym is) says
     either false none = absurd none
-by-word c n source frame (OnConnection d input) place initial says brought_it = either (d == n) brought_it where
+by_word c n source frame (OnConnection d input) place initial says brought_it = either (d == n) brought_it where
   either : (b : Bool) → IsBrought (if b then brings_input input else brings_nothing) (inputs.EstablishIndication place Zero (Some initial)) → Establishes source (rsl_in frame) (OnChannel place (inputs.EstablishIndication place Zero (Some initial)))
   either true is = absurd (subst (λ (i : Input). Establishes source (rsl_in frame) (OnConnection d i)) (sym is) says)
   either false none = absurd none
-by-word c n source frame (Reports p of report) place initial says brought_it = absurd cc
-by-word c n source frame Nothing place initial says brought_it = absurd brought_it
-by-word c n source frame Ping place initial says brought_it = absurd brought_it
-by-word c n source frame (Asks request delay) place initial says brought_it = absurd brought_it
+by_word c n source frame (Reports p of report) place initial says brought_it = absurd cc
+by_word c n source frame Nothing place initial says brought_it = absurd brought_it
+by_word c n source frame Ping place initial says brought_it = absurd brought_it
+by_word c n source frame (Asks request delay) place initial says brought_it = absurd brought_it
 
-pub opening-of : (c : Controller) (n : ℕ) (item : RelayItem) (place : Place) (initial : List ℕ) → IsBrought (brought_in c n (Take item)) (inputs.EstablishIndication place Zero (Some initial)) → SaysOpening item place initial
-opening-of c n item place initial brought_it = by (hears c item.source) item.what refl brought_it where
+pub opening_of : (c : Controller) (n : ℕ) (item : RelayItem) (place : Place) (initial : List ℕ) → IsBrought (brought_in c n (Take item)) (inputs.EstablishIndication place Zero (Some initial)) → SaysOpening item place initial
+opening_of c n item place initial brought_it = by (hears c item.source) item.what refl brought_it where
   breaks : (b : Bool) → inputs.EstablishIndication place Zero (Some initial) ≡ (if b then inputs.SwitchDown else inputs.StationDown item.source) → SaysOpening item place initial
   breaks true is = absurd cc
   breaks false is = absurd cc
@@ -88,30 +88,30 @@ opening-of c n item place initial brought_it = by (hears c item.source) item.wha
   by false what is none = absurd none
   by true whats.Down is broke = breaks (item.source == SWITCH_LINK) broke
   by true (whats.Frame frame) is own =
-      let says = by-word c n item.source frame (word_of item.source frame) place initial (frame-establishes item.source frame) own in
+      let says = by_word c n item.source frame (word_of item.source frame) place initial (frame_establishes item.source frame) own in
       record { frame = frame; is = is; establishment = says.0; read = says.1; sapi = says.2; l3 = says.3; channel = says.4 }
 
 -- an IMMEDIATE ASSIGNMENT that was of the channel stays so
-told-in : (mobile : ℕ) (s : Connection) (station : ℕ) (r : Result RrMessage RrFault) → Assigns mobile s station r → Assigns mobile (enter WaitEstablish s) station r
-told-in mobile s station (Ok (ImmediateAssignment channel request advance)) assigns = λ same. ((assigns same).0, refl)
-told-in mobile s station (Ok _) assigns = tt
-told-in mobile s station (Err fault) assigns = tt
+told_in : (mobile : ℕ) (s : Connection) (station : ℕ) (r : Result RrMessage RrFault) → Assigns mobile s station r → Assigns mobile (enter WaitEstablish s) station r
+told_in mobile s station (Ok (ImmediateAssignment channel request advance)) assigns = λ same. ((assigns same).0, refl)
+told_in mobile s station (Ok _) assigns = tt
+told_in mobile s station (Err fault) assigns = tt
 
-told-by : (mobile : ℕ) (s : Connection) (station : ℕ) (o : Option Rsl) → AssignsBy mobile s station o → AssignsBy mobile (enter WaitEstablish s) station o
-told-by mobile s station (Some (rsl.ImmediateAssignCommand i)) assigns = told-in mobile s station (rr_reading i.information) assigns
-told-by mobile s station None assigns = tt
-told-by mobile s station (Some _) assigns = tt
+told_by : (mobile : ℕ) (s : Connection) (station : ℕ) (o : Option Rsl) → AssignsBy mobile s station o → AssignsBy mobile (enter WaitEstablish s) station o
+told_by mobile s station (Some (rsl.ImmediateAssignCommand i)) assigns = told_in mobile s station (rr_reading i.information) assigns
+told_by mobile s station None assigns = tt
+told_by mobile s station (Some _) assigns = tt
 
-told-all : (mobile : ℕ) (s : Connection) (station : ℕ) (entries : List OutboxEntry) → AllByRecursion (AssignsIn mobile s station) entries → AllByRecursion (AssignsIn mobile (enter WaitEstablish s) station) entries
-told-all mobile s station [] all = tt
-told-all mobile s station (entry ∷ entries) all = (told-by mobile s station (rsl_in entry.out.frame) all.0, told-all mobile s station entries all.1)
+told_all : (mobile : ℕ) (s : Connection) (station : ℕ) (entries : List OutboxEntry) → AllByRecursion (AssignsIn mobile s station) entries → AllByRecursion (AssignsIn mobile (enter WaitEstablish s) station) entries
+told_all mobile s station [] all = tt
+told_all mobile s station (entry ∷ entries) all = (told_by mobile s station (rsl_in entry.out.frame) all.0, told_all mobile s station entries all.1)
 
-none-longer : (initial : List ℕ) (rest : List (List ℕ)) → length (initial ∷ rest) ≤ 1 → rest ≡ []
-none-longer initial [] few = refl
-none-longer initial (x ∷ rest) few = absurd (omega (arith, few))
+none_longer : (initial : List ℕ) (rest : List (List ℕ)) → length (initial ∷ rest) ≤ 1 → rest ≡ []
+none_longer initial [] few = refl
+none_longer initial (x ∷ rest) few = absurd (omega (arith, few))
 
-pub not-time : (c : Controller) (n : ℕ) (item : RelayItem) → brought_in c n (Take item) ≡ brings_time → ⊥
-not-time c n item = by (hears c item.source) item.what where
+pub not_time : (c : Controller) (n : ℕ) (item : RelayItem) → brought_in c n (Take item) ≡ brings_time → ⊥
+not_time c n item = by (hears c item.source) item.what where
   held : (o : Option ℕ) (input : Input) → if_held n o input ≡ brings_time → ⊥
   held None input is = absurd cc
   held (Some k) input is = either (k == n) is where
@@ -190,11 +190,11 @@ module _ (settings : Parameters) (done : List Event) (mobile : ℕ) (s : Connect
   pub quiet-came : (target : Option Tenure) (t : Turn) (items : List RelayItem) (x : Connection) (coming : IsComing modulus world mobile s) → IsLess settings done mobile s items → IsAged s x → connection_of t.next s.number ≡ Some x → outs_for s.number t.outs ≡ []
       → AreBeside target mobile s t.outs → (AllByRecursion (IsForOthers target s) t.outs → s.state ≡ WaitEstablish → AreLinedUp modulus world mobile s → AreLinedUp modulus (after target t items) mobile s) → Came (IsComing modulus) modulus (after target t items) mobile s.number
   quiet-came target t items x coming less aged there none beside lined =
-      let all : AllByRecursion (IsBeside target mobile s) t.outs = all-both (λ (out : Out). out.conn ≢ s.number) (λ (out : Out). out.conn ≢ s.number → IsBeside target mobile s out) (IsBeside target mobile s) t.outs (λ out other is. is other) (none-own s.number t.outs none) beside in
+      let all : AllByRecursion (IsBeside target mobile s) t.outs = all_both (λ (out : Out). out.conn ≢ s.number) (λ (out : Out). out.conn ≢ s.number → IsBeside target mobile s out) (IsBeside target mobile s) t.outs (λ out other is. is other) (none_own s.number t.outs none) beside in
       let u : Actors = record (waiting items) { controller = t.next } in
-      let down : going_down (after target t items) at ≡ going_down world at = all-down target s.serving t.outs u (all-both (IsBeside target mobile s) (IsBeside target mobile s) (λ (out : Out). out.to ≡ s.serving.station → leading_from_outbox s.serving.number (entry_of target out) ≡ []) t.outs (λ out one two. one.for_others.leads.0) all all) in
-      let others : AllByRecursion (IsForOthers target s) t.outs = all-both (IsBeside target mobile s) (IsBeside target mobile s) (IsForOthers target s) t.outs (λ out one two. one.for_others) all all in
-      let assigned : AreAssigned (after target t items) mobile s = assigned-turn mobile s target t.outs u (λ station. coming.assigned station) (all-both (IsBeside target mobile s) (IsBeside target mobile s) (λ (out : Out). AssignsBy mobile s out.to (rsl_in out.frame)) t.outs (λ out one two. another-assigns mobile s out.to (rsl_in out.frame) one.assigns) all all) in
+      let down : going_down (after target t items) at ≡ going_down world at = all_down target s.serving t.outs u (all_both (IsBeside target mobile s) (IsBeside target mobile s) (λ (out : Out). out.to ≡ s.serving.station → leading_from_outbox s.serving.number (entry_of target out) ≡ []) t.outs (λ out one two. one.for_others.leads.0) all all) in
+      let others : AllByRecursion (IsForOthers target s) t.outs = all_both (IsBeside target mobile s) (IsBeside target mobile s) (IsForOthers target s) t.outs (λ out one two. one.for_others) all all in
+      let assigned : AreAssigned (after target t items) mobile s = assigned_turn mobile s target t.outs u (λ station. coming.assigned station) (all_both (IsBeside target mobile s) (IsBeside target mobile s) (λ (out : Out). AssignsBy mobile s out.to (rsl_in out.frame)) t.outs (λ out one two. another_assigns mobile s out.to (rsl_in out.frame) one.assigns) all all) in
       stays-came settings done mobile s target t items x coming aged there (turn-comes settings done mobile s target t items coming.one less down (lined others) coming.found coming.comes) assigned
 
   -- ---- it is told its channel
@@ -204,26 +204,26 @@ module _ (settings : Parameters) (done : List Event) (mobile : ℕ) (s : Connect
   unfolding out_of
   own-at target s1 out like sent own =
       let is : out ≡ out_of s.number (immediate_assign_command s1.serving s1.request s1.delay) = own.1 ∙ ap (out_of s.number) own.2 in
-      let reads = assigns-own s.number s1.serving s1.request s1.delay (subst IsSent is sent) in
+      let reads = assigns_own s.number s1.serving s1.request s1.delay (subst IsSent is sent) in
       let frame : rsl_in out.frame ≡ Some reads.as_read = ap (λ (o : Out). rsl_in o.frame) is ∙ reads.reads in
       let to : out.to ≡ s1.serving.station = ap (λ (o : Out). o.to) is in (
-        λ _. ap (λ (o : Out). leading_by s.serving.number (entry_of target out).target (rsl_in o.frame)) (entry-out target out) ∙ ap (leading_by s.serving.number (entry_of target out).target) frame ∙ own-leads (command_of s1.serving s1.request s1.delay) s.serving.number (entry_of target out).target reads.as_read reads.text,
+        λ _. ap (λ (o : Out). leading_by s.serving.number (entry_of target out).target (rsl_in o.frame)) (entry-out target out) ∙ ap (leading_by s.serving.number (entry_of target out).target) frame ∙ own_leads (command_of s1.serving s1.request s1.delay) s.serving.number (entry_of target out).target reads.as_read reads.text,
         subst (AssignsBy mobile (enter WaitEstablish s) out.to) (sym frame) (subst (λ (n : ℕ). AssignsBy mobile (enter WaitEstablish s) n (Some reads.as_read)) (sym to)
-            (own-assigns mobile (enter WaitEstablish s) s1.serving s1.request s1.delay reads.as_read reads.text (λ number same. (ap (place_at s1.serving.station) same ∙ ap place_of like.serving, refl)))),
+            (own_assigns mobile (enter WaitEstablish s) s1.serving s1.request s1.delay reads.as_read reads.text (λ number same. (ap (place_at s1.serving.station) same ∙ ap place_of like.serving, refl)))),
       )
 
   pub acked-came : (target : Option Tenure) (t : Turn) (items : List RelayItem) (s1 : Connection) (coming : IsComing modulus world mobile s) → IsLess settings done mobile s items → IsAged s s1 → s1.state ≡ WaitActivation → connection_of t.next s.number ≡ Some (enter WaitEstablish s1)
       → outs_for s.number t.outs ≡ outs_of s.number (immediate_assign_command s1.serving s1.request s1.delay ∷ []) → AllByRecursion IsSent t.outs → AreBeside target mobile s t.outs → Came (IsComing modulus) modulus (after target t items) mobile s.number
   acked-came target t items s1 coming less aged state there put sent beside =
-      let like : IsLike s s1 = aged-like s s1 aged in
+      let like : IsLike s s1 = aged_like s s1 aged in
       let u : Actors = record (waiting items) { controller = t.next } in
-      let own = own-among (λ (x : Message). x ≡ immediate_assign_command s1.serving s1.request s1.delay) s.number t.outs (immediate_assign_command s1.serving s1.request s1.delay ∷ []) put (refl, tt) in
-      let both = all-both (λ (out : Out). out.conn ≡ s.number → (x : Message) × (out ≡ out_of s.number x) × (x ≡ immediate_assign_command s1.serving s1.request s1.delay)) IsSent
+      let own = own_among (λ (x : Message). x ≡ immediate_assign_command s1.serving s1.request s1.delay) s.number t.outs (immediate_assign_command s1.serving s1.request s1.delay ∷ []) put (refl, tt) in
+      let both = all_both (λ (out : Out). out.conn ≡ s.number → (x : Message) × (out ≡ out_of s.number x) × (x ≡ immediate_assign_command s1.serving s1.request s1.delay)) IsSent
       (λ (out : Out). out.conn ≡ s.number → (out.to ≡ s.serving.station → leading_from_outbox s.serving.number (entry_of target out) ≡ []) × AssignsBy mobile (enter WaitEstablish s) out.to (rsl_in out.frame)) t.outs (λ out is is_sent. λ same. own-at target s1 out like is_sent (is same)) own sent in
-      let all = of-all (IsBeside target mobile s) (λ (out : Out). (out.to ≡ s.serving.station → leading_from_outbox s.serving.number (entry_of target out) ≡ []) × AssignsBy mobile (enter WaitEstablish s) out.to (rsl_in out.frame)) s.number t.outs
-      (λ out one. (one.for_others.leads.0, another-assigns mobile (enter WaitEstablish s) out.to (rsl_in out.frame) one.assigns)) beside both in
-      let down : going_down (after target t items) at ≡ going_down world at = all-down target s.serving t.outs u (all-both _ _ (λ (out : Out). out.to ≡ s.serving.station → leading_from_outbox s.serving.number (entry_of target out) ≡ []) t.outs (λ out one two. one.0) all all) in
-      let assigned : AreAssigned (after target t items) mobile (enter WaitEstablish s) = assigned-turn mobile (enter WaitEstablish s) target t.outs u (λ station. told-all mobile s station (outbox_of world station) (coming.assigned station)) (all-both _ _ (λ (out : Out). AssignsBy mobile (enter WaitEstablish s) out.to (rsl_in out.frame)) t.outs (λ out one two. one.1) all all) in
+      let all = of_all (IsBeside target mobile s) (λ (out : Out). (out.to ≡ s.serving.station → leading_from_outbox s.serving.number (entry_of target out) ≡ []) × AssignsBy mobile (enter WaitEstablish s) out.to (rsl_in out.frame)) s.number t.outs
+      (λ out one. (one.for_others.leads.0, another_assigns mobile (enter WaitEstablish s) out.to (rsl_in out.frame) one.assigns)) beside both in
+      let down : going_down (after target t items) at ≡ going_down world at = all_down target s.serving t.outs u (all_both _ _ (λ (out : Out). out.to ≡ s.serving.station → leading_from_outbox s.serving.number (entry_of target out) ≡ []) t.outs (λ out one two. one.0) all all) in
+      let assigned : AreAssigned (after target t items) mobile (enter WaitEstablish s) = assigned_turn mobile (enter WaitEstablish s) target t.outs u (λ station. told_all mobile s station (outbox_of world station) (coming.assigned station)) (all_both _ _ (λ (out : Out). AssignsBy mobile (enter WaitEstablish s) out.to (rsl_in out.frame)) t.outs (λ out one two. one.1) all all) in
       told-came settings done mobile s target t items s1 coming aged there (told-comes settings done mobile s target t items coming.one (sym like.state ∙ state) less down coming.comes) assigned
 
   -- ---- it asks the switch
@@ -238,10 +238,10 @@ module _ (settings : Parameters) (done : List Event) (mobile : ℕ) (s : Connect
     u = record (waiting items) { controller = t.next }
 
     like : IsLike s s1
-    like = aged-like s s1 aged
+    like = aged_like s s1 aged
 
     placed : s.serving.station ≢ SWITCH_LINK
-    placed = serving-placed settings done s allowed coming.had
+    placed = serving_placed settings done s allowed coming.had
 
     came : coming_up world at ≡ brought initial ∷ coming_up v at
     came = opens_with.came ∙ ap (λ (xs : List Item). brought initial ∷ xs) (sym (v-coming settings done mobile s target t items at))
@@ -251,17 +251,17 @@ module _ (settings : Parameters) (done : List Event) (mobile : ℕ) (s : Connect
     own-to out own = ap (λ (o : Out). o.to) (own.1 ∙ ap (out_of s.number) own.2) ∙ to-switch s.number s1.serving initial
 
     down : going_down v at ≡ going_down world at
-    down = all-down target s.serving t.outs u
-        (of-all (IsBeside target mobile s) (λ (out : Out). out.to ≡ s.serving.station → leading_from_outbox s.serving.number (entry_of target out) ≡ []) s.number t.outs (λ out one. one.for_others.leads.0) beside
-        (all-both (λ (out : Out). out.conn ≡ s.number → (x : Message) × (out ≡ out_of s.number x) × (x ≡ complete_layer3 s1.serving initial)) IsSent (λ (out : Out). out.conn ≡ s.number → out.to ≡ s.serving.station → leading_from_outbox s.serving.number (entry_of target out) ≡ []) t.outs
+    down = all_down target s.serving t.outs u
+        (of_all (IsBeside target mobile s) (λ (out : Out). out.to ≡ s.serving.station → leading_from_outbox s.serving.number (entry_of target out) ≡ []) s.number t.outs (λ out one. one.for_others.leads.0) beside
+        (all_both (λ (out : Out). out.conn ≡ s.number → (x : Message) × (out ≡ out_of s.number x) × (x ≡ complete_layer3 s1.serving initial)) IsSent (λ (out : Out). out.conn ≡ s.number → out.to ≡ s.serving.station → leading_from_outbox s.serving.number (entry_of target out) ≡ []) t.outs
         (λ out is is_sent. λ same to. absurd (placed (sym to ∙ own-to out (is same))))
-        (own-among (λ (x : Message). x ≡ complete_layer3 s1.serving initial) s.number t.outs (complete_layer3 s1.serving initial ∷ []) put (refl, tt)) sent))
+        (own_among (λ (x : Message). x ≡ complete_layer3 s1.serving initial) s.number t.outs (complete_layer3 s1.serving initial ∷ []) put (refl, tt)) sent))
 
     seen : (sapi : Sapi) → messages_on sapi (forwarded t.outs s.number) ≡ relayed sapi (complete_layer3 s1.serving initial ∷ [])
     seen sapi = forwarded_seen s.number t.outs (complete_layer3 s1.serving initial ∷ []) coming.had.from_one put (tt, tt) sent sapi
 
     said : waiting_of v s.number ≡ initial ∷ []
-    said = turn-waiting target t.outs u s.number up ∙ ap (λ (ms : List (List ℕ)). ms ++ map (λ (f : Forwarded). f.message) (forwarded t.outs s.number)) known.none_waits ∙ all-zero (forwarded t.outs s.number) (seen Three) ∙ seen Zero
+    said = turn_waiting target t.outs u s.number up ∙ ap (λ (ms : List (List ℕ)). ms ++ map (λ (f : Forwarded). f.message) (forwarded t.outs s.number)) known.none_waits ∙ all_zero (forwarded t.outs s.number) (seen Three) ∙ seen Zero
 
     untaken : taken_of world s.number ≡ []
     untaken = ap taken_in known.none_taken
@@ -272,14 +272,14 @@ module _ (settings : Parameters) (done : List Event) (mobile : ℕ) (s : Connect
       once : BeginsOnce world coming.one at → Came (IsComing modulus) modulus v mobile s.number
       once (to_begin opens none behind) = absurd (let both : initial ∷ messages_in (coming_up v at) ≡ [] = sym (ap messages_in came) ∙ none in cc)
       once (began opens few none) =
-          let none_left : initials_up (waiting items) at ≡ [] = none-longer initial (initials_up (waiting items) at) (let count = ap length opens_with.one in omega (arith, few, count)) in
+          let none_left : initials_up (waiting items) at ≡ [] = none_longer initial (initials_up (waiting items) at) (let count = ap length opens_with.one in omega (arith, few, count)) in
           let none_up : initials_up v (place_of s1.serving) ≡ [] = ap (λ (c : Channel). initials_up v (place_of c)) like.serving ∙ v-initials settings done mobile s target t items at ∙ none_left in
           let left : controls_in (coming_up v at) + controls_of (to_be_taken coming.one.end.zero) ≡ 0 =
           let all = ap controls_in (v-coming settings done mobile s target t items at) ∙ controls-up (waiting items) at in
           let first = ap controls_of none_left in
-          let fewer = controls-sub less.later in
+          let fewer = controls_sub less.later in
           omega (arith, all, first, fewer, none) in
-          let bare : IsBareOf s = bare-of s own_state (ConnectionsStand-new settings done s.number s coming.had.there) in
+          let bare : IsBareOf s = bare_of s own_state (connections_stand_new settings done s.number s coming.had.there) in
           let own : LinedUp modulus v coming.one (enter WaitConfirm s) = asks-lined settings done mobile s target t items initial coming.one own_state bare seat lined placed came down known.none_waits untaken said left in
           let aged_own : LinedUp modulus v coming.one (enter WaitConfirm s1) = aged_holds (λ (y : Connection). LinedUp modulus v coming.one (enter WaitConfirm y)) (λ ms y l. record { alive = l.alive; sits = l.sits; led = l.led; none_on_target = l.none_on_target; apart = l.apart; placed = l.placed }) s s1 aged own in
           let none_drains : s1.draining ≡ [] = aged_holds (λ (y : Connection). y.draining ≡ []) (λ ms y is. is) s s1 aged bare.draining in
@@ -296,4 +296,4 @@ module _ (settings : Parameters) (done : List Event) (mobile : ℕ) (s : Connect
             lined = record { one = coming.one; found = found; lined = aged_own };
             fresh = record { silent = tt; uncommanded = tt; led = tt };
             opened = record { opened = opens; none_comes = rw (none_drains) (none_up, tt) };
-          }) (served-by owner v (tenure_at v (place_of s1.serving)) mobile coming.one sits found sits_there)
+          }) (served_by owner v (tenure_at v (place_of s1.serving)) mobile coming.one sits found sits_there)

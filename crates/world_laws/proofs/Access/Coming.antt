@@ -25,51 +25,51 @@ use Rattle.world_laws.specs.Seated.{IsElsewhere, LinedUp, Sits}
 use Rattle.world_laws.specs.Seated.Remembers.{nothing}
 use Rattle.world_laws.specs.Seated.Sits.{stays as sits_stays, gone as sits_gone}
 use Rattle.world_laws.specs.Staying.{AreLinedUp}
-use Rattle.world_laws.proofs.AirUp.{Lent, all-other, frame-lent}
-use Rattle.world_laws.proofs.Framing.{all-right}
+use Rattle.world_laws.proofs.AirUp.{Lent, all_other, frame_lent}
+use Rattle.world_laws.proofs.Framing.{all_right}
 use Rattle.world_laws.proofs.Quiet.{down-with_base}
 use Rattle.world_laws.proofs.Spots.{set-same, tenure-with_base}
-use Rattle.world_laws.proofs.Standing.{ConnectionsStand-new}
-use Rattle.world_laws.proofs.Sublists.{Sub, sub-all, sub-length, sub-nothing}
+use Rattle.world_laws.proofs.Standing.{connections_stand_new}
+use Rattle.world_laws.proofs.Sublists.{Sub, sub_all, sub_length, sub_nothing}
 use Rattle.world_laws.specs.Access.Arriving.{IsKnown, LetsNoneGo, OthersKeepComing, is_of_others, is_release}
 use Rattle.world_laws.specs.Access.Coming.{AreAssigned, Assigns, AssignsBy, AssignsIn, BeginsOnce, Comes, IsComing, IsNew, behind_first}
 use Rattle.world_laws.specs.Access.Coming.BeginsOnce.{began, to_begin}
 use Rattle.world_laws.specs.Access.Coming.Comes.{arrived, asks}
-use Rattle.world_laws.proofs.Access.Arriving.{None-target, serving-placed, stays-lined}
-use Rattle.world_laws.proofs.Access.Beginning.{bare-of, begins-lined}
-use Rattle.world_laws.proofs.Access.Behind.{GivesNoMore, controls-sub, gives-same, lent-first}
-use Rattle.world_laws.proofs.Access.Mobiles.{AllGo, Goes, IsAssigned, IsToMove, all-same, event-goes}
+use Rattle.world_laws.proofs.Access.Arriving.{none_target, serving_placed, stays-lined}
+use Rattle.world_laws.proofs.Access.Beginning.{bare_of, begins_lined}
+use Rattle.world_laws.proofs.Access.Behind.{GivesNoMore, controls_sub, gives_same, lent_first}
+use Rattle.world_laws.proofs.Access.Mobiles.{AllGo, Goes, IsAssigned, IsToMove, all_same, event_goes}
 use Rattle.world_laws.proofs.Access.Mobiles.Goes.{comes as gets, hears, moves, same, stays}
-use Rattle.world_laws.proofs.Access.Passes.{Passes, passes-itself}
-use Rattle.world_laws.proofs.Access.Travels.{event-passes, is_passing}
-use Rattle.world_laws.proofs.Access.Upcoming.{data-apart, data-first, data-later, data-none, data-pass, initials-apart, initials-later}
-use Rattle.world_laws.proofs.Access.Upcoming.{initials-more, initials-none, initials-pass, none-passes}
+use Rattle.world_laws.proofs.Access.Passes.{Passes, passes_itself}
+use Rattle.world_laws.proofs.Access.Travels.{event_passes, is_passing}
+use Rattle.world_laws.proofs.Access.Upcoming.{data_apart, data_first, data_later, data-none, data_pass, initials_apart, initials_later}
+use Rattle.world_laws.proofs.Access.Upcoming.{initials_more, initials-none, initials_pass, none_passes}
 use Rattle.world_laws.proofs.StationTakes.{waiting-taken}
-use Rattle.world_laws.proofs.MobileEvents.{on-asks}
+use Rattle.world_laws.proofs.MobileEvents.{on_asks}
 
 -- ---- seats
 
-on-gone : {tenure : Tenure} {command : Option Command} → On tenure command ≡ Gone → ⊥
-on-gone is = absurd cc
+on_gone : {tenure : Tenure} {command : Option Command} → On tenure command ≡ Gone → ⊥
+on_gone is = absurd cc
 
 abbrev tenure-in : Seat → Tenure → Tenure
 tenure-in (On tenure command) other = tenure
 tenure-in _ other = other
 
 -- where a connection has no target its mobile is on the serving channel, or gone
-sits-there : {w : Actors} {serving : Channel} {seat : Seat} → Sits w serving None seat → (seat ≡ Gone → ⊥) → seat ≡ On (tenure_at w (place_of serving)) None
-sits-there (sits_stays is nothing) there = ap (λ (t : Tenure). On t None) is
-sits-there sits_gone there = absurd (there refl)
+sits_there : {w : Actors} {serving : Channel} {seat : Seat} → Sits w serving None seat → (seat ≡ Gone → ⊥) → seat ≡ On (tenure_at w (place_of serving)) None
+sits_there (sits_stays is nothing) there = ap (λ (t : Tenure). On t None) is
+sits_there sits_gone there = absurd (there refl)
 
 -- ---- what it hears
 
-hearing-stays : (p : Mobile) (a : AirMessage) {tenure : Tenure} {command : Option Command} → p.seat ≡ On tenure command → LetsNoneGo a → (hearing p a).seat ≡ Gone → ⊥
-hearing-stays p a {tenure} {command} seat kept = by_kind (is_dtap a.message) refl where
+hearing_stays : (p : Mobile) (a : AirMessage) {tenure : Tenure} {command : Option Command} → p.seat ≡ On tenure command → LetsNoneGo a → (hearing p a).seat ≡ Gone → ⊥
+hearing_stays p a {tenure} {command} seat kept = by_kind (is_dtap a.message) refl where
   own : p.seat ≡ Gone → ⊥
-  own is = on-gone (sym seat ∙ is)
+  own is = on_gone (sym seat ∙ is)
 
   by_seat : (change : Change) (target : Tenure) (x : Seat) → x ≡ On tenure command → (remembering p change target x).seat ≡ Gone → ⊥
-  by_seat change target (On other remembered) there is = on-gone is
+  by_seat change target (On other remembered) there is = on_gone is
   by_seat change target Asking there is = absurd cc
   by_seat change target (Moving from remembered) there is = absurd cc
   by_seat change target Gone there is = absurd cc
@@ -89,53 +89,53 @@ hearing-stays p a {tenure} {command} seat kept = by_kind (is_dtap a.message) ref
 
 -- ---- the mobile of a connection that is there
 
-goes-opens : {w v : Actors} {event : Event} {number : ℕ} {p q : Mobile} {tenure : Tenure} → p.seat ≡ On tenure None → Goes w event v number p q → q.opens ≡ p.opens
-goes-opens seat (same is) = ap (λ (x : Mobile). x.opens) is
-goes-opens seat (stays there opens other gives) = opens
-goes-opens {p = p} seat (hears tenure command first others there air is) = ap (λ (x : Mobile). x.opens) is ∙ (hearing-opens p first)
-goes-opens seat (moves to_move opens) = absurd (subst IsToMove seat to_move)
-goes-opens seat (gets a) = absurd (on-asks (sym seat ∙ a.asked))
+goes_opens : {w v : Actors} {event : Event} {number : ℕ} {p q : Mobile} {tenure : Tenure} → p.seat ≡ On tenure None → Goes w event v number p q → q.opens ≡ p.opens
+goes_opens seat (same is) = ap (λ (x : Mobile). x.opens) is
+goes_opens seat (stays there opens other gives) = opens
+goes_opens {p = p} seat (hears tenure command first others there air is) = ap (λ (x : Mobile). x.opens) is ∙ (hearing-opens p first)
+goes_opens seat (moves to_move opens) = absurd (subst IsToMove seat to_move)
+goes_opens seat (gets a) = absurd (on_asks (sym seat ∙ a.asked))
 
-goes-kept : {w v : Actors} {event : Event} {number : ℕ} {p q : Mobile} (at : Place) (tenure : Tenure) → tenure.at ≡ at → p.seat ≡ On tenure None → AllByRecursion LetsNoneGo (spot_at w at).air → Goes w event v number p q → q.seat ≡ Gone → ⊥
-goes-kept at tenure at_is seat kept (same is) gone = on-gone (sym seat ∙ ap (λ (x : Mobile). x.seat) (sym is) ∙ gone)
-goes-kept at tenure at_is seat kept (stays there opens other gives) gone = on-gone (sym seat ∙ sym there ∙ gone)
-goes-kept {w} {p = p} at tenure at_is seat kept (hears other command first others there air is) gone =
+goes_kept : {w v : Actors} {event : Event} {number : ℕ} {p q : Mobile} (at : Place) (tenure : Tenure) → tenure.at ≡ at → p.seat ≡ On tenure None → AllByRecursion LetsNoneGo (spot_at w at).air → Goes w event v number p q → q.seat ≡ Gone → ⊥
+goes_kept at tenure at_is seat kept (same is) gone = on_gone (sym seat ∙ ap (λ (x : Mobile). x.seat) (sym is) ∙ gone)
+goes_kept at tenure at_is seat kept (stays there opens other gives) gone = on_gone (sym seat ∙ sym there ∙ gone)
+goes_kept {w} {p = p} at tenure at_is seat kept (hears other command first others there air is) gone =
     let one : other ≡ tenure = ap (λ (x : Seat). tenure-in x tenure) (sym there ∙ seat) in
     let stands : (spot_at w at).air ≡ first ∷ others = ap (λ (x : Place). (spot_at w x).air) (sym at_is ∙ ap (λ (t : Tenure). t.at) (sym one)) ∙ air in
-    hearing-stays p first there (subst (AllByRecursion LetsNoneGo) stands kept).0 (ap (λ (x : Mobile). x.seat) (sym is) ∙ gone)
-goes-kept at tenure at_is seat kept (moves to_move opens) gone = absurd (subst IsToMove seat to_move)
-goes-kept at tenure at_is seat kept (gets a) gone = absurd (on-asks (sym seat ∙ a.asked))
+    hearing_stays p first there (subst (AllByRecursion LetsNoneGo) stands kept).0 (ap (λ (x : Mobile). x.seat) (sym is) ∙ gone)
+goes_kept at tenure at_is seat kept (moves to_move opens) gone = absurd (subst IsToMove seat to_move)
+goes_kept at tenure at_is seat kept (gets a) gone = absurd (on_asks (sym seat ∙ a.asked))
 
-goes-gives : {w v : Actors} {event : Event} {number : ℕ} {p q : Mobile} {tenure : Tenure} → p.seat ≡ On tenure None → Goes w event v number p q → GivesNoMore q.end.zero p.end.zero
-goes-gives seat (same is) = gives-same (ap (λ (x : Mobile). x.end.zero) is)
-goes-gives seat (stays there opens other gives) = gives
-goes-gives {p = p} seat (hears tenure command first others there air is) = gives-same (ap (λ (x : Mobile). x.end.zero) is ∙ ap (λ (e : MobileState). e.zero) (hearing-end p first))
-goes-gives seat (moves to_move opens) = absurd (subst IsToMove seat to_move)
-goes-gives seat (gets a) = absurd (on-asks (sym seat ∙ a.asked))
+goes_gives : {w v : Actors} {event : Event} {number : ℕ} {p q : Mobile} {tenure : Tenure} → p.seat ≡ On tenure None → Goes w event v number p q → GivesNoMore q.end.zero p.end.zero
+goes_gives seat (same is) = gives_same (ap (λ (x : Mobile). x.end.zero) is)
+goes_gives seat (stays there opens other gives) = gives
+goes_gives {p = p} seat (hears tenure command first others there air is) = gives_same (ap (λ (x : Mobile). x.end.zero) is ∙ ap (λ (e : MobileState). e.zero) (hearing-end p first))
+goes_gives seat (moves to_move opens) = absurd (subst IsToMove seat to_move)
+goes_gives seat (gets a) = absurd (on_asks (sym seat ∙ a.asked))
 
 -- it is still to begin, or began
-begins-passes : {w v : Actors} {p q : Mobile} (at : Place) → at.station ≢ SWITCH_LINK → q.opens ≡ p.opens → GivesNoMore q.end.zero p.end.zero → Passes w v → BeginsOnce w p at → BeginsOnce v q at
-begins-passes at is same_opens gives passes (to_begin opens none behind) = to_begin (same_opens ∙ opens) (none-passes at is passes none) (let less = gives.behind in omega (arith, less, behind))
-begins-passes at is same_opens gives passes (began opens few none) =
-    began (same_opens ∙ opens) (let less = sub-length (initials-pass at is passes) in omega (arith, less, few))
-    (let less = controls-sub (data-pass at is passes) in let whole = gives.whole in omega (arith, less, whole, none))
+begins_passes : {w v : Actors} {p q : Mobile} (at : Place) → at.station ≢ SWITCH_LINK → q.opens ≡ p.opens → GivesNoMore q.end.zero p.end.zero → Passes w v → BeginsOnce w p at → BeginsOnce v q at
+begins_passes at is same_opens gives passes (to_begin opens none behind) = to_begin (same_opens ∙ opens) (none_passes at is passes none) (let less = gives.behind in omega (arith, less, behind))
+begins_passes at is same_opens gives passes (began opens few none) =
+    began (same_opens ∙ opens) (let less = sub_length (initials_pass at is passes) in omega (arith, less, few))
+    (let less = controls_sub (data_pass at is passes) in let whole = gives.whole in omega (arith, less, whole, none))
 
 -- ---- it is told its channel
 
-assigned-to : {w v : Actors} {event : Event} {p q : Mobile} (mobile : ℕ) (s : Connection) → AreAssigned w mobile s → (a : IsAssigned w event v mobile p q) → (place_at a.station a.channel.channel.0 ≡ place_of s.serving) × (s.state ≡ WaitEstablish)
-assigned-to mobile s assigned a =
+assigned_to : {w v : Actors} {event : Event} {p q : Mobile} (mobile : ℕ) (s : Connection) → AreAssigned w mobile s → (a : IsAssigned w event v mobile p q) → (place_at a.station a.channel.channel.0 ≡ place_of s.serving) × (s.state ≡ WaitEstablish)
+assigned_to mobile s assigned a =
     let entry : AssignsIn mobile s a.station a.first = (subst (AllByRecursion (AssignsIn mobile s a.station)) a.stood (assigned a.station)).0 in
     let reading : Assigns mobile s a.station (rr_reading a.command.information) = subst (AssignsBy mobile s a.station) a.reads entry in
     subst (Assigns mobile s a.station) a.says reading a.names
 
-pub entries-pass : {w v : Actors} (mobile : ℕ) (s : Connection) → Passes w v → AreAssigned w mobile s → AreAssigned v mobile s
-entries-pass mobile s passes assigned station = sub-all (AssignsIn mobile s station) (passes.entries station) (assigned station)
+pub entries_pass : {w v : Actors} (mobile : ℕ) (s : Connection) → Passes w v → AreAssigned w mobile s → AreAssigned v mobile s
+entries_pass mobile s passes assigned station = sub_all (AssignsIn mobile s station) (passes.entries station) (assigned station)
 
 up-taken : (w : Actors) (station : ℕ) (others : List OutboxEntry) (n : ℕ) → is_station_up (with_outbox station others w) n ≡ is_station_up w n
 up-taken w station others n = ap (λ (b : Bool). not (n == SWITCH_LINK) && b) (set-same (λ (link : Link). link.up) w.links broken_link station n (record (link_of w station) { outbox = others }) refl)
 
-new-after : {m : ℕ} (p q : Mobile) (seat : Seat) → q ≡ record p { seat = seat } → IsNew m p → IsNew m q
-new-after {m} p q seat is new = subst (IsNew m) (sym is) (record { opens = new.opens; goes_on = new.goes_on; no_control = new.no_control })
+new_after : {m : ℕ} (p q : Mobile) (seat : Seat) → q ≡ record p { seat = seat } → IsNew m p → IsNew m q
+new_after {m} p q seat is new = subst (IsNew m) (sym is) (record { opens = new.opens; goes_on = new.goes_on; no_control = new.no_control })
 
 -- ---- each event
 
@@ -150,27 +150,27 @@ module _ (settings : Parameters) (done : List Event) (mobile : ℕ) (s : Connect
   arrives : (event : Event) (v : Actors) (p q : Mobile) → AreAllowed settings → IsHad world s → IsKnown modulus world mobile s → AreAssigned world mobile s → Passes world v → IsAssigned world event v mobile p q → IsNew modulus p
       → messages_in (coming_up world (place_of s.serving)) ≡ [] → going_down world (place_of s.serving) ≡ [] → Comes modulus v s q
   arrives event v p q allowed had known assigned passes a new none uncommanded =
-      let own = assigned-to mobile s assigned a in
-      let placed : s.serving.station ≢ SWITCH_LINK = serving-placed settings done s allowed had in
+      let own = assigned_to mobile s assigned a in
+      let placed : s.serving.station ≢ SWITCH_LINK = serving_placed settings done s allowed had in
       let station : a.station ≡ s.serving.station = ap (λ (x : Place). x.station) own.0 in
       let station_is : a.station ≢ SWITCH_LINK = (up-right a.station world a.up).0 in
       let tenure : tenure_at v (place_of s.serving) ≡ tenure_at world (place_of s.serving) = ap (λ (x : Actors). tenure_at x (place_of s.serving)) a.leads in
       let seat : q.seat ≡ On (tenure_at v (place_of s.serving)) None = ap (λ (x : Mobile). x.seat) a.after ∙ ap (λ (x : Place). On (tenure_at world x) None) own.0 ∙ ap (λ (t : Tenure). On t None) (sym tenure) in
       let up : is_station_up v s.serving.station ≡ true = ap (λ (x : Actors). is_station_up x s.serving.station) a.leads ∙ up-taken world a.station a.others s.serving.station ∙ ap (is_station_up world) (sym station) ∙ a.up in
-      let silent : messages_in (coming_up v (place_of s.serving)) ≡ [] = none-passes (place_of s.serving) placed passes none in
-      let quiet : going_down v (place_of s.serving) ≡ [] = sub-nothing (subst (Sub (going_down v (place_of s.serving))) uncommanded (passes.downs s.serving placed)) in
+      let silent : messages_in (coming_up v (place_of s.serving)) ≡ [] = none_passes (place_of s.serving) placed passes none in
+      let quiet : going_down v (place_of s.serving) ≡ [] = sub_nothing (subst (Sub (going_down v (place_of s.serving))) uncommanded (passes.downs s.serving placed)) in
       let unsaid : waiting_of v s.number ≡ [] = ap (λ (x : Actors). waiting_of x s.number) a.leads ∙ waiting-taken world a.station a.others s.number station_is ∙ known.none_waits in
       let untaken : taken_of v s.number ≡ [] = ap (λ (x : Actors). taken_of x s.number) a.leads ∙ ap taken_in known.none_taken in
-      let fresh : IsNew modulus q = new-after p q (On (tenure_at world (place_at a.station a.channel.channel.0)) None) a.after new in
-      arrived own.1 seat (begins-lined v q s own.1 (bare-of s own.1 (ConnectionsStand-new settings done s.number s had.there)) placed seat fresh up silent quiet unsaid untaken) (to_begin fresh.opens silent fresh.no_control)
+      let fresh : IsNew modulus q = new_after p q (On (tenure_at world (place_at a.station a.channel.channel.0)) None) a.after new in
+      arrived own.1 seat (begins_lined v q s own.1 (bare_of s own.1 (connections_stand_new settings done s.number s had.there)) placed seat fresh up silent quiet unsaid untaken) (to_begin fresh.opens silent fresh.no_control)
 
   asks-goes : (event : Event) (v : Actors) (p q : Mobile) → AreAllowed settings → IsHad world s → IsKnown modulus world mobile s → AreAssigned world mobile s → Passes world v → Goes world event v mobile p q → p.seat ≡ Asking → IsNew modulus p
       → messages_in (coming_up world (place_of s.serving)) ≡ [] → going_down world (place_of s.serving) ≡ [] → Comes modulus v s q
   asks-goes event v p q allowed had known assigned passes (same is) seat new none uncommanded =
-      let placed : s.serving.station ≢ SWITCH_LINK = serving-placed settings done s allowed had in
-      asks (ap (λ (x : Mobile). x.seat) is ∙ seat) (subst (IsNew modulus) (sym is) new) (none-passes (place_of s.serving) placed passes none) (sub-nothing (subst (Sub (going_down v (place_of s.serving))) uncommanded (passes.downs s.serving placed)))
+      let placed : s.serving.station ≢ SWITCH_LINK = serving_placed settings done s allowed had in
+      asks (ap (λ (x : Mobile). x.seat) is ∙ seat) (subst (IsNew modulus) (sym is) new) (none_passes (place_of s.serving) placed passes none) (sub_nothing (subst (Sub (going_down v (place_of s.serving))) uncommanded (passes.downs s.serving placed)))
   asks-goes event v p q allowed had known assigned passes (stays there opens other gives) seat new none uncommanded = absurd (other seat)
-  asks-goes event v p q allowed had known assigned passes (hears tenure command first others there air is) seat new none uncommanded = absurd (on-asks (sym there ∙ seat))
+  asks-goes event v p q allowed had known assigned passes (hears tenure command first others there air is) seat new none uncommanded = absurd (on_asks (sym there ∙ seat))
   asks-goes event v p q allowed had known assigned passes (moves to_move opens) seat new none uncommanded = absurd (subst IsToMove seat to_move)
   asks-goes event v p q allowed had known assigned passes (gets a) seat new none uncommanded = arrives event v p q allowed had known assigned passes a new none uncommanded
 
@@ -178,10 +178,10 @@ module _ (settings : Parameters) (done : List Event) (mobile : ℕ) (s : Connect
   there-goes : (event : Event) (v : Actors) (p q : Mobile) → AreAllowed settings → IsHad world s → IsKnown modulus world mobile s → Passes world v → Goes world event v mobile p q → mobile_of v mobile ≡ Some q → AreLinedUp modulus v mobile s → s.state ≡ WaitEstablish
       → p.seat ≡ On (tenure_at world (place_of s.serving)) None → BeginsOnce world p (place_of s.serving) → Comes modulus v s q
   there-goes event v p q allowed had known passes goes found lined state seat begins =
-      let placed : s.serving.station ≢ SWITCH_LINK = serving-placed settings done s allowed had in
+      let placed : s.serving.station ≢ SWITCH_LINK = serving_placed settings done s allowed had in
       let own : LinedUp modulus v q s = subst (λ (x : Mobile). LinedUp modulus v x s) (same_Some _ _ (sym lined.found ∙ found)) lined.lined in
-      let sits : Sits v s.serving None q.seat = subst (λ (o : Option _). Sits v s.serving o q.seat) (None-target s.state state) own.sits in
-      arrived state (sits-there sits (goes-kept (place_of s.serving) (tenure_at world (place_of s.serving)) refl seat known.kept goes)) own (begins-passes (place_of s.serving) placed (goes-opens seat goes) (goes-gives seat goes) passes begins)
+      let sits : Sits v s.serving None q.seat = subst (λ (o : Option _). Sits v s.serving o q.seat) (none_target s.state state) own.sits in
+      arrived state (sits_there sits (goes_kept (place_of s.serving) (tenure_at world (place_of s.serving)) refl seat known.kept goes)) own (begins_passes (place_of s.serving) placed (goes_opens seat goes) (goes_gives seat goes) passes begins)
 
   passing-comes : (event : Event) (v : Actors) (p q : Mobile) → AreAllowed settings → IsHad world s → IsKnown modulus world mobile s → AreAssigned world mobile s → Passes world v → Goes world event v mobile p q → mobile_of v mobile ≡ Some q
       → (s.state ≡ WaitEstablish → AreLinedUp modulus world mobile s → AreLinedUp modulus v mobile s) → mobile_of world mobile ≡ Some p → Comes modulus world s p → Comes modulus v s q
@@ -192,8 +192,8 @@ module _ (settings : Parameters) (done : List Event) (mobile : ℕ) (s : Connect
   pub keeps-passing : (event : Event) → is_passing event ≡ true → is_of_others event ≡ true → AreAllowed settings → IsKnown modulus world mobile s → IsComing modulus world mobile s → IsComing modulus (actors_after world event) mobile s
   keeps-passing event passing of_others allowed known coming =
       let v : Actors = actors_after world event in
-      let passes : Passes world v = after-taken (Passes world) (event_after world event) world (event-passes world event passing (good-all (new_actors settings) done (good-new settings))) (passes-itself world) in
-      let all : AllGo world event v = after-taken (AllGo world event) (event_after world event) world (event-goes world event passing) (all-same world event world refl) in
+      let passes : Passes world v = after-taken (Passes world) (event_after world event) world (event_passes world event passing (good-all (new_actors settings) done (good-new settings))) (passes_itself world) in
+      let all : AllGo world event v = after-taken (AllGo world event) (event_after world event) world (event_goes world event passing) (all_same world event world refl) in
       let one = all.each mobile coming.one coming.found in
       record {
         had = record { there = ap (λ (c : Controller). connection_of c s.number) passes.controller ∙ coming.had.there; is_open = coming.had.is_open; from_one = coming.had.from_one };
@@ -202,7 +202,7 @@ module _ (settings : Parameters) (done : List Event) (mobile : ℕ) (s : Connect
         one = one.0;
         found = one.1;
         comes = passing-comes event v coming.one one.0 allowed coming.had known coming.assigned passes one.2 one.1 (λ state lined. stays-lined settings done mobile s event of_others state allowed coming.had known lined) coming.found coming.comes;
-        assigned = entries-pass mobile s passes coming.assigned;
+        assigned = entries_pass mobile s passes coming.assigned;
       }
 
   -- ---- a frame of SAPI 0
@@ -214,10 +214,10 @@ module _ (settings : Parameters) (done : List Event) (mobile : ℕ) (s : Connect
     v = brought world p tenure.at Zero frame
 
     placed : s.serving.station ≢ SWITCH_LINK
-    placed = serving-placed settings done s allowed had
+    placed = serving_placed settings done s allowed had
 
     came : coming_up v (place_of s.serving) ≡ coming_up world (place_of s.serving)
-    came = (all-other world p tenure frame (s.serving ∷ []) reached (placed, tt) (apart, tt)).0
+    came = (all_other world p tenure frame (s.serving ∷ []) reached (placed, tt) (apart, tt)).0
 
     down : going_down v (place_of s.serving) ≡ going_down world (place_of s.serving)
     down = down-with_base world tenure.at.station (signalling_brought (base_of world tenure.at.station) tenure.at.number p.opens frame) (place_of s.serving)
@@ -228,18 +228,18 @@ module _ (settings : Parameters) (done : List Event) (mobile : ℕ) (s : Connect
     begins : BeginsOnce world one (place_of s.serving) → BeginsOnce v one (place_of s.serving)
     begins (to_begin opens none behind) = to_begin opens (ap messages_in came ∙ none) behind
     begins (began opens few none) =
-        began opens (let less = sub-length (initials-apart world p tenure frame s.serving reached placed apart) in omega (arith, less, few))
-        (let less = controls-sub (data-apart world p tenure frame s.serving reached placed apart) in omega (arith, less, none))
+        began opens (let less = sub_length (initials_apart world p tenure frame s.serving reached placed apart) in omega (arith, less, few))
+        (let less = controls_sub (data_apart world p tenure frame s.serving reached placed apart) in omega (arith, less, none))
 
     by : (AreLinedUp modulus v mobile s) ⊎ (one.seat ≡ Asking) → Comes modulus world s one → Comes modulus v s one
     by either (asks seat new none uncommanded) = asks seat new (ap messages_in came ∙ none) (down ∙ uncommanded)
-    by (inr asking) (arrived state seat lined once) = absurd (on-asks (sym seat ∙ asking))
+    by (inr asking) (arrived state seat lined once) = absurd (on_asks (sym seat ∙ asking))
     by (inl lined2) (arrived state seat lined once) =
         arrived state (seat ∙ ap (λ (t : Tenure). On t None) (sym here)) (subst (λ (x : Mobile). LinedUp modulus v x s) (same_Some _ _ (sym lined2.found ∙ found)) lined2.lined) (begins once)
 
   sent-there : (tenure : Tenure) (command : Option Command) (frame : List ℕ) (one : Mobile) → one.seat ≡ On tenure command → Lent one.end frame → mobile_of (brought world one tenure.at Zero frame) mobile ≡ Some (record (framed one Zero) { opens = false })
       → AreLinedUp modulus (brought world one tenure.at Zero frame) mobile s → Comes modulus world s one → Comes modulus (brought world one tenure.at Zero frame) s (record (framed one Zero) { opens = false })
-  sent-there tenure command frame one sits lent found lined2 (asks seat new none uncommanded) = absurd (on-asks (sym sits ∙ seat))
+  sent-there tenure command frame one sits lent found lined2 (asks seat new none uncommanded) = absurd (on_asks (sym sits ∙ seat))
   sent-there tenure command frame one sits lent found lined2 (arrived state seat lined once) =
       arrived state
       (seat ∙ ap (λ (t : Tenure). On t None) (sym (tenure-with_base world tenure.at.station (signalling_brought (base_of world tenure.at.station) tenure.at.number one.opens frame) (place_of s.serving))))
@@ -248,19 +248,19 @@ module _ (settings : Parameters) (done : List Event) (mobile : ℕ) (s : Connect
         v = brought world one tenure.at Zero frame
 
         taken : to_be_taken one.end.zero ≡ frame ∷ to_be_taken (after_lending one.end.zero)
-        taken = lent-first one.end.zero frame lent.lent
+        taken = lent_first one.end.zero frame lent.lent
 
         left : to_be_taken (framed one Zero).end.zero ≡ to_be_taken (after_lending one.end.zero)
         left = ap (λ (e : MobileState). to_be_taken e.zero) lent.after
 
         begins : BeginsOnce world one (place_of s.serving) → BeginsOnce v (record (framed one Zero) { opens = false }) (place_of s.serving)
         begins (to_begin opens none behind) =
-            began refl (let more = initials-more world one tenure frame (place_of s.serving) in let nothing_yet = ap length (initials-none world (place_of s.serving) none) in omega (arith, more, nothing_yet))
-            (let less = controls-sub (data-first world one tenure frame (place_of s.serving) opens) in let nothing_yet = ap controls_of (data-none world (place_of s.serving) none) in let counts = ap controls_of left in let first = ap (λ (xs : List (List ℕ)). controls_of (behind_first xs)) taken in
+            began refl (let more = initials_more world one tenure frame (place_of s.serving) in let nothing_yet = ap length (initials-none world (place_of s.serving) none) in omega (arith, more, nothing_yet))
+            (let less = controls_sub (data_first world one tenure frame (place_of s.serving) opens) in let nothing_yet = ap controls_of (data-none world (place_of s.serving) none) in let counts = ap controls_of left in let first = ap (λ (xs : List (List ℕ)). controls_of (behind_first xs)) taken in
             omega (arith, less, nothing_yet, counts, first, behind))
         begins (began opens few none) =
-            began refl (let less = sub-length (initials-later world one tenure frame (place_of s.serving) opens) in omega (arith, less, few))
-            (let less = data-later world one tenure frame (place_of s.serving) in let counts = ap controls_of left in let all = ap controls_of taken in
+            began refl (let less = sub_length (initials_later world one tenure frame (place_of s.serving) opens) in omega (arith, less, few))
+            (let less = data_later world one tenure frame (place_of s.serving) in let counts = ap controls_of left in let all = ap controls_of taken in
             let sum : controls_of (frame ∷ to_be_taken (after_lending one.end.zero)) ≡ controls_of (frame ∷ []) + controls_of (to_be_taken (after_lending one.end.zero)) = controls-append (frame ∷ []) (to_be_taken (after_lending one.end.zero)) in
             omega (arith, less, counts, all, sum, none))
 
@@ -286,7 +286,7 @@ module _ (settings : Parameters) (done : List Event) (mobile : ℕ) (s : Connect
 
     own-comes : mobile_of v mobile ≡ Some q → Comes modulus world s p → (AreLinedUp modulus v mobile s) ⊎ (p.seat ≡ Asking) → Comes modulus v s q
     own-comes found comes (inl lined) = sent-there tenure command frame p sits lent found lined comes
-    own-comes found comes (inr asking) = absurd (on-asks (sym sits ∙ asking))
+    own-comes found comes (inr asking) = absurd (on_asks (sym sits ∙ asking))
 
     by_number : (b : Bool) → nat_eq number mobile ≡ b → IsComing modulus v mobile s
     by_number true hit =
@@ -298,7 +298,7 @@ module _ (settings : Parameters) (done : List Event) (mobile : ℕ) (s : Connect
     by_number false miss =
         let differs : number ≢ mobile = eqb-false number mobile miss in
         let found : mobile_of v mobile ≡ Some coming.one = back-other q world.mobiles mobile (λ is. differs (sym q_number ∙ is)) ∙ coming.found in
-        let elsewhere : IsElsewhere (s.serving ∷ target_in s.state) tenure.at = all-right (λ c. is_at tenure.at c ≡ false) (undone s.draining) (s.serving ∷ target_in s.state) (known.alone number p tenure command differs acts sits reached) in
+        let elsewhere : IsElsewhere (s.serving ∷ target_in s.state) tenure.at = all_right (λ c. is_at tenure.at c ≡ false) (undone s.draining) (s.serving ∷ target_in s.state) (known.alone number p tenure command differs acts sits reached) in
         rest coming.one found (sent-elsewhere p tenure frame coming.one allowed coming.had reached elsewhere.0 found (or-asks v coming.one coming.found stays_lined coming.comes) coming.comes)
 
   pub keeps-sent : (number : ℕ) → AreAllowed settings → IsKnown modulus world mobile s → IsComing modulus world mobile s → IsComing modulus (actors_after world (events.AirUp number Zero)) mobile s
@@ -306,11 +306,11 @@ module _ (settings : Parameters) (done : List Event) (mobile : ℕ) (s : Connect
   keeps-sent number allowed known coming =
       let event : Event = events.AirUp number Zero in
       let P : Actors → Type 0 = λ v. (s.state ≡ WaitEstablish → AreLinedUp modulus world mobile s → AreLinedUp modulus v mobile s) → IsComing modulus v mobile s in
-      after-taken P (event_after world event) world (air_up-leads P world number Zero (λ p tenure command frame acts sits lent reached. sent-comes number p tenure command frame acts sits (frame-lent p.end frame lent) reached allowed known coming)) (λ _. coming)
+      after-taken P (event_after world event) world (air_up-leads P world number Zero (λ p tenure command frame acts sits lent reached. sent-comes number p tenure command frame acts sits (frame_lent p.end frame lent) reached allowed known coming)) (λ _. coming)
       (λ state lined. stays-lined settings done mobile s event refl state allowed coming.had known lined)
 
-pub OthersKeepComing-new : (settings : Parameters) (done : List Event) (event : Event) → OthersKeepComing settings done event
-OthersKeepComing-new settings done (events.AirUp number Zero) mobile s of_others allowed known coming = keeps-sent settings done mobile s number allowed known coming
-OthersKeepComing-new settings done events.Handle mobile s of_others allowed known coming = absurd cc
-OthersKeepComing-new settings done (events.Tick ms) mobile s of_others allowed known coming = absurd cc
-OthersKeepComing-new settings done event mobile s of_others allowed known coming = keeps-passing settings done mobile s event refl refl allowed known coming
+pub others_keep_coming_new : (settings : Parameters) (done : List Event) (event : Event) → OthersKeepComing settings done event
+others_keep_coming_new settings done (events.AirUp number Zero) mobile s of_others allowed known coming = keeps-sent settings done mobile s number allowed known coming
+others_keep_coming_new settings done events.Handle mobile s of_others allowed known coming = absurd cc
+others_keep_coming_new settings done (events.Tick ms) mobile s of_others allowed known coming = absurd cc
+others_keep_coming_new settings done event mobile s of_others allowed known coming = keeps-passing settings done mobile s event refl refl allowed known coming

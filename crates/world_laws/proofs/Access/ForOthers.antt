@@ -18,47 +18,47 @@ use Rattle.world_laws.specs.OthersFrame.{IsHad}
 use Rattle.world_laws.specs.Seated.{commanded_channels}
 use Rattle.world_laws.specs.Staying.{IsForOthers}
 use Rattle.world_laws.proofs.Others.{entry-out}
-use Rattle.world_laws.proofs.OthersFrame.{FramesAreForOthers-new}
-use Rattle.world_laws.proofs.Quiet.{all-of}
+use Rattle.world_laws.proofs.OthersFrame.{frames_are_for_others_new}
+use Rattle.world_laws.proofs.Quiet.{all_of}
 use Rattle.world_laws.specs.Access.Requested.{AreForOthers}
-use Rattle.world_laws.proofs.Access.Numbered.{IsFrom, step-from}
-use Rattle.world_laws.proofs.Access.Turning.{none-own}
-use Rattle.world_laws.proofs.OwnTurn.{none-leads}
-use Rattle.world_laws.proofs.References.Right.{other-carries}
+use Rattle.world_laws.proofs.Access.Numbered.{IsFrom, step_from}
+use Rattle.world_laws.proofs.Access.Turning.{none_own}
+use Rattle.world_laws.proofs.OwnTurn.{none_leads}
+use Rattle.world_laws.proofs.References.Right.{other_carries}
 
 -- ---- one output
 
 -- no message of a station
-leads-nowhere : (channel : ℕ) (target : Option Tenure) (out : Out) → rsl_in out.frame ≡ None → leading_from_outbox channel (entry_of target out) ≡ []
-leads-nowhere channel target out none = ap (λ (o : Out). leading_by channel (entry_of target out).target (rsl_in o.frame)) (entry-out target out) ∙ ap (leading_by channel (entry_of target out).target) none
+leads_nowhere : (channel : ℕ) (target : Option Tenure) (out : Out) → rsl_in out.frame ≡ None → leading_from_outbox channel (entry_of target out) ≡ []
+leads_nowhere channel target out none = ap (λ (o : Out). leading_by channel (entry_of target out).target (rsl_in o.frame)) (entry-out target out) ∙ ap (leading_by channel (entry_of target out).target) none
 
-without-target : (s : Connection) (out : Out) → out.conn ≢ s.number → IsForOthers None s out
-without-target s out differs = record {
-  carries = other-carries s.number out differs;
-  leads = all-of (λ c. out.to ≡ c.station → leading_from_outbox c.number (entry_of None out) ≡ []) (s.serving ∷ commanded_channels (commanded_target s.state)) (λ c to. none-leads c.number out);
+without_target : (s : Connection) (out : Out) → out.conn ≢ s.number → IsForOthers None s out
+without_target s out differs = record {
+  carries = other_carries s.number out differs;
+  leads = all_of (λ c. out.to ≡ c.station → leading_from_outbox c.number (entry_of None out) ≡ []) (s.serving ∷ commanded_channels (commanded_target s.state)) (λ c to. none_leads c.number out);
 }
 
-pub all-without : (s : Connection) (outs : List Out) → AreForOthers None s outs
-all-without s [] = tt
-all-without s (out ∷ outs) = ((λ differs. without-target s out differs), all-without s outs)
+pub all_without : (s : Connection) (outs : List Out) → AreForOthers None s outs
+all_without s [] = tt
+all_without s (out ∷ outs) = ((λ differs. without_target s out differs), all_without s outs)
 
-of-nobody : (target : Option Tenure) (s : Connection) (outs : List Out) → AllByRecursion (λ out. rsl_in out.frame ≡ None) outs → AreForOthers target s outs
-of-nobody target s [] all = tt
-of-nobody target s (out ∷ outs) all = (
+of_nobody : (target : Option Tenure) (s : Connection) (outs : List Out) → AllByRecursion (λ out. rsl_in out.frame ≡ None) outs → AreForOthers target s outs
+of_nobody target s [] all = tt
+of_nobody target s (out ∷ outs) all = (
   (λ differs. record {
-    carries = other-carries s.number out differs;
-    leads = all-of (λ c. out.to ≡ c.station → leading_from_outbox c.number (entry_of target out) ≡ []) (s.serving ∷ commanded_channels (commanded_target s.state)) (λ c to. leads-nowhere c.number target out all.0);
+    carries = other_carries s.number out differs;
+    leads = all_of (λ c. out.to ≡ c.station → leading_from_outbox c.number (entry_of target out) ≡ []) (s.serving ∷ commanded_channels (commanded_target s.state)) (λ c to. leads_nowhere c.number target out all.0);
   }),
-  of-nobody target s outs all.1,
+  of_nobody target s outs all.1,
 )
 
-of-others : (target : Option Tenure) (s : Connection) (outs : List Out) → AllByRecursion (IsForOthers target s) outs → AreForOthers target s outs
-of-others target s [] all = tt
-of-others target s (out ∷ outs) all = ((λ differs. all.0), of-others target s outs all.1)
+of_others : (target : Option Tenure) (s : Connection) (outs : List Out) → AllByRecursion (IsForOthers target s) outs → AreForOthers target s outs
+of_others target s [] all = tt
+of_others target s (out ∷ outs) all = ((λ differs. all.0), of_others target s outs all.1)
 
-own-alone : (target : Option Tenure) (s : Connection) (put : List Message) → AreForOthers target s (outs_of s.number put)
-own-alone target s [] = tt
-own-alone target s (m ∷ put) = ((λ differs. absurd (differs (conn_of s.number m))), own-alone target s put)
+own_alone : (target : Option Tenure) (s : Connection) (put : List Message) → AreForOthers target s (outs_of s.number put)
+own_alone target s [] = tt
+own_alone target s (m ∷ put) = ((λ differs. absurd (differs (conn_of s.number m))), own_alone target s put)
 
 -- outputs of which none is a connection's
 nobodys : (outs : List Out) → AllByRecursion IsFrom outs → ((m : ℕ) → 1 ≤ m → AllByRecursion (λ out. out.conn ≢ m) outs) → AllByRecursion (λ out. rsl_in out.frame ≡ None) outs
@@ -87,8 +87,8 @@ module _ (settings : Parameters) (done : List Event) (s : Connection) where
     numbered = subst IsNumbered (sym (LivesByTable-new settings done)) (life_fits settings steps 1 (omega arith)).numbered
 
     none : ((m : ℕ) → 1 ≤ m → concerned world.controller (word_of source frame) ≢ Some m) → AreForOthers (target_in world source (whats.Frame frame)) s (step world.controller (Take item)).outs
-    none isnt = of-nobody (target_in world source (whats.Frame frame)) s (step world.controller (Take item)).outs (nobodys (step world.controller (Take item)).outs (step-from world.controller (Take item) numbered)
-        (λ m from_one. none-own m (step world.controller (Take item)).outs (frame_silent (hears world.controller source) m source frame world.controller (λ ping. from_one) (isnt m from_one))))
+    none isnt = of_nobody (target_in world source (whats.Frame frame)) s (step world.controller (Take item)).outs (nobodys (step world.controller (Take item)).outs (step_from world.controller (Take item) numbered)
+        (λ m from_one. none_own m (step world.controller (Take item)).outs (frame_silent (hears world.controller source) m source frame world.controller (λ ping. from_one) (isnt m from_one))))
 
     by : (o : Option ℕ) → concerned world.controller (word_of source frame) ≡ o → AreForOthers (target_in world source (whats.Frame frame)) s (step world.controller (Take item)).outs
     by None is = none (λ m from_one same. absurd (let both : None ≡ Some m = sym is ∙ same in cc))
@@ -96,19 +96,19 @@ module _ (settings : Parameters) (done : List Event) (s : Connection) where
     by (Some (suc k)) is = either (nat_eq (suc k) s.number) refl where
       either : (b : Bool) → nat_eq (suc k) s.number ≡ b → AreForOthers (target_in world source (whats.Frame frame)) s (step world.controller (Take item)).outs
       either false miss =
-          of-others (target_in world source (whats.Frame frame)) s (step world.controller (Take item)).outs
-          (FramesAreForOthers-new settings done s item allowed octets had (record { frame = frame; is = refl; octets = own; other = suc k; concerns = is; from_one = (omega arith); differs = λ same. eqb-false (suc k) s.number miss (sym same) }))
+          of_others (target_in world source (whats.Frame frame)) s (step world.controller (Take item)).outs
+          (frames_are_for_others_new settings done s item allowed octets had (record { frame = frame; is = refl; octets = own; other = suc k; concerns = is; from_one = (omega arith); differs = λ same. eqb-false (suc k) s.number miss (sym same) }))
       either true hit =
           let same : suc k ≡ s.number = eqb-true (suc k) s.number hit in
           let lives = LivesByTable-new settings done in
           let passes : PassesBy (s.number + 1) s.number (life settings steps).next (Take item) = frame_passes settings steps (s.number + 1) s.number source frame allowed (omega arith) least (λ e. absurd (omega (arith, e))) (ap (λ (c : Controller). concerned c (word_of source frame)) (sym lives) ∙ is ∙ ap (λ (n : ℕ). Some n) same) in
-          subst (AreForOthers (target_in world source (whats.Frame frame)) s) (sym (ap (λ (c : Controller). (step c (Take item)).outs) lives ∙ passes.outs)) (own-alone (target_in world source (whats.Frame frame)) s passes.put)
+          subst (AreForOthers (target_in world source (whats.Frame frame)) s) (sym (ap (λ (c : Controller). (step c (Take item)).outs) lives ∙ passes.outs)) (own_alone (target_in world source (whats.Frame frame)) s passes.put)
 
   -- whatever comes
   pub item-others : (item : RelayItem) → AreAllowed settings → AllByRecursion ComesInOctets steps → IsOfOctets item.what → 1 ≤ s.number → IsHad world s → AreForOthers (target_in world item.source item.what) s (take item world.controller).outs
   item-others item allowed octets own least had = by item.what refl own where
     by : (what : What) → item.what ≡ what → IsOfOctets what → AreForOthers (target_in world item.source item.what) s (take item world.controller).outs
-    by whats.Down is own = subst (λ (x : What). AreForOthers (target_in world item.source x) s (take item world.controller).outs) (sym is) (all-without s (take item world.controller).outs)
+    by whats.Down is own = subst (λ (x : What). AreForOthers (target_in world item.source x) s (take item world.controller).outs) (sym is) (all_without s (take item world.controller).outs)
     by (whats.Frame frame) is own =
         subst (λ (x : What). AreForOthers (target_in world item.source x) s (take (record { source = item.source; what = x }) world.controller).outs) (sym is)
         (frame-others item.source frame allowed octets own least had (concerned world.controller (word_of item.source frame)) refl)
@@ -136,12 +136,12 @@ module _ (settings : Parameters) (done : List Event) (s : Connection) where
       either false miss = absurd (left (λ same. eqb-false k s.number miss (let both : Some k ≡ Some s.number = sym is ∙ same in cc)))
       either true hit =
           let passes : PassesBy (s.number + 1) s.number (life settings steps).next (Take item) = frame_passes settings steps (s.number + 1) s.number source frame allowed (omega arith) least (λ e. absurd (omega (arith, e))) (ap (λ (c : Controller). concerned c (word_of source frame)) (sym lives) ∙ is ∙ ap (λ (n : ℕ). Some n) (eqb-true k s.number hit)) in
-          subst (AreForOthers (target_in world source (whats.Frame frame)) s) (sym (ap (λ (c : Controller). (step c (Take item)).outs) lives ∙ passes.outs)) (own-alone (target_in world source (whats.Frame frame)) s passes.put)
+          subst (AreForOthers (target_in world source (whats.Frame frame)) s) (sym (ap (λ (c : Controller). (step c (Take item)).outs) lives ∙ passes.outs)) (own_alone (target_in world source (whats.Frame frame)) s passes.put)
 
   pub item-begins : (item : RelayItem) → AreAllowed settings → 1 ≤ s.number → connection_of world.controller s.number ≡ None → connection_of (take item world.controller).next s.number ≡ Some s → AreForOthers (target_in world item.source item.what) s (take item world.controller).outs
   item-begins item allowed least none there = by item.what refl where
     by : (what : What) → item.what ≡ what → AreForOthers (target_in world item.source item.what) s (take item world.controller).outs
-    by whats.Down is = subst (λ (x : What). AreForOthers (target_in world item.source x) s (take item world.controller).outs) (sym is) (all-without s (take item world.controller).outs)
+    by whats.Down is = subst (λ (x : What). AreForOthers (target_in world item.source x) s (take item world.controller).outs) (sym is) (all_without s (take item world.controller).outs)
     by (whats.Frame frame) is =
         let same : item ≡ record { source = item.source; what = whats.Frame frame } = ap (λ (x : What). record { source = item.source; what = x }) is in
         subst (λ (i : RelayItem). AreForOthers (target_in world i.source i.what) s (take i world.controller).outs) (sym same)

@@ -19,12 +19,12 @@ use Rattle.rsl_codec.specs.declared.rsl.Rsl.TheVariants as rsl
 use Rattle.world_laws.specs.Acknowledged.{messages_up, read_by, read_of}
 use Rattle.world_laws.specs.ComingUp.{brings_if, brings_in}
 use Rattle.world_laws.specs.OthersFrame.{IsHad}
-use Rattle.world_laws.proofs.Standing.{ConnectionsStand-new}
-use Rattle.world_laws.proofs.Access.Arriving.{serving-placed}
-use Rattle.world_laws.proofs.Access.Beginning.{bare-of}
+use Rattle.world_laws.proofs.Standing.{connections_stand_new}
+use Rattle.world_laws.proofs.Access.Arriving.{serving_placed}
+use Rattle.world_laws.proofs.Access.Beginning.{bare_of}
 use Rattle.controller_model.specs.LifeLaws.Acts.{MissesOf}
 use Rattle.world_laws.specs.LineUp.Places.{controls_of}
-use Rattle.world_laws.proofs.LineUp.Lines.{controls-first}
+use Rattle.world_laws.proofs.LineUp.Lines.{controls_first}
 use Rattle.world_model.proofs.OwnerItems.{IsKnown as IsKnownWhat}
 use Rattle.world_laws.specs.Acknowledged.{NoneReleases}
 use Rattle.world_laws.specs.ComingUp.{brings_by}
@@ -32,18 +32,18 @@ use Rattle.world_laws.specs.Lives.{AcksAgree}
 use Rattle.world_laws.specs.Access.Coming.{BeginsOnce, Comes, data_by, data_up}
 use Rattle.world_laws.specs.Access.Coming.BeginsOnce.{began, to_begin}
 use Rattle.world_laws.specs.Access.Coming.Comes.{arrived, asks}
-use Rattle.world_laws.proofs.Access.Silent.{FirstBrings, first-brings, releases-not}
+use Rattle.world_laws.proofs.Access.Silent.{FirstBrings, first_brings, releases_not}
 use Rattle.world_laws.proofs.Access.Upcoming.{data-none}
 use Rattle.world_laws.proofs.Access.Silent.FirstBrings.{brings_none, control, ends, opening, text}
 
-row-there : (b : Bool) (x : Row) → b ≡ true → row_if b x ≡ None → ⊥
-row-there true x is none = absurd cc
-row-there false x is none = absurd cc
+row_there : (b : Bool) (x : Row) → b ≡ true → row_if b x ≡ None → ⊥
+row_there true x is none = absurd cc
+row_there false x is none = absurd cc
 
 -- no DATA INDICATION brings one of radio resource management
-pub none-of-data : {m : ℕ} {w : Actors} {s : Connection} {p : Mobile} → Comes m w s p → controls_of (data_up w (place_of s.serving)) ≡ 0
-none-of-data {w = w} {s} (asks seat new none uncommanded) = ap controls_of (data-none w (place_of s.serving) none)
-none-of-data {w = w} {s} (arrived state seat lined begun) = by begun where
+pub none_of_data : {m : ℕ} {w : Actors} {s : Connection} {p : Mobile} → Comes m w s p → controls_of (data_up w (place_of s.serving)) ≡ 0
+none_of_data {w = w} {s} (asks seat new none uncommanded) = ap controls_of (data-none w (place_of s.serving) none)
+none_of_data {w = w} {s} (arrived state seat lined begun) = by begun where
   by : {p : Mobile} → BeginsOnce w p (place_of s.serving) → controls_of (data_up w (place_of s.serving)) ≡ 0
   by (to_begin opens none behind) = ap controls_of (data-none w (place_of s.serving) none)
   by (began opens few none) = omega (arith, none)
@@ -79,11 +79,11 @@ module _ (settings : Parameters) (done : List Event) (mobile : ℕ) (s : Connect
 
   no-opening : (l3 : List ℕ) → s.state ≡ WaitEstablish → MissesOf (inputs.EstablishIndication at Zero (Some l3)) (Some s) → ⊥
   unfolding row_of
-  no-opening l3 state misses = row-there (is_at at s.serving) (access (Some l3) s) here (subst (λ (x : State). on_establish_indication x s at Zero (Some l3) ≡ None) state misses.1)
+  no-opening l3 state misses = row_there (is_at at s.serving) (access (Some l3) s) here (subst (λ (x : State). on_establish_indication x s at Zero (Some l3) ≡ None) state misses.1)
 
   no-text : (l3 : List ℕ) → s.state ≡ WaitEstablish → MissesOf (inputs.Dtap at Zero l3) (Some s) → ⊥
   unfolding row_of
-  no-text l3 state misses = row-there (is_at at s.serving) (dropping s) here (subst (λ (x : State). on_dtap x s at Zero l3 ≡ None) state misses.1)
+  no-text l3 state misses = row_there (is_at at s.serving) (dropping s) here (subst (λ (x : State). on_dtap x s at Zero l3 ≡ None) state misses.1)
 
   no-control : (item : RelayItem) (items : List RelayItem) (frame : Frame) (l3 : List ℕ) (d : Data) → world.inbox ≡ item ∷ items → controls_of (data_up world at) ≡ 0 → is_control l3 ≡ true → item.what ≡ whats.Frame frame → rsl_in frame ≡ Some (rsl.DataIndication d) → item.source ≡ at.station
       → data_by at.number (rsl.DataIndication d) ≡ l3 ∷ [] → ⊥
@@ -95,7 +95,7 @@ module _ (settings : Parameters) (done : List Event) (mobile : ℕ) (s : Connect
       ap (λ (xs : List RelayItem). flat_map (data_by at.number) (flat_map (read_of at.station) xs ++ (base_of world at.station).messages)) stood
       ∙ ap (λ (xs : List Rsl). flat_map (data_by at.number) ((xs ++ flat_map (read_of at.station) items) ++ (base_of world at.station).messages)) reads_it
       ∙ ap (λ (xs : List (List ℕ)). xs ++ rest) brings_it in
-      let first : controls_of rest + 1 ≤ controls_of (l3 ∷ rest) = controls-first l3 rest control_is in
+      let first : controls_of rest + 1 ≤ controls_of (l3 ∷ rest) = controls_first l3 rest control_is in
       let all = ap controls_of up in
       absurd (omega (arith, none, first, all))
 
@@ -107,15 +107,15 @@ module _ (settings : Parameters) (done : List Event) (mobile : ℕ) (s : Connect
       let up : messages_up world at.station ≡ rsl.RfChannelReleaseAck at.number ∷ rest =
       ap (λ (xs : List RelayItem). flat_map (read_of at.station) xs ++ (base_of world at.station).messages) stood
       ∙ ap (λ (xs : List Rsl). (xs ++ flat_map (read_of at.station) items) ++ (base_of world at.station).messages) reads_it in
-      releases-not at.number rest (subst (λ (ms : List Rsl). NoneReleases (acknowledgements at.number ms)) up acks.others_go_on.0)
+      releases_not at.number rest (subst (λ (ms : List Rsl). NoneReleases (acknowledgements at.number ms)) up acks.others_go_on.0)
 
   pub ignored-silent : (item : RelayItem) (items : List RelayItem) → AreAllowed settings → IsHad world s → world.inbox ≡ item ∷ items → AcksAgree world s → s.state ≡ WaitEstablish → controls_of (data_up world at) ≡ 0 → FitsNone (brought_in world.controller s.number (Take item)) (Some s) → brings_in at item ≡ []
   ignored-silent item items allowed had stood acks state none fits_none = by item.what refl where
     placed : s.serving.station ≢ SWITCH_LINK
-    placed = serving-placed settings done s allowed had
+    placed = serving_placed settings done s allowed had
 
     draining : s.draining ≡ []
-    draining = (bare-of s state (ConnectionsStand-new settings done s.number s had.there)).draining
+    draining = (bare_of s state (connections_stand_new settings done s.number s had.there)).draining
 
     known : IsKnownItem item
     known = (subst (AllByRecursion IsKnownItem) stood (known-inbox settings done)).0
@@ -139,4 +139,4 @@ module _ (settings : Parameters) (done : List Event) (mobile : ℕ) (s : Connect
           ap (brings_by at item.source) what_is ∙ ap (λ (b : Bool). if b then brings_if at.number (rsl_in frame) else []) apart
       by_source false miss =
           let m = subst IsKnownWhat what_is (known.station (eqb-false item.source SWITCH_LINK miss)) in
-          by_first frame what_is (subst (λ (f : Frame). FirstBrings at item.source f (brings_by at item.source (whats.Frame f))) (sym m.1) (first-brings at item.source m.0 placed m.2))
+          by_first frame what_is (subst (λ (f : Frame). FirstBrings at item.source f (brings_by at item.source (whats.Frame f))) (sym m.1) (first_brings at item.source m.0 placed m.2))

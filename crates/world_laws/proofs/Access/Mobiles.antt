@@ -23,9 +23,9 @@ use Rattle.world_model.specs.Life.{event_after}
 use Rattle.world_model.specs.Mobiles.{acknowledged}
 use Rattle.world_model.specs.Stations.{assigned, assigned_from, assigned_to}
 use Rattle.world_model.proofs.Leads.{FromAir, OfTaken}
-use Rattle.world_laws.proofs.Access.Behind.{GivesNoMore, acked-gives, frame-gives, queue-gives}
+use Rattle.world_laws.proofs.Access.Behind.{GivesNoMore, acked_gives, frame_gives, queue_gives}
 use Rattle.world_laws.proofs.Access.Travels.{is_passing}
-use Rattle.world_laws.proofs.MobileEvents.{on-asks}
+use Rattle.world_laws.proofs.MobileEvents.{on_asks}
 
 -- ---- what becomes of one
 
@@ -65,12 +65,12 @@ pub data Goes (w : Actors) (event : Event) (v : Actors) (number : ℕ) (p q : Mo
 pub record AllGo (w : Actors) (event : Event) (v : Actors) : Type 0 where
   pub each : (number : ℕ) (p : Mobile) → mobile_of w number ≡ Some p → (q : Mobile) × (mobile_of v number ≡ Some q) × Goes w event v number p q
 
-pub all-same : (w : Actors) (event : Event) (v : Actors) → v.mobiles ≡ w.mobiles → AllGo w event v
-all-same w event v is = record { each = λ number p found. (p, ap (λ (ms : List Mobile). find (has_number number) ms) is ∙ found, same refl) }
+pub all_same : (w : Actors) (event : Event) (v : Actors) → v.mobiles ≡ w.mobiles → AllGo w event v
+all_same w event v is = record { each = λ number p found. (p, ap (λ (ms : List Mobile). find (has_number number) ms) is ∙ found, same refl) }
 
 -- one of them acts
-one-goes : (w u : Actors) (event : Event) (number : ℕ) (before q : Mobile) → mobile_of w number ≡ Some before → u.mobiles ≡ w.mobiles → q.number ≡ before.number → Goes w event (with_mobile q u) number before q → AllGo w event (with_mobile q u)
-one-goes w u event number before q acts is same_number goes = record { each = λ k p found. by k p found (nat_eq number k) refl } where
+one_goes : (w u : Actors) (event : Event) (number : ℕ) (before q : Mobile) → mobile_of w number ≡ Some before → u.mobiles ≡ w.mobiles → q.number ≡ before.number → Goes w event (with_mobile q u) number before q → AllGo w event (with_mobile q u)
+one_goes w u event number before q acts is same_number goes = record { each = λ k p found. by k p found (nat_eq number k) refl } where
   own_number : q.number ≡ number
   own_number = same_number ∙ found-number number w.mobiles before acts
 
@@ -87,42 +87,42 @@ one-goes w u event number before q acts is same_number goes = record { each = λ
 
 -- ---- each event
 
-not-asking : {one seat : Seat} → one ≡ seat → (seat ≡ Asking → ⊥) → one ≡ Asking → ⊥
-not-asking is other asks = other (sym is ∙ asks)
+not_asking : {one seat : Seat} → one ≡ seat → (seat ≡ Asking → ⊥) → one ≡ Asking → ⊥
+not_asking is other asks = other (sym is ∙ asks)
 
 -- a new one stands behind the others
-connect-goes : (w : Actors) (event : Event) (u : Actors) (new : Mobile) → u.mobiles ≡ w.mobiles ++ new ∷ [] → AllGo w event u
-connect-goes w event u new is = record {
+connect_goes : (w : Actors) (event : Event) (u : Actors) (new : Mobile) → u.mobiles ≡ w.mobiles ++ new ∷ [] → AllGo w event u
+connect_goes w event u new is = record {
   each = λ number p found. (p, ap (λ (ms : List Mobile). find (has_number number) ms) is ∙ found-front number p w.mobiles (new ∷ []) found, same refl);
 }
 
-can-send : (seat : Seat) → may_send seat ≡ true → seat ≡ Asking → ⊥
-can-send Asking may is = absurd cc
-can-send (On tenure command) may is = absurd cc
-can-send (Moving from command) may is = absurd cc
-can-send Gone may is = absurd cc
+can_send : (seat : Seat) → may_send seat ≡ true → seat ≡ Asking → ⊥
+can_send Asking may is = absurd cc
+can_send (On tenure command) may is = absurd cc
+can_send (Moving from command) may is = absurd cc
+can_send Gone may is = absurd cc
 
-acks-go : (w : Actors) (event : Event) (number : ℕ) (sapi : Sapi) (p : Mobile) → mobile_of w number ≡ Some p → OfTaken (AllGo w event) (acknowledged w sapi p p.seat)
+acks_go : (w : Actors) (event : Event) (number : ℕ) (sapi : Sapi) (p : Mobile) → mobile_of w number ≡ Some p → OfTaken (AllGo w event) (acknowledged w sapi p p.seat)
 unfolding OfTaken
-acks-go w event number sapi p found = by_seat p.seat refl where
+acks_go w event number sapi p found = by_seat p.seat refl where
   by_seat : (seat : Seat) → p.seat ≡ seat → OfTaken (AllGo w event) (acknowledged w sapi p seat)
   by_seat Asking is = tt
   by_seat (On tenure command) is = only_if-leads (AllGo w event) (is_reached w tenure && is_acknowledged p.end sapi) (with_mobile (record p { end = after_acked p.end sapi }) w)
-      (λ _. one-goes w w event number p (record p { end = after_acked p.end sapi }) found refl refl (stays refl refl (not-asking is on-asks) (acked-gives p.end sapi)))
+      (λ _. one_goes w w event number p (record p { end = after_acked p.end sapi }) found refl refl (stays refl refl (not_asking is on_asks) (acked_gives p.end sapi)))
   by_seat (Moving from command) is = tt
   by_seat Gone is = tt
 
-moves-where : (seat : Seat) {tenure : Tenure} {command : Command} → seat ≡ On tenure (Some command) → IsToMove seat
-moves-where seat is = subst IsToMove (sym is) tt
+moves_where : (seat : Seat) {tenure : Tenure} {command : Command} → seat ≡ On tenure (Some command) → IsToMove seat
+moves_where seat is = subst IsToMove (sym is) tt
 
-moving-where : (seat : Seat) {from : Tenure} {command : Command} → seat ≡ Moving from command → IsToMove seat
-moving-where seat is = subst IsToMove (sym is) tt
+moving_where : (seat : Seat) {from : Tenure} {command : Command} → seat ≡ Moving from command → IsToMove seat
+moving_where seat is = subst IsToMove (sym is) tt
 
 -- a station takes an entry
-takes-go : (w : Actors) (station : ℕ) (first : OutboxEntry) (others : List OutboxEntry) → is_station_up w station ≡ true → outbox_of w station ≡ first ∷ others
+takes_go : (w : Actors) (station : ℕ) (first : OutboxEntry) (others : List OutboxEntry) → is_station_up w station ≡ true → outbox_of w station ≡ first ∷ others
     → OfTaken (AllGo w (events.BaseTakes station)) (took station first.target (rsl_in first.out.frame) (with_outbox station others w))
 unfolding OfTaken
-takes-go w station first others up stood = by_message (rsl_in first.out.frame) refl where
+takes_go w station first others up stood = by_message (rsl_in first.out.frame) refl where
   event : Event
   event = events.BaseTakes station
 
@@ -130,7 +130,7 @@ takes-go w station first others up stood = by_message (rsl_in first.out.frame) r
   u = with_outbox station others w
 
   quiet : (v : Actors) → v.mobiles ≡ w.mobiles → AllGo w event v
-  quiet v is = all-same w event v is
+  quiet v is = all_same w event v is
 
   activating : (channel : ℕ) (o : Option LinkFault) → AllGo w event (activated_unless o (place_at station channel) u)
   activating channel None = quiet _ refl
@@ -145,7 +145,7 @@ takes-go w station first others up stood = by_message (rsl_in first.out.frame) r
   assigning command reads channel request advance says None found = quiet u refl
   assigning command reads channel request advance says (Some p) found = by_seat p.seat refl where
     by_seat : (seat : Seat) → p.seat ≡ seat → AllGo w event (assigned_from seat (tenure_at u (place_at station channel.channel.0)) p u)
-    by_seat Asking is = one-goes w u event (slice_index_or request 0 0) p (record p { seat = On (tenure_at u (place_at station channel.channel.0)) None }) found refl refl (comes (record {
+    by_seat Asking is = one_goes w u event (slice_index_or request 0 0) p (record p { seat = On (tenure_at u (place_at station channel.channel.0)) None }) found refl refl (comes (record {
       station = station;
       first = first;
       others = others;
@@ -184,26 +184,26 @@ takes-go w station first others up stood = by_message (rsl_in first.out.frame) r
   by_message (Some (rsl.RfChannelRelease channel)) is = quiet _ refl
   by_message (Some _) is = quiet u refl
 
-pub event-goes : (w : Actors) (event : Event) → is_passing event ≡ true → OfTaken (AllGo w event) (event_after w event)
+pub event_goes : (w : Actors) (event : Event) → is_passing event ≡ true → OfTaken (AllGo w event) (event_after w event)
 unfolding event_after FromAir
-event-goes w (events.Upper number sapi message) is = by_mobile-leads (AllGo w (events.Upper number sapi message)) w number (sent_by w sapi message) (λ p found.
+event_goes w (events.Upper number sapi message) is = by_mobile-leads (AllGo w (events.Upper number sapi message)) w number (sent_by w sapi message) (λ p found.
     only_if-leads (AllGo w (events.Upper number sapi message)) (may_send p.seat && is_none (refusal_of_send p.end sapi message)) (with_mobile (record p { end = after_queue p.end sapi message }) w)
-    (λ may. one-goes w w (events.Upper number sapi message) number p (record p { end = after_queue p.end sapi message }) found refl refl (stays refl refl (can-send p.seat (and-left (may_send p.seat) (is_none (refusal_of_send p.end sapi message)) may)) (queue-gives p.end sapi message (and-right (may_send p.seat) (is_none (refusal_of_send p.end sapi message)) may)))))
-event-goes w (events.Connect number station initial accepts) is = connect-leads (AllGo w _) w number station initial accepts (λ may. connect-goes w _ _ (connected w.modulus number initial accepts) refl)
-event-goes w (events.AirUp number Zero) is = absurd cc
-event-goes w (events.AirUp number Three) is = air_up-leads (AllGo w _) w number Three (λ p tenure command frame found seat lent reached. one-goes w _ _ number p (framed p Three) found refl refl (stays refl refl (not-asking seat on-asks) (frame-gives p.end)))
-event-goes w (events.AirAck number sapi) is = by_mobile-leads (AllGo w _) w number (λ p. acknowledged w sapi p p.seat) (λ p found. acks-go w (events.AirAck number sapi) number sapi p found)
-event-goes w (events.AirDown number) is = air_down-leads (AllGo w _) w number (λ p tenure command found seat reached first others air. one-goes w _ _ number p (hearing p first) found refl (hearing-number p first) (hears tenure command first others seat air refl))
-event-goes w (events.AirDownLost number) is = air_down_lost-leads (AllGo w _) w number (λ p tenure command found seat reached first others air. one-goes w _ _ number p p found refl refl (same refl))
-event-goes w (events.Move number) is = move-leads (AllGo w _) w number (λ p tenure command found seat reached. one-goes w _ _ number p (record p { end = after_leave p.end; seat = Moving tenure command; opens = false }) found refl refl (moves (moves-where p.seat seat) (inr refl)))
-event-goes w (events.Touch number) is = touch-leads (AllGo w _) w number (λ command reached. all-same w _ _ refl)
-event-goes w (events.Arrive number) is = arrive-leads (AllGo w _) w number (λ p from command found seat reached. one-goes w _ _ number p (record p { end = after_arrival p.end (complete command.change); seat = On command.target None }) found refl refl (moves (moving-where p.seat seat) (inl refl)))
-event-goes w (events.Return number) is = return-leads (AllGo w _) w number (λ p from command found seat reached. one-goes w _ _ number p (record p { end = after_arrival p.end (failure command.change); seat = On from None }) found refl refl (moves (moving-where p.seat seat) (inl refl)))
-event-goes w (events.BaseTakes station) is = base_takes-leads (AllGo w _) w station (λ first others up stood. takes-go w station first others up stood)
-event-goes w (events.BasePush source) is = push-leads (AllGo w _) w source (λ first others. all-same w _ _ refl) (λ message first. all-same w _ _ refl)
-event-goes w events.Handle is = absurd cc
-event-goes w events.SwitchTakes is = switch_takes-leads (AllGo w _) w (λ first others up stood. switch_took-leads (AllGo w _) (with_outbox SWITCH_LINK others w) (sccp_in first.out.frame) (all-same w _ _ refl) (λ next made. all-same w _ _ refl))
-event-goes w (events.SwitchDoes action) is = does-leads (AllGo w _) w action (λ next made. all-same w _ _ refl)
-event-goes w (events.Tick ms) is = absurd cc
-event-goes w (events.BaseDown source) is = broken-leads (AllGo w _) w source (λ up switch. all-same w _ _ refl) (λ up station. all-same w _ _ refl)
-event-goes w (events.Report number report) is = report-leads (AllGo w _) w number report (λ tenure reached. all-same w _ _ refl)
+    (λ may. one_goes w w (events.Upper number sapi message) number p (record p { end = after_queue p.end sapi message }) found refl refl (stays refl refl (can_send p.seat (and-left (may_send p.seat) (is_none (refusal_of_send p.end sapi message)) may)) (queue_gives p.end sapi message (and-right (may_send p.seat) (is_none (refusal_of_send p.end sapi message)) may)))))
+event_goes w (events.Connect number station initial accepts) is = connect-leads (AllGo w _) w number station initial accepts (λ may. connect_goes w _ _ (connected w.modulus number initial accepts) refl)
+event_goes w (events.AirUp number Zero) is = absurd cc
+event_goes w (events.AirUp number Three) is = air_up-leads (AllGo w _) w number Three (λ p tenure command frame found seat lent reached. one_goes w _ _ number p (framed p Three) found refl refl (stays refl refl (not_asking seat on_asks) (frame_gives p.end)))
+event_goes w (events.AirAck number sapi) is = by_mobile-leads (AllGo w _) w number (λ p. acknowledged w sapi p p.seat) (λ p found. acks_go w (events.AirAck number sapi) number sapi p found)
+event_goes w (events.AirDown number) is = air_down-leads (AllGo w _) w number (λ p tenure command found seat reached first others air. one_goes w _ _ number p (hearing p first) found refl (hearing-number p first) (hears tenure command first others seat air refl))
+event_goes w (events.AirDownLost number) is = air_down_lost-leads (AllGo w _) w number (λ p tenure command found seat reached first others air. one_goes w _ _ number p p found refl refl (same refl))
+event_goes w (events.Move number) is = move-leads (AllGo w _) w number (λ p tenure command found seat reached. one_goes w _ _ number p (record p { end = after_leave p.end; seat = Moving tenure command; opens = false }) found refl refl (moves (moves_where p.seat seat) (inr refl)))
+event_goes w (events.Touch number) is = touch-leads (AllGo w _) w number (λ command reached. all_same w _ _ refl)
+event_goes w (events.Arrive number) is = arrive-leads (AllGo w _) w number (λ p from command found seat reached. one_goes w _ _ number p (record p { end = after_arrival p.end (complete command.change); seat = On command.target None }) found refl refl (moves (moving_where p.seat seat) (inl refl)))
+event_goes w (events.Return number) is = return-leads (AllGo w _) w number (λ p from command found seat reached. one_goes w _ _ number p (record p { end = after_arrival p.end (failure command.change); seat = On from None }) found refl refl (moves (moving_where p.seat seat) (inl refl)))
+event_goes w (events.BaseTakes station) is = base_takes-leads (AllGo w _) w station (λ first others up stood. takes_go w station first others up stood)
+event_goes w (events.BasePush source) is = push-leads (AllGo w _) w source (λ first others. all_same w _ _ refl) (λ message first. all_same w _ _ refl)
+event_goes w events.Handle is = absurd cc
+event_goes w events.SwitchTakes is = switch_takes-leads (AllGo w _) w (λ first others up stood. switch_took-leads (AllGo w _) (with_outbox SWITCH_LINK others w) (sccp_in first.out.frame) (all_same w _ _ refl) (λ next made. all_same w _ _ refl))
+event_goes w (events.SwitchDoes action) is = does-leads (AllGo w _) w action (λ next made. all_same w _ _ refl)
+event_goes w (events.Tick ms) is = absurd cc
+event_goes w (events.BaseDown source) is = broken-leads (AllGo w _) w source (λ up switch. all_same w _ _ refl) (λ up station. all_same w _ _ refl)
+event_goes w (events.Report number report) is = report-leads (AllGo w _) w number report (λ tenure reached. all_same w _ _ refl)

@@ -19,16 +19,16 @@ use Rattle.world_laws.specs.ComingUp.{coming_up}
 use Rattle.world_laws.specs.Handled.{awaited_in}
 use Rattle.world_laws.specs.Lives.{HasOpened, initial_by, initials_up}
 use Rattle.world_laws.specs.Seated.{IsAlone, IsElsewhere}
-use Rattle.world_laws.proofs.Others.{turn-mobiles}
-use Rattle.world_laws.proofs.Standing.{ConnectionsStand-new}
-use Rattle.world_laws.proofs.Sublists.{Sub, sub-append, sub-behind, sub-flat_map, sub-itself, sub-nothing}
+use Rattle.world_laws.proofs.Others.{turn_mobiles}
+use Rattle.world_laws.proofs.Standing.{connections_stand_new}
+use Rattle.world_laws.proofs.Sublists.{Sub, sub_append, sub_behind, sub_flat_map, sub_itself, sub_nothing}
 use Rattle.world_laws.specs.Access.Opened.{OpenedStayOpened}
-use Rattle.world_laws.proofs.Access.Mobiles.{AllGo, Goes, all-same, event-goes}
+use Rattle.world_laws.proofs.Access.Mobiles.{AllGo, Goes, all_same, event_goes}
 use Rattle.world_laws.proofs.Access.Mobiles.Goes.{comes as gets, hears, moves, same, stays}
-use Rattle.world_laws.proofs.Access.Passes.{Passes, passes-itself}
+use Rattle.world_laws.proofs.Access.Passes.{Passes, passes_itself}
 use Rattle.world_laws.proofs.Access.RowChannels.{row-uses}
-use Rattle.world_laws.proofs.Access.Travels.{event-passes, is_passing}
-use Rattle.world_laws.proofs.Access.Upcoming.{initials-apart, initials-later, initials-none, initials-pass}
+use Rattle.world_laws.proofs.Access.Travels.{event_passes, is_passing}
+use Rattle.world_laws.proofs.Access.Upcoming.{initials_apart, initials_later, initials-none, initials_pass}
 use Rattle.world_laws.proofs.Handling.Finishing.{controller-is}
 
 -- ---- the mobile sent its initial message
@@ -38,13 +38,13 @@ record HasSent (v : Actors) (number : ℕ) : Type 0 where
   found : mobile_of v number ≡ Some one
   sent : one.opens ≡ false
 
-goes-sent : {w v : Actors} {event : Event} {number : ℕ} {p q : Mobile} → p.opens ≡ false → Goes w event v number p q → q.opens ≡ false
-goes-sent sent (same is) = ap (λ (x : Mobile). x.opens) is ∙ sent
-goes-sent sent (stays there opens other gives) = opens ∙ sent
-goes-sent {p = p} sent (hears tenure command first others there air is) = ap (λ (x : Mobile). x.opens) is ∙ (hearing-opens p first) ∙ sent
-goes-sent sent (moves to_move (inl opens)) = opens ∙ sent
-goes-sent sent (moves to_move (inr opens)) = opens
-goes-sent sent (gets a) = ap (λ (x : Mobile). x.opens) a.after ∙ sent
+goes_sent : {w v : Actors} {event : Event} {number : ℕ} {p q : Mobile} → p.opens ≡ false → Goes w event v number p q → q.opens ≡ false
+goes_sent sent (same is) = ap (λ (x : Mobile). x.opens) is ∙ sent
+goes_sent sent (stays there opens other gives) = opens ∙ sent
+goes_sent {p = p} sent (hears tenure command first others there air is) = ap (λ (x : Mobile). x.opens) is ∙ (hearing-opens p first) ∙ sent
+goes_sent sent (moves to_move (inl opens)) = opens ∙ sent
+goes_sent sent (moves to_move (inr opens)) = opens
+goes_sent sent (gets a) = ap (λ (x : Mobile). x.opens) a.after ∙ sent
 
 -- ---- after an event
 
@@ -59,11 +59,11 @@ NoneJoins w v = (at : Place) → at.station ≢ SWITCH_LINK → Sub (initials_up
 turned : (target : Option Tenure) (t : Turn) (u : Actors) (at : Place) → initials_up (with_turn target t u) at ≡ initials_up u at
 turned target t u at = turn-leads (λ v. initials_up v at ≡ initials_up u at) target t u (λ links. refl)
 
-behind-first : (w : Actors) (item : Item) (items : List Item) (at : Place) → w.inbox ≡ item ∷ items → Sub (initials_up (record w { inbox = items }) at) (initials_up w at)
-behind-first w item items at stood =
-    sub-flat_map (initial_by at.number) (sub-append
-    (subst (λ (xs : List Item). Sub (flat_map (read_of at.station) items) (flat_map (read_of at.station) xs)) (sym stood) (sub-behind (read_of at.station item) (flat_map (read_of at.station) items)))
-    (sub-itself (base_of w at.station).messages))
+behind_first : (w : Actors) (item : Item) (items : List Item) (at : Place) → w.inbox ≡ item ∷ items → Sub (initials_up (record w { inbox = items }) at) (initials_up w at)
+behind_first w item items at stood =
+    sub_flat_map (initial_by at.number) (sub_append
+    (subst (λ (xs : List Item). Sub (flat_map (read_of at.station) items) (flat_map (read_of at.station) xs)) (sym stood) (sub_behind (read_of at.station item) (flat_map (read_of at.station) items)))
+    (sub_itself (base_of w at.station).messages))
 
 module _ (settings : Parameters) (done : List Event) (mobile : ℕ) (s next : Connection) where
   abbrev world : Actors
@@ -100,18 +100,18 @@ module _ (settings : Parameters) (done : List Event) (mobile : ℕ) (s next : Co
       let lives : world.controller ≡ c = LivesByTable-new settings done in
       let acts : ActsOn s.number c st = life_acts settings (all_steps (new_actors settings) done) st s.number from_one in
       next-uses P s.number c.next_number _ _ acts.put (connection_of c s.number) (connection_of (step c st).next s.number) acts.acts
-      (ap (λ (d : Controller). connection_of d s.number) (sym lives) ∙ there) (ConnectionsStand-new settings done s.number s there)
+      (ap (λ (d : Controller). connection_of d s.number) (sym lives) ∙ there) (connections_stand_new settings done s.number s there)
       (ap (λ (d : Controller). connection_of (step d st).next s.number) (sym lives) ∙ ap (λ (d : Controller). connection_of d s.number) (sym leads) ∙ now) stays_open all new
 
   -- ---- at each event
 
   all-less : (v : Actors) (cs : List Channel) → NoneJoins world v → AllByRecursion (λ c. c.station ≢ SWITCH_LINK) cs → AllByRecursion (λ c. initials_up world (place_of c) ≡ []) cs → AllByRecursion (λ c. initials_up v (place_of c) ≡ []) cs
   all-less v [] less placed all = tt
-  all-less v (c ∷ cs) less placed all = (sub-nothing (subst (Sub (initials_up v (place_of c))) all.0 (less (place_of c) placed.0)), all-less v cs less placed.1 all.1)
+  all-less v (c ∷ cs) less placed all = (sub_nothing (subst (Sub (initials_up v (place_of c))) all.0 (less (place_of c) placed.0)), all-less v cs less placed.1 all.1)
 
   fewer : (v : Actors) (cs : List Channel) → NoneJoin world v cs → AllByRecursion (λ c. initials_up world (place_of c) ≡ []) cs → AllByRecursion (λ c. initials_up v (place_of c) ≡ []) cs
   fewer v [] less all = tt
-  fewer v (c ∷ cs) less all = (sub-nothing (subst (Sub (initials_up v (place_of c))) all.0 less.0), fewer v cs less.1 all.1)
+  fewer v (c ∷ cs) less all = (sub_nothing (subst (Sub (initials_up v (place_of c))) all.0 less.0), fewer v cs less.1 all.1)
 
   awaited-none : (v : Actors) (cs : List Channel) → AllByRecursion (λ c. messages_in (coming_up v (place_of c)) ≡ []) cs → AllByRecursion (λ c. initials_up v (place_of c) ≡ []) cs
   awaited-none v [] all = tt
@@ -129,11 +129,11 @@ module _ (settings : Parameters) (done : List Event) (mobile : ℕ) (s next : Co
 
     own : p.opens ≡ false → (cs : List Channel) → NoneJoin world v cs
     own is [] = tt
-    own is (c ∷ cs) = (initials-later world p tenure frame (place_of c) is, own is cs)
+    own is (c ∷ cs) = (initials_later world p tenure frame (place_of c) is, own is cs)
 
     elsewhere : (cs : List Channel) → IsElsewhere cs tenure.at → AllByRecursion (λ c. c.station ≢ SWITCH_LINK) cs → NoneJoin world v cs
     elsewhere [] apart placed = tt
-    elsewhere (c ∷ cs) apart placed = (initials-apart world p tenure frame c reached placed.0 apart.0, elsewhere cs apart.1 placed.1)
+    elsewhere (c ∷ cs) apart placed = (initials_apart world p tenure frame c reached placed.0 apart.0, elsewhere cs apart.1 placed.1)
 
     by : (b : Bool) → nat_eq number mobile ≡ b → NoneJoin world v (used_channels s) × HasSent v mobile
     by true hit =
@@ -164,12 +164,12 @@ module _ (settings : Parameters) (done : List Event) (mobile : ℕ) (s next : Co
       → HasSent (actors_after world event) mobile × AllByRecursion (λ c. initials_up (actors_after world event) (place_of c) ≡ []) (used_channels next)
   passing-opened event passing one found sent there now placed none =
       let v : Actors = actors_after world event in
-      let passes : Passes world v = after-taken (Passes world) (event_after world event) world (event-passes world event passing (good-all (new_actors settings) done (good-new settings))) (passes-itself world) in
-      let all : AllGo world event v = after-taken (AllGo world event) (event_after world event) world (event-goes world event passing) (all-same world event world refl) in
+      let passes : Passes world v = after-taken (Passes world) (event_after world event) world (event_passes world event passing (good-all (new_actors settings) done (good-new settings))) (passes_itself world) in
+      let all : AllGo world event v = after-taken (AllGo world event) (event_after world event) world (event_goes world event passing) (all_same world event world refl) in
       let each = all.each mobile one found in
       let is : s ≡ next = as-it-was v passes.controller there now in (
-        record { one = each.0; found = each.1; sent = goes-sent sent each.2 },
-        subst (λ (x : Connection). AllByRecursion (λ c. initials_up v (place_of c) ≡ []) (used_channels x)) is (all-less v (used_channels s) (λ at at_is. initials-pass at at_is passes) placed none),
+        record { one = each.0; found = each.1; sent = goes_sent sent each.2 },
+        subst (λ (x : Connection). AllByRecursion (λ c. initials_up v (place_of c) ≡ []) (used_channels x)) is (all-less v (used_channels s) (λ at at_is. initials_pass at at_is passes) placed none),
       )
 
   abbrev Opens : Actors → Type 0
@@ -206,19 +206,19 @@ module _ (settings : Parameters) (done : List Event) (mobile : ℕ) (s next : Co
       let target : Option Tenure = target_in world item.source item.what in
       let t : Turn = take item world.controller in
       let u : Actors = record world { inbox = items } in
-      turn-opened (Take item) (with_turn target t u) one found sent there from_one (turn-mobiles target t.outs (record u { controller = t.next })) (controller-is target t u)
-      (λ at at_is. subst (λ (xs : List (List ℕ)). Sub xs (initials_up world at)) (sym (turned target t u at)) (behind-first world item items at stood)) none placed new now stays_open)) still
+      turn-opened (Take item) (with_turn target t u) one found sent there from_one (turn_mobiles target t.outs (record u { controller = t.next })) (controller-is target t u)
+      (λ at at_is. subst (λ (xs : List (List ℕ)). Sub xs (initials_up world at)) (sym (turned target t u at)) (behind_first world item items at stood)) none placed new now stays_open)) still
 
   tick-opened : (ms : ℕ) (one : Mobile) → mobile_of world mobile ≡ Some one → one.opens ≡ false → connection_of world.controller s.number ≡ Some s → 1 ≤ s.number
       → AllByRecursion (λ c. initials_up world (place_of c) ≡ []) (used_channels s) → AllByRecursion (λ c. c.station ≢ SWITCH_LINK) (used_channels s) → Handles (actors_after world (events.Tick ms))
   unfolding event_after
   tick-opened ms one found sent there from_one none placed = λ new now stays_open.
       let t : Turn = tick ms world.controller in
-      turn-opened (Tick ms) (with_turn None t world) one found sent there from_one (turn-mobiles None t.outs (record world { controller = t.next })) (controller-is None t world)
-      (λ at at_is. subst (λ (xs : List (List ℕ)). Sub xs (initials_up world at)) (sym (turned None t world at)) (sub-itself (initials_up world at))) none placed new now stays_open
+      turn-opened (Tick ms) (with_turn None t world) one found sent there from_one (turn_mobiles None t.outs (record world { controller = t.next })) (controller-is None t world)
+      (λ at at_is. subst (λ (xs : List (List ℕ)). Sub xs (initials_up world at)) (sym (turned None t world at)) (sub_itself (initials_up world at))) none placed new now stays_open
 
-pub OpenedStayOpened-new : (settings : Parameters) (done : List Event) (event : Event) → OpenedStayOpened settings done event
-OpenedStayOpened-new settings done event mobile s next lives alone number had fresh lined = by event refl where
+pub opened_stay_opened_new : (settings : Parameters) (done : List Event) (event : Event) → OpenedStayOpened settings done event
+opened_stay_opened_new settings done event mobile s next lives alone number had fresh lined = by event refl where
   w : Actors
   w = actors_after_all (new_actors settings) done
 

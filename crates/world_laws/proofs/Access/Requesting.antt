@@ -8,7 +8,7 @@ use Rattle.world_laws.specs.LineUp.Alive.Stays.{remains}
 use Rattle.world_laws.specs.LineUp.Places.{Item, Tenure, controls_in, controls_of, flow, fresh, messages_in}
 use Rattle.world_laws.specs.LineUp.Places.Item.{brought}
 use Rattle.world_laws.specs.LineUp.Places.Seat.{on_serving}
-use Rattle.world_laws.proofs.LineUp.Following.{Follows-line}
+use Rattle.world_laws.proofs.LineUp.Following.{follows_line}
 use Rattle.world_laws.proofs.LineUp.Lines.{flow-cons}
 use Rattle.world_laws.specs.LineUps.{assembled}
 use Rattle.world_laws.proofs.OwnRow.{flow-twice}
@@ -17,13 +17,13 @@ abbrev pub of_items : List Item → Bool → Tenure
 of_items items lost = record { hold = []; items = items; is_lost = lost; is_done = false }
 
 -- nothing changes, and nothing of radio resource management is left behind the initial message
-stands-bare : {serving link : ℕ} → serving + link ≡ 0 → Stands false false 0 on_serving serving 0 0 link
-stands-bare left = rests remains (omega (arith, left))
+stands_bare : {serving link : ℕ} → serving + link ≡ 0 → Stands false false 0 on_serving serving 0 0 link
+stands_bare left = rests remains (omega (arith, left))
 
-pub requests-alive : {m : ℕ} (sent : List (List ℕ)) (link : DataLinkState) (initial : List ℕ) (items : List Item) (lost : Bool) → controls_in items + controls_of (to_be_taken link) ≡ 0
+pub requests_alive : {m : ℕ} (sent : List (List ℕ)) (link : DataLinkState) (initial : List ℕ) (items : List Item) (lost : Bool) → controls_in items + controls_of (to_be_taken link) ≡ 0
     → Alive m (assembled sent link on_serving WaitEstablish 0 [] (of_items (brought initial ∷ items) lost) fresh [] [])
     → Alive m (assembled sent link on_serving WaitConfirm 0 [] (of_items items lost) fresh (flow (initial ∷ [])) [])
-requests-alive {m} sent link initial items lost left alive = by lost alive where
+requests_alive {m} sent link initial items lost left alive = by lost alive where
   moves : (rest : List (List ℕ)) → flow (initial ∷ messages_in items) ++ rest ≡ flow (flow (initial ∷ [])) ++ (flow (messages_in items) ++ rest)
   moves rest = ap (λ (xs : List (List ℕ)). xs ++ rest) (flow-cons initial (messages_in items) ∙ ap (λ (xs : List (List ℕ)). xs ++ flow (messages_in items)) (sym (flow-twice (initial ∷ []))))
       ∙ append_assoc (flow (flow (initial ∷ []))) (flow (messages_in items)) rest
@@ -31,16 +31,16 @@ requests-alive {m} sent link initial items lost left alive = by lost alive where
   by : (b : Bool) → Alive m (assembled sent link on_serving WaitEstablish 0 [] (of_items (brought initial ∷ items) b) fresh [] [])
       → Alive m (assembled sent link on_serving WaitConfirm 0 [] (of_items items b) fresh (flow (initial ∷ [])) [])
   by true alive = record {
-    follows = Follows-line (moves []) alive.follows;
+    follows = follows_line (moves []) alive.follows;
     first = λ is. refl;
-    stands = stands-bare left;
+    stands = stands_bare left;
     condition = alive.condition;
     bare = refl;
   }
   by false alive = record {
-    follows = Follows-line (moves []) alive.follows;
+    follows = follows_line (moves []) alive.follows;
     first = λ is. refl;
-    stands = stands-bare left;
+    stands = stands_bare left;
     condition = alive.condition;
     bare = refl;
   }

@@ -11,7 +11,7 @@ use Rattle.conn_rules.specs.Roles.RoleStep.{goes_back as it_goes_back, leaves as
 use Rattle.conn_rules.specs.Table.{row_of}
 use Rattle.controller_model.specs.LifeLaws.Owning.{used_in}
 use Rattle.world_laws.specs.Handled.{awaited_in}
-use Rattle.world_laws.proofs.Framing.{all-left, all-right}
+use Rattle.world_laws.proofs.Framing.{all_left, all_right}
 
 module _ (P : Channel → Type 0) where
   -- ---- old channels
@@ -45,20 +45,20 @@ module _ (P : Channel → Type 0) where
 
   step-uses : (step : RoleStep) (roles : Roles) → AllByRecursion P (used_in roles) → AllByRecursion P (used_in (after_step step roles))
   step-uses it_stays roles all = all
-  step-uses it_commands roles all = by roles.target (all-left P (undone roles.draining) (roles.serving ∷ target_channels roles.target) all) (all-right P (undone roles.draining) (roles.serving ∷ target_channels roles.target) all) where
+  step-uses it_commands roles all = by roles.target (all_left P (undone roles.draining) (roles.serving ∷ target_channels roles.target) all) (all_right P (undone roles.draining) (roles.serving ∷ target_channels roles.target) all) where
     by : (o : Option TargetRole) → AllByRecursion P (undone roles.draining) → AllByRecursion P (roles.serving ∷ target_channels o) → AllByRecursion P (undone roles.draining ++ roles.serving ∷ target_channels (commanded o))
     by None old others = AllByRecursion-append P (undone roles.draining) (roles.serving ∷ []) old others
     by (Some t) old others = AllByRecursion-append P (undone roles.draining) (roles.serving ∷ t.target.channel ∷ []) old others
-  step-uses it_completes roles all = by roles.target (all-left P (undone roles.draining) (roles.serving ∷ target_channels roles.target) all) (all-right P (undone roles.draining) (roles.serving ∷ target_channels roles.target) all) all where
+  step-uses it_completes roles all = by roles.target (all_left P (undone roles.draining) (roles.serving ∷ target_channels roles.target) all) (all_right P (undone roles.draining) (roles.serving ∷ target_channels roles.target) all) all where
     by : (o : Option TargetRole) → AllByRecursion P (undone roles.draining) → AllByRecursion P (roles.serving ∷ target_channels o) → AllByRecursion P (used_in roles) → AllByRecursion P (used_in (completed o roles))
     by None old others all = all
     by (Some t) old others all = AllByRecursion-append P (undone (roles.draining ++ record { channel = roles.serving; is_done = false } ∷ [])) (t.target.channel ∷ []) (undone-more roles.draining roles.serving old others.0) (others.1.0, tt)
   step-uses it_goes_back roles all =
-      AllByRecursion-append P (undone roles.draining) (roles.serving ∷ []) (all-left P (undone roles.draining) (roles.serving ∷ target_channels roles.target) all) ((all-right P (undone roles.draining) (roles.serving ∷ target_channels roles.target) all).0, tt)
+      AllByRecursion-append P (undone roles.draining) (roles.serving ∷ []) (all_left P (undone roles.draining) (roles.serving ∷ target_channels roles.target) all) ((all_right P (undone roles.draining) (roles.serving ∷ target_channels roles.target) all).0, tt)
   step-uses (it_leaves place) roles all =
       AllByRecursion-append P (undone (still_draining (done_at place roles.draining))) (roles.serving ∷ target_channels roles.target)
-      (undone-still (done_at place roles.draining) (undone-done place roles.draining (all-left P (undone roles.draining) (roles.serving ∷ target_channels roles.target) all)))
-      (all-right P (undone roles.draining) (roles.serving ∷ target_channels roles.target) all)
+      (undone-still (done_at place roles.draining) (undone-done place roles.draining (all_left P (undone roles.draining) (roles.serving ∷ target_channels roles.target) all)))
+      (all_right P (undone roles.draining) (roles.serving ∷ target_channels roles.target) all)
 
   -- a change that begins
   awaited : (state : State) (t : Target) → target_role state ≡ Some (record { target = t; is_commanded = false }) → AllByRecursion P (awaited_in state) → P t.channel
@@ -76,8 +76,8 @@ module _ (P : Channel → Type 0) where
   begin-uses None old next is all new = subst (λ (r : Roles). AllByRecursion P (used_in r)) (sym is) all
   begin-uses (Some t) old next is all new =
       subst (λ (r : Roles). AllByRecursion P (used_in r)) (sym is)
-      (AllByRecursion-append P (undone old.draining) (old.serving ∷ t.channel ∷ []) (all-left P (undone old.draining) (old.serving ∷ target_channels old.target) all)
-      ((all-right P (undone old.draining) (old.serving ∷ target_channels old.target) all).0, (awaited next.state t (ap (λ (r : Roles). r.target) is) new, tt)))
+      (AllByRecursion-append P (undone old.draining) (old.serving ∷ t.channel ∷ []) (all_left P (undone old.draining) (old.serving ∷ target_channels old.target) all)
+      ((all_right P (undone old.draining) (old.serving ∷ target_channels old.target) all).0, (awaited next.state t (ap (λ (r : Roles). r.target) is) new, tt)))
 
   of-roles : (s : Connection) → AllByRecursion P (used_in (roles_of s)) → AllByRecursion P (used_channels s)
   of-roles s all = subst (λ (cs : List Channel). AllByRecursion P (undone s.draining ++ s.serving ∷ cs)) (target_in-role s.state) all

@@ -15,24 +15,24 @@ use Rattle.rsl_codec.specs.declared.channel_number.TheConstants.{PCH_AND_AGCH}
 use Rattle.world_model.specs.Relay.{entry_of}
 use Rattle.world_laws.specs.GoingDown.{going_down, leading_by, leading_from_outbox}
 use Rattle.world_laws.proofs.Others.{down-joined, entry-out}
-use Rattle.world_laws.proofs.OrderTexts.{assignment_apart, assignment_back, read-of}
+use Rattle.world_laws.proofs.OrderTexts.{assignment_apart, assignment_back, read_of}
 use Rattle.world_laws.specs.Access.Coming.{AreAssigned, Assigns, AssignsBy, AssignsIn}
 use Rattle.world_laws.specs.Access.Requested.{AssignsAnother, NamesAnother}
-use Rattle.world_laws.proofs.OrderNames.{assignment-read}
+use Rattle.world_laws.proofs.OrderNames.{assignment_read}
 
 -- ---- whose an output is
 
-pub none-own : (n : ℕ) (outs : List Out) → outs_for n outs ≡ [] → AllByRecursion (λ out. out.conn ≢ n) outs
-none-own n [] is = tt
-none-own n (o ∷ os) is = by (nat_eq o.conn n) refl is (none-own n os) where
+pub none_own : (n : ℕ) (outs : List Out) → outs_for n outs ≡ [] → AllByRecursion (λ out. out.conn ≢ n) outs
+none_own n [] is = tt
+none_own n (o ∷ os) is = by (nat_eq o.conn n) refl is (none_own n os) where
   by : (b : Bool) → nat_eq o.conn n ≡ b → cond b (o ∷ outs_for n os) (outs_for n os) ≡ [] → (outs_for n os ≡ [] → AllByRecursion (λ out. out.conn ≢ n) os) → (o.conn ≢ n) × AllByRecursion (λ out. out.conn ≢ n) os
   by true hit is others = absurd cc
   by false miss is others = (eqb-false o.conn n miss, others is)
 
 -- those of this number are of what was put for it
-pub own-among : (P : Message → Type 0) (n : ℕ) (outs : List Out) (put : List Message) → outs_for n outs ≡ outs_of n put → AllByRecursion P put → AllByRecursion (λ out. out.conn ≡ n → (x : Message) × (out ≡ out_of n x) × P x) outs
-own-among P n [] put is all = tt
-own-among P n (o ∷ os) put is all = by (nat_eq o.conn n) refl is (own-among P n os) where
+pub own_among : (P : Message → Type 0) (n : ℕ) (outs : List Out) (put : List Message) → outs_for n outs ≡ outs_of n put → AllByRecursion P put → AllByRecursion (λ out. out.conn ≡ n → (x : Message) × (out ≡ out_of n x) × P x) outs
+own_among P n [] put is all = tt
+own_among P n (o ∷ os) put is all = by (nat_eq o.conn n) refl is (own_among P n os) where
   Own : Out → Type 0
   Own out = out.conn ≡ n → (x : Message) × (out ≡ out_of n x) × P x
 
@@ -45,18 +45,18 @@ own-among P n (o ∷ os) put is all = by (nat_eq o.conn n) refl is (own-among P 
   by false miss is others = (λ same. absurd (eqb-false o.conn n miss same), others put is all)
 
 -- what holds of others' outputs and of its own holds of all
-pub of-all : (P Q : Out → Type 0) (n : ℕ) (outs : List Out) → ((out : Out) → P out → Q out) → AllByRecursion (λ out. out.conn ≢ n → P out) outs → AllByRecursion (λ out. out.conn ≡ n → Q out) outs → AllByRecursion Q outs
-of-all P Q n [] others all own = tt
-of-all P Q n (o ∷ os) others all own = (by (nat_eq o.conn n) refl, of-all P Q n os others all.1 own.1) where
+pub of_all : (P Q : Out → Type 0) (n : ℕ) (outs : List Out) → ((out : Out) → P out → Q out) → AllByRecursion (λ out. out.conn ≢ n → P out) outs → AllByRecursion (λ out. out.conn ≡ n → Q out) outs → AllByRecursion Q outs
+of_all P Q n [] others all own = tt
+of_all P Q n (o ∷ os) others all own = (by (nat_eq o.conn n) refl, of_all P Q n os others all.1 own.1) where
   by : (b : Bool) → nat_eq o.conn n ≡ b → Q o
   by true hit = own.0 (eqb-true o.conn n hit)
   by false miss = others o (all.0 (eqb-false o.conn n miss))
 
 -- ---- what joins the outboxes
 
-pub all-down : (target : Option Tenure) (c : Channel) (outs : List Out) (u : Actors) → AllByRecursion (λ out. out.to ≡ c.station → leading_from_outbox c.number (entry_of target out) ≡ []) outs → going_down (fold (joined_by target) u outs) (place_of c) ≡ going_down u (place_of c)
-all-down target c [] u all = refl
-all-down target c (out ∷ outs) u all = all-down target c outs (joined_by target u out) all.1 ∙ by (is_up u out.to) where
+pub all_down : (target : Option Tenure) (c : Channel) (outs : List Out) (u : Actors) → AllByRecursion (λ out. out.to ≡ c.station → leading_from_outbox c.number (entry_of target out) ≡ []) outs → going_down (fold (joined_by target) u outs) (place_of c) ≡ going_down u (place_of c)
+all_down target c [] u all = refl
+all_down target c (out ∷ outs) u all = all_down target c outs (joined_by target u out) all.1 ∙ by (is_up u out.to) where
   by : (b : Bool) → going_down (if b then with_outbox out.to (outbox_of u out.to ++ entry_of target out ∷ []) u else u) (place_of c) ≡ going_down u (place_of c)
   by true = down-joined u target out c all.0
   by false = refl
@@ -69,8 +69,8 @@ linked mobile next target n (out ∷ outs) all = by (nat_eq (entry_of target out
   by true hit others =
       (subst (λ (o : Out). AssignsBy mobile next n (rsl_in o.frame)) (sym (entry-out target out)) (subst (λ (k : ℕ). AssignsBy mobile next k (rsl_in out.frame)) (ap (λ (o : Out). o.to) (sym (entry-out target out)) ∙ eqb-true (entry_of target out).out.to n hit) all.0), others)
 
-pub assigned-turn : (mobile : ℕ) (next : Connection) (target : Option Tenure) (outs : List Out) (u : Actors) → AreAssigned u mobile next → AllByRecursion (λ out. AssignsBy mobile next out.to (rsl_in out.frame)) outs → AreAssigned (fold (joined_by target) u outs) mobile next
-assigned-turn mobile next target outs u assigned all station =
+pub assigned_turn : (mobile : ℕ) (next : Connection) (target : Option Tenure) (outs : List Out) (u : Actors) → AreAssigned u mobile next → AllByRecursion (λ out. AssignsBy mobile next out.to (rsl_in out.frame)) outs → AreAssigned (fold (joined_by target) u outs) mobile next
+assigned_turn mobile next target outs u assigned all station =
     subst (AllByRecursion (AssignsIn mobile next station)) (sym (all_join station target outs u).outbox)
     (AllByRecursion-append (AssignsIn mobile next station) (outbox_of u station) (if is_up u station then to_link station (map (entry_of target) outs) else []) (assigned station) (by (is_up u station))) where
       by : (b : Bool) → AllByRecursion (AssignsIn mobile next station) (if b then to_link station (map (entry_of target) outs) else [])
@@ -79,15 +79,15 @@ assigned-turn mobile next target outs u assigned all station =
 
 -- ---- IMMEDIATE ASSIGNMENTs
 
-pub another-names : (mobile : ℕ) (next : Connection) (station : ℕ) (r : Result RrMessage RrFault) → NamesAnother mobile r → Assigns mobile next station r
-another-names mobile next station (Ok (ImmediateAssignment channel request advance)) names = λ same. absurd (names same)
-another-names mobile next station (Ok _) names = tt
-another-names mobile next station (Err fault) names = tt
+pub another_names : (mobile : ℕ) (next : Connection) (station : ℕ) (r : Result RrMessage RrFault) → NamesAnother mobile r → Assigns mobile next station r
+another_names mobile next station (Ok (ImmediateAssignment channel request advance)) names = λ same. absurd (names same)
+another_names mobile next station (Ok _) names = tt
+another_names mobile next station (Err fault) names = tt
 
-pub another-assigns : (mobile : ℕ) (next : Connection) (station : ℕ) (o : Option Rsl) → AssignsAnother mobile o → AssignsBy mobile next station o
-another-assigns mobile next station (Some (rsl.ImmediateAssignCommand i)) names = another-names mobile next station (rr_reading i.information) names
-another-assigns mobile next station None names = tt
-another-assigns mobile next station (Some _) names = tt
+pub another_assigns : (mobile : ℕ) (next : Connection) (station : ℕ) (o : Option Rsl) → AssignsAnother mobile o → AssignsBy mobile next station o
+another_assigns mobile next station (Some (rsl.ImmediateAssignCommand i)) names = another_names mobile next station (rr_reading i.information) names
+another_assigns mobile next station None names = tt
+another_assigns mobile next station (Some _) names = tt
 
 -- the connection's own
 abbrev pub command_of : Channel → RequestReference → ℕ → Assignment
@@ -99,38 +99,38 @@ pub record AssignsOwn (n : ℕ) (c : Channel) (request : RequestReference) (dela
   pub reads : rsl_in (out_of n (immediate_assign_command c request delay)).frame ≡ Some as_read
   pub text : rsl_text (rsl.ImmediateAssignCommand (command_of c request delay)) ≡ rsl_text as_read
 
-pub assigns-own : (n : ℕ) (c : Channel) (request : RequestReference) (delay : ℕ) → IsSent (out_of n (immediate_assign_command c request delay)) → AssignsOwn n c request delay
+pub assigns_own : (n : ℕ) (c : Channel) (request : RequestReference) (delay : ℕ) → IsSent (out_of n (immediate_assign_command c request delay)) → AssignsOwn n c request delay
 unfolding out_of
-assigns-own n c request delay sent = let read = read-of n c.station (rsl.ImmediateAssignCommand (command_of c request delay)) sent in record { as_read = read.0; reads = ap result_ok read.1.reading; text = read.1.text }
+assigns_own n c request delay sent = let read = read_of n c.station (rsl.ImmediateAssignCommand (command_of c request delay)) sent in record { as_read = read.0; reads = ap result_ok read.1.reading; text = read.1.text }
 
-pub own-leads : (i : Assignment) (channel : ℕ) (target : Option Tenure) (y : Rsl) → rsl_text (rsl.ImmediateAssignCommand i) ≡ rsl_text y → leading_by channel target (Some y) ≡ []
-own-leads i channel target (rsl.DataRequest d) text = absurd (assignment_apart i d text)
-own-leads i channel target _ text = refl
+pub own_leads : (i : Assignment) (channel : ℕ) (target : Option Tenure) (y : Rsl) → rsl_text (rsl.ImmediateAssignCommand i) ≡ rsl_text y → leading_by channel target (Some y) ≡ []
+own_leads i channel target (rsl.DataRequest d) text = absurd (assignment_apart i d text)
+own_leads i channel target _ text = refl
 
 information_in : Rsl → List ℕ
 information_in (rsl.ImmediateAssignCommand i) = i.information
 information_in _ = []
 
 -- it is of this channel
-names-own : (mobile : ℕ) (next : Connection) (c : Channel) (request : RequestReference) (delay : ℕ) (information : List ℕ) → information ≡ rr_text (immediate_assignment c request delay) → ((number : ℕ) → number ≡ c.number → (place_at c.station number ≡ place_of next.serving) × (next.state ≡ WaitEstablish)) → Assigns mobile next c.station (rr_reading information)
-names-own mobile next c request delay information is all =
-    let read = assignment-read c request delay in
+names_own : (mobile : ℕ) (next : Connection) (c : Channel) (request : RequestReference) (delay : ℕ) (information : List ℕ) → information ≡ rr_text (immediate_assignment c request delay) → ((number : ℕ) → number ≡ c.number → (place_at c.station number ≡ place_of next.serving) × (next.state ≡ WaitEstablish)) → Assigns mobile next c.station (rr_reading information)
+names_own mobile next c request delay information is all =
+    let read = assignment_read c request delay in
     subst (Assigns mobile next c.station) (sym (ap rr_reading is ∙ read.reads)) (λ same. all read.channel.channel.0 read.number)
 
-pub own-assigns : (mobile : ℕ) (next : Connection) (c : Channel) (request : RequestReference) (delay : ℕ) (y : Rsl) → rsl_text (rsl.ImmediateAssignCommand (command_of c request delay)) ≡ rsl_text y
+pub own_assigns : (mobile : ℕ) (next : Connection) (c : Channel) (request : RequestReference) (delay : ℕ) (y : Rsl) → rsl_text (rsl.ImmediateAssignCommand (command_of c request delay)) ≡ rsl_text y
     → ((number : ℕ) → number ≡ c.number → (place_at c.station number ≡ place_of next.serving) × (next.state ≡ WaitEstablish)) → AssignsBy mobile next c.station (Some y)
 unfolding information_in
-own-assigns mobile next c request delay (rsl.ImmediateAssignCommand j) text all =
+own_assigns mobile next c request delay (rsl.ImmediateAssignCommand j) text all =
     let back = assignment_back (rsl.ImmediateAssignCommand (command_of c request delay)) j text in
     let same : (command_of c request delay).information ≡ back.0.information = ap information_in back.1 in
-    names-own mobile next c request delay j.information (sym back.2 ∙ sym same) all
-own-assigns mobile next c request delay _ text all = tt
+    names_own mobile next c request delay j.information (sym back.2 ∙ sym same) all
+own_assigns mobile next c request delay _ text all = tt
 
 -- ---- the messages that are forwarded
 
-pub all-zero : (fs : List Forwarded) → messages_on Three fs ≡ [] → map (λ f. f.message) fs ≡ messages_on Zero fs
-all-zero [] none = refl
-all-zero (f ∷ fs) none = by f.sapi none (all-zero fs) where
+pub all_zero : (fs : List Forwarded) → messages_on Three fs ≡ [] → map (λ f. f.message) fs ≡ messages_on Zero fs
+all_zero [] none = refl
+all_zero (f ∷ fs) none = by f.sapi none (all_zero fs) where
   by : (sapi : Sapi) → (if is_same_sapi Three sapi then f.message ∷ [] else []) ++ messages_on Three fs ≡ [] → (messages_on Three fs ≡ [] → map (λ f. f.message) fs ≡ messages_on Zero fs)
       → f.message ∷ map (λ f. f.message) fs ≡ (if is_same_sapi Zero sapi then f.message ∷ [] else []) ++ messages_on Zero fs
   by Zero none others = ap (λ (ms : List (List ℕ)). f.message ∷ ms) (others none)

@@ -13,9 +13,9 @@ use Rattle.world_model.specs.World.{Station}
 use Rattle.world_laws.specs.Acknowledged.{messages_up, read_of}
 use Rattle.world_laws.specs.ComingUp.{brings, coming_up, of_establishment, of_main}
 use Rattle.world_laws.specs.Lives.{initial_by, initials_up}
-use Rattle.world_laws.proofs.Sublists.{Sub, set-related, sub-append, sub-flat_map, sub-front, sub-itself, sub-length, sub-none, sub-nothing}
+use Rattle.world_laws.proofs.Sublists.{Sub, set_related, sub_append, sub_flat_map, sub_front, sub_itself, sub_length, sub_none, sub_nothing}
 use Rattle.world_laws.specs.Access.Coming.{data_by, data_up}
-use Rattle.world_laws.proofs.Access.Behind.{controls-sub}
+use Rattle.world_laws.proofs.Access.Behind.{controls_sub}
 use Rattle.world_laws.proofs.Access.Passes.{IsPlain, Passes}
 use Rattle.world_laws.proofs.Acknowledged.{coming-read}
 
@@ -26,28 +26,28 @@ use Rattle.world_laws.proofs.Acknowledged.{coming-read}
 abbrev pub messages_by : ℕ → Rsl → List (List ℕ)
 messages_by channel m = messages_in (brings channel m)
 
-all-messages : (channel : ℕ) (ms : List Rsl) → messages_in (flat_map (brings channel) ms) ≡ flat_map (messages_by channel) ms
-all-messages channel [] = refl
-all-messages channel (m ∷ ms) = messages_in-append (brings channel m) (flat_map (brings channel) ms) ∙ ap (λ (xs : List (List ℕ)). messages_in (brings channel m) ++ xs) (all-messages channel ms)
+all_messages : (channel : ℕ) (ms : List Rsl) → messages_in (flat_map (brings channel) ms) ≡ flat_map (messages_by channel) ms
+all_messages channel [] = refl
+all_messages channel (m ∷ ms) = messages_in-append (brings channel m) (flat_map (brings channel) ms) ∙ ap (λ (xs : List (List ℕ)). messages_in (brings channel m) ++ xs) (all_messages channel ms)
 
 pub messages-read : (w : Actors) (at : Place) → messages_in (coming_up w at) ≡ flat_map (messages_by at.number) (messages_up w at.station)
-messages-read w at = ap messages_in (coming-read w at) ∙ all-messages at.number (messages_up w at.station)
+messages-read w at = ap messages_in (coming-read w at) ∙ all_messages at.number (messages_up w at.station)
 
 -- an initial message is one of them
-initial-or : (channel : ℕ) (m : Rsl) → Sub (initial_by channel m) (messages_by channel m)
-initial-or channel (rsl.EstablishIndication e) = by (e.channel == channel) where
+initial_or : (channel : ℕ) (m : Rsl) → Sub (initial_by channel m) (messages_by channel m)
+initial_or channel (rsl.EstablishIndication e) = by (e.channel == channel) where
   by : (b : Bool) → Sub (if b then messages_in (of_establishment (sapi_of e.link) e.l3) else []) (messages_in (if b then of_establishment (sapi_of e.link) e.l3 else []))
-  by true = sub-itself (messages_in (of_establishment (sapi_of e.link) e.l3))
-  by false = sub-none []
-initial-or channel m = sub-none (messages_by channel m)
+  by true = sub_itself (messages_in (of_establishment (sapi_of e.link) e.l3))
+  by false = sub_none []
+initial_or channel m = sub_none (messages_by channel m)
 
 -- and what a DATA INDICATION brings is one
-data-or : (channel : ℕ) (m : Rsl) → Sub (data_by channel m) (messages_by channel m)
-data-or channel (rsl.DataIndication d) = by (d.channel == channel) where
+data_or : (channel : ℕ) (m : Rsl) → Sub (data_by channel m) (messages_by channel m)
+data_or channel (rsl.DataIndication d) = by (d.channel == channel) where
   by : (b : Bool) → Sub (if b then messages_in (of_main (sapi_of d.link) d.l3) else []) (messages_in (if b then of_main (sapi_of d.link) d.l3 else []))
-  by true = sub-itself (messages_in (of_main (sapi_of d.link) d.l3))
-  by false = sub-none []
-data-or channel m = sub-none (messages_by channel m)
+  by true = sub_itself (messages_in (of_main (sapi_of d.link) d.l3))
+  by false = sub_none []
+data_or channel m = sub_none (messages_by channel m)
 
 -- some of what each message brings
 abbrev IsPart : (ℕ → Rsl → List (List ℕ)) → Type 0
@@ -56,18 +56,18 @@ IsPart f = (channel : ℕ) (m : Rsl) → Sub (f channel m) (messages_by channel 
 abbrev part_up : (ℕ → Rsl → List (List ℕ)) → Actors → Place → List (List ℕ)
 part_up f w at = flat_map (f at.number) (messages_up w at.station)
 
-all-part : (f : ℕ → Rsl → List (List ℕ)) → IsPart f → (channel : ℕ) (ms : List Rsl) → Sub (flat_map (f channel) ms) (flat_map (messages_by channel) ms)
-all-part f part channel [] = sub-none []
-all-part f part channel (m ∷ ms) = sub-append (part channel m) (all-part f part channel ms)
+all_part : (f : ℕ → Rsl → List (List ℕ)) → IsPart f → (channel : ℕ) (ms : List Rsl) → Sub (flat_map (f channel) ms) (flat_map (messages_by channel) ms)
+all_part f part channel [] = sub_none []
+all_part f part channel (m ∷ ms) = sub_append (part channel m) (all_part f part channel ms)
 
 part-none : (f : ℕ → Rsl → List (List ℕ)) → IsPart f → (w : Actors) (at : Place) → messages_in (coming_up w at) ≡ [] → part_up f w at ≡ []
-part-none f part w at none = sub-nothing (subst (Sub (part_up f w at)) (sym (messages-read w at) ∙ none) (all-part f part at.number (messages_up w at.station)))
+part-none f part w at none = sub_nothing (subst (Sub (part_up f w at)) (sym (messages-read w at) ∙ none) (all_part f part at.number (messages_up w at.station)))
 
 pub initials-none : (w : Actors) (at : Place) → messages_in (coming_up w at) ≡ [] → initials_up w at ≡ []
-initials-none w at none = part-none initial_by initial-or w at none
+initials-none w at none = part-none initial_by initial_or w at none
 
 pub data-none : (w : Actors) (at : Place) → messages_in (coming_up w at) ≡ [] → data_up w at ≡ []
-data-none w at none = part-none data_by data-or w at none
+data-none w at none = part-none data_by data_or w at none
 
 -- ---- those of radio resource management
 
@@ -102,36 +102,36 @@ controls-up w at = ap controls_of (messages-read w at) ∙ controls-of-all at.nu
 
 -- ---- where something passes
 
-none-plain : (channel : ℕ) (ms : List Rsl) → AllByRecursion IsPlain ms → flat_map (messages_by channel) ms ≡ []
-none-plain channel [] all = refl
-none-plain channel (m ∷ ms) all = ap (λ (xs : List (List ℕ)). xs ++ flat_map (messages_by channel) ms) (all.0 channel) ∙ none-plain channel ms all.1
+none_plain : (channel : ℕ) (ms : List Rsl) → AllByRecursion IsPlain ms → flat_map (messages_by channel) ms ≡ []
+none_plain channel [] all = refl
+none_plain channel (m ∷ ms) all = ap (λ (xs : List (List ℕ)). xs ++ flat_map (messages_by channel) ms) (all.0 channel) ∙ none_plain channel ms all.1
 
-pub messages-pass : {w v : Actors} (at : Place) → at.station ≢ SWITCH_LINK → Passes w v → Sub (messages_in (coming_up v at)) (messages_in (coming_up w at))
-messages-pass {w} {v} at is passes =
+pub messages_pass : {w v : Actors} (at : Place) → at.station ≢ SWITCH_LINK → Passes w v → Sub (messages_in (coming_up v at)) (messages_in (coming_up w at))
+messages_pass {w} {v} at is passes =
     let a = passes.ups at.station is in
     subst (λ (xs : List (List ℕ)). Sub xs (messages_in (coming_up w at))) (sym (messages-read v at))
     (subst (Sub (flat_map (messages_by at.number) (messages_up v at.station)))
-    (flat_map-append (messages_by at.number) (messages_up w at.station) a.0 ∙ ap (λ (xs : List (List ℕ)). flat_map (messages_by at.number) (messages_up w at.station) ++ xs) (none-plain at.number a.0 a.1) ∙ append-nil (flat_map (messages_by at.number) (messages_up w at.station)) ∙ sym (messages-read w at))
-    (sub-flat_map (messages_by at.number) a.2))
+    (flat_map-append (messages_by at.number) (messages_up w at.station) a.0 ∙ ap (λ (xs : List (List ℕ)). flat_map (messages_by at.number) (messages_up w at.station) ++ xs) (none_plain at.number a.0 a.1) ∙ append-nil (flat_map (messages_by at.number) (messages_up w at.station)) ∙ sym (messages-read w at))
+    (sub_flat_map (messages_by at.number) a.2))
 
-pub none-passes : {w v : Actors} (at : Place) → at.station ≢ SWITCH_LINK → Passes w v → messages_in (coming_up w at) ≡ [] → messages_in (coming_up v at) ≡ []
-none-passes {w} {v} at is passes none = sub-nothing (subst (Sub (messages_in (coming_up v at))) none (messages-pass at is passes))
+pub none_passes : {w v : Actors} (at : Place) → at.station ≢ SWITCH_LINK → Passes w v → messages_in (coming_up w at) ≡ [] → messages_in (coming_up v at) ≡ []
+none_passes {w} {v} at is passes none = sub_nothing (subst (Sub (messages_in (coming_up v at))) none (messages_pass at is passes))
 
-plain-part : (f : ℕ → Rsl → List (List ℕ)) → IsPart f → (channel : ℕ) (ms : List Rsl) → AllByRecursion IsPlain ms → flat_map (f channel) ms ≡ []
-plain-part f part channel ms all = sub-nothing (subst (Sub (flat_map (f channel) ms)) (none-plain channel ms all) (all-part f part channel ms))
+plain_part : (f : ℕ → Rsl → List (List ℕ)) → IsPart f → (channel : ℕ) (ms : List Rsl) → AllByRecursion IsPlain ms → flat_map (f channel) ms ≡ []
+plain_part f part channel ms all = sub_nothing (subst (Sub (flat_map (f channel) ms)) (none_plain channel ms all) (all_part f part channel ms))
 
-part-pass : (f : ℕ → Rsl → List (List ℕ)) → IsPart f → {w v : Actors} (at : Place) → at.station ≢ SWITCH_LINK → Passes w v → Sub (part_up f v at) (part_up f w at)
-part-pass f part {w} {v} at is passes =
+part_pass : (f : ℕ → Rsl → List (List ℕ)) → IsPart f → {w v : Actors} (at : Place) → at.station ≢ SWITCH_LINK → Passes w v → Sub (part_up f v at) (part_up f w at)
+part_pass f part {w} {v} at is passes =
     let a = passes.ups at.station is in
     subst (Sub (part_up f v at))
-    (flat_map-append (f at.number) (messages_up w at.station) a.0 ∙ ap (λ (xs : List (List ℕ)). part_up f w at ++ xs) (plain-part f part at.number a.0 a.1) ∙ append-nil (part_up f w at))
-    (sub-flat_map (f at.number) a.2)
+    (flat_map-append (f at.number) (messages_up w at.station) a.0 ∙ ap (λ (xs : List (List ℕ)). part_up f w at ++ xs) (plain_part f part at.number a.0 a.1) ∙ append-nil (part_up f w at))
+    (sub_flat_map (f at.number) a.2)
 
-pub initials-pass : {w v : Actors} (at : Place) → at.station ≢ SWITCH_LINK → Passes w v → Sub (initials_up v at) (initials_up w at)
-initials-pass at is passes = part-pass initial_by initial-or at is passes
+pub initials_pass : {w v : Actors} (at : Place) → at.station ≢ SWITCH_LINK → Passes w v → Sub (initials_up v at) (initials_up w at)
+initials_pass at is passes = part_pass initial_by initial_or at is passes
 
-pub data-pass : {w v : Actors} (at : Place) → at.station ≢ SWITCH_LINK → Passes w v → Sub (data_up v at) (data_up w at)
-data-pass at is passes = part-pass data_by data-or at is passes
+pub data_pass : {w v : Actors} (at : Place) → at.station ≢ SWITCH_LINK → Passes w v → Sub (data_up v at) (data_up w at)
+data_pass at is passes = part_pass data_by data_or at is passes
 
 -- ---- a frame of SAPI 0
 
@@ -139,16 +139,16 @@ data-pass at is passes = part-pass data_by data-or at is passes
 abbrev pub told_of : Mobile → ℕ → List ℕ → Rsl
 told_of p channel frame = if p.opens then establish_indication channel Zero (Some frame) else data_indication channel Zero frame
 
-told-base : (base : BaseState) (channel : ℕ) (frame : List ℕ) (b : Bool) → (signalling_brought base channel b frame).messages ≡ base.messages ++ (if b then establish_indication channel Zero (Some frame) else data_indication channel Zero frame) ∷ []
-told-base base channel frame true = refl
-told-base base channel frame false = refl
+told_base : (base : BaseState) (channel : ℕ) (frame : List ℕ) (b : Bool) → (signalling_brought base channel b frame).messages ≡ base.messages ++ (if b then establish_indication channel Zero (Some frame) else data_indication channel Zero frame) ∷ []
+told_base base channel frame true = refl
+told_base base channel frame false = refl
 
-sent-ups : (w : Actors) (p : Mobile) (tenure : Tenure) (frame : List ℕ) (n : ℕ) → Sub (messages_up (brought w p tenure.at Zero frame) n) (messages_up w n ++ told_of p tenure.at.number frame ∷ [])
-sent-ups w p tenure frame n =
+sent_ups : (w : Actors) (p : Mobile) (tenure : Tenure) (frame : List ℕ) (n : ℕ) → Sub (messages_up (brought w p tenure.at Zero frame) n) (messages_up w n ++ told_of p tenure.at.number frame ∷ [])
+sent_ups w p tenure frame n =
     subst (Sub (messages_up (brought w p tenure.at Zero frame) n)) (sym (append_assoc (flat_map (read_of n) w.inbox) (base_of w n).messages (told_of p tenure.at.number frame ∷ [])))
-    (sub-append (sub-itself (flat_map (read_of n) w.inbox))
-    (set-related (λ (a b : Station). Sub a.base.messages (b.base.messages ++ told_of p tenure.at.number frame ∷ [])) (λ x. sub-front x.base.messages (told_of p tenure.at.number frame ∷ [])) w.stations no_station (tenure.at.station - 1) (n - 1) (record (station_of w tenure.at.station) { base = signalling_brought (base_of w tenure.at.station) tenure.at.number p.opens frame })
-    (subst (λ (xs : List Rsl). Sub xs ((base_of w tenure.at.station).messages ++ told_of p tenure.at.number frame ∷ [])) (sym (told-base (base_of w tenure.at.station) tenure.at.number frame p.opens)) (sub-itself ((base_of w tenure.at.station).messages ++ told_of p tenure.at.number frame ∷ [])))))
+    (sub_append (sub_itself (flat_map (read_of n) w.inbox))
+    (set_related (λ (a b : Station). Sub a.base.messages (b.base.messages ++ told_of p tenure.at.number frame ∷ [])) (λ x. sub_front x.base.messages (told_of p tenure.at.number frame ∷ [])) w.stations no_station (tenure.at.station - 1) (n - 1) (record (station_of w tenure.at.station) { base = signalling_brought (base_of w tenure.at.station) tenure.at.number p.opens frame })
+    (subst (λ (xs : List Rsl). Sub xs ((base_of w tenure.at.station).messages ++ told_of p tenure.at.number frame ∷ [])) (sym (told_base (base_of w tenure.at.station) tenure.at.number frame p.opens)) (sub_itself ((base_of w tenure.at.station).messages ++ told_of p tenure.at.number frame ∷ [])))))
 
 initial-apart : (p : Mobile) (channel other : ℕ) (frame : List ℕ) → (channel == other) ≡ false → initial_by other (told_of p channel frame) ≡ []
 initial-apart p channel other frame apart = by p.opens where
@@ -156,8 +156,8 @@ initial-apart p channel other frame apart = by p.opens where
   by true = ap (λ (b : Bool). cond b (frame ∷ []) []) apart
   by false = refl
 
-initial-few : (p : Mobile) (channel other : ℕ) (frame : List ℕ) → length (initial_by other (told_of p channel frame)) ≤ 1
-initial-few p channel other frame = by p.opens (channel == other) refl where
+initial_few : (p : Mobile) (channel other : ℕ) (frame : List ℕ) → length (initial_by other (told_of p channel frame)) ≤ 1
+initial_few p channel other frame = by p.opens (channel == other) refl where
   opening : (c : Bool) → length (if c then frame ∷ [] else []) ≤ 1
   opening true = omega arith
   opening false = omega arith
@@ -180,8 +180,8 @@ data-apart-one p channel other frame apart = by p.opens where
 data-opening : (p : Mobile) (channel other : ℕ) (frame : List ℕ) → p.opens ≡ true → data_by other (told_of p channel frame) ≡ []
 data-opening p channel other frame opens = ap (λ (b : Bool). data_by other (if b then establish_indication channel Zero (Some frame) else data_indication channel Zero frame)) opens
 
-data-few : (p : Mobile) (channel other : ℕ) (frame : List ℕ) → controls_of (data_by other (told_of p channel frame)) ≤ controls_of (frame ∷ [])
-data-few p channel other frame = by p.opens where
+data_few : (p : Mobile) (channel other : ℕ) (frame : List ℕ) → controls_of (data_by other (told_of p channel frame)) ≤ controls_of (frame ∷ [])
+data_few p channel other frame = by p.opens where
   later : (c : Bool) → controls_of (if c then frame ∷ [] else []) ≤ controls_of (frame ∷ [])
   later true = omega arith
   later false = omega arith
@@ -191,9 +191,9 @@ data-few p channel other frame = by p.opens where
   by false = later (channel == other)
 
 -- on another channel it brings nothing
-part-apart : (f : ℕ → Rsl → List (List ℕ)) (w : Actors) (p : Mobile) (tenure : Tenure) (frame : List ℕ) (c : Channel) → is_reached w tenure ≡ true → c.station ≢ SWITCH_LINK → is_at tenure.at c ≡ false
+part_apart : (f : ℕ → Rsl → List (List ℕ)) (w : Actors) (p : Mobile) (tenure : Tenure) (frame : List ℕ) (c : Channel) → is_reached w tenure ≡ true → c.station ≢ SWITCH_LINK → is_at tenure.at c ≡ false
     → ((tenure.at.number == c.number) ≡ false → f c.number (told_of p tenure.at.number frame) ≡ []) → Sub (part_up f (brought w p tenure.at Zero frame) (place_of c)) (part_up f w (place_of c))
-part-apart f w p tenure frame c reached c_is apart brings_none = by_both (nat_eq tenure.at.station c.station) refl where
+part_apart f w p tenure frame c reached c_is apart brings_none = by_both (nat_eq tenure.at.station c.station) refl where
   v : Actors
   v = brought w p tenure.at Zero frame
 
@@ -202,51 +202,51 @@ part-apart f w p tenure frame c reached c_is apart brings_none = by_both (nat_eq
       let number : (tenure.at.number == c.number) ≡ false = ap (λ (b : Bool). b && (tenure.at.number == c.number)) (sym hit) ∙ apart in
       subst (Sub (part_up f v (place_of c)))
       (flat_map-append (f c.number) (messages_up w c.station) (told_of p tenure.at.number frame ∷ []) ∙ ap (λ (xs : List (List ℕ)). part_up f w (place_of c) ++ (xs ++ [])) (brings_none number) ∙ append-nil (part_up f w (place_of c)))
-      (sub-flat_map (f c.number) (sent-ups w p tenure frame c.station))
+      (sub_flat_map (f c.number) (sent_ups w p tenure frame c.station))
   by_both false miss =
       subst (λ (b : BaseState). Sub (flat_map (f c.number) (flat_map (read_of c.station) w.inbox ++ b.messages)) (part_up f w (place_of c)))
       (sym (base-elsewhere w c.station tenure.at.station (signalling_brought (base_of w tenure.at.station) tenure.at.number p.opens frame) c_is (up-right tenure.at.station w (reached-up w tenure reached).0).0 (λ is. eqb-false tenure.at.station c.station miss (sym is))))
-      (sub-itself (part_up f w (place_of c)))
+      (sub_itself (part_up f w (place_of c)))
 
-pub initials-apart : (w : Actors) (p : Mobile) (tenure : Tenure) (frame : List ℕ) (c : Channel) → is_reached w tenure ≡ true → c.station ≢ SWITCH_LINK → is_at tenure.at c ≡ false → Sub (initials_up (brought w p tenure.at Zero frame) (place_of c)) (initials_up w (place_of c))
-initials-apart w p tenure frame c reached c_is apart = part-apart initial_by w p tenure frame c reached c_is apart (initial-apart p tenure.at.number c.number frame)
+pub initials_apart : (w : Actors) (p : Mobile) (tenure : Tenure) (frame : List ℕ) (c : Channel) → is_reached w tenure ≡ true → c.station ≢ SWITCH_LINK → is_at tenure.at c ≡ false → Sub (initials_up (brought w p tenure.at Zero frame) (place_of c)) (initials_up w (place_of c))
+initials_apart w p tenure frame c reached c_is apart = part_apart initial_by w p tenure frame c reached c_is apart (initial-apart p tenure.at.number c.number frame)
 
-pub data-apart : (w : Actors) (p : Mobile) (tenure : Tenure) (frame : List ℕ) (c : Channel) → is_reached w tenure ≡ true → c.station ≢ SWITCH_LINK → is_at tenure.at c ≡ false → Sub (data_up (brought w p tenure.at Zero frame) (place_of c)) (data_up w (place_of c))
-data-apart w p tenure frame c reached c_is apart = part-apart data_by w p tenure frame c reached c_is apart (data-apart-one p tenure.at.number c.number frame)
+pub data_apart : (w : Actors) (p : Mobile) (tenure : Tenure) (frame : List ℕ) (c : Channel) → is_reached w tenure ≡ true → c.station ≢ SWITCH_LINK → is_at tenure.at c ≡ false → Sub (data_up (brought w p tenure.at Zero frame) (place_of c)) (data_up w (place_of c))
+data_apart w p tenure frame c reached c_is apart = part_apart data_by w p tenure frame c reached c_is apart (data-apart-one p tenure.at.number c.number frame)
 
 -- one more at most, where the mobile sent none
-pub initials-more : (w : Actors) (p : Mobile) (tenure : Tenure) (frame : List ℕ) (at : Place) → length (initials_up (brought w p tenure.at Zero frame) at) ≤ length (initials_up w at) + 1
-initials-more w p tenure frame at =
-    let sub = subst (λ (xs : List (List ℕ)). Sub (initials_up (brought w p tenure.at Zero frame) at) xs) (flat_map-append (initial_by at.number) (messages_up w at.station) (told_of p tenure.at.number frame ∷ [])) (sub-flat_map (initial_by at.number) (sent-ups w p tenure frame at.station)) in
-    let all = sub-length sub in
-    let one = initial-few p tenure.at.number at.number frame in
+pub initials_more : (w : Actors) (p : Mobile) (tenure : Tenure) (frame : List ℕ) (at : Place) → length (initials_up (brought w p tenure.at Zero frame) at) ≤ length (initials_up w at) + 1
+initials_more w p tenure frame at =
+    let sub = subst (λ (xs : List (List ℕ)). Sub (initials_up (brought w p tenure.at Zero frame) at) xs) (flat_map-append (initial_by at.number) (messages_up w at.station) (told_of p tenure.at.number frame ∷ [])) (sub_flat_map (initial_by at.number) (sent_ups w p tenure frame at.station)) in
+    let all = sub_length sub in
+    let one = initial_few p tenure.at.number at.number frame in
     let sum = length-append (initials_up w at) (initial_by at.number (told_of p tenure.at.number frame) ++ []) in
     let last = ap length (append-nil (initial_by at.number (told_of p tenure.at.number frame))) in
     omega (arith, all, one, sum, last)
 
 -- no more, where it sent it
-pub initials-later : (w : Actors) (p : Mobile) (tenure : Tenure) (frame : List ℕ) (at : Place) → p.opens ≡ false → Sub (initials_up (brought w p tenure.at Zero frame) at) (initials_up w at)
-initials-later w p tenure frame at sent =
+pub initials_later : (w : Actors) (p : Mobile) (tenure : Tenure) (frame : List ℕ) (at : Place) → p.opens ≡ false → Sub (initials_up (brought w p tenure.at Zero frame) at) (initials_up w at)
+initials_later w p tenure frame at sent =
     subst (Sub (initials_up (brought w p tenure.at Zero frame) at))
     (flat_map-append (initial_by at.number) (messages_up w at.station) (told_of p tenure.at.number frame ∷ []) ∙ ap (λ (xs : List (List ℕ)). initials_up w at ++ (xs ++ [])) (initial-later p tenure.at.number at.number frame sent) ∙ append-nil (initials_up w at))
-    (sub-flat_map (initial_by at.number) (sent-ups w p tenure frame at.station))
+    (sub_flat_map (initial_by at.number) (sent_ups w p tenure frame at.station))
 
 -- ---- what it brings that isn't initial
 
-data-sent : (w : Actors) (p : Mobile) (tenure : Tenure) (frame : List ℕ) (at : Place) → Sub (data_up (brought w p tenure.at Zero frame) at) (data_up w at ++ (data_by at.number (told_of p tenure.at.number frame) ++ []))
-data-sent w p tenure frame at =
-    subst (λ (xs : List (List ℕ)). Sub (data_up (brought w p tenure.at Zero frame) at) xs) (flat_map-append (data_by at.number) (messages_up w at.station) (told_of p tenure.at.number frame ∷ [])) (sub-flat_map (data_by at.number) (sent-ups w p tenure frame at.station))
+data_sent : (w : Actors) (p : Mobile) (tenure : Tenure) (frame : List ℕ) (at : Place) → Sub (data_up (brought w p tenure.at Zero frame) at) (data_up w at ++ (data_by at.number (told_of p tenure.at.number frame) ++ []))
+data_sent w p tenure frame at =
+    subst (λ (xs : List (List ℕ)). Sub (data_up (brought w p tenure.at Zero frame) at) xs) (flat_map-append (data_by at.number) (messages_up w at.station) (told_of p tenure.at.number frame ∷ [])) (sub_flat_map (data_by at.number) (sent_ups w p tenure frame at.station))
 
 -- an initial message joins no others
-pub data-first : (w : Actors) (p : Mobile) (tenure : Tenure) (frame : List ℕ) (at : Place) → p.opens ≡ true → Sub (data_up (brought w p tenure.at Zero frame) at) (data_up w at)
-data-first w p tenure frame at opens =
-    subst (Sub (data_up (brought w p tenure.at Zero frame) at)) (ap (λ (xs : List (List ℕ)). data_up w at ++ (xs ++ [])) (data-opening p tenure.at.number at.number frame opens) ∙ append-nil (data_up w at)) (data-sent w p tenure frame at)
+pub data_first : (w : Actors) (p : Mobile) (tenure : Tenure) (frame : List ℕ) (at : Place) → p.opens ≡ true → Sub (data_up (brought w p tenure.at Zero frame) at) (data_up w at)
+data_first w p tenure frame at opens =
+    subst (Sub (data_up (brought w p tenure.at Zero frame) at)) (ap (λ (xs : List (List ℕ)). data_up w at ++ (xs ++ [])) (data-opening p tenure.at.number at.number frame opens) ∙ append-nil (data_up w at)) (data_sent w p tenure frame at)
 
 -- another message joins them
-pub data-later : (w : Actors) (p : Mobile) (tenure : Tenure) (frame : List ℕ) (at : Place) → controls_of (data_up (brought w p tenure.at Zero frame) at) ≤ controls_of (data_up w at) + controls_of (frame ∷ [])
-data-later w p tenure frame at =
-    let all = controls-sub (data-sent w p tenure frame at) in
+pub data_later : (w : Actors) (p : Mobile) (tenure : Tenure) (frame : List ℕ) (at : Place) → controls_of (data_up (brought w p tenure.at Zero frame) at) ≤ controls_of (data_up w at) + controls_of (frame ∷ [])
+data_later w p tenure frame at =
+    let all = controls_sub (data_sent w p tenure frame at) in
     let sum = controls-append (data_up w at) (data_by at.number (told_of p tenure.at.number frame) ++ []) in
     let last = ap controls_of (append-nil (data_by at.number (told_of p tenure.at.number frame))) in
-    let few = data-few p tenure.at.number at.number frame in
+    let few = data_few p tenure.at.number at.number frame in
     omega (arith, all, sum, last, few)

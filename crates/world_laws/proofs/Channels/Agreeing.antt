@@ -7,33 +7,33 @@ use Rattle.world_laws.proofs.Prelude.{AreAllowed, Parameters, Event, Tenure, act
 use Rattle.world_laws.proofs.Prelude.{new_actors, LivesByTable-new, Right, right-step, right-new}
 use Rattle.world_model.proofs.OwnerRuns.{ServesThrough}
 use Rattle.world_laws.specs.OthersFrame.{CameInOctets}
-use Rattle.world_laws.proofs.OwnerRun.{life-settings, serves-through, within-settings, not-zero}
+use Rattle.world_laws.proofs.OwnerRun.{life-settings, serves_through, within_settings, not_zero}
 use Rattle.world_laws.proofs.Events.{world}
 
 -- ---- over all events
 
-right-all : (settings : Parameters) (owner : Tenure → ℕ) (w : Actors) (events : List Event) → ServesThrough settings owner w events → Right settings owner w events → Right settings owner (actors_after_all w events) []
+right_all : (settings : Parameters) (owner : Tenure → ℕ) (w : Actors) (events : List Event) → ServesThrough settings owner w events → Right settings owner w events → Right settings owner (actors_after_all w events) []
 unfolding ServesThrough
-right-all settings owner w [] serves right = right
-right-all settings owner w (event ∷ events) serves right = right-all settings owner (actors_after w event) events serves.1 (right-step settings owner w event events (serves.0 right.agree) right)
+right_all settings owner w [] serves right = right
+right_all settings owner w (event ∷ events) serves right = right_all settings owner (actors_after w event) events serves.1 (right-step settings owner w event events (serves.0 right.agree) right)
 
 -- After any events each channel of each station agrees with the ownership of the run.
 pub agreed : (settings : Parameters) (events : List Event) → AreAllowed settings → CameInOctets settings events → Right settings (owner_in (new_actors settings) events) (world settings events) []
 agreed settings events allowed octets =
-    right-all settings (owner_in (new_actors settings) events) (new_actors settings) events (serves-through settings (owner_in (new_actors settings) events) [] events (new_actors settings) refl allowed tt octets) (right-new settings events)
+    right_all settings (owner_in (new_actors settings) events) (new_actors settings) events (serves_through settings (owner_in (new_actors settings) events) [] events (new_actors settings) refl allowed tt octets) (right-new settings events)
 
 -- ---- the controller of the world
 
-pub ready-at : (settings : Parameters) (events : List Event) → AreAllowed settings → Ready (world settings events).controller
-ready-at settings events allowed = subst Ready (sym (LivesByTable-new settings events)) (life_ready settings (all_steps (new_actors settings) events) allowed)
+pub ready_at : (settings : Parameters) (events : List Event) → AreAllowed settings → Ready (world settings events).controller
+ready_at settings events allowed = subst Ready (sym (LivesByTable-new settings events)) (life_ready settings (all_steps (new_actors settings) events) allowed)
 
-pub used-at : (settings : Parameters) (events : List Event) → AreAllowed settings → AreUsed (world settings events).controller
-used-at settings events allowed = subst AreUsed (sym (LivesByTable-new settings events)) (life_uses settings (all_steps (new_actors settings) events) allowed)
+pub used_at : (settings : Parameters) (events : List Event) → AreAllowed settings → AreUsed (world settings events).controller
+used_at settings events allowed = subst AreUsed (sym (LivesByTable-new settings events)) (life_uses settings (all_steps (new_actors settings) events) allowed)
 
 -- a connection that is open owns its channels
-pub owns-at : (settings : Parameters) (events : List Event) → AreAllowed settings → (number : ℕ) (s : Connection) → connection_of (world settings events).controller number ≡ Some s → IsOpen s.state
+pub owns_at : (settings : Parameters) (events : List Event) → AreAllowed settings → (number : ℕ) (s : Connection) → connection_of (world settings events).controller number ≡ Some s → IsOpen s.state
     → Owns (world settings events).controller.channels (world settings events).controller.links number (roles_of s)
-owns-at settings events allowed number s there =
+owns_at settings events allowed number s there =
     let c : Controller = (world settings events).controller in
     subst (OwnsOpen c.channels c.links number) there
     (subst (λ (d : Controller). OwnsOpen d.channels d.links number (connection_of d number)) (sym (LivesByTable-new settings events)) (life_owns settings (all_steps (new_actors settings) events) number allowed))
@@ -46,18 +46,18 @@ pub record IsPlaced (settings : Parameters) (w : Actors) (at : Place) : Type 0 w
   pub least : 1 ≤ at.station
   pub most : at.station ≤ length settings.cells
 
-pub placed-at : (settings : Parameters) (events : List Event) → AreAllowed settings → (at : Place) → channel_state (world settings events).controller at ≢ Free → IsPlaced settings (world settings events) at
-placed-at settings events allowed at busy = record {
+pub placed_at : (settings : Parameters) (events : List Event) → AreAllowed settings → (at : Place) → channel_state (world settings events).controller at ≢ Free → IsPlaced settings (world settings events) at
+placed_at settings events allowed at busy = record {
   hearing = by (hears c at.station) refl;
-  least = not-zero at.station (λ is. busy (ap (λ (n : ℕ). channel_state c (place_at n at.number)) is ∙ used.switch at.number));
-  most = within-settings settings c at
-      (ap (λ (d : Controller). d.settings) (LivesByTable-new settings events) ∙ life-settings settings (all_steps (new_actors settings) events)) (ready-at settings events allowed) busy;
+  least = not_zero at.station (λ is. busy (ap (λ (n : ℕ). channel_state c (place_at n at.number)) is ∙ used.switch at.number));
+  most = within_settings settings c at
+      (ap (λ (d : Controller). d.settings) (LivesByTable-new settings events) ∙ life-settings settings (all_steps (new_actors settings) events)) (ready_at settings events allowed) busy;
 } where
   c : Controller
   c = (world settings events).controller
 
   used : AreUsed c
-  used = used-at settings events allowed
+  used = used_at settings events allowed
 
   by : (b : Bool) → hears c at.station ≡ b → hears c at.station ≡ true
   by true is = is

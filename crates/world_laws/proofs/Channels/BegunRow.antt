@@ -26,54 +26,54 @@ record Begins (P : Channel → Type 0) (roles : Roles) : Type 0 where
   serving : P roles.serving
   target : AllByRecursion P (commanded_of roles.target)
 
-begins-begun : (P : Channel → Type 0) (state : State) (serving : Channel) → P serving → AllByRecursion P (commanded_of (target_role state)) → AllByRecursion P (begun_in state serving)
+begins_begun : (P : Channel → Type 0) (state : State) (serving : Channel) → P serving → AllByRecursion P (commanded_of (target_role state)) → AllByRecursion P (begun_in state serving)
 unfolding commanded_of
-begins-begun P WaitActivation serving one all = tt
-begins-begun P WaitEstablish serving one all = (one, tt)
-begins-begun P WaitConfirm serving one all = (one, tt)
-begins-begun P (Live reference Active) serving one all = (one, tt)
-begins-begun P (Live reference (Preparing target)) serving one all = (one, tt)
-begins-begun P (Live reference (Changing target)) serving one all = (one, all)
-begins-begun P (Live reference Draining) serving one all = (one, tt)
-begins-begun P (Closed clearing) serving one all = tt
-begins-begun P Removed serving one all = tt
+begins_begun P WaitActivation serving one all = tt
+begins_begun P WaitEstablish serving one all = (one, tt)
+begins_begun P WaitConfirm serving one all = (one, tt)
+begins_begun P (Live reference Active) serving one all = (one, tt)
+begins_begun P (Live reference (Preparing target)) serving one all = (one, tt)
+begins_begun P (Live reference (Changing target)) serving one all = (one, all)
+begins_begun P (Live reference Draining) serving one all = (one, tt)
+begins_begun P (Closed clearing) serving one all = tt
+begins_begun P Removed serving one all = tt
 
 -- a connection that waits for its serving channel
 IsFirst : State → Type 0
 IsFirst WaitActivation = Unit {0}
 IsFirst _ = ⊥
 
-begun-begins : (P : Channel → Type 0) (state : State) (serving : Channel) → IsOpen state → (IsFirst state → ⊥) → AllByRecursion P (begun_in state serving) → P serving × AllByRecursion P (commanded_of (target_role state))
+begun_begins : (P : Channel → Type 0) (state : State) (serving : Channel) → IsOpen state → (IsFirst state → ⊥) → AllByRecursion P (begun_in state serving) → P serving × AllByRecursion P (commanded_of (target_role state))
 unfolding commanded_of IsFirst
-begun-begins P WaitActivation serving opened later all = absurd (later tt)
-begun-begins P WaitEstablish serving opened later all = (all.0, tt)
-begun-begins P WaitConfirm serving opened later all = (all.0, tt)
-begun-begins P (Live reference Active) serving opened later all = (all.0, tt)
-begun-begins P (Live reference (Preparing target)) serving opened later all = (all.0, tt)
-begun-begins P (Live reference (Changing target)) serving opened later all = (all.0, all.1)
-begun-begins P (Live reference Draining) serving opened later all = (all.0, tt)
-begun-begins P (Closed clearing) serving opened later all = absurd opened
-begun-begins P Removed serving opened later all = absurd opened
+begun_begins P WaitActivation serving opened later all = absurd (later tt)
+begun_begins P WaitEstablish serving opened later all = (all.0, tt)
+begun_begins P WaitConfirm serving opened later all = (all.0, tt)
+begun_begins P (Live reference Active) serving opened later all = (all.0, tt)
+begun_begins P (Live reference (Preparing target)) serving opened later all = (all.0, tt)
+begun_begins P (Live reference (Changing target)) serving opened later all = (all.0, all.1)
+begun_begins P (Live reference Draining) serving opened later all = (all.0, tt)
+begun_begins P (Closed clearing) serving opened later all = absurd opened
+begun_begins P Removed serving opened later all = absurd opened
 
-none-begun : (state : State) (serving : Channel) → (IsOpen state → ⊥) → begun_in state serving ≡ []
-none-begun (Closed clearing) serving shut = refl
-none-begun Removed serving shut = refl
-none-begun WaitActivation serving shut = absurd (shut tt)
-none-begun WaitEstablish serving shut = absurd (shut tt)
-none-begun WaitConfirm serving shut = absurd (shut tt)
-none-begun (Live reference stage) serving shut = absurd (shut tt)
+none_begun : (state : State) (serving : Channel) → (IsOpen state → ⊥) → begun_in state serving ≡ []
+none_begun (Closed clearing) serving shut = refl
+none_begun Removed serving shut = refl
+none_begun WaitActivation serving shut = absurd (shut tt)
+none_begun WaitEstablish serving shut = absurd (shut tt)
+none_begun WaitConfirm serving shut = absurd (shut tt)
+none_begun (Live reference stage) serving shut = absurd (shut tt)
 
 -- all channels that began are used, while the connection is open
-pub begun-used : (P : Channel → Type 0) (state : State) (serving : Channel) → (IsOpen state → AllByRecursion P (serving ∷ target_channels (target_role state))) → AllByRecursion P (begun_in state serving)
-begun-used P WaitActivation serving all = tt
-begun-used P WaitEstablish serving all = ((all tt).0, tt)
-begun-used P WaitConfirm serving all = ((all tt).0, tt)
-begun-used P (Live reference Active) serving all = ((all tt).0, tt)
-begun-used P (Live reference (Preparing target)) serving all = ((all tt).0, tt)
-begun-used P (Live reference (Changing target)) serving all = all tt
-begun-used P (Live reference Draining) serving all = ((all tt).0, tt)
-begun-used P (Closed clearing) serving all = tt
-begun-used P Removed serving all = tt
+pub begun_used : (P : Channel → Type 0) (state : State) (serving : Channel) → (IsOpen state → AllByRecursion P (serving ∷ target_channels (target_role state))) → AllByRecursion P (begun_in state serving)
+begun_used P WaitActivation serving all = tt
+begun_used P WaitEstablish serving all = ((all tt).0, tt)
+begun_used P WaitConfirm serving all = ((all tt).0, tt)
+begun_used P (Live reference Active) serving all = ((all tt).0, tt)
+begun_used P (Live reference (Preparing target)) serving all = ((all tt).0, tt)
+begun_used P (Live reference (Changing target)) serving all = all tt
+begun_used P (Live reference Draining) serving all = ((all tt).0, tt)
+begun_used P (Closed clearing) serving all = tt
+begun_used P Removed serving all = tt
 
 -- ---- a step
 
@@ -81,30 +81,30 @@ begun-used P Removed serving all = tt
 abbrev pub IsAckOf : Input → (Channel → Type 0) → (Channel → Type 0) → Type 0
 IsAckOf input Q P = (at : Place) (c : Channel) → input ≡ inputs.ActivationAck at → is_at at c ≡ true → Q c → P c
 
-pub both-true : (a b : Bool) → a && b ≡ true → (a ≡ true) × (b ≡ true)
-both-true true true is = (refl, refl)
-both-true true false is = absurd cc
-both-true false b is = absurd cc
+pub both_true : (a b : Bool) → a && b ≡ true → (a ≡ true) × (b ≡ true)
+both_true true true is = (refl, refl)
+both_true true false is = absurd cc
+both_true false b is = absurd cc
 
-ack-begins : (Q P : Channel → Type 0) (at : Place) (roles : Roles) → IsAckOf (inputs.ActivationAck at) Q P → AllByRecursion Q (target_channels roles.target) → Begins P roles → Begins P (after_step (if awaits_at at roles.target then commands else stays) roles)
+ack_begins : (Q P : Channel → Type 0) (at : Place) (roles : Roles) → IsAckOf (inputs.ActivationAck at) Q P → AllByRecursion Q (target_channels roles.target) → Begins P roles → Begins P (after_step (if awaits_at at roles.target then commands else stays) roles)
 unfolding commanded_of
-ack-begins Q P at roles acks used begins = elim (cases_Bool (awaits_at at roles.target)) [
+ack_begins Q P at roles acks used begins = elim (cases_Bool (awaits_at at roles.target)) [
   | inl hit ↦ subst (λ (b : Bool). Begins P (after_step (if b then commands else stays) roles)) (sym hit) (record { serving = begins.serving; target = told roles.target hit used })
   | inr miss ↦ subst (λ (b : Bool). Begins P (after_step (if b then commands else stays) roles)) (sym miss) begins
 ] where
   told : (o : Option TargetRole) → awaits_at at o ≡ true → AllByRecursion Q (target_channels o) → AllByRecursion P (commanded_of (commanded o))
-  told (Some t) is all = (acks at t.target.channel refl (both-true (not t.is_commanded) (is_at at t.target.channel) is).1 all.0, tt)
+  told (Some t) is all = (acks at t.target.channel refl (both_true (not t.is_commanded) (is_at at t.target.channel) is).1 all.0, tt)
   told None is all = tt
 
-goes_back-begins : (P : Channel → Type 0) (b : Bool) (roles : Roles) → Begins P roles → Begins P (after_step (if b then goes_back else stays) roles)
+goes_back_begins : (P : Channel → Type 0) (b : Bool) (roles : Roles) → Begins P roles → Begins P (after_step (if b then goes_back else stays) roles)
 unfolding commanded_of
-goes_back-begins P true roles begins = record { serving = begins.serving; target = tt }
-goes_back-begins P false roles begins = begins
+goes_back_begins P true roles begins = record { serving = begins.serving; target = tt }
+goes_back_begins P false roles begins = begins
 
-completes-begins : (P : Channel → Type 0) (b : Bool) (roles : Roles) → (b ≡ true → (t : TargetRole) × (roles.target ≡ Some t) × (t.is_commanded ≡ true)) → Begins P roles → Begins P (after_step (if b then completes else stays) roles)
+completes_begins : (P : Channel → Type 0) (b : Bool) (roles : Roles) → (b ≡ true → (t : TargetRole) × (roles.target ≡ Some t) × (t.is_commanded ≡ true)) → Begins P roles → Begins P (after_step (if b then completes else stays) roles)
 unfolding commanded_of
-completes-begins P false roles there begins = begins
-completes-begins P true roles there begins = by roles.target refl where
+completes_begins P false roles there begins = begins
+completes_begins P true roles there begins = by roles.target refl where
   t : TargetRole
   t = (there refl).0
 
@@ -114,24 +114,24 @@ completes-begins P true roles there begins = by roles.target refl where
   by : (o : Option TargetRole) → roles.target ≡ o → Begins P (after_step completes roles)
   by o is = subst (λ (o : Option TargetRole). Begins P (after_step completes (record roles { target = o }))) (sym (there refl).1) (record { serving = one.0; target = tt })
 
-step-begins : (Q P : Channel → Type 0) (input : Input) (roles : Roles) → IsAckOf input Q P → AllByRecursion Q (target_channels roles.target) → Begins P roles → Begins P (after_step (step_by input roles) roles)
-step-begins Q P (inputs.ActivationAck at) roles acks used begins = ack-begins Q P at roles acks used begins
-step-begins Q P (inputs.ActivationNack at) roles acks used begins = goes_back-begins P (awaits_at at roles.target) roles begins
-step-begins Q P (inputs.Complete at change cause) roles acks used begins = completes-begins P (is_target_at at roles.target && changes_by change roles.target) roles (λ is. told roles.target (both-true (is_target_at at roles.target) (changes_by change roles.target) is).1) begins where
+step_begins : (Q P : Channel → Type 0) (input : Input) (roles : Roles) → IsAckOf input Q P → AllByRecursion Q (target_channels roles.target) → Begins P roles → Begins P (after_step (step_by input roles) roles)
+step_begins Q P (inputs.ActivationAck at) roles acks used begins = ack_begins Q P at roles acks used begins
+step_begins Q P (inputs.ActivationNack at) roles acks used begins = goes_back_begins P (awaits_at at roles.target) roles begins
+step_begins Q P (inputs.Complete at change cause) roles acks used begins = completes_begins P (is_target_at at roles.target && changes_by change roles.target) roles (λ is. told roles.target (both_true (is_target_at at roles.target) (changes_by change roles.target) is).1) begins where
   told : (o : Option TargetRole) → changes_by change o ≡ true → (t : TargetRole) × (o ≡ Some t) × (t.is_commanded ≡ true)
-  told (Some t) is = (t, refl, (both-true t.is_commanded (same_change change t.target.change) is).0)
+  told (Some t) is = (t, refl, (both_true t.is_commanded (same_change change t.target.change) is).0)
   told None is = absurd cc
-step-begins Q P (inputs.Failure at change cause) roles acks used begins = goes_back-begins P (is_at at roles.serving && changes_by change roles.target) roles begins
-step-begins Q P (inputs.ReleaseAck at) roles acks used begins = by (drain_at at roles.draining) where
+step_begins Q P (inputs.Failure at change cause) roles acks used begins = goes_back_begins P (is_at at roles.serving && changes_by change roles.target) roles begins
+step_begins Q P (inputs.ReleaseAck at) roles acks used begins = by (drain_at at roles.draining) where
   by : (o : Option ℕ) → Begins P (after_step (leaves_at o) roles)
   by (Some place) = record { serving = begins.serving; target = begins.target }
   by None = begins
-step-begins Q P _ roles acks used begins = begins
+step_begins Q P _ roles acks used begins = begins
 
-with-begins : (P : Channel → Type 0) (begun : Option Target) (roles : Roles) → Begins P roles → Begins P (with_target begun roles)
+with_begins : (P : Channel → Type 0) (begun : Option Target) (roles : Roles) → Begins P roles → Begins P (with_target begun roles)
 unfolding commanded_of
-with-begins P None roles begins = begins
-with-begins P (Some target) roles begins = record { serving = begins.serving; target = tt }
+with_begins P None roles begins = begins
+with_begins P (Some target) roles begins = record { serving = begins.serving; target = tt }
 
 -- ---- the first channel
 
@@ -139,8 +139,8 @@ with-begins P (Some target) roles begins = record { serving = begins.serving; ta
 shut : (b : Bool) (q r : Row) → (IsOpen q.next.state → ⊥) → row_if b q ≡ Some r → IsOpen r.next.state → ⊥
 shut b q r closed is opened = closed (subst (λ (x : Row). IsOpen x.next.state) (sym (if_is b q r is).1) opened)
 
-some-shut : (q r : Row) → (IsOpen q.next.state → ⊥) → Some q ≡ Some r → IsOpen r.next.state → ⊥
-some-shut q r closed is opened = closed (subst (λ (x : Row). IsOpen x.next.state) (sym (of is)) opened) where
+some_shut : (q r : Row) → (IsOpen q.next.state → ⊥) → Some q ≡ Some r → IsOpen r.next.state → ⊥
+some_shut q r closed is opened = closed (subst (λ (x : Row). IsOpen x.next.state) (sym (of is)) opened) where
   of : Some q ≡ Some r → q ≡ r
   of is = cc
 
@@ -182,40 +182,40 @@ row-first s inputs.DrainExpiry offer is = ap (λ (state : State). on_drain_expir
 row-first s (inputs.StationDown station) offer is = ap (λ (state : State). on_station_down state s station) is
 row-first s inputs.SwitchDown offer is = ap (λ (state : State). on_switch_down state s) is
 
-first-by : (Q P : Channel → Type 0) (s : Connection) (input : Input) (offer : Option Channel) (r : Row) → first_row s input offer ≡ Some r → IsOpen r.next.state → IsAckOf input Q P → Q s.serving → P s.serving
+first_by : (Q P : Channel → Type 0) (s : Connection) (input : Input) (offer : Option Channel) (r : Row) → first_row s input offer ≡ Some r → IsOpen r.next.state → IsAckOf input Q P → Q s.serving → P s.serving
 unfolding first_row
-first-by Q P s (inputs.ActivationAck at) offer r is opened acks used = acks at s.serving refl (if_is (is_at at s.serving) _ r is).0 used
-first-by Q P s (inputs.ActivationNack at) offer r is opened acks used = absurd (shut (is_at at s.serving) _ r absurd is opened)
-first-by Q P s inputs.Expiry offer r is opened acks used = absurd (some-shut _ r absurd is opened)
-first-by Q P s (inputs.StationDown station) offer r is opened acks used = absurd (shut _ _ r absurd is opened)
-first-by Q P s inputs.SwitchDown offer r is opened acks used = absurd (some-shut _ r absurd is opened)
-first-by Q P s _ offer r is opened acks used = absurd (never is)
+first_by Q P s (inputs.ActivationAck at) offer r is opened acks used = acks at s.serving refl (if_is (is_at at s.serving) _ r is).0 used
+first_by Q P s (inputs.ActivationNack at) offer r is opened acks used = absurd (shut (is_at at s.serving) _ r absurd is opened)
+first_by Q P s inputs.Expiry offer r is opened acks used = absurd (some_shut _ r absurd is opened)
+first_by Q P s (inputs.StationDown station) offer r is opened acks used = absurd (shut _ _ r absurd is opened)
+first_by Q P s inputs.SwitchDown offer r is opened acks used = absurd (some_shut _ r absurd is opened)
+first_by Q P s _ offer r is opened acks used = absurd (never is)
 
 -- ---- every row
 
-first-or : (state : State) → (state ≡ WaitActivation) ⊎ (IsFirst state → ⊥)
+first_or : (state : State) → (state ≡ WaitActivation) ⊎ (IsFirst state → ⊥)
 unfolding IsFirst
-first-or WaitActivation = inl refl
-first-or _ = inr (λ first. first)
+first_or WaitActivation = inl refl
+first_or _ = inr (λ first. first)
 
-pub row-begun : (Q P : Channel → Type 0) (s : Connection) (input : Input) (offer : Option Channel) (r : Row) → Stands s → row_of s input offer ≡ Some r → IsAckOf input Q P → (IsOpen s.state → AllByRecursion Q (s.serving ∷ target_channels (target_role s.state))) → AllByRecursion P (begun_in s.state s.serving) → AllByRecursion P (begun_in r.next.state r.next.serving)
+pub row_begun : (Q P : Channel → Type 0) (s : Connection) (input : Input) (offer : Option Channel) (r : Row) → Stands s → row_of s input offer ≡ Some r → IsAckOf input Q P → (IsOpen s.state → AllByRecursion Q (s.serving ∷ target_channels (target_role s.state))) → AllByRecursion P (begun_in s.state s.serving) → AllByRecursion P (begun_in r.next.state r.next.serving)
 unfolding commanded_of
-row-begun Q P s input offer r stands fits acks used begun = by (changes_of s input offer r stands fits) where
+row_begun Q P s input offer r stands fits acks used begun = by (changes_of s input offer r stands fits) where
   before : IsOpen s.state → IsOpen r.next.state → Begins P (roles_of s)
-  before opened still = elim (first-or s.state) [
+  before opened still = elim (first_or s.state) [
     | inl first ↦ record {
-      serving = first-by Q P s input offer r (sym (row-first s input offer first) ∙ fits) still acks (used opened).0;
+      serving = first_by Q P s input offer r (sym (row-first s input offer first) ∙ fits) still acks (used opened).0;
       target = subst (λ (state : State). AllByRecursion P (commanded_of (target_role state))) (sym first) tt;
     }
     | inr later ↦
-        let both = begun-begins P s.state s.serving opened later begun in
+        let both = begun_begins P s.state s.serving opened later begun in
         record { serving = both.0; target = both.1 }
   ]
 
   after : IsOpen s.state → IsOpen r.next.state → GoesOn (step_by input (roles_of s)) (roles_of s) s.down input offer r → Begins P (roles_of r.next)
-  after opened still on = subst (Begins P) (sym on.roles) (with-begins P on.begun (after_step (step_by input (roles_of s)) (roles_of s)) (step-begins Q P input (roles_of s) acks (used opened).1 (before opened still)))
+  after opened still on = subst (Begins P) (sym on.roles) (with_begins P on.begun (after_step (step_by input (roles_of s)) (roles_of s)) (step_begins Q P input (roles_of s) acks (used opened).1 (before opened still)))
 
   by : ChangesRoles s input offer r → AllByRecursion P (begun_in r.next.state r.next.serving)
-  by (goes_on opened still on) = begins-begun P r.next.state r.next.serving (after opened still on).serving (after opened still on).target
-  by (ends opened closed end) = subst (AllByRecursion P) (sym (none-begun r.next.state r.next.serving closed)) tt
-  by (had_ended over closed silent) = subst (AllByRecursion P) (sym (none-begun r.next.state r.next.serving closed)) tt
+  by (goes_on opened still on) = begins_begun P r.next.state r.next.serving (after opened still on).serving (after opened still on).target
+  by (ends opened closed end) = subst (AllByRecursion P) (sym (none_begun r.next.state r.next.serving closed)) tt
+  by (had_ended over closed silent) = subst (AllByRecursion P) (sym (none_begun r.next.state r.next.serving closed)) tt

@@ -23,16 +23,16 @@ use Rattle.world_laws.specs.OthersFrame.{CameInOctets, IsHad}
 use Rattle.world_laws.specs.LineUps.{commanded_target}
 use Rattle.world_laws.specs.OwnFrame.{IsRequested}
 use Rattle.world_laws.specs.Seated.{AreActiveAt, commanded_channels}
-use Rattle.world_laws.proofs.Apart.{all-both}
-use Rattle.world_laws.proofs.OwnerRun.{serves-event, snoc-steps}
-use Rattle.world_laws.proofs.Standing.{ConnectionsStand-new}
+use Rattle.world_laws.proofs.Apart.{all_both}
+use Rattle.world_laws.proofs.OwnerRun.{serves_event, snoc_steps}
+use Rattle.world_laws.proofs.Standing.{connections_stand_new}
 use Rattle.world_laws.specs.Channels.Begun.{BegunIsTaken, EstablishedAreActive, HasBegun, ServedAreActive, begun_in}
-use Rattle.world_laws.proofs.Channels.Agreeing.{IsPlaced, agreed, owns-at, placed-at, used-at}
-use Rattle.world_laws.proofs.Channels.BegunRow.{IsAckOf, begun-used, row-begun}
-use Rattle.world_laws.proofs.Channels.BegunTurn.{ack-heard, rests-silent, turn-begins, turn-kept}
-use Rattle.world_laws.proofs.Targets.Within.{still-all}
-use Rattle.world_laws.proofs.Events.{snoc-actors, world}
-use Rattle.world_laws.proofs.Framing.{all-left, all-right}
+use Rattle.world_laws.proofs.Channels.Agreeing.{IsPlaced, agreed, owns_at, placed_at, used_at}
+use Rattle.world_laws.proofs.Channels.BegunRow.{IsAckOf, begun_used, row_begun}
+use Rattle.world_laws.proofs.Channels.BegunTurn.{ack_heard, rests_silent, turn-begins, turn-kept}
+use Rattle.world_laws.proofs.Targets.Within.{still_all}
+use Rattle.world_laws.proofs.Events.{snoc_actors, world}
+use Rattle.world_laws.proofs.Framing.{all_left, all_right}
 
 -- each connection took the ACTIVATION ACKs of the channels that began
 AllBegun : Actors → Type 0
@@ -43,20 +43,20 @@ AllBegun w = (number : ℕ) (s : Connection) → 1 ≤ number → connection_of 
 InUseAt : Controller → ℕ → Channel → Type 0
 InUseAt c number x = channel_state c (place_of x) ≡ InUse number
 
-begun-in-use : (settings : Parameters) (events : List Event) → AreAllowed settings → (number : ℕ) (s : Connection) → connection_of (world settings events).controller number ≡ Some s → AllByRecursion (InUseAt (world settings events).controller number) (begun_in s.state s.serving)
+begun_in_use : (settings : Parameters) (events : List Event) → AreAllowed settings → (number : ℕ) (s : Connection) → connection_of (world settings events).controller number ≡ Some s → AllByRecursion (InUseAt (world settings events).controller number) (begun_in s.state s.serving)
 unfolding InUseAt
-begun-in-use settings events allowed number s there =
+begun_in_use settings events allowed number s there =
     let c : Controller = (world settings events).controller in
-    begun-used (InUseAt c number) s.state s.serving (λ opened. (owns-at settings events allowed number s there opened).using)
+    begun_used (InUseAt c number) s.state s.serving (λ opened. (owns_at settings events allowed number s there opened).using)
 
-used-placed : (settings : Parameters) (events : List Event) → AreAllowed settings → (at : Place) (number : ℕ) → channel_state (world settings events).controller at ≡ InUse number → IsPlaced settings (world settings events) at
-used-placed settings events allowed at number used = placed-at settings events allowed at (λ free. absurd (let both : Free ≡ InUse number = sym free ∙ used in cc))
+used_placed : (settings : Parameters) (events : List Event) → AreAllowed settings → (at : Place) (number : ℕ) → channel_state (world settings events).controller at ≡ InUse number → IsPlaced settings (world settings events) at
+used_placed settings events allowed at number used = placed_at settings events allowed at (λ free. absurd (let both : Free ≡ InUse number = sym free ∙ used in cc))
 
 -- ---- a step of the controller
 
-pub kept-some : (state : State) (s x : Connection) → kept_in state s ≡ Some x → s ≡ x
-kept-some Removed s x is = absurd cc
-kept-some _ s x is = same_Some _ _ is
+pub kept_some : (state : State) (s x : Connection) → kept_in state s ≡ Some x → s ≡ x
+kept_some Removed s x is = absurd cc
+kept_some _ s x is = same_Some _ _ is
 
 -- what an event at which the controller takes a step does to the channels of a connection
 record Stepping (settings : Parameters) (owner : Tenure → ℕ) (w v : Actors) (s : Step) (heard : Place → List Rsl) : Type 0 where
@@ -78,11 +78,11 @@ module _ (settings : Parameters) (done : List Event) (event : Event) (v : Actors
   used-then : (number : ℕ) (x : Connection) → connection_of v.controller number ≡ Some x → AllByRecursion (InUseAt v.controller number) (begun_in x.state x.serving)
   used-then number x there =
       subst (λ (u : Actors). AllByRecursion (InUseAt u.controller number) (begun_in x.state x.serving)) (sym is_then)
-      (begun-in-use settings (done ++ event ∷ []) allowed number x (subst (λ (u : Actors). connection_of u.controller number ≡ Some x) is_then there))
+      (begun_in_use settings (done ++ event ∷ []) allowed number x (subst (λ (u : Actors). connection_of u.controller number ≡ Some x) is_then there))
 
   placed-then : (at : Place) (number : ℕ) → channel_state v.controller at ≡ InUse number → IsPlaced settings v at
   placed-then at number used =
-      subst (λ (u : Actors). IsPlaced settings u at) (sym is_then) (used-placed settings (done ++ event ∷ []) allowed at number (subst (λ (u : Actors). channel_state u.controller at ≡ InUse number) is_then used))
+      subst (λ (u : Actors). IsPlaced settings u at) (sym is_then) (used_placed settings (done ++ event ∷ []) allowed at number (subst (λ (u : Actors). channel_state u.controller at ≡ InUse number) is_then used))
 
   -- nothing is to come of it, if it is in use then
   abbrev Silent : ℕ → Channel → Type 0
@@ -103,7 +103,7 @@ module _ (settings : Parameters) (done : List Event) (event : Event) (v : Actors
 
   keep-all : AllBegun w → (number : ℕ) (x : Connection) → 1 ≤ number → connection_of c number ≡ Some x → AllByRecursion (Silent number) (begun_in x.state x.serving)
   unfolding AllBegun
-  keep-all begun number x from_one there = all-both (λ y. to_come w (place_of y) ≡ []) (InUseAt c number) (Silent number) (begun_in x.state x.serving) (keep number) (begun number x from_one there) (begun-in-use settings done allowed number x there)
+  keep-all begun number x from_one there = all_both (λ y. to_come w (place_of y) ≡ []) (InUseAt c number) (Silent number) (begun_in x.state x.serving) (keep number) (begun number x from_one there) (begun_in_use settings done allowed number x there)
 
   begins : (number : ℕ) (input : Input) → IsBrought (brought_in c number s) input → IsAckOf input (InUseAt c number) (Silent number)
   unfolding InUseAt
@@ -115,7 +115,7 @@ module _ (settings : Parameters) (done : List Event) (event : Event) (v : Actors
 
   finish : (number : ℕ) (x : Connection) → connection_of v.controller number ≡ Some x → AllByRecursion (Silent number) (begun_in x.state x.serving) → HasBegun v x
   unfolding InUseAt
-  finish number x there all = all-both (Silent number) (InUseAt v.controller number) (λ y. to_come v (place_of y) ≡ []) (begun_in x.state x.serving) (λ y silent used. silent used) all (used-then number x there)
+  finish number x there all = all_both (Silent number) (InUseAt v.controller number) (λ y. to_come v (place_of y) ≡ []) (begun_in x.state x.serving) (λ y silent used. silent used) all (used-then number x there)
 
   by-acts : AllBegun w → (number : ℕ) (x : Connection) (put : List Message) → 1 ≤ number → connection_of v.controller number ≡ Some x → Acts number c.next_number (hears c SWITCH_LINK) (brought_in c number s) (connection_of c number) put (connection_of (step c s).next number) → HasBegun v x
   unfolding InUseAt
@@ -128,14 +128,14 @@ module _ (settings : Parameters) (done : List Event) (event : Event) (v : Actors
       let is : new_connection number channel request delay ≡ x = (let both : Some (new_connection number channel request delay) ≡ Some x = sym after ∙ ap (λ (d : Controller). connection_of d number) (sym next-is) ∙ there in cc) in
       subst (HasBegun v) is tt
   by-acts begun number x put from_one there (goes old y input offer r before aged brought fits put_is after) =
-      let is : r.next ≡ x = kept-some r.next.state r.next x (sym after ∙ ap (λ (d : Controller). connection_of d number) (sym next-is) ∙ there) in
+      let is : r.next ≡ x = kept_some r.next.state r.next x (sym after ∙ ap (λ (d : Controller). connection_of d number) (sym next-is) ∙ there) in
       finish number x there (subst (λ (z : Connection). AllByRecursion (Silent number) (begun_in z.state z.serving)) is
-      (row-begun (InUseAt c number) (Silent number) y input offer r (aged_holds Stands pass_stands old y aged (ConnectionsStand-new settings done number old before)) fits (begins number input brought)
+      (row_begun (InUseAt c number) (Silent number) y input offer r (aged_holds Stands pass_stands old y aged (connections_stand_new settings done number old before)) fits (begins number input brought)
       (aged_holds (λ z. IsOpen z.state → AllByRecursion (InUseAt c number) (z.serving ∷ target_channels (target_role z.state))) (λ ms z all. all) old y aged (owned number old before))
       (aged_holds (λ z. AllByRecursion (Silent number) (begun_in z.state z.serving)) (λ ms z all. all) old y aged (keep-all begun number old from_one before))))
     where
       owned : (number : ℕ) (old : Connection) → connection_of c number ≡ Some old → IsOpen old.state → AllByRecursion (InUseAt c number) (old.serving ∷ target_channels (target_role old.state))
-      owned number old there opened = (owns-at settings done allowed number old there opened).using
+      owned number old there opened = (owns_at settings done allowed number old there opened).using
 
   stepping-begun : AllBegun w → AllBegun v
   unfolding AllBegun
@@ -159,11 +159,11 @@ module _ (settings : Parameters) (done : List Event) (allowed : AreAllowed setti
   unfolding AllBegun InUseAt
   resting e same quiet number x from_one there =
       let there_now : connection_of now.controller number ≡ Some x = subst (λ (d : Controller). connection_of d number ≡ Some x) same there in
-      all-both (λ y. to_come now (place_of y) ≡ []) (InUseAt now.controller number) (λ y. to_come (actors_after now e) (place_of y) ≡ []) (begun_in x.state x.serving)
+      all_both (λ y. to_come now (place_of y) ≡ []) (InUseAt now.controller number) (λ y. to_come (actors_after now e) (place_of y) ≡ []) (begun_in x.state x.serving)
       (λ y none used.
-      let placed = used-placed settings done allowed (place_of y) number used in
-      rests-silent (place_of y) now e (there-of settings own_of now [] (place_of y) right placed.least placed.most) right.good (quiet (place_of y) placed.least placed.most) none)
-      (begun number x from_one there_now) (begun-in-use settings done allowed number x there_now)
+      let placed = used_placed settings done allowed (place_of y) number used in
+      rests_silent (place_of y) now e (there-of settings own_of now [] (place_of y) right placed.least placed.most) right.good (quiet (place_of y) placed.least placed.most) none)
+      (begun number x from_one there_now) (begun_in_use settings done allowed number x there_now)
 
   beside : (e : Event) → is_beside e ≡ true → AllBegun (actors_after now e)
   beside e is = resting e (beside-step now e is).controller (λ at least most. beside-rests at now e is (there-of settings own_of now [] at right least most))
@@ -174,11 +174,11 @@ module _ (settings : Parameters) (done : List Event) (allowed : AreAllowed setti
   ticks : (ms : ℕ) → AllByRecursion ComesInOctets (step_at now (events.Tick ms)) → AllBegun (actors_after now (events.Tick ms))
   unfolding ServesAt event_after
   ticks ms came =
-      stepping-begun settings done (events.Tick ms) (actors_after now (events.Tick ms)) (sym (snoc-actors (new_actors settings) done (events.Tick ms))) allowed own_of right.agree (steps.Tick ms) (λ at. [])
+      stepping-begun settings done (events.Tick ms) (actors_after now (events.Tick ms)) (sym (snoc_actors (new_actors settings) done (events.Tick ms))) allowed own_of right.agree (steps.Tick ms) (λ at. [])
       (record {
         target = None;
         turned = λ at. tick-turned now at ms;
-        serves = serves-event settings own_of done now (events.Tick ms) refl allowed octets came right.agree;
+        serves = serves_event settings own_of done now (events.Tick ms) refl allowed octets came right.agree;
         acks = λ number at brought. absurd brought;
       }) begun
 
@@ -192,12 +192,12 @@ module _ (settings : Parameters) (done : List Event) (allowed : AreAllowed setti
         let same : actors_after now Handle ≡ v = ap (λ (all : List Item). unwrap_or (handled all now) now) is in
         let known : AllByRecursion IsKnownItem (item ∷ items) = subst (AllByRecursion IsKnownItem) is (known-inbox settings done) in
         subst AllBegun (sym same)
-        (stepping-begun settings done Handle v (sym same ∙ sym (snoc-actors (new_actors settings) done Handle)) allowed own_of right.agree (steps.Take item) (λ at. heard_of at item)
+        (stepping-begun settings done Handle v (sym same ∙ sym (snoc_actors (new_actors settings) done Handle)) allowed own_of right.agree (steps.Take item) (λ at. heard_of at item)
         (record {
           target = target_in now item.source item.what;
           turned = λ at. handle-turned now at item items is;
-          serves = serves-event settings own_of done now Handle refl allowed octets came right.agree item items is;
-          acks = λ number at brought. ack-heard now now.controller number item at (used-at settings done allowed) known.0 brought;
+          serves = serves_event settings own_of done now Handle refl allowed octets came right.agree item items is;
+          acks = λ number at brought. ack_heard now now.controller number item at (used_at settings done allowed) known.0 brought;
         }) begun)
 
   event-begun : (e : Event) → AllByRecursion ComesInOctets (step_at now e) → AllBegun (actors_after now e)
@@ -205,63 +205,63 @@ module _ (settings : Parameters) (done : List Event) (allowed : AreAllowed setti
 
 -- ---- over all events
 
-begun-all : (settings : Parameters) (done rest : List Event) (w : Actors) → w ≡ world settings done → AreAllowed settings → CameInOctets settings done → AllByRecursion ComesInOctets (all_steps w rest) → AllBegun w → AllBegun (actors_after_all w rest)
-begun-all settings done [] w is allowed octets later begun = begun
-begun-all settings done (event ∷ rest) w is allowed octets later begun =
-    let own : AllByRecursion ComesInOctets (step_at (world settings done) event) = subst (λ (u : Actors). AllByRecursion ComesInOctets (step_at u event)) is (all-left ComesInOctets (step_at w event) (all_steps (actors_after w event) rest) later) in
+begun_all : (settings : Parameters) (done rest : List Event) (w : Actors) → w ≡ world settings done → AreAllowed settings → CameInOctets settings done → AllByRecursion ComesInOctets (all_steps w rest) → AllBegun w → AllBegun (actors_after_all w rest)
+begun_all settings done [] w is allowed octets later begun = begun
+begun_all settings done (event ∷ rest) w is allowed octets later begun =
+    let own : AllByRecursion ComesInOctets (step_at (world settings done) event) = subst (λ (u : Actors). AllByRecursion ComesInOctets (step_at u event)) is (all_left ComesInOctets (step_at w event) (all_steps (actors_after w event) rest) later) in
     let next : AllBegun (actors_after w event) = subst (λ (u : Actors). AllBegun (actors_after u event)) (sym is) (event-begun settings done allowed octets (subst AllBegun is begun) event own) in
-    begun-all settings (done ++ event ∷ []) rest (actors_after w event) (ap (λ (u : Actors). actors_after u event) is ∙ sym (snoc-actors (new_actors settings) done event)) allowed
-    (snoc-steps ComesInOctets (new_actors settings) done event octets own) (all-right ComesInOctets (step_at w event) (all_steps (actors_after w event) rest) later) next
+    begun_all settings (done ++ event ∷ []) rest (actors_after w event) (ap (λ (u : Actors). actors_after u event) is ∙ sym (snoc_actors (new_actors settings) done event)) allowed
+    (snoc_steps ComesInOctets (new_actors settings) done event octets own) (all_right ComesInOctets (step_at w event) (all_steps (actors_after w event) rest) later) next
 
-begun-new : (settings : Parameters) → AllBegun (new_actors settings)
+begun_new : (settings : Parameters) → AllBegun (new_actors settings)
 unfolding AllBegun
-begun-new settings number x from_one there = absurd cc
+begun_new settings number x from_one there = absurd cc
 
-begun-at : (settings : Parameters) (events : List Event) → AreAllowed settings → CameInOctets settings events → AllBegun (world settings events)
-begun-at settings events allowed octets = begun-all settings [] events (new_actors settings) refl allowed tt octets (begun-new settings)
+begun_at : (settings : Parameters) (events : List Event) → AreAllowed settings → CameInOctets settings events → AllBegun (world settings events)
+begun_at settings events allowed octets = begun_all settings [] events (new_actors settings) refl allowed tt octets (begun_new settings)
 
-pub BegunIsTaken-new : (settings : Parameters) (events : List Event) → BegunIsTaken settings events
+pub begun_is_taken_new : (settings : Parameters) (events : List Event) → BegunIsTaken settings events
 unfolding AllBegun
-BegunIsTaken-new settings events s allowed octets had = begun-at settings events allowed octets s.number s had.from_one had.there
+begun_is_taken_new settings events s allowed octets had = begun_at settings events allowed octets s.number s had.from_one had.there
 
 -- ---- so it is active
 
-begun-active : (settings : Parameters) (events : List Event) → AreAllowed settings → CameInOctets settings events → (at : Place) (number : ℕ) → channel_state (world settings events).controller at ≡ InUse number → is_up (world settings events) at.station ≡ true
+begun_active : (settings : Parameters) (events : List Event) → AreAllowed settings → CameInOctets settings events → (at : Place) (number : ℕ) → channel_state (world settings events).controller at ≡ InUse number → is_up (world settings events) at.station ≡ true
     → to_come (world settings events) at ≡ [] → is_active_at (world settings events) at ≡ true
-begun-active settings events allowed octets at number used up silent =
+begun_active settings events allowed octets at number used up silent =
     let w : Actors = world settings events in
-    let placed = used-placed settings events allowed at number used in
+    let placed = used_placed settings events allowed at number used in
     let way = ((agreed settings events allowed octets).agree at placed.least placed.most).way placed.hearing in
     let waits : List Rsl = due at.number (is_active_at w at) (outbox_of w at.station) in
     let none : waits ≡ [] = (Both-empty (acknowledgements at.number (base_of w at.station).messages) waits (sym (Both-empty (acknowledged_in at w.inbox) (acknowledgements at.number (base_of w at.station).messages ++ waits) (sym silent)).1)).1 in
-    sym (still-all at.number (is_active_at w at) (outbox_of w at.station) none) ∙ way.active up ∙ ap is_in_use used
+    sym (still_all at.number (is_active_at w at) (outbox_of w at.station) none) ∙ way.active up ∙ ap is_in_use used
 
 -- it began on the serving channel, and on the target of the command
 abbrev BothBegan : Channel → State → Type 0
 BothBegan serving state = begun_in state serving ≡ serving ∷ commanded_channels (commanded_target state)
 
-requested-began : (state : State) (serving : Channel) → IsRequested state → BothBegan serving state
-requested-began WaitConfirm serving requested = refl
-requested-began (Live reference stage) serving requested = refl
-requested-began WaitActivation serving requested = absurd requested
-requested-began WaitEstablish serving requested = absurd requested
-requested-began (Closed clearing) serving requested = absurd requested
-requested-began Removed serving requested = absurd requested
+requested_began : (state : State) (serving : Channel) → IsRequested state → BothBegan serving state
+requested_began WaitConfirm serving requested = refl
+requested_began (Live reference stage) serving requested = refl
+requested_began WaitActivation serving requested = absurd requested
+requested_began WaitEstablish serving requested = absurd requested
+requested_began (Closed clearing) serving requested = absurd requested
+requested_began Removed serving requested = absurd requested
 
-began-active : (settings : Parameters) (events : List Event) (station : ℕ) (s : Connection) → AreAllowed settings → CameInOctets settings events → IsHad (world settings events) s → BothBegan s.serving s.state
+began_active : (settings : Parameters) (events : List Event) (station : ℕ) (s : Connection) → AreAllowed settings → CameInOctets settings events → IsHad (world settings events) s → BothBegan s.serving s.state
     → is_station_up (world settings events) station ≡ true → AreActiveAt station (world settings events) s
 unfolding InUseAt
-began-active settings events station s allowed octets had began up =
+began_active settings events station s allowed octets had began up =
     let w : Actors = world settings events in
     subst (AllByRecursion (λ y. y.station ≡ station → is_active_at w (place_of y) ≡ true)) began
-    (all-both (λ y. to_come w (place_of y) ≡ []) (InUseAt w.controller s.number) (λ y. y.station ≡ station → is_active_at w (place_of y) ≡ true) (begun_in s.state s.serving)
-    (λ y none used here. begun-active settings events allowed octets (place_of y) s.number used (ap (is_up w) here ∙ (up-right station w up).1) none)
-    (BegunIsTaken-new settings events s allowed octets had) (begun-in-use settings events allowed s.number s had.there))
+    (all_both (λ y. to_come w (place_of y) ≡ []) (InUseAt w.controller s.number) (λ y. y.station ≡ station → is_active_at w (place_of y) ≡ true) (begun_in s.state s.serving)
+    (λ y none used here. begun_active settings events allowed octets (place_of y) s.number used (ap (is_up w) here ∙ (up-right station w up).1) none)
+    (begun_is_taken_new settings events s allowed octets had) (begun_in_use settings events allowed s.number s had.there))
 
-pub ServedAreActive-new : (settings : Parameters) (events : List Event) → ServedAreActive settings events
-ServedAreActive-new settings events station s allowed octets had requested up = began-active settings events station s allowed octets had (requested-began s.state s.serving requested) up
+pub served_are_active_new : (settings : Parameters) (events : List Event) → ServedAreActive settings events
+served_are_active_new settings events station s allowed octets had requested up = began_active settings events station s allowed octets had (requested_began s.state s.serving requested) up
 
-pub EstablishedAreActive-new : (settings : Parameters) (events : List Event) → EstablishedAreActive settings events
-EstablishedAreActive-new settings events station s allowed octets had established up =
+pub established_are_active_new : (settings : Parameters) (events : List Event) → EstablishedAreActive settings events
+established_are_active_new settings events station s allowed octets had established up =
     let began : BothBegan s.serving WaitEstablish = refl in
-    began-active settings events station s allowed octets had (subst (BothBegan s.serving) (sym established) began) up
+    began_active settings events station s allowed octets had (subst (BothBegan s.serving) (sym established) began) up

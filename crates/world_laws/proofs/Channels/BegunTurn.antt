@@ -22,14 +22,14 @@ use Rattle.world_model.proofs.OwnerKeeping.{one-at-most}
 use Rattle.world_model.proofs.OwnerPuts.{goes-put}
 use Rattle.world_model.proofs.Outboxes.Step.{goes}
 use Rattle.world_model.proofs.Piping.{due-append}
-use Rattle.world_laws.proofs.OrderHeard.{read-known, word-known}
-use Rattle.world_laws.proofs.OwnFrame.{SaysWord, message-says}
+use Rattle.world_laws.proofs.OrderHeard.{read_known, word-known}
+use Rattle.world_laws.proofs.OwnFrame.{SaysWord, message_says}
 
 -- ---- an event at which the controller does nothing
 
 -- where nothing was to come, nothing is to come
-pub rests-silent : (at : Place) (w : Actors) (event : Event) → IsThere at w → Good w → Rests at w event → to_come w at ≡ [] → to_come (actors_after w event) at ≡ []
-rests-silent at w event there good rests silent = by (outbox-step n w event) (pipe-step n k w event there.station there.among there.none) where
+pub rests_silent : (at : Place) (w : Actors) (event : Event) → IsThere at w → Good w → Rests at w event → to_come w at ≡ [] → to_come (actors_after w event) at ≡ []
+rests_silent at w event there good rests silent = by (outbox-step n w event) (pipe-step n k w event there.station there.among there.none) where
   v : Actors
   v = actors_after w event
 
@@ -149,13 +149,13 @@ module _ (owner : Tenure → ℕ) (w v : Actors) (at : Place) (target : Option T
 
 -- ---- an ACTIVATION ACK that comes to a connection is heard of its channel
 
-no-brought : (c : Controller) (number : ℕ) (at p : Place) (input : Input) (state : ChannelState) → channel_state c p ≡ state → IsBrought (if_held number (holder state) input) (inputs.ActivationAck at) → (inputs.ActivationAck at ≡ input) × (channel_state c p ≢ Free)
-no-brought c number at p input Free is brought = absurd brought
-no-brought c number at p input (InUse k) is brought = by (k == number) brought where
+no_brought : (c : Controller) (number : ℕ) (at p : Place) (input : Input) (state : ChannelState) → channel_state c p ≡ state → IsBrought (if_held number (holder state) input) (inputs.ActivationAck at) → (inputs.ActivationAck at ≡ input) × (channel_state c p ≢ Free)
+no_brought c number at p input Free is brought = absurd brought
+no_brought c number at p input (InUse k) is brought = by (k == number) brought where
   by : (b : Bool) → IsBrought (if b then comes_in input else none_in) (inputs.ActivationAck at) → (inputs.ActivationAck at ≡ input) × (channel_state c p ≢ Free)
   by true same = (same, λ free. absurd (let both : Free ≡ InUse k = sym free ∙ is in cc))
   by false same = absurd same
-no-brought c number at p input (Releasing k) is brought = by (k == number) brought where
+no_brought c number at p input (Releasing k) is brought = by (k == number) brought where
   by : (b : Bool) → IsBrought (if b then comes_in input else none_in) (inputs.ActivationAck at) → (inputs.ActivationAck at ≡ input) × (channel_state c p ≢ Free)
   by true same = (same, λ free. absurd (let both : Free ≡ Releasing k = sym free ∙ is in cc))
   by false same = absurd same
@@ -166,51 +166,51 @@ record AcksOn (c : Controller) (word : Word) (at : Place) : Type 0 where
   is : word ≡ OnChannel on (inputs.ActivationAck at)
   busy : channel_state c on ≢ Free
 
-acks-on : (c : Controller) (number source : ℕ) (word : Word) (at : Place) → IsFrom source word → IsBrought (brought_by c number word) (inputs.ActivationAck at) → AcksOn c word at
-acks-on c number source (OnChannel p input) at from brought =
-    let both = no-brought c number at p input (channel_state c p) refl brought in
+acks_on : (c : Controller) (number source : ℕ) (word : Word) (at : Place) → IsFrom source word → IsBrought (brought_by c number word) (inputs.ActivationAck at) → AcksOn c word at
+acks_on c number source (OnChannel p input) at from brought =
+    let both = no_brought c number at p input (channel_state c p) refl brought in
     record { on = p; is = ap (OnChannel p) (sym both.0); busy = both.1 }
-acks-on c number source (OnConnection m input) at from brought = by (m == number) brought where
+acks_on c number source (OnConnection m input) at from brought = by (m == number) brought where
   by : (b : Bool) → IsBrought (if b then comes_in input else none_in) (inputs.ActivationAck at) → AcksOn c (OnConnection m input) at
   by true same = absurd (subst IsOfSwitch (sym same) from.1)
   by false same = absurd same
-acks-on c number source (Reports p of report) at from brought = absurd cc
-acks-on c number source Nothing at from brought = absurd brought
-acks-on c number source Ping at from brought = absurd brought
-acks-on c number source (Asks request delay) at from brought = absurd brought
+acks_on c number source (Reports p of report) at from brought = absurd cc
+acks_on c number source Nothing at from brought = absurd brought
+acks_on c number source Ping at from brought = absurd brought
+acks_on c number source (Asks request delay) at from brought = absurd brought
 
 -- the message that begins a tenure for the controller
-ack-of : (w : Actors) (source : ℕ) (m : Rsl) (at : Place) → acknowledged_tenure w source (Some m) ≡ Some (tenure_at w at) → (a : ActivationAck) × (m ≡ rsl.ChannelActivationAck a) × (place_at source a.channel ≡ at)
-ack-of w source (rsl.ChannelActivationAck a) at is = (a, refl, ap (λ (t : Tenure). t.at) (same_Some _ _ is))
-ack-of w source _ at is = absurd cc
+ack_of : (w : Actors) (source : ℕ) (m : Rsl) (at : Place) → acknowledged_tenure w source (Some m) ≡ Some (tenure_at w at) → (a : ActivationAck) × (m ≡ rsl.ChannelActivationAck a) × (place_at source a.channel ≡ at)
+ack_of w source (rsl.ChannelActivationAck a) at is = (a, refl, ap (λ (t : Tenure). t.at) (same_Some _ _ is))
+ack_of w source _ at is = absurd cc
 
-ack-says : (w : Actors) (source : ℕ) (frame : Frame) (m : Rsl) (on at : Place) → source ≢ SWITCH_LINK → word_of source frame ≡ rsl_word source m → word_of source frame ≡ OnChannel on (inputs.ActivationAck at) → acknowledged_tenure w source (Some m) ≡ Some (tenure_at w at)
-ack-says w source frame m on at station word is = (subst (SaysWord source m) (sym word ∙ is) (message-says source m) tt).acknowledges w
+ack_says : (w : Actors) (source : ℕ) (frame : Frame) (m : Rsl) (on at : Place) → source ≢ SWITCH_LINK → word_of source frame ≡ rsl_word source m → word_of source frame ≡ OnChannel on (inputs.ActivationAck at) → acknowledged_tenure w source (Some m) ≡ Some (tenure_at w at)
+ack_says w source frame m on at station word is = (subst (SaysWord source m) (sym word ∙ is) (message_says source m) tt).acknowledges w
 
-bound-heard : (at : Place) (source : ℕ) (frame : Frame) (a : ActivationAck) → rsl_in frame ≡ Some (rsl.ChannelActivationAck a) → place_at source a.channel ≡ at → heard_of at (record { source = source; what = whats.Frame frame }) ≡ rsl.ChannelActivationAck a ∷ []
-bound-heard at source frame a says here =
+bound_heard : (at : Place) (source : ℕ) (frame : Frame) (a : ActivationAck) → rsl_in frame ≡ Some (rsl.ChannelActivationAck a) → place_at source a.channel ≡ at → heard_of at (record { source = source; what = whats.Frame frame }) ≡ rsl.ChannelActivationAck a ∷ []
+bound_heard at source frame a says here =
     ap (λ (b : Bool). acknowledgements at.number (if b then option_to_list (rsl_in frame) else [])) (eq-eqb source at.station (ap (λ (p : Place). p.station) here))
     ∙ ap (λ (o : Option Rsl). acknowledgements at.number (option_to_list o)) says
     ∙ ap (λ (b : Bool). cond b (rsl.ChannelActivationAck a ∷ []) []) (eq-eqb a.channel at.number (ap (λ (p : Place). p.number) here))
 
-known-acks : (w : Actors) (source : ℕ) (frame : Frame) (m : Rsl) (on at : Place) → source ≢ SWITCH_LINK → rsl_in frame ≡ Some m → word_of source frame ≡ rsl_word source m → word_of source frame ≡ OnChannel on (inputs.ActivationAck at) → heard_of at (record { source = source; what = whats.Frame frame }) ≢ []
-known-acks w source frame m on at station says word is none = by (ack-of w source m at (ack-says w source frame m on at station word is)) where
+known_acks : (w : Actors) (source : ℕ) (frame : Frame) (m : Rsl) (on at : Place) → source ≢ SWITCH_LINK → rsl_in frame ≡ Some m → word_of source frame ≡ rsl_word source m → word_of source frame ≡ OnChannel on (inputs.ActivationAck at) → heard_of at (record { source = source; what = whats.Frame frame }) ≢ []
+known_acks w source frame m on at station says word is none = by (ack_of w source m at (ack_says w source frame m on at station word is)) where
   by : (a : ActivationAck) × (m ≡ rsl.ChannelActivationAck a) × (place_at source a.channel ≡ at) → ⊥
-  by (a, acked, here) = absurd (let both : rsl.ChannelActivationAck a ∷ [] ≡ [] = sym (bound-heard at source frame a (says ∙ ap Some acked) here) ∙ none in cc)
+  by (a, acked, here) = absurd (let both : rsl.ChannelActivationAck a ∷ [] ≡ [] = sym (bound_heard at source frame a (says ∙ ap Some acked) here) ∙ none in cc)
 
-item-acks : (w : Actors) (c : Controller) (number source : ℕ) (what : What) (at : Place) → AreUsed c → IsKnownItem (record { source = source; what = what }) → (up : Bool) → IsBrought (if up then brought_with c number source what else none_in) (inputs.ActivationAck at) → heard_of at (record { source = source; what = what }) ≢ []
-item-acks w c number source what at used known false brought none = absurd brought
-item-acks w c number source whats.Down at used known true brought none = by (source == SWITCH_LINK) brought where
+item_acks : (w : Actors) (c : Controller) (number source : ℕ) (what : What) (at : Place) → AreUsed c → IsKnownItem (record { source = source; what = what }) → (up : Bool) → IsBrought (if up then brought_with c number source what else none_in) (inputs.ActivationAck at) → heard_of at (record { source = source; what = what }) ≢ []
+item_acks w c number source what at used known false brought none = absurd brought
+item_acks w c number source whats.Down at used known true brought none = by (source == SWITCH_LINK) brought where
   by : (b : Bool) → inputs.ActivationAck at ≡ (if b then inputs.SwitchDown else inputs.StationDown source) → ⊥
   by true same = absurd cc
   by false same = absurd cc
-item-acks w c number source (whats.Frame frame) at used known true brought none =
-    let acks : AcksOn c (word_of source frame) at = acks-on c number source (word_of source frame) at (word_from source frame) brought in
+item_acks w c number source (whats.Frame frame) at used known true brought none =
+    let acks : AcksOn c (word_of source frame) at = acks_on c number source (word_of source frame) at (word_from source frame) brought in
     let from : IsFrom source (OnChannel acks.on (inputs.ActivationAck at)) = subst (IsFrom source) acks.is (word_from source frame) in
     let station : source ≢ SWITCH_LINK = λ switch. acks.busy (ap (λ (k : ℕ). channel_state c (place_at k acks.on.number)) (from.0 ∙ switch) ∙ used.switch acks.on.number) in
     let (m, is, read, no_nack) = known.station station in
     let word : word_of source frame ≡ rsl_word source m = ap (word_of source) is ∙ word-known source m station read in
-    known-acks w source frame m acks.on at station (ap rsl_in is ∙ read-known m read) word acks.is none
+    known_acks w source frame m acks.on at station (ap rsl_in is ∙ read_known m read) word acks.is none
 
-pub ack-heard : (w : Actors) (c : Controller) (number : ℕ) (item : Item) (at : Place) → AreUsed c → IsKnownItem item → IsBrought (brought_in c number (Take item)) (inputs.ActivationAck at) → heard_of at item ≢ []
-ack-heard w c number item at used known brought = item-acks w c number item.source item.what at used known (hears c item.source) brought
+pub ack_heard : (w : Actors) (c : Controller) (number : ℕ) (item : Item) (at : Place) → AreUsed c → IsKnownItem item → IsBrought (brought_in c number (Take item)) (inputs.ActivationAck at) → heard_of at item ≢ []
+ack_heard w c number item at used known brought = item_acks w c number item.source item.what at used known (hears c item.source) brought

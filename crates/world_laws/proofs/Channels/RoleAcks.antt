@@ -13,10 +13,10 @@ use Rattle.world_laws.specs.ComingUp.{coming_up}
 use Rattle.world_laws.specs.LineUps.{is_ended}
 use Rattle.world_laws.specs.OthersFrame.{CameInOctets}
 use Rattle.world_laws.specs.Staying.{EndsLast}
-use Rattle.world_laws.proofs.Acknowledged.{AllAcksTell-new}
-use Rattle.world_laws.proofs.Framing.{all-left}
+use Rattle.world_laws.proofs.Acknowledged.{all_acks_tell_new}
+use Rattle.world_laws.proofs.Framing.{all_left}
 use Rattle.world_laws.specs.Channels.Roles.{AcknowledgementsAgree, OldChannelsEnd}
-use Rattle.world_laws.proofs.Channels.Agreeing.{agreed, owns-at, placed-at}
+use Rattle.world_laws.proofs.Channels.Agreeing.{agreed, owns_at, placed_at}
 use Rattle.world_laws.proofs.Events.{world}
 
 -- ---- what is on its way up is the beginning of all that is to come
@@ -28,48 +28,48 @@ by-said station source whats.Down = by (source == station) where
   by true = refl
   by false = refl
 
-inbox-said : (station : ℕ) (items : List Item) → flat_map (read_of station) items ≡ flat_map (said station) items
-inbox-said station [] = refl
-inbox-said station (item ∷ items) = ap (λ (xs : List Rsl). xs ++ flat_map (read_of station) items) (by-said station item.source item.what) ∙ ap (λ (xs : List Rsl). said station item ++ xs) (inbox-said station items)
+inbox_said : (station : ℕ) (items : List Item) → flat_map (read_of station) items ≡ flat_map (said station) items
+inbox_said station [] = refl
+inbox_said station (item ∷ items) = ap (λ (xs : List Rsl). xs ++ flat_map (read_of station) items) (by-said station item.source item.what) ∙ ap (λ (xs : List Rsl). said station item ++ xs) (inbox_said station items)
 
 -- what is to come is what is on its way, and what is due
-pub up-first : (w : Actors) (at : Place) → to_come w at ≡ acknowledgements_up w at ++ due at.number (is_active_at w at) (outbox_of w at.station)
-up-first w at =
+pub up_first : (w : Actors) (at : Place) → to_come w at ≡ acknowledgements_up w at ++ due at.number (is_active_at w at) (outbox_of w at.station)
+up_first w at =
     let made : List Rsl = (base_of w at.station).messages in
     let waits : List Rsl = due at.number (is_active_at w at) (outbox_of w at.station) in
     sym (append_assoc (acknowledged_in at w.inbox) (acknowledgements at.number made) waits)
     ∙ ap (λ (xs : List Rsl). xs ++ waits) (sym (acks-append at.number (flat_map (said at.station) w.inbox) made)
-    ∙ ap (λ (xs : List Rsl). acknowledgements at.number (xs ++ made)) (sym (inbox-said at.station w.inbox)))
+    ∙ ap (λ (xs : List Rsl). acknowledgements at.number (xs ++ made)) (sym (inbox_said at.station w.inbox)))
 
 -- ---- what comes of a channel, by its state at the controller
 
-using-none : (k n : ℕ) (xs : List Rsl) → Comes k (InUse n) xs → NoneReleases xs
-using-none k n xs began = tt
-using-none k n xs begins = (refl, tt)
+using_none : (k n : ℕ) (xs : List Rsl) → Comes k (InUse n) xs → NoneReleases xs
+using_none k n xs began = tt
+using_none k n xs begins = (refl, tt)
 
-releasing-last : (k n : ℕ) (xs : List Rsl) → Comes k (Releasing n) xs → ReleasesLast xs
-releasing-last k n xs ends = ((λ is. refl), tt)
-releasing-last k n xs begins_and_ends = ((λ is. absurd cc), ((λ is. refl), tt))
+releasing_last : (k n : ℕ) (xs : List Rsl) → Comes k (Releasing n) xs → ReleasesLast xs
+releasing_last k n xs ends = ((λ is. refl), tt)
+releasing_last k n xs begins_and_ends = ((λ is. absurd cc), ((λ is. refl), tt))
 
-pub free-silent : (k : ℕ) (xs : List Rsl) → Comes k Free xs → xs ≡ []
-free-silent k xs nothing = refl
+pub free_silent : (k : ℕ) (xs : List Rsl) → Comes k Free xs → xs ≡ []
+free_silent k xs nothing = refl
 
-last-front : (up rest : List Rsl) → ReleasesLast (up ++ rest) → ReleasesLast up
-last-front [] rest last = tt
-last-front (m ∷ ms) rest last = ((λ is. (Both-empty ms rest (sym (last.0 is))).0), last-front ms rest last.1)
+last_front : (up rest : List Rsl) → ReleasesLast (up ++ rest) → ReleasesLast up
+last_front [] rest last = tt
+last_front (m ∷ ms) rest last = ((λ is. (Both-empty ms rest (sym (last.0 is))).0), last_front ms rest last.1)
 
 -- ---- after any events
 
 -- of a channel whose link is up at the controller
-pub comes-at : (settings : Parameters) (events : List Event) → AreAllowed settings → CameInOctets settings events → (at : Place) → 1 ≤ at.station → at.station ≤ length settings.cells → hears (world settings events).controller at.station ≡ true → (state : ChannelState) → channel_state (world settings events).controller at ≡ state
+pub comes_at : (settings : Parameters) (events : List Event) → AreAllowed settings → CameInOctets settings events → (at : Place) → 1 ≤ at.station → at.station ≤ length settings.cells → hears (world settings events).controller at.station ≡ true → (state : ChannelState) → channel_state (world settings events).controller at ≡ state
     → (rest : List Rsl) × Comes at.number state (acknowledgements_up (world settings events) at ++ rest)
-comes-at settings events allowed octets at least most hearing state is =
+comes_at settings events allowed octets at least most hearing state is =
     let w : Actors = world settings events in
     let way = ((agreed settings events allowed octets).agree at least most).way hearing in
     let waits : List Rsl = due at.number (is_active_at w at) (outbox_of w at.station) in (
       waits ++ way.lost,
       subst (λ (s : ChannelState). Comes at.number s (acknowledgements_up w at ++ (waits ++ way.lost))) is
-          (subst (Comes at.number (channel_state w.controller at)) (ap (λ (xs : List Rsl). xs ++ way.lost) (up-first w at) ∙ append_assoc (acknowledgements_up w at) waits way.lost) way.comes),
+          (subst (Comes at.number (channel_state w.controller at)) (ap (λ (xs : List Rsl). xs ++ way.lost) (up_first w at) ∙ append_assoc (acknowledgements_up w at) waits way.lost) way.comes),
     )
 
 module _ (settings : Parameters) (events : List Event) (allowed : AreAllowed settings) (octets : CameInOctets settings events) where
@@ -79,25 +79,25 @@ module _ (settings : Parameters) (events : List Event) (allowed : AreAllowed set
   -- a free channel: none of its acknowledgements is on its way
   pub silent-of : (at : Place) → 1 ≤ at.station → at.station ≤ length settings.cells → hears w.controller at.station ≡ true → channel_state w.controller at ≡ Free → acknowledgements_up w at ≡ []
   silent-of at least most hearing free =
-      let comes = comes-at settings events allowed octets at least most hearing Free free in
-      (Both-empty (acknowledgements_up w at) comes.0 (sym (free-silent at.number (acknowledgements_up w at ++ comes.0) comes.1))).0
+      let comes = comes_at settings events allowed octets at least most hearing Free free in
+      (Both-empty (acknowledgements_up w at) comes.0 (sym (free_silent at.number (acknowledgements_up w at ++ comes.0) comes.1))).0
 
   -- one in use: no RF CHANNEL RELEASE ACK is on its way
   pub none-of : (at : Place) (n : ℕ) → channel_state w.controller at ≡ InUse n → NoneReleases (acknowledgements_up w at)
   none-of at n used =
-      let placed = placed-at settings events allowed at (λ free. absurd (let both : Free ≡ InUse n = sym free ∙ used in cc)) in
-      let comes = comes-at settings events allowed octets at placed.least placed.most placed.hearing (InUse n) used in
-      all-left (λ m. is_release_ack m ≡ false) (acknowledgements_up w at) comes.0 (using-none at.number n (acknowledgements_up w at ++ comes.0) comes.1)
+      let placed = placed_at settings events allowed at (λ free. absurd (let both : Free ≡ InUse n = sym free ∙ used in cc)) in
+      let comes = comes_at settings events allowed octets at placed.least placed.most placed.hearing (InUse n) used in
+      all_left (λ m. is_release_ack m ≡ false) (acknowledgements_up w at) comes.0 (using_none at.number n (acknowledgements_up w at ++ comes.0) comes.1)
 
   -- one that is releasing: an RF CHANNEL RELEASE ACK is the last acknowledgement
   pub last-of : (at : Place) (n : ℕ) → channel_state w.controller at ≡ Releasing n → ReleasesLast (acknowledgements_up w at)
   last-of at n releasing =
-      let placed = placed-at settings events allowed at (λ free. absurd (let both : Free ≡ Releasing n = sym free ∙ releasing in cc)) in
-      let comes = comes-at settings events allowed octets at placed.least placed.most placed.hearing (Releasing n) releasing in
-      last-front (acknowledgements_up w at) comes.0 (releasing-last at.number n (acknowledgements_up w at ++ comes.0) comes.1)
+      let placed = placed_at settings events allowed at (λ free. absurd (let both : Free ≡ Releasing n = sym free ∙ releasing in cc)) in
+      let comes = comes_at settings events allowed octets at placed.least placed.most placed.hearing (Releasing n) releasing in
+      last_front (acknowledgements_up w at) comes.0 (releasing_last at.number n (acknowledgements_up w at ++ comes.0) comes.1)
 
   tells-of : (at : Place) → channel_state w.controller at ≢ Free → AcksTell w at
-  tells-of at busy = AllAcksTell-new settings events at (λ is. absurd (zero-less at.station is (placed-at settings events allowed at busy).least)) where
+  tells-of at busy = all_acks_tell_new settings events at (λ is. absurd (zero-less at.station is (placed_at settings events allowed at busy).least)) where
     zero-less : (k : ℕ) → k ≡ SWITCH_LINK → 1 ≤ k → ⊥
     zero-less k is least = absurd (omega (arith, is, least))
 
@@ -111,20 +111,20 @@ module _ (settings : Parameters) (events : List Event) (allowed : AreAllowed set
 
 -- ---- the laws
 
-pub AcknowledgementsAgree-new : (settings : Parameters) (events : List Event) → AcknowledgementsAgree settings events
-AcknowledgementsAgree-new settings events s allowed octets had =
+pub acknowledgements_agree_new : (settings : Parameters) (events : List Event) → AcknowledgementsAgree settings events
+acknowledgements_agree_new settings events s allowed octets had =
     let w : Actors = world settings events in
-    let owns = owns-at settings events allowed s.number s had.there had.is_open in
+    let owns = owns_at settings events allowed s.number s had.there had.is_open in
     record {
       old_end = AllByRecursion-so (λ c. channel_state w.controller (place_of c) ≡ Releasing s.number) (λ c. ReleasesLast (acknowledgements_up w (place_of c))) (λ c is. last-of settings events allowed octets (place_of c) s.number is) (undone s.draining) owns.releasing;
       others_go_on = subst (λ (cs : List Channel). AllByRecursion (λ c. NoneReleases (acknowledgements_up w (place_of c))) (s.serving ∷ cs)) (target_in-role s.state)
           (AllByRecursion-so (λ c. channel_state w.controller (place_of c) ≡ InUse s.number) (λ c. NoneReleases (acknowledgements_up w (place_of c))) (λ c is. none-of settings events allowed octets (place_of c) s.number is) (s.serving ∷ target_channels (target_role s.state)) owns.using);
     }
 
-pub OldChannelsEnd-new : (settings : Parameters) (events : List Event) → OldChannelsEnd settings events
-OldChannelsEnd-new settings events s allowed octets had =
+pub old_channels_end_new : (settings : Parameters) (events : List Event) → OldChannelsEnd settings events
+old_channels_end_new settings events s allowed octets had =
     let w : Actors = world settings events in
-    let owns = owns-at settings events allowed s.number s had.there had.is_open in
+    let owns = owns_at settings events allowed s.number s had.there had.is_open in
     record {
       old = AllByRecursion-so (λ c. channel_state w.controller (place_of c) ≡ Releasing s.number) (λ c. EndsLast (coming_up w (place_of c))) (λ c is. ends-of settings events allowed octets (place_of c) s.number is) (undone s.draining) owns.releasing;
       others = subst (λ (cs : List Channel). AllByRecursion (λ c. is_ended (coming_up w (place_of c)) ≡ false) (s.serving ∷ cs)) (target_in-role s.state)

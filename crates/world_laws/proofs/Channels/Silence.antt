@@ -21,14 +21,14 @@ use Rattle.world_model.proofs.OwnerTenures.{is_beside}
 use Rattle.world_laws.specs.Acknowledged.{acknowledgements_taken, messages_up, read_of}
 use Rattle.world_laws.specs.ComingUp.{coming_up}
 use Rattle.world_laws.specs.OthersFrame.{CameInOctets}
-use Rattle.world_laws.proofs.Acknowledged.{bound, brought-unbound, coming-read, given-read, nothing-outside, unbound}
-use Rattle.world_laws.proofs.OwnerRun.{serves-event, snoc-steps}
+use Rattle.world_laws.proofs.Acknowledged.{bound, brought_unbound, coming-read, given-read, nothing_outside, unbound}
+use Rattle.world_laws.proofs.OwnerRun.{serves_event, snoc_steps}
 use Rattle.world_laws.specs.Channels.Roles.{FreeAreSilent}
 use Rattle.world_laws.proofs.Channels.Agreeing.{agreed}
-use Rattle.world_laws.proofs.Channels.RoleAcks.{by-said, free-silent, silent-of}
-use Rattle.world_laws.proofs.Targets.FreeQuiet.{goes-free}
-use Rattle.world_laws.proofs.Events.{snoc-actors, world}
-use Rattle.world_laws.proofs.Framing.{all-left, all-right}
+use Rattle.world_laws.proofs.Channels.RoleAcks.{by-said, free_silent, silent-of}
+use Rattle.world_laws.proofs.Targets.FreeQuiet.{goes_free}
+use Rattle.world_laws.proofs.Events.{snoc_actors, world}
+use Rattle.world_laws.proofs.Framing.{all_left, all_right}
 
 -- ---- whether a tenure lasts, behind acknowledgements
 
@@ -46,39 +46,39 @@ within-append b (rsl.RfChannelReleaseAck channel ∷ xs) ys = within-append fals
 within-append b (_ ∷ xs) ys = within-append b xs ys
 
 -- the acknowledgements of a channel tell it of all that comes
-tenures-behind : {b e : Bool} (k : ℕ) (xs ys : List Rsl) → Tenures k b (xs ++ ys) e → Tenures k (is_within b (acknowledgements k xs)) ys e
+tenures_behind : {b e : Bool} (k : ℕ) (xs ys : List Rsl) → Tenures k b (xs ++ ys) e → Tenures k (is_within b (acknowledgements k xs)) ys e
 unfolding is_within
-tenures-behind k [] ys t = t
-tenures-behind {b} {e} k (x ∷ xs) ys (begins t) = subst (λ (ms : List Rsl). Tenures k (is_within b ms) ys e) (sym (bound k x xs (eq-eqb k k refl))) (tenures-behind k xs ys t)
-tenures-behind {b} {e} k (x ∷ xs) ys (tenure_brings is t) = subst (λ (ms : List Rsl). Tenures k (is_within b ms) ys e) (sym (unbound k x xs (brought-unbound k x is))) (tenures-behind k xs ys t)
-tenures-behind {b} {e} k (x ∷ xs) ys (ends t) = subst (λ (ms : List Rsl). Tenures k (is_within b ms) ys e) (sym (bound k x xs (eq-eqb k k refl))) (tenures-behind k xs ys t)
-tenures-behind {b} {e} k (x ∷ xs) ys (apart not_brought not_bound t) = subst (λ (ms : List Rsl). Tenures k (is_within b ms) ys e) (sym (unbound k x xs not_bound)) (tenures-behind k xs ys t)
+tenures_behind k [] ys t = t
+tenures_behind {b} {e} k (x ∷ xs) ys (begins t) = subst (λ (ms : List Rsl). Tenures k (is_within b ms) ys e) (sym (bound k x xs (eq-eqb k k refl))) (tenures_behind k xs ys t)
+tenures_behind {b} {e} k (x ∷ xs) ys (tenure_brings is t) = subst (λ (ms : List Rsl). Tenures k (is_within b ms) ys e) (sym (unbound k x xs (brought_unbound k x is))) (tenures_behind k xs ys t)
+tenures_behind {b} {e} k (x ∷ xs) ys (ends t) = subst (λ (ms : List Rsl). Tenures k (is_within b ms) ys e) (sym (bound k x xs (eq-eqb k k refl))) (tenures_behind k xs ys t)
+tenures_behind {b} {e} k (x ∷ xs) ys (apart not_brought not_bound t) = subst (λ (ms : List Rsl). Tenures k (is_within b ms) ys e) (sym (unbound k x xs not_bound)) (tenures_behind k xs ys t)
 
 -- ---- a channel becomes free by an RF CHANNEL RELEASE ACK alone
 
 abbrev IsEnd : List Rsl → Type 0
 IsEnd heard = (channel : ℕ) × (heard ≡ rsl.RfChannelReleaseAck channel ∷ [])
 
-one-end : (channel : ℕ) (rest : List Rsl) → IsOne (rsl.RfChannelReleaseAck channel ∷ rest) → IsEnd (rsl.RfChannelReleaseAck channel ∷ rest)
-one-end channel rest (inl none) = absurd cc
-one-end channel [] (inr (m, one)) = (channel, refl)
-one-end channel (x ∷ xs) (inr (m, one)) = absurd cc
+one_end : (channel : ℕ) (rest : List Rsl) → IsOne (rsl.RfChannelReleaseAck channel ∷ rest) → IsEnd (rsl.RfChannelReleaseAck channel ∷ rest)
+one_end channel rest (inl none) = absurd cc
+one_end channel [] (inr (m, one)) = (channel, refl)
+one_end channel (x ∷ xs) (inr (m, one)) = absurd cc
 
-heard-free : (heard : List Rsl) (state : ChannelState) → IsOne heard → hear heard state ≡ Free → (state ≡ Free) ⊎ IsEnd heard
-heard-free [] state one is = inl is
-heard-free (rsl.RfChannelReleaseAck channel ∷ rest) (Releasing m) one is = inr (one-end channel rest one)
-heard-free (rsl.RfChannelReleaseAck channel ∷ rest) Free one is = inl is
-heard-free (rsl.RfChannelReleaseAck channel ∷ rest) (InUse m) one is = absurd (free≢use _ (sym is))
-heard-free (_ ∷ rest) state one is = inl is
+heard_free : (heard : List Rsl) (state : ChannelState) → IsOne heard → hear heard state ≡ Free → (state ≡ Free) ⊎ IsEnd heard
+heard_free [] state one is = inl is
+heard_free (rsl.RfChannelReleaseAck channel ∷ rest) (Releasing m) one is = inr (one_end channel rest one)
+heard_free (rsl.RfChannelReleaseAck channel ∷ rest) Free one is = inl is
+heard_free (rsl.RfChannelReleaseAck channel ∷ rest) (InUse m) one is = absurd (free≢use _ (sym is))
+heard_free (_ ∷ rest) state one is = inl is
 
 -- by a turn: it was free and nothing was heard, or its end was heard
-turn-free : (owner : Tenure → ℕ) (w v : Actors) (at : Place) (target : Option Tenure) (t : Turn) (heard : List Rsl) → Turned w v at target t heard → Serves owner w at target t heard → Agrees owner w at → hears t.next at.station ≡ true → channel_state t.next at ≡ Free → ((channel_state w.controller at ≡ Free) × (heard ≡ [])) ⊎ IsEnd heard
-turn-free owner w v at target t heard turned serves agrees hearing free = by (heard-free heard (channel_state w.controller at) turned.one (goes-free (serves.goes hearing) free)) where
+turn_free : (owner : Tenure → ℕ) (w v : Actors) (at : Place) (target : Option Tenure) (t : Turn) (heard : List Rsl) → Turned w v at target t heard → Serves owner w at target t heard → Agrees owner w at → hears t.next at.station ≡ true → channel_state t.next at ≡ Free → ((channel_state w.controller at ≡ Free) × (heard ≡ [])) ⊎ IsEnd heard
+turn_free owner w v at target t heard turned serves agrees hearing free = by (heard_free heard (channel_state w.controller at) turned.one (goes_free (serves.goes hearing) free)) where
   by : (channel_state w.controller at ≡ Free) ⊎ IsEnd heard → ((channel_state w.controller at ≡ Free) × (heard ≡ [])) ⊎ IsEnd heard
   by (inr end) = inr end
   by (inl was) =
       let way = agrees.way (serves.hearing hearing) in
-      let none : to_come w at ++ way.lost ≡ [] = free-silent at.number (to_come w at ++ way.lost) (subst (λ (s : ChannelState). Comes at.number s (to_come w at ++ way.lost)) was way.comes) in
+      let none : to_come w at ++ way.lost ≡ [] = free_silent at.number (to_come w at ++ way.lost) (subst (λ (s : ChannelState). Comes at.number s (to_come w at ++ way.lost)) was way.comes) in
       let first : acknowledged_in at w.inbox ≡ [] = (Both-empty (acknowledged_in at w.inbox) (acknowledgements at.number (base_of w at.station).messages ++ due at.number (is_active_at w at) (outbox_of w at.station)) (sym (Both-empty (to_come w at) way.lost (sym none)).0)).0 in
       inl (was, (Both-empty heard (acknowledged_in at v.inbox) (sym first ∙ turned.inbox)).0)
 
@@ -90,9 +90,9 @@ FreeIsOver settings done =
     (at : Place) → 1 ≤ at.station → at.station ≤ length settings.cells → hears (world settings done).controller at.station ≡ true → channel_state (world settings done).controller at ≡ Free
     → is_within false (acknowledgements_taken at (all_popped (new_actors settings) done)) ≡ false
 
-snoc-popped : (w : Actors) (xs : List Event) (e : Event) → all_popped w (xs ++ e ∷ []) ≡ all_popped w xs ++ popped (actors_after_all w xs) e
-snoc-popped w [] e = append-nil (popped w e)
-snoc-popped w (x ∷ xs) e = ap (λ (items : List Item). popped w x ++ items) (snoc-popped (actors_after w x) xs e) ∙ sym (append_assoc (popped w x) (all_popped (actors_after w x) xs) (popped (actors_after_all (actors_after w x) xs) e))
+snoc_popped : (w : Actors) (xs : List Event) (e : Event) → all_popped w (xs ++ e ∷ []) ≡ all_popped w xs ++ popped (actors_after_all w xs) e
+snoc_popped w [] e = append-nil (popped w e)
+snoc_popped w (x ∷ xs) e = ap (λ (items : List Item). popped w x ++ items) (snoc_popped (actors_after w x) xs e) ∙ sym (append_assoc (popped w x) (all_popped (actors_after w x) xs) (popped (actors_after_all (actors_after w x) xs) e))
 
 taken-append : (at : Place) (xs ys : List Item) → acknowledgements_taken at (xs ++ ys) ≡ acknowledgements_taken at xs ++ acknowledgements_taken at ys
 taken-append at xs ys = ap (acknowledgements at.number) (flat_map-append (read_of at.station) xs ys) ∙ acks-append at.number (flat_map (read_of at.station) xs) (flat_map (read_of at.station) ys)
@@ -114,22 +114,22 @@ module _ (settings : Parameters) (done : List Event) (allowed : AreAllowed setti
   right = agreed settings done allowed octets
 
   took-then : (at : Place) (e : Event) → acknowledgements_taken at (all_popped (new_actors settings) (done ++ e ∷ [])) ≡ took at ++ acknowledgements_taken at (popped w e)
-  took-then at e = ap (acknowledgements_taken at) (snoc-popped (new_actors settings) done e) ∙ taken-append at (all_popped (new_actors settings) done) (popped w e)
+  took-then at e = ap (acknowledgements_taken at) (snoc_popped (new_actors settings) done e) ∙ taken-append at (all_popped (new_actors settings) done) (popped w e)
 
   -- where the controller does nothing
   resting : (e : Event) → (actors_after w e).controller ≡ w.controller → ((at : Place) → 1 ≤ at.station → at.station ≤ length settings.cells → popped w e ≡ []) → FreeIsOver settings (done ++ e ∷ [])
   unfolding FreeIsOver
   resting e same none at least most hearing free =
-      let next-is : (world settings (done ++ e ∷ [])).controller ≡ w.controller = ap (λ (u : Actors). u.controller) (snoc-actors (new_actors settings) done e) ∙ same in
+      let next-is : (world settings (done ++ e ∷ [])).controller ≡ w.controller = ap (λ (u : Actors). u.controller) (snoc_actors (new_actors settings) done e) ∙ same in
       ap (is_within false) (took-then at e ∙ ap (λ (items : List Item). took at ++ acknowledgements_taken at items) (none at least most) ∙ append-nil (took at))
       ∙ free_over at least most (subst (λ (c : Controller). hears c at.station ≡ true) next-is hearing) (subst (λ (c : Controller). channel_state c at ≡ Free) next-is free)
 
   -- a turn
   turning : (e : Event) (v : Actors) (target : Option Tenure) (t : Turn) (heard : Place → List Rsl) → actors_after w e ≡ v → ((at : Place) → acknowledgements_taken at (popped w e) ≡ heard at) → ((at : Place) → Turned w v at target t (heard at)) → ((at : Place) → 1 ≤ at.station → at.station ≤ length settings.cells → Serves own_of w at target t (heard at)) → FreeIsOver settings (done ++ e ∷ [])
   unfolding FreeIsOver is_within
-  turning e v target t heard same hears_it turned serves at least most hearing free = by (turn-free own_of w v at target t (heard at) (turned at) (serves at least most) (right.agree at least most) hearing_next free_next) where
+  turning e v target t heard same hears_it turned serves at least most hearing free = by (turn_free own_of w v at target t (heard at) (turned at) (serves at least most) (right.agree at least most) hearing_next free_next) where
     next-is : (world settings (done ++ e ∷ [])).controller ≡ t.next
-    next-is = ap (λ (u : Actors). u.controller) (snoc-actors (new_actors settings) done e ∙ same) ∙ (turned at).controller
+    next-is = ap (λ (u : Actors). u.controller) (snoc_actors (new_actors settings) done e ∙ same) ∙ (turned at).controller
 
     hearing_next : hears t.next at.station ≡ true
     hearing_next = subst (λ (c : Controller). hears c at.station ≡ true) next-is hearing
@@ -150,7 +150,7 @@ module _ (settings : Parameters) (done : List Event) (allowed : AreAllowed setti
 
   ticks : (ms : ℕ) → AllByRecursion ComesInOctets (step_at w (events.Tick ms)) → FreeIsOver settings (done ++ events.Tick ms ∷ [])
   unfolding ServesAt event_after
-  ticks ms came = turning (events.Tick ms) (actors_after w (events.Tick ms)) None (tick ms w.controller) (λ at. []) refl (λ at. refl) (λ at. tick-turned w at ms) (serves-event settings own_of done w (events.Tick ms) refl allowed octets came right.agree)
+  ticks ms came = turning (events.Tick ms) (actors_after w (events.Tick ms)) None (tick ms w.controller) (λ at. []) refl (λ at. refl) (λ at. tick-turned w at ms) (serves_event settings own_of done w (events.Tick ms) refl allowed octets came right.agree)
 
   handles : AllByRecursion ComesInOctets (step_at w Handle) → FreeIsOver settings (done ++ Handle ∷ [])
   unfolding ServesAt event_after
@@ -159,45 +159,45 @@ module _ (settings : Parameters) (done : List Event) (allowed : AreAllowed setti
     by [] is = resting Handle (ap (λ (items : List Item). (unwrap_or (handled items w) w).controller) is) (λ at least most. ap first_of is)
     by (item ∷ items) is =
         turning Handle (with_turn (target_in w item.source item.what) (take item w.controller) (record w { inbox = items })) (target_in w item.source item.what) (take item w.controller) (λ at. heard_of at item) (ap (λ (all : List Item). unwrap_or (handled all w) w) is)
-        (λ at. ap (λ (all : List Item). acknowledgements_taken at (first_of all)) is ∙ taken-one at item) (λ at. handle-turned w at item items is) (serves-event settings own_of done w Handle refl allowed octets came right.agree item items is)
+        (λ at. ap (λ (all : List Item). acknowledgements_taken at (first_of all)) is ∙ taken-one at item) (λ at. handle-turned w at item items is) (serves_event settings own_of done w Handle refl allowed octets came right.agree item items is)
 
   event-over : (e : Event) → AllByRecursion ComesInOctets (step_at w e) → FreeIsOver settings (done ++ e ∷ [])
   event-over = kinds (λ e. AllByRecursion ComesInOctets (step_at w e) → FreeIsOver settings (done ++ e ∷ [])) (λ e is came. beside e is) handles ticks (λ station came. resting (BaseTakes station) (kept-controller w station) (λ at least most. refl))
 
-over-all : (settings : Parameters) (done rest : List Event) → AreAllowed settings → CameInOctets settings done → AllByRecursion ComesInOctets (all_steps (world settings done) rest) → FreeIsOver settings done → FreeIsOver settings (done ++ rest)
-over-all settings done [] allowed octets later free_over = subst (FreeIsOver settings) (sym (append-nil done)) free_over
-over-all settings done (event ∷ rest) allowed octets later free_over =
+over_all : (settings : Parameters) (done rest : List Event) → AreAllowed settings → CameInOctets settings done → AllByRecursion ComesInOctets (all_steps (world settings done) rest) → FreeIsOver settings done → FreeIsOver settings (done ++ rest)
+over_all settings done [] allowed octets later free_over = subst (FreeIsOver settings) (sym (append-nil done)) free_over
+over_all settings done (event ∷ rest) allowed octets later free_over =
     let w : Actors = world settings done in
-    let own : AllByRecursion ComesInOctets (step_at w event) = all-left ComesInOctets (step_at w event) (all_steps (actors_after w event) rest) later in
+    let own : AllByRecursion ComesInOctets (step_at w event) = all_left ComesInOctets (step_at w event) (all_steps (actors_after w event) rest) later in
     subst (FreeIsOver settings) (append_assoc done (event ∷ []) rest)
-    (over-all settings (done ++ event ∷ []) rest allowed (snoc-steps ComesInOctets (new_actors settings) done event octets own)
-    (subst (λ (u : Actors). AllByRecursion ComesInOctets (all_steps u rest)) (sym (snoc-actors (new_actors settings) done event)) (all-right ComesInOctets (step_at w event) (all_steps (actors_after w event) rest) later))
+    (over_all settings (done ++ event ∷ []) rest allowed (snoc_steps ComesInOctets (new_actors settings) done event octets own)
+    (subst (λ (u : Actors). AllByRecursion ComesInOctets (all_steps u rest)) (sym (snoc_actors (new_actors settings) done event)) (all_right ComesInOctets (step_at w event) (all_steps (actors_after w event) rest) later))
     (event-over settings done allowed octets free_over event own))
 
-over-new : (settings : Parameters) → FreeIsOver settings []
+over_new : (settings : Parameters) → FreeIsOver settings []
 unfolding FreeIsOver is_within
-over-new settings at least most hearing free = refl
+over_new settings at least most hearing free = refl
 
 -- ---- so nothing comes of it
 
-pub free-coming : (settings : Parameters) (events : List Event) → AreAllowed settings → CameInOctets settings events → (at : Place) → 1 ≤ at.station → at.station ≤ length settings.cells → hears (world settings events).controller at.station ≡ true → channel_state (world settings events).controller at ≡ Free → coming_up (world settings events) at ≡ []
+pub free_coming : (settings : Parameters) (events : List Event) → AreAllowed settings → CameInOctets settings events → (at : Place) → 1 ≤ at.station → at.station ≤ length settings.cells → hears (world settings events).controller at.station ≡ true → channel_state (world settings events).controller at ≡ Free → coming_up (world settings events) at ≡ []
 unfolding FreeIsOver
-free-coming settings events allowed octets at least most hearing free =
+free_coming settings events allowed octets at least most hearing free =
     let w : Actors = world settings events in
     let took : List Rsl = flat_map (read_of at.station) (all_popped (new_actors settings) events) in
     let station = zero-less at.station least in
     let honest = AreHonest-new settings events at.station station at.number in
-    let all = tenures-behind at.number took (messages_up w at.station)
+    let all = tenures_behind at.number took (messages_up w at.station)
     (subst (λ (ms : List Rsl). Tenures at.number false ms honest.0)
     (ap (λ (ms : List Rsl). ms ++ (base_of w at.station).messages) (given-read settings events at.station station) ∙ append_assoc took (flat_map (read_of at.station) w.inbox) (base_of w at.station).messages) honest.1) in
-    let over_now : is_within false (acknowledgements at.number took) ≡ false = over-all settings [] events allowed tt octets (over-new settings) at least most hearing free in
-    coming-read w at ∙ nothing-outside at.number (messages_up w at.station) (subst (λ (b : Bool). Tenures at.number b (messages_up w at.station) honest.0) over_now all) (silent-of settings events allowed octets at least most hearing free)
+    let over_now : is_within false (acknowledgements at.number took) ≡ false = over_all settings [] events allowed tt octets (over_new settings) at least most hearing free in
+    coming-read w at ∙ nothing_outside at.number (messages_up w at.station) (subst (λ (b : Bool). Tenures at.number b (messages_up w at.station) honest.0) over_now all) (silent-of settings events allowed octets at least most hearing free)
   where
     zero-less : (k : ℕ) → 1 ≤ k → k ≢ SWITCH_LINK
     zero-less k least is = absurd (omega (arith, is, least))
 
-pub FreeAreSilent-new : (settings : Parameters) (events : List Event) → FreeAreSilent settings events
-FreeAreSilent-new settings events at allowed octets least most hearing free = record {
+pub free_are_silent_new : (settings : Parameters) (events : List Event) → FreeAreSilent settings events
+free_are_silent_new settings events at allowed octets least most hearing free = record {
   acknowledged = silent-of settings events allowed octets at least most hearing free;
-  brings = free-coming settings events allowed octets at least most hearing free;
+  brings = free_coming settings events allowed octets at least most hearing free;
 }

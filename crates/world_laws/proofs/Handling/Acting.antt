@@ -21,7 +21,7 @@ use Rattle.controller_model.specs.Views.{forwarded}
 use Rattle.world_laws.specs.LineUps.{commanded_target, is_confirmed, is_opening}
 use Rattle.world_laws.specs.OwnFrame.{IsRequested}
 use Rattle.world_laws.proofs.Handling.Finishing.{IsSame}
-use Rattle.world_laws.proofs.Handling.Leaving.{SameLine, line-itself, none-forwarded, silent-forwards}
+use Rattle.world_laws.proofs.Handling.Leaving.{SameLine, line_itself, none_forwarded, silent_forwards}
 
 -- ---- what comes of it
 
@@ -49,10 +49,10 @@ older s next aged = aged_holds (IsOlder s)
       line = record { number = is.line.number; serving = is.line.serving; draining = is.line.draining; tenures = is.line.tenures; target = is.line.target; confirmed = is.line.confirmed; opening = is.line.opening };
       state = is.state;
       request = is.request;
-    }) s next aged (record { line = line-itself s; state = refl; request = refl })
+    }) s next aged (record { line = line_itself s; state = refl; request = refl })
 
-line-trans : {a b c : Connection} → SameLine a b → SameLine b c → SameLine a c
-line-trans f g = record {
+line_trans : {a b c : Connection} → SameLine a b → SameLine b c → SameLine a c
+line_trans f g = record {
   number = g.number ∙ f.number;
   serving = g.serving ∙ f.serving;
   draining = g.draining ∙ f.draining;
@@ -71,11 +71,11 @@ record Begins (s : Connection) (r : Row) : Type 0 where
   request : r.next.request ≡ s.request
   relays : (sapi : Sapi) → relayed sapi r.outs ≡ []
 
-begin-keeps : (reference : ℕ) (stage : Stage) (s : Connection) (offer : Option Channel) → s.state ≡ Live reference stage → commanded_target (Live reference stage) ≡ None → Begins s (begin reference Handover offer s)
-begin-keeps reference stage s None is none = record { line = line-itself s; requested = subst IsRequested (sym is) tt; request = refl; relays = nothing_relayed } where
+begin_keeps : (reference : ℕ) (stage : Stage) (s : Connection) (offer : Option Channel) → s.state ≡ Live reference stage → commanded_target (Live reference stage) ≡ None → Begins s (begin reference Handover offer s)
+begin_keeps reference stage s None is none = record { line = line_itself s; requested = subst IsRequested (sym is) tt; request = refl; relays = nothing_relayed } where
   nothing_relayed : (sapi : Sapi) → relayed sapi [] ≡ []
   nothing_relayed sapi = refl
-begin-keeps reference stage s (Some channel) is none = record {
+begin_keeps reference stage s (Some channel) is none = record {
   line = record { number = refl; serving = refl; draining = refl; tenures = refl; target = sym (ap commanded_target is ∙ none); confirmed = sym (ap is_confirmed is); opening = sym (ap is_opening is) };
   requested = tt;
   request = refl;
@@ -85,24 +85,24 @@ begin-keeps reference stage s (Some channel) is none = record {
   nothing_relayed Zero = refl
   nothing_relayed Three = refl
 
-by-test : (b : Bool) (s : Connection) (q r : Row) → row_if b q ≡ Some r → Begins s q → Begins s r
-by-test true s q r is begins = subst (Begins s) (row_is q r is) begins
-by-test false s q r is begins = absurd cc
+by_test : (b : Bool) (s : Connection) (q r : Row) → row_if b q ≡ Some r → Begins s q → Begins s r
+by_test true s q r is begins = subst (Begins s) (row_is q r is) begins
+by_test false s q r is begins = absurd cc
 
-move-begins : (state : State) (s : Connection) (offer : Option Channel) (r : Row) → s.state ≡ state → on_move state s offer ≡ Some r → Begins s r
-move-begins (Live reference Active) s offer r is fits = by-test true s (begin reference Handover offer s) r fits (begin-keeps reference Active s offer is refl)
-move-begins (Live reference Draining) s offer r is fits = by-test (nat_lt (length s.draining) DRAIN_LIMIT) s (begin reference Handover offer s) r fits (begin-keeps reference Draining s offer is refl)
-move-begins (Live reference (Preparing target)) s offer r is fits = absurd cc
-move-begins (Live reference (Changing target)) s offer r is fits = absurd cc
-move-begins WaitActivation s offer r is fits = absurd cc
-move-begins WaitEstablish s offer r is fits = absurd cc
-move-begins WaitConfirm s offer r is fits = absurd cc
-move-begins (Closed clearing) s offer r is fits = absurd cc
-move-begins Removed s offer r is fits = absurd cc
+move_begins : (state : State) (s : Connection) (offer : Option Channel) (r : Row) → s.state ≡ state → on_move state s offer ≡ Some r → Begins s r
+move_begins (Live reference Active) s offer r is fits = by_test true s (begin reference Handover offer s) r fits (begin_keeps reference Active s offer is refl)
+move_begins (Live reference Draining) s offer r is fits = by_test (nat_lt (length s.draining) DRAIN_LIMIT) s (begin reference Handover offer s) r fits (begin_keeps reference Draining s offer is refl)
+move_begins (Live reference (Preparing target)) s offer r is fits = absurd cc
+move_begins (Live reference (Changing target)) s offer r is fits = absurd cc
+move_begins WaitActivation s offer r is fits = absurd cc
+move_begins WaitEstablish s offer r is fits = absurd cc
+move_begins WaitConfirm s offer r is fits = absurd cc
+move_begins (Closed clearing) s offer r is fits = absurd cc
+move_begins Removed s offer r is fits = absurd cc
 
-move-row : (s : Connection) (offer : Option Channel) (r : Row) → row_of s inputs.Move offer ≡ Some r → Begins s r
+move_row : (s : Connection) (offer : Option Channel) (r : Row) → row_of s inputs.Move offer ≡ Some r → Begins s r
 unfolding row_of
-move-row s offer r fits = move-begins s.state s offer r refl fits
+move_row s offer r fits = move_begins s.state s offer r refl fits
 
 -- ---- the step
 
@@ -118,38 +118,38 @@ record Went (s next : Connection) (input : Input) (offer : Option Channel) (r : 
   put : outs_for s.number t.outs ≡ outs_of s.number r.outs
   after : connection_of t.next s.number ≡ kept r.next
 
-ended-by : {s next : Connection} {input : Input} {offer : Option Channel} {r : Row} {t : Turn} → 1 ≤ s.number → AllByRecursion IsSent t.outs → Went s next input offer r t → (IsOpen r.next.state → ⊥) → Outcome s t
-ended-by {s} {next} {input} {offer} {r} {t} from_one sent went shut =
+ended_by : {s next : Connection} {input : Input} {offer : Option Channel} {r : Row} {t : Turn} → 1 ≤ s.number → AllByRecursion IsSent t.outs → Went s next input offer r t → (IsOpen r.next.state → ⊥) → Outcome s t
+ended_by {s} {next} {input} {offer} {r} {t} from_one sent went shut =
     let final : IsFinal next r = subst (OfRow (IsFinal next)) went.fits (IsFinal-row next input offer) in
     over (λ there. shut (kept_there r.next.state r.next (subst IsThere went.after there)))
-    (none-forwarded s.number t.outs r.outs from_one went.put (subst (OfRow PutsUsual) went.fits (usual_row next input offer)) sent (final.relays shut))
+    (none_forwarded s.number t.outs r.outs from_one went.put (subst (OfRow PutsUsual) went.fits (usual_row next input offer)) sent (final.relays shut))
 
-begun-by : {s next : Connection} {offer : Option Channel} {r : Row} {t : Turn} → 1 ≤ s.number → AllByRecursion IsSent t.outs → Went s next inputs.Move offer r t → Outcome s t
-begun-by {s} {next} {offer} {r} {t} from_one sent went =
+begun_by : {s next : Connection} {offer : Option Channel} {r : Row} {t : Turn} → 1 ≤ s.number → AllByRecursion IsSent t.outs → Went s next inputs.Move offer r t → Outcome s t
+begun_by {s} {next} {offer} {r} {t} from_one sent went =
     let aged = older s next went.aged in
-    let begins = move-row next offer r went.fits in
+    let begins = move_row next offer r went.fits in
     same r.next
-    (record { line = line-trans aged.line begins.line; there = went.after ∙ kept-requested r.next.state r.next begins.requested; requested = begins.requested; request = begins.request ∙ aged.request })
-    (none-forwarded s.number t.outs r.outs from_one went.put (subst (OfRow PutsUsual) went.fits (usual_row next inputs.Move offer)) sent begins.relays)
+    (record { line = line_trans aged.line begins.line; there = went.after ∙ kept-requested r.next.state r.next begins.requested; requested = begins.requested; request = begins.request ∙ aged.request })
+    (none_forwarded s.number t.outs r.outs from_one went.put (subst (OfRow PutsUsual) went.fits (usual_row next inputs.Move offer)) sent begins.relays)
 
-went-by : (brought : Brought) {s next : Connection} {offer : Option Channel} {r : Row} {t : Turn} (input : Input) → IsOwnStep brought → IsBrought brought input → 1 ≤ s.number → AllByRecursion IsSent t.outs → Went s next input offer r t → Outcome s t
-went-by nothing input own by from_one sent went = absurd by
-went-by (comes came) input own by from_one sent went = absurd own
-went-by reports {s} {next} {offer} {r} {t} input own by from_one sent went = begun-by from_one sent (subst (λ (i : Input). Went s next i offer r t) by went)
-went-by (breaks came) {s} {next} {offer} {r} input own by from_one sent went = ended-by from_one sent went (break_shut input (subst IsLinkBreak (sym by) own) next offer r went.fits)
-went-by passes {s} {next} {offer} {r} input own by from_one sent went = ended-by from_one sent went (timer_shut input by next offer r went.fits)
+went_by : (brought : Brought) {s next : Connection} {offer : Option Channel} {r : Row} {t : Turn} (input : Input) → IsOwnStep brought → IsBrought brought input → 1 ≤ s.number → AllByRecursion IsSent t.outs → Went s next input offer r t → Outcome s t
+went_by nothing input own by from_one sent went = absurd by
+went_by (comes came) input own by from_one sent went = absurd own
+went_by reports {s} {next} {offer} {r} {t} input own by from_one sent went = begun_by from_one sent (subst (λ (i : Input). Went s next i offer r t) by went)
+went_by (breaks came) {s} {next} {offer} {r} input own by from_one sent went = ended_by from_one sent went (break_shut input (subst IsLinkBreak (sym by) own) next offer r went.fits)
+went_by passes {s} {next} {offer} {r} input own by from_one sent went = ended_by from_one sent went (timer_shut input by next offer r went.fits)
 
-silent-put : (s : Connection) (t : Turn) (put : List Message) → outs_for s.number t.outs ≡ outs_of s.number put → put ≡ [] → forwarded t.outs s.number ≡ []
-silent-put s t put outs none = silent-forwards s.number t.outs (outs ∙ ap (outs_of s.number) none)
+silent_put : (s : Connection) (t : Turn) (put : List Message) → outs_for s.number t.outs ≡ outs_of s.number put → put ≡ [] → forwarded t.outs s.number ≡ []
+silent_put s t put outs none = silent_forwards s.number t.outs (outs ∙ ap (outs_of s.number) none)
 
-pub by-acts : {n : ℕ} {up : Bool} (brought : Brought) {before : Option Connection} {put : List Message} (s : Connection) (t : Turn) → IsOwnStep brought → 1 ≤ s.number → IsRequested s.state → before ≡ Some s → AllByRecursion IsSent t.outs → outs_for s.number t.outs ≡ outs_of s.number put
+pub by_acts : {n : ℕ} {up : Bool} (brought : Brought) {before : Option Connection} {put : List Message} (s : Connection) (t : Turn) → IsOwnStep brought → 1 ≤ s.number → IsRequested s.state → before ≡ Some s → AllByRecursion IsSent t.outs → outs_for s.number t.outs ≡ outs_of s.number put
     → Acts s.number n up brought before put (connection_of t.next s.number) → Outcome s t
-by-acts brought {before} {put} s t own from_one requested was sent outs (rests silent stays none) =
-    same s (record { line = line-itself s; there = stays ∙ was; requested = requested; request = refl }) (silent-put s t put outs silent)
-by-acts brought {before} {put} s t own from_one requested was sent outs (ages old next is_time is aged silent stays) =
+by_acts brought {before} {put} s t own from_one requested was sent outs (rests silent stays none) =
+    same s (record { line = line_itself s; there = stays ∙ was; requested = requested; request = refl }) (silent_put s t put outs silent)
+by_acts brought {before} {put} s t own from_one requested was sent outs (ages old next is_time is aged silent stays) =
     let older_one = older s next (subst (λ (x : Connection). IsAged x next) (same_Some _ _ (sym is ∙ was)) aged) in
-    same next (record { line = older_one.line; there = stays; requested = subst IsRequested (sym older_one.state) requested; request = older_one.request }) (silent-put s t put outs silent)
-by-acts brought s t own from_one requested was sent outs (opens begins linked channel request delay is_nothing none put_is stays) = absurd (none-some _ (sym none ∙ was))
-by-acts brought {before} {put} s t own from_one requested was sent outs (goes old next input offer r is aged by fits put_is stays) =
-    went-by brought input own by from_one sent
+    same next (record { line = older_one.line; there = stays; requested = subst IsRequested (sym older_one.state) requested; request = older_one.request }) (silent_put s t put outs silent)
+by_acts brought s t own from_one requested was sent outs (opens begins linked channel request delay is_nothing none put_is stays) = absurd (none-some _ (sym none ∙ was))
+by_acts brought {before} {put} s t own from_one requested was sent outs (goes old next input offer r is aged by fits put_is stays) =
+    went_by brought input own by from_one sent
     (record { aged = subst (λ (x : Connection). IsAged x next) (same_Some _ _ (sym is ∙ was)) aged; fits = fits; put = outs ∙ ap (outs_of s.number) put_is; after = stays })

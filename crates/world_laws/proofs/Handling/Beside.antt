@@ -19,19 +19,19 @@ use Rattle.rsl_codec.specs.declared.rsl.Rsl.TheVariants as rsl
 use Rattle.world_laws.specs.ComingUp.{brings_by, brings_if, brings_in}
 use Rattle.world_laws.specs.OwnItem.{said_by}
 use Rattle.world_laws.specs.Staying.{AreLinedUp, IsForOthers, IsOthers}
-use Rattle.world_laws.proofs.Others.{RelayLeavesOthers-new}
-use Rattle.world_laws.proofs.OthersFrame.{FramesAreForOthers-new}
-use Rattle.world_laws.proofs.Quiet.{all-of}
-use Rattle.world_laws.proofs.TurnsLife.{same-places}
+use Rattle.world_laws.proofs.Others.{relay_leaves_others_new}
+use Rattle.world_laws.proofs.OthersFrame.{frames_are_for_others_new}
+use Rattle.world_laws.proofs.Quiet.{all_of}
+use Rattle.world_laws.proofs.TurnsLife.{same_places}
 use Rattle.world_laws.specs.Handling.Faring.{FaresOn}
 use Rattle.world_laws.specs.Handling.Faring.FaresOn.{goes_on}
-use Rattle.world_laws.proofs.Handling.Dropped.{AreBeside, item-drops}
-use Rattle.world_laws.proofs.Handling.Finishing.{controller-is, handle-is, still-lined}
-use Rattle.world_laws.proofs.Handling.Knowing.{IsKnown, known, used-held, used-linked}
-use Rattle.world_laws.proofs.Handling.Leaving.{line-itself, none-down, nothing-down, silent-forwards}
+use Rattle.world_laws.proofs.Handling.Dropped.{AreBeside, item_drops}
+use Rattle.world_laws.proofs.Handling.Finishing.{controller-is, handle_is, still_lined}
+use Rattle.world_laws.proofs.Handling.Knowing.{IsKnown, known, used_held, used_linked}
+use Rattle.world_laws.proofs.Handling.Leaving.{line_itself, none_down, nothing_down, silent_forwards}
 use Rattle.world_laws.proofs.Handling.Missing.{said-elsewhere}
-use Rattle.world_laws.proofs.Handling.Own.{DropsOut, Handling, item-tells, none-drops, take-frame}
-use Rattle.world_laws.proofs.Handling.Saying.{SaysUp, Tells, begins-none, word-says}
+use Rattle.world_laws.proofs.Handling.Own.{DropsOut, Handling, item_tells, none_drops, take-frame}
+use Rattle.world_laws.proofs.Handling.Saying.{SaysUp, Tells, begins_none, word_says}
 use Rattle.world_laws.proofs.Handling.Saying.Tells.{message, nothing}
 use Rattle.world_laws.proofs.OwnFrames.{brings_read}
 use Rattle.world_laws.proofs.Events.{world}
@@ -39,23 +39,23 @@ use Rattle.world_laws.proofs.Events.{world}
 -- ---- what it brings of the channels
 
 -- on a channel that isn't the connection's
-word-drops : (c : Controller) (s : Connection) (item : RelayItem) (frame : Frame) (m : Rsl) (word : Word) → IsKnown c s → item.what ≡ whats.Frame frame → rsl_in frame ≡ Some m → SaysUp item.source m word → IsFrom item.source word → (concerned c word ≡ Some s.number → ⊥) → DropsOut s item
-word-drops c s item frame m (OnChannel at input) known is says on from other =
+word_drops : (c : Controller) (s : Connection) (item : RelayItem) (frame : Frame) (m : Rsl) (word : Word) → IsKnown c s → item.what ≡ whats.Frame frame → rsl_in frame ≡ Some m → SaysUp item.source m word → IsFrom item.source word → (concerned c word ≡ Some s.number → ⊥) → DropsOut s item
+word_drops c s item frame m (OnChannel at input) known is says on from other =
     AllByRecursion-so (λ x. holder (channel_state c (place_of x)) ≡ Some s.number) (λ x. AreBeside (brings_in (place_of x) item))
-    (λ x held. subst AreBeside (sym (ap (brings_by (place_of x) item.source) is ∙ ap (λ (o : Option Rsl). brings_read item.source o (place_of x)) says ∙ on.brings_it (place_of x))) (by x held (same_place (place_of x) at) refl)) (used_channels s) (used-held c s known.owns) where
+    (λ x held. subst AreBeside (sym (ap (brings_by (place_of x) item.source) is ∙ ap (λ (o : Option Rsl). brings_read item.source o (place_of x)) says ∙ on.brings_it (place_of x))) (by x held (same_place (place_of x) at) refl)) (used_channels s) (used_held c s known.owns) where
       by : (x : Channel) → holder (channel_state c (place_of x)) ≡ Some s.number → (b : Bool) → same_place (place_of x) at ≡ b → AreBeside (said_by input on.text (place_of x))
-      by x held true same = absurd (other (ap (λ (p : Place). holder (channel_state c p)) (sym (same-places (place_of x) at same)) ∙ held))
+      by x held true same = absurd (other (ap (λ (p : Place). holder (channel_state c p)) (sym (same_places (place_of x) at same)) ∙ held))
       by x held false differ = subst AreBeside (sym (said-elsewhere input on.text at (place_of x) from.1 differ)) tt
-word-drops c s item frame m (OnConnection number input) known is says on from other = absurd on
-word-drops c s item frame m Nothing known is says quiet from other = all-of (λ x. AreBeside (brings_in (place_of x) item)) (used_channels s) (λ x. subst AreBeside (sym (ap (brings_by (place_of x) item.source) is ∙ ap (λ (o : Option Rsl). brings_read item.source o (place_of x)) says)) (quiet.brings_none (place_of x)))
-word-drops c s item frame m Ping known is says quiet from other = all-of (λ x. AreBeside (brings_in (place_of x) item)) (used_channels s) (λ x. subst AreBeside (sym (ap (brings_by (place_of x) item.source) is ∙ ap (λ (o : Option Rsl). brings_read item.source o (place_of x)) says)) (quiet.brings_none (place_of x)))
-word-drops c s item frame m (Asks request delay) known is says quiet from other = all-of (λ x. AreBeside (brings_in (place_of x) item)) (used_channels s) (λ x. subst AreBeside (sym (ap (brings_by (place_of x) item.source) is ∙ ap (λ (o : Option Rsl). brings_read item.source o (place_of x)) says)) (quiet.brings_none (place_of x)))
-word-drops c s item frame m (Reports at of report) known is says quiet from other = all-of (λ x. AreBeside (brings_in (place_of x) item)) (used_channels s) (λ x. subst AreBeside (sym (ap (brings_by (place_of x) item.source) is ∙ ap (λ (o : Option Rsl). brings_read item.source o (place_of x)) says)) (quiet.brings_none (place_of x)))
+word_drops c s item frame m (OnConnection number input) known is says on from other = absurd on
+word_drops c s item frame m Nothing known is says quiet from other = all_of (λ x. AreBeside (brings_in (place_of x) item)) (used_channels s) (λ x. subst AreBeside (sym (ap (brings_by (place_of x) item.source) is ∙ ap (λ (o : Option Rsl). brings_read item.source o (place_of x)) says)) (quiet.brings_none (place_of x)))
+word_drops c s item frame m Ping known is says quiet from other = all_of (λ x. AreBeside (brings_in (place_of x) item)) (used_channels s) (λ x. subst AreBeside (sym (ap (brings_by (place_of x) item.source) is ∙ ap (λ (o : Option Rsl). brings_read item.source o (place_of x)) says)) (quiet.brings_none (place_of x)))
+word_drops c s item frame m (Asks request delay) known is says quiet from other = all_of (λ x. AreBeside (brings_in (place_of x) item)) (used_channels s) (λ x. subst AreBeside (sym (ap (brings_by (place_of x) item.source) is ∙ ap (λ (o : Option Rsl). brings_read item.source o (place_of x)) says)) (quiet.brings_none (place_of x)))
+word_drops c s item frame m (Reports at of report) known is says quiet from other = all_of (λ x. AreBeside (brings_in (place_of x) item)) (used_channels s) (λ x. subst AreBeside (sym (ap (brings_by (place_of x) item.source) is ∙ ap (λ (o : Option Rsl). brings_read item.source o (place_of x)) says)) (quiet.brings_none (place_of x)))
 
-pub other-drops : (c : Controller) (s : Connection) (item : RelayItem) (frame : Frame) → IsKnown c s → item.what ≡ whats.Frame frame → Tells item.source frame → (concerned c (word_of item.source frame) ≡ Some s.number → ⊥) → DropsOut s item
-other-drops c s item frame known is (nothing says) other = none-drops s item frame is says
-other-drops c s item frame known is (message m says word) other =
-    word-drops c s item frame m (rsl_word item.source m) known is says (word-says item.source m) (subst (IsFrom item.source) word (word_from item.source frame)) (λ same. other (ap (concerned c) word ∙ same))
+pub other_drops : (c : Controller) (s : Connection) (item : RelayItem) (frame : Frame) → IsKnown c s → item.what ≡ whats.Frame frame → Tells item.source frame → (concerned c (word_of item.source frame) ≡ Some s.number → ⊥) → DropsOut s item
+other_drops c s item frame known is (nothing says) other = none_drops s item frame is says
+other_drops c s item frame known is (message m says word) other =
+    word_drops c s item frame m (rsl_word item.source m) known is says (word_says item.source m) (subst (IsFrom item.source) word (word_from item.source frame)) (λ same. other (ap (concerned c) word ∙ same))
 
 -- ---- an ACTIVATION ACK of another connection
 
@@ -68,17 +68,17 @@ acknowledges source (rsl.ChannelActivationAck a) w tenure is = record { acknowle
 acknowledges source _ w tenure is = absurd cc
 
 -- of a channel that nobody has, or none of that number, nothing is put
-free-outs : (at : Place) (c : Controller) (state : ChannelState) → (k : ℕ) → holder state ≡ Some k → entry_of c k ≡ None → (on_state state at (inputs.ActivationAck at) c (entry_at c state)).outs ≡ []
-free-outs at c Free k held none = absurd cc
-free-outs at c (InUse n) k held none = ap (λ (o : Option Entry). (on_state (InUse n) at (inputs.ActivationAck at) c o).outs) (ap (option_and_then (entry_of c)) held ∙ none)
-free-outs at c (Releasing n) k held none = ap (λ (o : Option Entry). (on_state (Releasing n) at (inputs.ActivationAck at) c o).outs) (ap (option_and_then (entry_of c)) held ∙ none)
+free_outs : (at : Place) (c : Controller) (state : ChannelState) → (k : ℕ) → holder state ≡ Some k → entry_of c k ≡ None → (on_state state at (inputs.ActivationAck at) c (entry_at c state)).outs ≡ []
+free_outs at c Free k held none = absurd cc
+free_outs at c (InUse n) k held none = ap (λ (o : Option Entry). (on_state (InUse n) at (inputs.ActivationAck at) c o).outs) (ap (option_and_then (entry_of c)) held ∙ none)
+free_outs at c (Releasing n) k held none = ap (λ (o : Option Entry). (on_state (Releasing n) at (inputs.ActivationAck at) c o).outs) (ap (option_and_then (entry_of c)) held ∙ none)
 
-none-zero : (c : Controller) (s : Connection) → IsKnown c s → entry_of c 0 ≡ None
-none-zero c s known = find_above 0 c.entries known.ready.numbered.above
+none_zero : (c : Controller) (s : Connection) → IsKnown c s → entry_of c 0 ≡ None
+none_zero c s known = find_above 0 c.entries known.ready.numbered.above
 
-ack-others : {settings : Parameters} {events : List Event} {mobile : ℕ} {s : Connection} {item : RelayItem} {items : List RelayItem} (frame : Frame) (p : Place) (target : Option Tenure) → Handling settings events mobile s item items → item.what ≡ whats.Frame frame → target_in (world settings events) item.source item.what ≡ target
+ack_others : {settings : Parameters} {events : List Event} {mobile : ℕ} {s : Connection} {item : RelayItem} {items : List RelayItem} (frame : Frame) (p : Place) (target : Option Tenure) → Handling settings events mobile s item items → item.what ≡ whats.Frame frame → target_in (world settings events) item.source item.what ≡ target
     → hears (world settings events).controller item.source ≡ true → word_of item.source frame ≡ OnChannel p (inputs.ActivationAck p) → (concerned (world settings events).controller (word_of item.source frame) ≡ Some s.number → ⊥) → AllByRecursion (IsForOthers target s) (take item (world settings events).controller).outs
-ack-others {settings} {events} {mobile} {s} {item} {items} frame p target h is tenure up word other = by (holder (channel_state c p)) refl where
+ack_others {settings} {events} {mobile} {s} {item} {items} frame p target h is tenure up word other = by (holder (channel_state c p)) refl where
   c : Controller
   c = (world settings events).controller
 
@@ -91,10 +91,10 @@ ack-others {settings} {events} {mobile} {s} {item} {items} frame p target h is t
     nobody Free is = refl
     nobody (InUse n) is = absurd cc
     nobody (Releasing n) is = absurd cc
-  by (Some zero) held = subst (AllByRecursion (IsForOthers target s)) (sym (outs ∙ free-outs p c (channel_state c p) 0 held (none-zero c s (known settings events s h.allowed h.lives.had)))) tt
+  by (Some zero) held = subst (AllByRecursion (IsForOthers target s)) (sym (outs ∙ free_outs p c (channel_state c p) 0 held (none_zero c s (known settings events s h.allowed h.lives.had)))) tt
   by (Some (suc k)) held =
       subst (λ (o : Option Tenure). AllByRecursion (IsForOthers o s) (take item c).outs) tenure
-      (FramesAreForOthers-new settings events s item h.allowed h.octets h.lives.had (record {
+      (frames_are_for_others_new settings events s item h.allowed h.octets h.lives.had (record {
         frame = frame;
         is = is;
         octets = subst IsOfOctets is h.own;
@@ -106,18 +106,18 @@ ack-others {settings} {events} {mobile} {s} {item} {items} frame p target h is t
 
 -- ---- a frame that doesn't concern it
 
-left-by : {settings : Parameters} {events : List Event} {mobile : ℕ} {s : Connection} {item : RelayItem} {items : List RelayItem} (frame : Frame) → Handling settings events mobile s item items → item.what ≡ whats.Frame frame → (concerned (world settings events).controller (word_of item.source frame) ≡ Some s.number → ⊥)
+left_by : {settings : Parameters} {events : List Event} {mobile : ℕ} {s : Connection} {item : RelayItem} {items : List RelayItem} (frame : Frame) → Handling settings events mobile s item items → item.what ≡ whats.Frame frame → (concerned (world settings events).controller (word_of item.source frame) ≡ Some s.number → ⊥)
     → IsLeft s.number (world settings events).controller (take item (world settings events).controller)
-left-by {settings} {events} {mobile} {s} {item} frame h is other =
+left_by {settings} {events} {mobile} {s} {item} frame h is other =
     subst (λ (x : What). IsLeft s.number c (take (record { source = item.source; what = x }) c)) (sym is)
     (subst (λ (d : Controller). (concerned d (word_of item.source frame) ≡ Some s.number → ⊥) → IsLeft s.number d (take (record { source = item.source; what = whats.Frame frame }) d)) (sym (LivesByTable-new settings events))
     (λ differs. frame_leaves settings (all_steps (new_actors settings) events) s.number item.source frame h.allowed h.lives.had.from_one differs) other) where
       c : Controller
       c = (world settings events).controller
 
-pub other-fares : {settings : Parameters} {events : List Event} {mobile : ℕ} {s : Connection} {item : RelayItem} {items : List RelayItem} (frame : Frame) → Handling settings events mobile s item items → hears (world settings events).controller item.source ≡ true → item.what ≡ whats.Frame frame
+pub other_fares : {settings : Parameters} {events : List Event} {mobile : ℕ} {s : Connection} {item : RelayItem} {items : List RelayItem} (frame : Frame) → Handling settings events mobile s item items → hears (world settings events).controller item.source ≡ true → item.what ≡ whats.Frame frame
     → (concerned (world settings events).controller (word_of item.source frame) ≡ Some s.number → ⊥) → FaresOn (modulus_in settings) (actors_after (world settings events) Handle) mobile s
-other-fares {settings} {events} {mobile} {s} {item} {items} frame h up is other = by (target_in w item.source item.what) refl where
+other_fares {settings} {events} {mobile} {s} {item} {items} frame h up is other = by (target_in w item.source item.what) refl where
   w : Actors
   w = world settings events
 
@@ -131,13 +131,13 @@ other-fares {settings} {events} {mobile} {s} {item} {items} frame h up is other 
   one = known settings events s h.allowed h.lives.had
 
   left : IsLeft s.number c t
-  left = left-by frame h is other
+  left = left_by frame h is other
 
   there : connection_of t.next s.number ≡ Some s
   there = ap (option_map (λ (e : Entry). e.connection)) left.entry ∙ h.lives.had.there
 
   tells : Tells item.source frame
-  tells = item-tells frame h is
+  tells = item_tells frame h is
 
   begun : (tenure : Tenure) → target_in w item.source item.what ≡ Some tenure → AreLinedUp (modulus_in settings) (actors_after w Handle) mobile s
   begun tenure begins = of tells where
@@ -147,43 +147,43 @@ other-fares {settings} {events} {mobile} {s} {item} {items} frame h up is other 
         let acks : acknowledged_tenure w item.source (Some m) ≡ Some tenure = sym (ap (target_in w item.source) is ∙ ap (acknowledged_tenure w item.source) says) ∙ begins in
         let it = acknowledges item.source m w tenure acks in
         let p : Place = place_at item.source it.acknowledgement.channel in
-        RelayLeavesOthers-new settings events mobile s
+        relay_leaves_others_new settings events mobile s
         (subst (IsOthers w s) (sym h.stood) (
-          all-of (λ x. brings_in (place_of x) item ≡ []) (used_channels s) (λ x. ap (brings_by (place_of x) item.source) is ∙ ap (λ (o : Option Rsl). brings_read item.source o (place_of x)) says ∙ begins-none item.source m w tenure acks (place_of x)),
-          ack-others frame p (target_in w item.source item.what) h is refl up (word ∙ ap (rsl_word item.source) it.is) other,
+          all_of (λ x. brings_in (place_of x) item ≡ []) (used_channels s) (λ x. ap (brings_by (place_of x) item.source) is ∙ ap (λ (o : Option Rsl). brings_read item.source o (place_of x)) says ∙ begins_none item.source m w tenure acks (place_of x)),
+          ack_others frame p (target_in w item.source item.what) h is refl up (word ∙ ap (rsl_word item.source) it.is) other,
         )) h.lives.lined
 
   by : (o : Option Tenure) → target_in w item.source item.what ≡ o → FaresOn (modulus_in settings) (actors_after w Handle) mobile s
   by (Some tenure) begins =
       goes_on s refl
-      (record { there = ap (λ (d : Controller). connection_of d s.number) (ap (λ (x : Actors). x.controller) (handle-is w item items h.stood) ∙ controller-is (target_in w item.source item.what) t (record w { inbox = items })) ∙ there; is_open = h.lives.had.is_open; from_one = h.lives.had.from_one })
+      (record { there = ap (λ (d : Controller). connection_of d s.number) (ap (λ (x : Actors). x.controller) (handle_is w item items h.stood) ∙ controller-is (target_in w item.source item.what) t (record w { inbox = items })) ∙ there; is_open = h.lives.had.is_open; from_one = h.lives.had.from_one })
       h.lives.requested refl (begun tenure begins)
   by None begins =
-      subst (λ (x : Actors). FaresOn (modulus_in settings) x mobile s) (sym (handle-is w item items h.stood))
-      (still-lined s (target_in w item.source item.what) t h.lives.had.from_one h.up (silent-forwards s.number t.outs left.outs) (none-down (record w { inbox = items }) t begins)
-      (record { line = line-itself s; there = there; requested = h.lives.requested; request = refl })
+      subst (λ (x : Actors). FaresOn (modulus_in settings) x mobile s) (sym (handle_is w item items h.stood))
+      (still_lined s (target_in w item.source item.what) t h.lives.had.from_one h.up (silent_forwards s.number t.outs left.outs) (none_down (record w { inbox = items }) t begins)
+      (record { line = line_itself s; there = there; requested = h.lives.requested; request = refl })
       h.lives.lined.lined.apart h.lives.lined.lined.placed h.lives.lined.found
-      (item-drops item items h.stood (other-drops c s item frame one is tells other) h.lives.lined.lined))
+      (item_drops item items h.stood (other_drops c s item frame one is tells other) h.lives.lined.lined))
 
 -- ---- a frame of a link that is down, which the controller ignores
 
-ignored-drops : (c : Controller) (s : Connection) (item : RelayItem) (frame : Frame) → IsKnown c s → item.what ≡ whats.Frame frame → hears c item.source ≡ false → DropsOut s item
-ignored-drops c s item frame known is down =
+ignored_drops : (c : Controller) (s : Connection) (item : RelayItem) (frame : Frame) → IsKnown c s → item.what ≡ whats.Frame frame → hears c item.source ≡ false → DropsOut s item
+ignored_drops c s item frame known is down =
     AllByRecursion-so (λ x. is_link_up c.links x.station ≡ true) (λ x. AreBeside (brings_in (place_of x) item))
-    (λ x up. subst AreBeside (sym (ap (brings_by (place_of x) item.source) is)) (by x up (item.source == x.station) refl)) (used_channels s) (used-linked c s known.owns) where
+    (λ x up. subst AreBeside (sym (ap (brings_by (place_of x) item.source) is)) (by x up (item.source == x.station) refl)) (used_channels s) (used_linked c s known.owns) where
       by : (x : Channel) → is_link_up c.links x.station ≡ true → (b : Bool) → (item.source == x.station) ≡ b → AreBeside (if b then brings_if x.number (rsl_in frame) else [])
       by x up false other = tt
       by x up true same = absurd (true≢false (sym up ∙ ap (is_link_up c.links) (sym (eqb-true item.source x.station same)) ∙ down))
 
-pub ignored-fares : {settings : Parameters} {events : List Event} {mobile : ℕ} {s : Connection} {item : RelayItem} {items : List RelayItem} (frame : Frame) → Handling settings events mobile s item items → hears (world settings events).controller item.source ≡ false → item.what ≡ whats.Frame frame
+pub ignored_fares : {settings : Parameters} {events : List Event} {mobile : ℕ} {s : Connection} {item : RelayItem} {items : List RelayItem} (frame : Frame) → Handling settings events mobile s item items → hears (world settings events).controller item.source ≡ false → item.what ≡ whats.Frame frame
     → FaresOn (modulus_in settings) (actors_after (world settings events) Handle) mobile s
 unfolding take
-ignored-fares {settings} {events} {mobile} {s} {item} {items} frame h down is =
-    subst (λ (x : Actors). FaresOn (modulus_in settings) x mobile s) (sym (handle-is w item items h.stood))
-    (still-lined s (target_in w item.source item.what) t h.lives.had.from_one h.up (ap (λ (outs : List Out). forwarded outs s.number) silent ∙ silent-forwards s.number [] refl) (nothing-down (record w { inbox = items }) (target_in w item.source item.what) t silent)
-    (record { line = line-itself s; there = ap (λ (b : Bool). connection_of (on_what b item.source item.what c).next s.number) down ∙ h.lives.had.there; requested = h.lives.requested; request = refl })
+ignored_fares {settings} {events} {mobile} {s} {item} {items} frame h down is =
+    subst (λ (x : Actors). FaresOn (modulus_in settings) x mobile s) (sym (handle_is w item items h.stood))
+    (still_lined s (target_in w item.source item.what) t h.lives.had.from_one h.up (ap (λ (outs : List Out). forwarded outs s.number) silent ∙ silent_forwards s.number [] refl) (nothing_down (record w { inbox = items }) (target_in w item.source item.what) t silent)
+    (record { line = line_itself s; there = ap (λ (b : Bool). connection_of (on_what b item.source item.what c).next s.number) down ∙ h.lives.had.there; requested = h.lives.requested; request = refl })
     h.lives.lined.lined.apart h.lives.lined.lined.placed h.lives.lined.found
-    (item-drops item items h.stood (ignored-drops c s item frame (known settings events s h.allowed h.lives.had) is down) h.lives.lined.lined)) where
+    (item_drops item items h.stood (ignored_drops c s item frame (known settings events s h.allowed h.lives.had) is down) h.lives.lined.lined)) where
       w : Actors
       w = world settings events
 

@@ -14,11 +14,11 @@ use Rattle.world_laws.specs.GoingDown.{going_down}
 use Rattle.world_laws.specs.LineUps.{commanded_target, draining_tenure, is_ended, old_tenure, old_tenures, remembered, seat_from}
 use Rattle.world_laws.specs.LineUps.{serving_hold, serving_tenure, taken_of, target_tenure, waiting_of}
 use Rattle.world_laws.specs.Seated.{Leads, LinedUp}
-use Rattle.world_laws.proofs.Cutting.{AllCut, Alive-cut, Cuts, cuts-itself}
+use Rattle.world_laws.proofs.Cutting.{AllCut, alive_cut, Cuts, cuts_itself}
 use Rattle.world_laws.proofs.Cutting.Cuts.{whole}
-use Rattle.world_laws.proofs.Framing.{all-left, all-right}
-use Rattle.world_laws.proofs.Seeing.{Leads-same, SameTenures, Sits-same, none-same}
-use Rattle.world_laws.proofs.Breaks.{target-came}
+use Rattle.world_laws.proofs.Framing.{all_left, all_right}
+use Rattle.world_laws.proofs.Seeing.{leads_same, SameTenures, sits_same, none_same}
+use Rattle.world_laws.proofs.Breaks.{target_came}
 
 -- ---- lists
 
@@ -36,8 +36,8 @@ flow-behind [] items beside = refl
 flow-behind (brought message ∷ front) items beside = flow-apart message (messages_in (front ++ items)) beside.0 ∙ flow-behind front items beside.1
 flow-behind (released ∷ front) items beside = absurd beside.0
 
-fewer-controls : (front items : List Item) → controls_in items ≤ controls_in (front ++ items)
-fewer-controls front items =
+fewer_controls : (front items : List Item) → controls_in items ≤ controls_in (front ++ items)
+fewer_controls front items =
     let all = ap controls_of (messages_in-append front items) in
     let sum = controls-append (messages_in front) (messages_in items) in
     omega arith
@@ -55,42 +55,42 @@ record Loses (f g : Place → List Item) (c : Channel) : Type 0 where
   is : f (place_of c) ≡ front ++ g (place_of c)
   beside : AreBeside front
 
-draining-cut : (up : Bool) (front items : List Item) (hold : List (List ℕ)) → AreBeside front → Cuts (draining_tenure up (front ++ items) hold) (draining_tenure up items hold)
-draining-cut up front items hold beside = whole refl (sym (flow-behind front items beside)) (fewer-controls front items) (ap (λ (b : Bool). not up && not b) (sym (ended-behind front items beside)))
+draining_cut : (up : Bool) (front items : List Item) (hold : List (List ℕ)) → AreBeside front → Cuts (draining_tenure up (front ++ items) hold) (draining_tenure up items hold)
+draining_cut up front items hold beside = whole refl (sym (flow-behind front items beside)) (fewer_controls front items) (ap (λ (b : Bool). not up && not b) (sym (ended-behind front items beside)))
 
-one-cut : (f g : Place → List Item) (up : ℕ → Bool) (d : Drain) (ds : List Drain) (hold : List (List ℕ)) → AllByRecursion (Loses f g) (undone (d ∷ ds)) → Cuts (old_tenure f up d hold) (old_tenure g up d hold) × AllByRecursion (Loses f g) (undone ds)
-one-cut f g up d ds hold all = by d.is_done all where
+one_cut : (f g : Place → List Item) (up : ℕ → Bool) (d : Drain) (ds : List Drain) (hold : List (List ℕ)) → AllByRecursion (Loses f g) (undone (d ∷ ds)) → Cuts (old_tenure f up d hold) (old_tenure g up d hold) × AllByRecursion (Loses f g) (undone ds)
+one_cut f g up d ds hold all = by d.is_done all where
   by : (b : Bool) → AllByRecursion (Loses f g) (if b then undone ds else d.channel ∷ undone ds)
       → Cuts (if b then ended hold else draining_tenure (up d.channel.station) (f (place_of d.channel)) hold) (if b then ended hold else draining_tenure (up d.channel.station) (g (place_of d.channel)) hold) × AllByRecursion (Loses f g) (undone ds)
-  by true all = (cuts-itself (ended hold), all)
+  by true all = (cuts_itself (ended hold), all)
   by false all = (
     subst (λ (items : List Item). Cuts (draining_tenure (up d.channel.station) items hold) (draining_tenure (up d.channel.station) (g (place_of d.channel)) hold)) (sym all.0.is)
-        (draining-cut (up d.channel.station) all.0.front (g (place_of d.channel)) hold all.0.beside),
+        (draining_cut (up d.channel.station) all.0.front (g (place_of d.channel)) hold all.0.beside),
     all.1,
   )
 
-old-cut : (f g : Place → List Item) (up : ℕ → Bool) (ds : List Drain) (holds : List Held) → AllByRecursion (Loses f g) (undone ds) → AllCut (old_tenures f up ds holds) (old_tenures g up ds holds)
-old-cut f g up [] holds all = tt
-old-cut f g up (d ∷ ds) [] all = let one = one-cut f g up d ds [] all in (one.0, old-cut f g up ds [] one.1)
-old-cut f g up (d ∷ ds) (held ∷ others) all = let one = one-cut f g up d ds held.zero all in (one.0, old-cut f g up ds others one.1)
+old_cut : (f g : Place → List Item) (up : ℕ → Bool) (ds : List Drain) (holds : List Held) → AllByRecursion (Loses f g) (undone ds) → AllCut (old_tenures f up ds holds) (old_tenures g up ds holds)
+old_cut f g up [] holds all = tt
+old_cut f g up (d ∷ ds) [] all = let one = one_cut f g up d ds [] all in (one.0, old_cut f g up ds [] one.1)
+old_cut f g up (d ∷ ds) (held ∷ others) all = let one = one_cut f g up d ds held.zero all in (one.0, old_cut f g up ds others one.1)
 
-serving-cut : (f g : Place → List Item) (up : ℕ → Bool) (c : Channel) (hold : List (List ℕ)) → Loses f g c → Cuts (serving_tenure f up c hold) (serving_tenure g up c hold)
-serving-cut f g up c hold loses =
+serving_cut : (f g : Place → List Item) (up : ℕ → Bool) (c : Channel) (hold : List (List ℕ)) → Loses f g c → Cuts (serving_tenure f up c hold) (serving_tenure g up c hold)
+serving_cut f g up c hold loses =
     subst (λ (items : List Item). Cuts (record (serving_tenure f up c hold) { items = items }) (serving_tenure g up c hold)) (sym loses.is)
-    (whole refl (sym (flow-behind loses.front (g (place_of c)) loses.beside)) (fewer-controls loses.front (g (place_of c))) refl)
+    (whole refl (sym (flow-behind loses.front (g (place_of c)) loses.beside)) (fewer_controls loses.front (g (place_of c))) refl)
 
-target-cut : (f g : Place → List Item) (up : ℕ → Bool) (seat : Seat) (state : State) → AllByRecursion (Loses f g) (target_in state) → Cuts (target_tenure f up seat (commanded_target state)) (target_tenure g up seat (commanded_target state))
-target-cut f g up seat (Live reference (Changing target)) all =
+target_cut : (f g : Place → List Item) (up : ℕ → Bool) (seat : Seat) (state : State) → AllByRecursion (Loses f g) (target_in state) → Cuts (target_tenure f up seat (commanded_target state)) (target_tenure g up seat (commanded_target state))
+target_cut f g up seat (Live reference (Changing target)) all =
     subst (λ (items : List Item). Cuts (record (target_tenure f up seat (Some target)) { items = items }) (target_tenure g up seat (Some target))) (sym all.0.is)
-    (whole refl (sym (flow-behind all.0.front (g (place_of target.channel)) all.0.beside)) (fewer-controls all.0.front (g (place_of target.channel))) refl)
-target-cut f g up seat (Live reference (Preparing target)) all = cuts-itself (target_tenure f up seat None)
-target-cut f g up seat (Live reference Active) all = cuts-itself (target_tenure f up seat None)
-target-cut f g up seat (Live reference Draining) all = cuts-itself (target_tenure f up seat None)
-target-cut f g up seat WaitActivation all = cuts-itself (target_tenure f up seat None)
-target-cut f g up seat WaitEstablish all = cuts-itself (target_tenure f up seat None)
-target-cut f g up seat WaitConfirm all = cuts-itself (target_tenure f up seat None)
-target-cut f g up seat (Closed clearing) all = cuts-itself (target_tenure f up seat None)
-target-cut f g up seat Removed all = cuts-itself (target_tenure f up seat None)
+    (whole refl (sym (flow-behind all.0.front (g (place_of target.channel)) all.0.beside)) (fewer_controls all.0.front (g (place_of target.channel))) refl)
+target_cut f g up seat (Live reference (Preparing target)) all = cuts_itself (target_tenure f up seat None)
+target_cut f g up seat (Live reference Active) all = cuts_itself (target_tenure f up seat None)
+target_cut f g up seat (Live reference Draining) all = cuts_itself (target_tenure f up seat None)
+target_cut f g up seat WaitActivation all = cuts_itself (target_tenure f up seat None)
+target_cut f g up seat WaitEstablish all = cuts_itself (target_tenure f up seat None)
+target_cut f g up seat WaitConfirm all = cuts_itself (target_tenure f up seat None)
+target_cut f g up seat (Closed clearing) all = cuts_itself (target_tenure f up seat None)
+target_cut f g up seat Removed all = cuts_itself (target_tenure f up seat None)
 
 -- ---- the first item of the inbox goes
 
@@ -103,25 +103,25 @@ coming-first w item items stood at =
     ap (λ (xs : List RelayItem). flat_map (brings_in at) xs ++ made_of at.number (base_of w at.station).messages) stood
     ∙ append_assoc (brings_in at item) (flat_map (brings_in at) items) (made_of at.number (base_of w at.station).messages)
 
-loses-of : (w : Actors) (item : RelayItem) (items : List RelayItem) → w.inbox ≡ item ∷ items → (channel : Channel) → AreBeside (brings_in (place_of channel) item) → Loses (coming_up w) (coming_up (without_first w items)) channel
-loses-of w item items stood channel beside = record { front = brings_in (place_of channel) item; is = coming-first w item items stood (place_of channel); beside = beside }
+loses_of : (w : Actors) (item : RelayItem) (items : List RelayItem) → w.inbox ≡ item ∷ items → (channel : Channel) → AreBeside (brings_in (place_of channel) item) → Loses (coming_up w) (coming_up (without_first w items)) channel
+loses_of w item items stood channel beside = record { front = brings_in (place_of channel) item; is = coming-first w item items stood (place_of channel); beside = beside }
 
 -- it brings nothing of the flow on the channels of a connection, which stays lined up
-pub item-drops : {m : ℕ} {w : Actors} {p : Mobile} {s : Connection} (item : RelayItem) (items : List RelayItem) → w.inbox ≡ item ∷ items → AllByRecursion (λ channel. AreBeside (brings_in (place_of channel) item)) (used_channels s) → LinedUp m w p s → LinedUp m (without_first w items) p s
+pub item_drops : {m : ℕ} {w : Actors} {p : Mobile} {s : Connection} (item : RelayItem) (items : List RelayItem) → w.inbox ≡ item ∷ items → AllByRecursion (λ channel. AreBeside (brings_in (place_of channel) item)) (used_channels s) → LinedUp m w p s → LinedUp m (without_first w items) p s
 unfolding SameTenures
-item-drops {m} {w} {p} {s} item items stood beside lined = record {
-  alive = Alive-cut p.end.sent p.end.zero (seat_from s.serving p.seat) s.state (length (going_down w (place_of s.serving)) + remembered p.seat) (length (going_down w (place_of s.serving)) + remembered p.seat)
+item_drops {m} {w} {p} {s} item items stood beside lined = record {
+  alive = alive_cut p.end.sent p.end.zero (seat_from s.serving p.seat) s.state (length (going_down w (place_of s.serving)) + remembered p.seat) (length (going_down w (place_of s.serving)) + remembered p.seat)
       (old_tenures (coming_up w) (is_station_up w) s.draining s.up.tenures) (old_tenures (coming_up v) (is_station_up w) s.draining s.up.tenures)
       (serving_tenure (coming_up w) (is_station_up w) s.serving (serving_hold s.draining s.up.tenures)) (serving_tenure (coming_up v) (is_station_up w) s.serving (serving_hold s.draining s.up.tenures))
       (target_tenure (coming_up w) (is_station_up w) (seat_from s.serving p.seat) (commanded_target s.state)) (target_tenure (coming_up v) (is_station_up w) (seat_from s.serving p.seat) (commanded_target s.state))
       (flow (waiting_of w s.number)) (flow (taken_of w s.number)) (omega arith)
-      (old-cut (coming_up w) (coming_up v) (is_station_up w) s.draining s.up.tenures (all-left (Loses (coming_up w) (coming_up v)) (undone s.draining) (s.serving ∷ target_in s.state) loses))
-      (serving-cut (coming_up w) (coming_up v) (is_station_up w) s.serving (serving_hold s.draining s.up.tenures) behind.0)
-      (target-cut (coming_up w) (coming_up v) (is_station_up w) (seat_from s.serving p.seat) s.state behind.1)
-      (target-came (coming_up v) (is_station_up w) (seat_from s.serving p.seat) (commanded_target s.state)) lined.alive;
-  sits = Sits-same same lined.sits;
-  led = AllByRecursion-so (λ a. Leads w a (commanded_target s.state)) (λ a. Leads v a (commanded_target s.state)) (λ a. Leads-same same) (going_down w (place_of s.serving)) lined.led;
-  none_on_target = none-same w v (commanded_target s.state) (λ t is. refl) lined.none_on_target;
+      (old_cut (coming_up w) (coming_up v) (is_station_up w) s.draining s.up.tenures (all_left (Loses (coming_up w) (coming_up v)) (undone s.draining) (s.serving ∷ target_in s.state) loses))
+      (serving_cut (coming_up w) (coming_up v) (is_station_up w) s.serving (serving_hold s.draining s.up.tenures) behind.0)
+      (target_cut (coming_up w) (coming_up v) (is_station_up w) (seat_from s.serving p.seat) s.state behind.1)
+      (target_came (coming_up v) (is_station_up w) (seat_from s.serving p.seat) (commanded_target s.state)) lined.alive;
+  sits = sits_same same lined.sits;
+  led = AllByRecursion-so (λ a. Leads w a (commanded_target s.state)) (λ a. Leads v a (commanded_target s.state)) (λ a. leads_same same) (going_down w (place_of s.serving)) lined.led;
+  none_on_target = none_same w v (commanded_target s.state) (λ t is. refl) lined.none_on_target;
   apart = lined.apart;
   placed = lined.placed;
 } where
@@ -132,7 +132,7 @@ item-drops {m} {w} {p} {s} item items stood beside lined = record {
   same at = refl
 
   loses : AllByRecursion (Loses (coming_up w) (coming_up v)) (used_channels s)
-  loses = AllByRecursion-so (λ channel. AreBeside (brings_in (place_of channel) item)) (Loses (coming_up w) (coming_up v)) (loses-of w item items stood) (used_channels s) beside
+  loses = AllByRecursion-so (λ channel. AreBeside (brings_in (place_of channel) item)) (Loses (coming_up w) (coming_up v)) (loses_of w item items stood) (used_channels s) beside
 
   behind : AllByRecursion (Loses (coming_up w) (coming_up v)) (s.serving ∷ target_in s.state)
-  behind = all-right (Loses (coming_up w) (coming_up v)) (undone s.draining) (s.serving ∷ target_in s.state) loses
+  behind = all_right (Loses (coming_up w) (coming_up v)) (undone s.draining) (s.serving ∷ target_in s.state) loses

@@ -14,33 +14,33 @@ use Rattle.ruled_relay.specs.declared.item.What.TheVariants as whats
 use Rattle.world_laws.specs.ComingUp.{brings_by, brings_in}
 use Rattle.world_laws.specs.Lives.{AcksAgree, Lives}
 use Rattle.world_laws.specs.OthersFrame.{CameInOctets}
-use Rattle.world_laws.proofs.Ending.{LineUpsMayEnd-new}
-use Rattle.world_laws.proofs.Quiet.{all-of}
+use Rattle.world_laws.proofs.Ending.{line_ups_may_end_new}
+use Rattle.world_laws.proofs.Quiet.{all_of}
 use Rattle.world_laws.specs.Handling.Faring.{FaresOn, LiveConnectionsFareOn}
 use Rattle.world_laws.specs.Handling.Faring.FaresOn.{goes_on}
-use Rattle.world_laws.proofs.Handling.Acting.{IsOwnStep, Outcome, by-acts}
+use Rattle.world_laws.proofs.Handling.Acting.{IsOwnStep, Outcome, by_acts}
 use Rattle.world_laws.proofs.Handling.Acting.Outcome.{over, same}
-use Rattle.world_laws.proofs.Handling.Beside.{ignored-fares, other-fares}
-use Rattle.world_laws.proofs.Handling.Dropped.{AreBeside, item-drops}
-use Rattle.world_laws.proofs.Handling.Finishing.{ended-before, handle-is, idle-is, now-ended, still-lined, tick-is}
-use Rattle.world_laws.proofs.Handling.Knowing.{IsKnown, Steps, entry-there, known, octets-came, steps-known}
-use Rattle.world_laws.proofs.Handling.Leaving.{none-down}
-use Rattle.world_laws.proofs.Handling.Own.{DropsOut, Handling, item-tells, none-drops, said-fares}
-use Rattle.world_laws.proofs.Handling.Saying.{IsQuiet, SaysUp, Tells, word-says}
+use Rattle.world_laws.proofs.Handling.Beside.{ignored_fares, other_fares}
+use Rattle.world_laws.proofs.Handling.Dropped.{AreBeside, item_drops}
+use Rattle.world_laws.proofs.Handling.Finishing.{ended_before, handle_is, idle_is, now_ended, still_lined, tick_is}
+use Rattle.world_laws.proofs.Handling.Knowing.{IsKnown, Steps, entry_there, known, octets_came, steps_known}
+use Rattle.world_laws.proofs.Handling.Leaving.{none_down}
+use Rattle.world_laws.proofs.Handling.Own.{DropsOut, Handling, item_tells, none_drops, said_fares}
+use Rattle.world_laws.proofs.Handling.Saying.{IsQuiet, SaysUp, Tells, word_says}
 use Rattle.world_laws.proofs.Handling.Saying.Tells.{message, nothing}
-use Rattle.world_laws.proofs.Handling.Turning.{said-on, said-to}
+use Rattle.world_laws.proofs.Handling.Turning.{said_on, said_to}
 use Rattle.world_laws.proofs.OwnFrames.{brings_read}
 use Rattle.world_laws.proofs.OwnHandle.{handled_by}
-use Rattle.world_laws.proofs.PutAsRead.{open-of}
+use Rattle.world_laws.proofs.PutAsRead.{open_of}
 use Rattle.world_laws.proofs.Events.{world}
 
 -- ---- a step of the controller's own, by an item
 
-outcome-fares : {settings : Parameters} {events : List Event} {mobile : ℕ} {s : Connection} {item : RelayItem} {items : List RelayItem} → Handling settings events mobile s item items → target_in (world settings events) item.source item.what ≡ None → DropsOut s item
+outcome_fares : {settings : Parameters} {events : List Event} {mobile : ℕ} {s : Connection} {item : RelayItem} {items : List RelayItem} → Handling settings events mobile s item items → target_in (world settings events) item.source item.what ≡ None → DropsOut s item
     → IsOwnStep (brought_in (world settings events).controller s.number (steps.Take item)) → FaresOn (modulus_in settings) (actors_after (world settings events) Handle) mobile s
-outcome-fares {settings} {events} {mobile} {s} {item} {items} h target drops own =
-    subst (λ (x : Actors). FaresOn (modulus_in settings) x mobile s) (sym (handle-is w item items h.stood))
-    (by (by-acts (brought_in w.controller s.number (steps.Take item)) s t own h.lives.had.from_one h.lives.requested h.lives.had.there does.sent does.acts.outs does.acts.acts)) where
+outcome_fares {settings} {events} {mobile} {s} {item} {items} h target drops own =
+    subst (λ (x : Actors). FaresOn (modulus_in settings) x mobile s) (sym (handle_is w item items h.stood))
+    (by (by_acts (brought_in w.controller s.number (steps.Take item)) s t own h.lives.had.from_one h.lives.requested h.lives.had.there does.sent does.acts.outs does.acts.acts)) where
       w : Actors
       w = world settings events
 
@@ -48,36 +48,36 @@ outcome-fares {settings} {events} {mobile} {s} {item} {items} h target drops own
       t = take item w.controller
 
       does : Steps w.controller (steps.Take item) s.number
-      does = steps-known settings events (steps.Take item) s.number h.allowed h.octets h.own h.lives.had.from_one
+      does = steps_known settings events (steps.Take item) s.number h.allowed h.octets h.own h.lives.had.from_one
 
       by : Outcome s t → FaresOn (modulus_in settings) (handled_by w item items) mobile s
       by (same next is none) =
-          let channels = does.after next (ap (connection_of t.next) is.line.number ∙ is.there) (open-of next.state is.requested) in
-          still-lined next (target_in w item.source item.what) t h.lives.had.from_one h.up none (none-down (record w { inbox = items }) t target) is channels.0 channels.1 h.lives.lined.found (item-drops item items h.stood drops h.lives.lined.lined)
-      by (over gone none) = now-ended (target_in w item.source item.what) t h.up none gone (ended-before items (LineUpsMayEnd-new (modulus_in settings) w mobile s h.lives.lined))
+          let channels = does.after next (ap (connection_of t.next) is.line.number ∙ is.there) (open_of next.state is.requested) in
+          still_lined next (target_in w item.source item.what) t h.lives.had.from_one h.up none (none_down (record w { inbox = items }) t target) is channels.0 channels.1 h.lives.lined.found (item_drops item items h.stood drops h.lives.lined.lined)
+      by (over gone none) = now_ended (target_in w item.source item.what) t h.up none gone (ended_before items (line_ups_may_end_new (modulus_in settings) w mobile s h.lives.lined))
 
 -- a link broke
-down-own : (c : Controller) (number source : ℕ) (b : Bool) → IsOwnStep (if b then brought_with c number source whats.Down else nothing_brought)
-down-own c number source true = own_carried source
-down-own c number source false = tt
+down_own : (c : Controller) (number source : ℕ) (b : Bool) → IsOwnStep (if b then brought_with c number source whats.Down else nothing_brought)
+down_own c number source true = own_carried source
+down_own c number source false = tt
 
-down-fares : {settings : Parameters} {events : List Event} {mobile : ℕ} {s : Connection} {item : RelayItem} {items : List RelayItem} → Handling settings events mobile s item items → item.what ≡ whats.Down → FaresOn (modulus_in settings) (actors_after (world settings events) Handle) mobile s
-down-fares {settings} {events} {mobile} {s} {item} h is =
-    outcome-fares h (ap (target_in w item.source) is)
-    (all-of (λ x. AreBeside (brings_in (place_of x) item)) (used_channels s) (λ x. subst AreBeside (sym (ap (brings_by (place_of x) item.source) is)) tt))
-    (subst (λ (x : What). IsOwnStep (if hears w.controller item.source then brought_with w.controller s.number item.source x else nothing_brought)) (sym is) (down-own w.controller s.number item.source (hears w.controller item.source))) where
+down_fares : {settings : Parameters} {events : List Event} {mobile : ℕ} {s : Connection} {item : RelayItem} {items : List RelayItem} → Handling settings events mobile s item items → item.what ≡ whats.Down → FaresOn (modulus_in settings) (actors_after (world settings events) Handle) mobile s
+down_fares {settings} {events} {mobile} {s} {item} h is =
+    outcome_fares h (ap (target_in w item.source) is)
+    (all_of (λ x. AreBeside (brings_in (place_of x) item)) (used_channels s) (λ x. subst AreBeside (sym (ap (brings_by (place_of x) item.source) is)) tt))
+    (subst (λ (x : What). IsOwnStep (if hears w.controller item.source then brought_with w.controller s.number item.source x else nothing_brought)) (sym is) (down_own w.controller s.number item.source (hears w.controller item.source))) where
       w : Actors
       w = world settings events
 
 -- ---- a report
 
-quiet-drops : (s : Connection) (item : RelayItem) (frame : Frame) (m : Rsl) → item.what ≡ whats.Frame frame → rsl_in frame ≡ Some m → IsQuiet item.source m → DropsOut s item
-quiet-drops s item frame m is says quiet =
-    all-of (λ x. AreBeside (brings_in (place_of x) item)) (used_channels s) (λ x. subst AreBeside (sym (ap (brings_by (place_of x) item.source) is ∙ ap (λ (o : Option Rsl). brings_read item.source o (place_of x)) says)) (quiet.brings_none (place_of x)))
+quiet_drops : (s : Connection) (item : RelayItem) (frame : Frame) (m : Rsl) → item.what ≡ whats.Frame frame → rsl_in frame ≡ Some m → IsQuiet item.source m → DropsOut s item
+quiet_drops s item frame m is says quiet =
+    all_of (λ x. AreBeside (brings_in (place_of x) item)) (used_channels s) (λ x. subst AreBeside (sym (ap (brings_by (place_of x) item.source) is ∙ ap (λ (o : Option Rsl). brings_read item.source o (place_of x)) says)) (quiet.brings_none (place_of x)))
 
-report-fares : {settings : Parameters} {events : List Event} {mobile : ℕ} {s : Connection} {item : RelayItem} {items : List RelayItem} (frame : Frame) (at : Place) (number : ℕ) (report : _) → Handling settings events mobile s item items → hears (world settings events).controller item.source ≡ true → item.what ≡ whats.Frame frame
+report_fares : {settings : Parameters} {events : List Event} {mobile : ℕ} {s : Connection} {item : RelayItem} {items : List RelayItem} (frame : Frame) (at : Place) (number : ℕ) (report : _) → Handling settings events mobile s item items → hears (world settings events).controller item.source ≡ true → item.what ≡ whats.Frame frame
     → word_of item.source frame ≡ Reports at number report → FaresOn (modulus_in settings) (actors_after (world settings events) Handle) mobile s
-report-fares {settings} {events} {mobile} {s} {item} frame at number report h up is word = of (item-tells frame h is) where
+report_fares {settings} {events} {mobile} {s} {item} frame at number report h up is word = of (item_tells frame h is) where
   w : Actors
   w = world settings events
 
@@ -91,21 +91,21 @@ report-fares {settings} {events} {mobile} {s} {item} frame at number report h up
   own = subst IsOwnStep (sym brings) tt
 
   of : Tells item.source frame → FaresOn (modulus_in settings) (actors_after w Handle) mobile s
-  of (nothing says) = outcome-fares h (ap (target_in w item.source) is ∙ ap (acknowledged_tenure w item.source) says) (none-drops s item frame is says) own
+  of (nothing says) = outcome_fares h (ap (target_in w item.source) is ∙ ap (acknowledged_tenure w item.source) says) (none_drops s item frame is says) own
   of (message m says word_is) =
-      let quiet : IsQuiet item.source m = subst (SaysUp item.source m) (sym word_is ∙ word) (word-says item.source m) in
-      outcome-fares h (ap (target_in w item.source) is ∙ ap (acknowledged_tenure w item.source) says ∙ quiet.begins w) (quiet-drops s item frame m is says quiet) own
+      let quiet : IsQuiet item.source m = subst (SaysUp item.source m) (sym word_is ∙ word) (word_says item.source m) in
+      outcome_fares h (ap (target_in w item.source) is ∙ ap (acknowledged_tenure w item.source) says ∙ quiet.begins w) (quiet_drops s item frame m is says quiet) own
 
 -- ---- a frame
 
-one-number : {a b : ℕ} → (let o : Option ℕ = Some a in o) ≡ Some b → a ≡ b
-one-number is = cc
+one_number : {a b : ℕ} → (let o : Option ℕ = Some a in o) ≡ Some b → a ≡ b
+one_number is = cc
 
-none-number : {n : ℕ} → (let o : Option ℕ = None in o) ≡ Some n → ⊥
-none-number is = absurd cc
+none_number : {n : ℕ} → (let o : Option ℕ = None in o) ≡ Some n → ⊥
+none_number is = absurd cc
 
-heard-fares : {settings : Parameters} {events : List Event} {mobile : ℕ} {s : Connection} {item : RelayItem} {items : List RelayItem} (frame : Frame) → Handling settings events mobile s item items → hears (world settings events).controller item.source ≡ true → item.what ≡ whats.Frame frame → FaresOn (modulus_in settings) (actors_after (world settings events) Handle) mobile s
-heard-fares {settings} {events} {mobile} {s} {item} frame h up is = by (word_of item.source frame) refl where
+heard_fares : {settings : Parameters} {events : List Event} {mobile : ℕ} {s : Connection} {item : RelayItem} {items : List RelayItem} (frame : Frame) → Handling settings events mobile s item items → hears (world settings events).controller item.source ≡ true → item.what ≡ whats.Frame frame → FaresOn (modulus_in settings) (actors_after (world settings events) Handle) mobile s
+heard_fares {settings} {events} {mobile} {s} {item} frame h up is = by (word_of item.source frame) refl where
   c : Controller
   c = (world settings events).controller
 
@@ -113,57 +113,57 @@ heard-fares {settings} {events} {mobile} {s} {item} frame h up is = by (word_of 
   one = known settings events s h.allowed h.lives.had
 
   not-his : (word : Word) → word_of item.source frame ≡ word → (concerned c word ≡ Some s.number → ⊥) → FaresOn (modulus_in settings) (actors_after (world settings events) Handle) mobile s
-  not-his word word_is other = other-fares frame h up is (λ held. other (ap (concerned c) (sym word_is) ∙ held))
+  not-his word word_is other = other_fares frame h up is (λ held. other (ap (concerned c) (sym word_is) ∙ held))
 
   on-channel : (at : Place) (input : Input) → word_of item.source frame ≡ OnChannel at input → (o : Option ℕ) → holder (channel_state c at) ≡ o → FaresOn (modulus_in settings) (actors_after (world settings events) Handle) mobile s
-  on-channel at input word_is None held = not-his (OnChannel at input) word_is (λ same. none-number (sym held ∙ same))
+  on-channel at input word_is None held = not-his (OnChannel at input) word_is (λ same. none_number (sym held ∙ same))
   on-channel at input word_is (Some n) held = elim (cases_Bool (n == s.number)) [
-    | inr other ↦ not-his (OnChannel at input) word_is (λ same. true≢false (sym (eq-eqb n s.number (one-number (sym held ∙ same))) ∙ other))
+    | inr other ↦ not-his (OnChannel at input) word_is (λ same. true≢false (sym (eq-eqb n s.number (one_number (sym held ∙ same))) ∙ other))
     | inl his ↦
         let number : n ≡ s.number = eqb-true n s.number his in
-        let entry = entry-there c s.number s one.there in
-        said-fares frame h up is (said-on c (word_of item.source frame) at input s.number s entry.0 word_is (held ∙ ap (λ (k : ℕ). Some k) number) entry.1 entry.2)
+        let entry = entry_there c s.number s one.there in
+        said_fares frame h up is (said_on c (word_of item.source frame) at input s.number s entry.0 word_is (held ∙ ap (λ (k : ℕ). Some k) number) entry.1 entry.2)
   ]
 
   by : (word : Word) → word_of item.source frame ≡ word → FaresOn (modulus_in settings) (actors_after (world settings events) Handle) mobile s
-  by Nothing word_is = not-his Nothing word_is none-number
-  by Ping word_is = not-his Ping word_is none-number
+  by Nothing word_is = not-his Nothing word_is none_number
+  by Ping word_is = not-his Ping word_is none_number
   by (Asks request delay) word_is = not-his (Asks request delay) word_is (λ same.
-      let entry = entry-there c s.number s one.there in
+      let entry = entry_there c s.number s one.there in
       let below = (here_of c s.number entry.0 one.ready entry.1).below in
-      let number : c.next_number ≡ s.number = one-number same in
+      let number : c.next_number ≡ s.number = one_number same in
       let own : entry.0.connection.number ≡ s.number = ap (λ (x : Connection). x.number) entry.2 in
       absurd (omega (arith, below, number, own)))
-  by (Reports at number report) word_is = report-fares frame at number report h up is word_is
+  by (Reports at number report) word_is = report_fares frame at number report h up is word_is
   by (OnChannel at input) word_is = on-channel at input word_is (holder (channel_state c at)) refl
   by (OnConnection n input) word_is = elim (cases_Bool (n == s.number)) [
-    | inr other ↦ not-his (OnConnection n input) word_is (λ same. true≢false (sym (eq-eqb n s.number (one-number same)) ∙ other))
+    | inr other ↦ not-his (OnConnection n input) word_is (λ same. true≢false (sym (eq-eqb n s.number (one_number same)) ∙ other))
     | inl his ↦
         let number : n ≡ s.number = eqb-true n s.number his in
-        let entry = entry-there c s.number s one.there in
-        said-fares frame h up is (said-to c (word_of item.source frame) input s.number s entry.0 (word_is ∙ ap (λ (k : ℕ). OnConnection k input) number) entry.1 entry.2)
+        let entry = entry_there c s.number s one.there in
+        said_fares frame h up is (said_to c (word_of item.source frame) input s.number s entry.0 (word_is ∙ ap (λ (k : ℕ). OnConnection k input) number) entry.1 entry.2)
   ]
 
-frame-fares : {settings : Parameters} {events : List Event} {mobile : ℕ} {s : Connection} {item : RelayItem} {items : List RelayItem} (frame : Frame) → Handling settings events mobile s item items → item.what ≡ whats.Frame frame → FaresOn (modulus_in settings) (actors_after (world settings events) Handle) mobile s
-frame-fares {settings} {events} {item = item} frame h is = elim (cases_Bool (hears (world settings events).controller item.source)) [
-  | inl up ↦ heard-fares frame h up is
-  | inr down ↦ ignored-fares frame h down is
+frame_fares : {settings : Parameters} {events : List Event} {mobile : ℕ} {s : Connection} {item : RelayItem} {items : List RelayItem} (frame : Frame) → Handling settings events mobile s item items → item.what ≡ whats.Frame frame → FaresOn (modulus_in settings) (actors_after (world settings events) Handle) mobile s
+frame_fares {settings} {events} {item = item} frame h is = elim (cases_Bool (hears (world settings events).controller item.source)) [
+  | inl up ↦ heard_fares frame h up is
+  | inr down ↦ ignored_fares frame h down is
 ]
 
 -- ---- any item
 
-item-fares : {settings : Parameters} {events : List Event} {mobile : ℕ} {s : Connection} {item : RelayItem} {items : List RelayItem} → Handling settings events mobile s item items → FaresOn (modulus_in settings) (actors_after (world settings events) Handle) mobile s
-item-fares {settings} {events} {mobile} {s} {item} h = by item.what refl where
+item_fares : {settings : Parameters} {events : List Event} {mobile : ℕ} {s : Connection} {item : RelayItem} {items : List RelayItem} → Handling settings events mobile s item items → FaresOn (modulus_in settings) (actors_after (world settings events) Handle) mobile s
+item_fares {settings} {events} {mobile} {s} {item} h = by item.what refl where
   by : (what : What) → item.what ≡ what → FaresOn (modulus_in settings) (actors_after (world settings events) Handle) mobile s
-  by (whats.Frame frame) is = frame-fares frame h is
-  by whats.Down is = down-fares h is
+  by (whats.Frame frame) is = frame_fares frame h is
+  by whats.Down is = down_fares h is
 
 -- ---- time passes
 
-tick-fares : (settings : Parameters) (events : List Event) (ms mobile : ℕ) (s : Connection) → AreAllowed settings → CameInOctets settings events → is_up (world settings events) SWITCH_LINK ≡ true → Lives (modulus_in settings) (world settings events) mobile s → FaresOn (modulus_in settings) (actors_after (world settings events) (Tick ms)) mobile s
-tick-fares settings events ms mobile s allowed octets up lives =
-    subst (λ (x : Actors). FaresOn (modulus_in settings) x mobile s) (sym (tick-is w ms))
-    (by (by-acts passes s t tt lives.had.from_one lives.requested lives.had.there does.sent does.acts.outs does.acts.acts)) where
+tick_fares : (settings : Parameters) (events : List Event) (ms mobile : ℕ) (s : Connection) → AreAllowed settings → CameInOctets settings events → is_up (world settings events) SWITCH_LINK ≡ true → Lives (modulus_in settings) (world settings events) mobile s → FaresOn (modulus_in settings) (actors_after (world settings events) (Tick ms)) mobile s
+tick_fares settings events ms mobile s allowed octets up lives =
+    subst (λ (x : Actors). FaresOn (modulus_in settings) x mobile s) (sym (tick_is w ms))
+    (by (by_acts passes s t tt lives.had.from_one lives.requested lives.had.there does.sent does.acts.outs does.acts.acts)) where
       w : Actors
       w = world settings events
 
@@ -171,22 +171,22 @@ tick-fares settings events ms mobile s allowed octets up lives =
       t = tick ms w.controller
 
       does : Steps w.controller (steps.Tick ms) s.number
-      does = steps-known settings events (steps.Tick ms) s.number allowed octets tt lives.had.from_one
+      does = steps_known settings events (steps.Tick ms) s.number allowed octets tt lives.had.from_one
 
       by : Outcome s t → FaresOn (modulus_in settings) (with_turn None t w) mobile s
       by (same next is none) =
-          let channels = does.after next (ap (connection_of t.next) is.line.number ∙ is.there) (open-of next.state is.requested) in
-          still-lined next None t lives.had.from_one up none (none-down w t refl) is channels.0 channels.1 lives.lined.found lives.lined.lined
-      by (over gone none) = now-ended None t up none gone (LineUpsMayEnd-new (modulus_in settings) w mobile s lives.lined)
+          let channels = does.after next (ap (connection_of t.next) is.line.number ∙ is.there) (open_of next.state is.requested) in
+          still_lined next None t lives.had.from_one up none (none_down w t refl) is channels.0 channels.1 lives.lined.found lives.lined.lined
+      by (over gone none) = now_ended None t up none gone (line_ups_may_end_new (modulus_in settings) w mobile s lives.lined)
 
 -- ---- the law
 
-handle-fares : (settings : Parameters) (events : List Event) (mobile : ℕ) (s : Connection) → AreAllowed settings → CameInOctets settings events → AllByRecursion ComesInOctets (first_taken (world settings events).inbox) → is_up (world settings events) SWITCH_LINK ≡ true
+handle_fares : (settings : Parameters) (events : List Event) (mobile : ℕ) (s : Connection) → AreAllowed settings → CameInOctets settings events → AllByRecursion ComesInOctets (first_taken (world settings events).inbox) → is_up (world settings events) SWITCH_LINK ≡ true
     → Lives (modulus_in settings) (world settings events) mobile s → AcksAgree (world settings events) s → FaresOn (modulus_in settings) (actors_after (world settings events) Handle) mobile s
-handle-fares settings events mobile s allowed octets own up lives agree = by (world settings events).inbox refl where
+handle_fares settings events mobile s allowed octets own up lives agree = by (world settings events).inbox refl where
   by : (items : List RelayItem) → (world settings events).inbox ≡ items → FaresOn (modulus_in settings) (actors_after (world settings events) Handle) mobile s
-  by [] stood = subst (λ (x : Actors). FaresOn (modulus_in settings) x mobile s) (sym (idle-is (world settings events) stood)) (goes_on s refl lives.had lives.requested refl lives.lined)
-  by (item ∷ items) stood = item-fares (handling item items stood) where
+  by [] stood = subst (λ (x : Actors). FaresOn (modulus_in settings) x mobile s) (sym (idle_is (world settings events) stood)) (goes_on s refl lives.had lives.requested refl lives.lined)
+  by (item ∷ items) stood = item_fares (handling item items stood) where
     handling : (item : RelayItem) (items : List RelayItem) → (world settings events).inbox ≡ item ∷ items → Handling settings events mobile s item items
     handling item items stood = record {
       allowed = allowed;
@@ -198,9 +198,9 @@ handle-fares settings events mobile s allowed octets own up lives agree = by (wo
       agree = agree;
     }
 
-pub LiveConnectionsFareOn-new : (settings : Parameters) (events : List Event) (event : Event) → LiveConnectionsFareOn settings events event
-LiveConnectionsFareOn-new settings events Handle mobile s is allowed octets up lives agree =
-    let came = octets-came settings events Handle octets in
-    handle-fares settings events mobile s allowed came.0 came.1 up lives agree
-LiveConnectionsFareOn-new settings events (Tick ms) mobile s is allowed octets up lives agree = tick-fares settings events ms mobile s allowed (octets-came settings events (Tick ms) octets).0 up lives
-LiveConnectionsFareOn-new settings events _ mobile s is allowed octets up lives agree = absurd (false≢true is)
+pub live_connections_fare_on_new : (settings : Parameters) (events : List Event) (event : Event) → LiveConnectionsFareOn settings events event
+live_connections_fare_on_new settings events Handle mobile s is allowed octets up lives agree =
+    let came = octets_came settings events Handle octets in
+    handle_fares settings events mobile s allowed came.0 came.1 up lives agree
+live_connections_fare_on_new settings events (Tick ms) mobile s is allowed octets up lives agree = tick_fares settings events ms mobile s allowed (octets_came settings events (Tick ms) octets).0 up lives
+live_connections_fare_on_new settings events _ mobile s is allowed octets up lives agree = absurd (false≢true is)

@@ -10,27 +10,27 @@ use Rattle.world_model.specs.Life.{event_after}
 use Rattle.world_laws.specs.Ended.{HasEnded}
 use Rattle.world_laws.specs.OwnFrame.{IsRequested}
 use Rattle.world_laws.specs.Seated.{LinedUp}
-use Rattle.world_laws.proofs.Others.{turn-mobiles}
+use Rattle.world_laws.proofs.Others.{turn_mobiles}
 use Rattle.world_laws.proofs.Quiet.{ArePlaced}
 use Rattle.world_laws.specs.Handling.Faring.{FaresOn}
 use Rattle.world_laws.specs.Handling.Faring.FaresOn.{goes_on, is_over}
-use Rattle.world_laws.proofs.Handling.Leaving.{NoneDown, SameLine, line-same, turn-ended, turn-lined, turned}
+use Rattle.world_laws.proofs.Handling.Leaving.{NoneDown, SameLine, line_same, turn_ended, turn_lined, turned}
 use Rattle.world_laws.proofs.OwnHandle.{handled_by}
-use Rattle.world_laws.proofs.PutAsRead.{open-of}
+use Rattle.world_laws.proofs.PutAsRead.{open_of}
 
 -- ---- the world after the event
 
-pub handle-is : (w : Actors) (item : RelayItem) (items : List RelayItem) → w.inbox ≡ item ∷ items → actors_after w Handle ≡ handled_by w item items
+pub handle_is : (w : Actors) (item : RelayItem) (items : List RelayItem) → w.inbox ≡ item ∷ items → actors_after w Handle ≡ handled_by w item items
 unfolding event_after
-handle-is w item items stood = ap (λ (xs : List RelayItem). unwrap_or (handled xs w) w) stood
+handle_is w item items stood = ap (λ (xs : List RelayItem). unwrap_or (handled xs w) w) stood
 
-pub idle-is : (w : Actors) → w.inbox ≡ [] → actors_after w Handle ≡ w
+pub idle_is : (w : Actors) → w.inbox ≡ [] → actors_after w Handle ≡ w
 unfolding event_after
-idle-is w stood = ap (λ (xs : List RelayItem). unwrap_or (handled xs w) w) stood
+idle_is w stood = ap (λ (xs : List RelayItem). unwrap_or (handled xs w) w) stood
 
-pub tick-is : (w : Actors) (ms : ℕ) → actors_after w (Tick ms) ≡ with_turn None (tick ms w.controller) w
+pub tick_is : (w : Actors) (ms : ℕ) → actors_after w (Tick ms) ≡ with_turn None (tick ms w.controller) w
 unfolding event_after
-tick-is w ms = refl
+tick_is w ms = refl
 
 -- its controller
 pub controller-is : (target : Option Tenure) (t : Turn) (w : Actors) → (with_turn target t w).controller ≡ t.next
@@ -45,28 +45,28 @@ pub record IsSame (s next : Connection) (t : Turn) : Type 0 where
   pub requested : IsRequested next.state
   pub request : next.request ≡ s.request
 
-pub still-lined : {m : ℕ} {w : Actors} {mobile : ℕ} {p : Mobile} {s : Connection} (next : Connection) (target : Option Tenure) (t : Turn) → 1 ≤ s.number → is_up w SWITCH_LINK ≡ true → forwarded t.outs s.number ≡ [] → NoneDown w target t → IsSame s next t
+pub still_lined : {m : ℕ} {w : Actors} {mobile : ℕ} {p : Mobile} {s : Connection} (next : Connection) (target : Option Tenure) (t : Turn) → 1 ≤ s.number → is_up w SWITCH_LINK ≡ true → forwarded t.outs s.number ≡ [] → NoneDown w target t → IsSame s next t
     → AreApart (used_channels next) → ArePlaced (used_channels next) → mobile_of w mobile ≡ Some p → LinedUp m w p s → FaresOn m (with_turn target t w) mobile s
-still-lined {m} {w} {mobile} {p} {s} next target t from_one up none down same apart placed found lined =
+still_lined {m} {w} {mobile} {p} {s} next target t from_one up none down same apart placed found lined =
     goes_on next same.line.number
     (record {
       there = ap (λ (c : Controller). connection_of c next.number) (controller-is target t w) ∙ ap (connection_of t.next) same.line.number ∙ same.there;
-      is_open = open-of next.state same.requested;
+      is_open = open_of next.state same.requested;
       from_one = subst (λ (n : ℕ). 1 ≤ n) (sym same.line.number) from_one;
     })
     same.requested same.request
     (record {
       one = p;
-      found = ap (λ (ms : List Mobile). find (has_number mobile) ms) (turn-mobiles target t.outs (turned w t)) ∙ found;
-      lined = line-same next same.line apart placed (turn-lined target t up none down lined);
+      found = ap (λ (ms : List Mobile). find (has_number mobile) ms) (turn_mobiles target t.outs (turned w t)) ∙ found;
+      lined = line_same next same.line apart placed (turn_lined target t up none down lined);
     })
 
 -- ---- it ended
 
-pub now-ended : {m : ℕ} {w : Actors} {mobile : ℕ} {s : Connection} (target : Option Tenure) (t : Turn) → is_up w SWITCH_LINK ≡ true → forwarded t.outs s.number ≡ [] → (IsThere (connection_of t.next s.number) → ⊥) → HasEnded m w mobile s.number → FaresOn m (with_turn target t w) mobile s
-now-ended {w} {s = s} target t up none gone ended =
-    is_over (λ there. gone (subst (λ (c : Controller). IsThere (connection_of c s.number)) (controller-is target t w) there)) (turn-ended target t up none ended)
+pub now_ended : {m : ℕ} {w : Actors} {mobile : ℕ} {s : Connection} (target : Option Tenure) (t : Turn) → is_up w SWITCH_LINK ≡ true → forwarded t.outs s.number ≡ [] → (IsThere (connection_of t.next s.number) → ⊥) → HasEnded m w mobile s.number → FaresOn m (with_turn target t w) mobile s
+now_ended {w} {s = s} target t up none gone ended =
+    is_over (λ there. gone (subst (λ (c : Controller). IsThere (connection_of c s.number)) (controller-is target t w) there)) (turn_ended target t up none ended)
 
 -- in a world that has handled nothing yet
-pub ended-before : {m : ℕ} {w : Actors} {mobile number : ℕ} (items : List RelayItem) → HasEnded m w mobile number → HasEnded m (record w { inbox = items }) mobile number
-ended-before items ended = record { one = ended.one; found = ended.found; in_order = ended.in_order }
+pub ended_before : {m : ℕ} {w : Actors} {mobile number : ℕ} (items : List RelayItem) → HasEnded m w mobile number → HasEnded m (record w { inbox = items }) mobile number
+ended_before items ended = record { one = ended.one; found = ended.found; in_order = ended.in_order }

@@ -12,43 +12,43 @@ use Rattle.controller_model.proofs.LifeLaws.UsingLife.{IsAfter, ready_by, ready_
 use Rattle.controller_model.specs.Life.{life}
 use Rattle.world_laws.specs.OthersFrame.{CameInOctets, IsHad}
 use Rattle.world_laws.proofs.Quiet.{ArePlaced}
-use Rattle.world_laws.proofs.Standing.{ConnectionsStand-new}
-use Rattle.world_laws.proofs.Events.{split-steps, world}
+use Rattle.world_laws.proofs.Standing.{connections_stand_new}
+use Rattle.world_laws.proofs.Events.{split_steps, world}
 
 -- ---- the world before the event
 
-pub octets-came : (settings : Parameters) (events : List Event) (event : Event) → CameInOctets settings (events ++ event ∷ []) → CameInOctets settings events × AllByRecursion ComesInOctets (step_at (world settings events) event)
-octets-came settings events event all = split-steps ComesInOctets (new_actors settings) events event all
+pub octets_came : (settings : Parameters) (events : List Event) (event : Event) → CameInOctets settings (events ++ event ∷ []) → CameInOctets settings events × AllByRecursion ComesInOctets (step_at (world settings events) event)
+octets_came settings events event all = split_steps ComesInOctets (new_actors settings) events event all
 
 -- ---- the channels of a connection
 
-used-placed : (c : Controller) (state : ChannelState) (cs : List Channel) → AreUsed c → (state ≡ Free → ⊥) → AllByRecursion (λ (x : Channel). state_in c.channels (place_of x) ≡ state) cs → ArePlaced cs
-used-placed c state [] used isnt all = tt
-used-placed c state (x ∷ xs) used isnt all = (
+used_placed : (c : Controller) (state : ChannelState) (cs : List Channel) → AreUsed c → (state ≡ Free → ⊥) → AllByRecursion (λ (x : Channel). state_in c.channels (place_of x) ≡ state) cs → ArePlaced cs
+used_placed c state [] used isnt all = tt
+used_placed c state (x ∷ xs) used isnt all = (
   λ is. isnt (sym all.0 ∙ ap (λ (n : ℕ). state_in c.channels (place_at n x.number)) is ∙ used.switch x.number),
-  used-placed c state xs used isnt all.1,
+  used_placed c state xs used isnt all.1,
 )
 
-owns-placed : (c : Controller) (s : Connection) → AreUsed c → Owns c.channels c.links s.number (roles_of s) → ArePlaced (used_channels s)
-owns-placed c s used owns = subst (λ (cs : List Channel). ArePlaced (undone s.draining ++ s.serving ∷ cs)) (target_in-role s.state)
+owns_placed : (c : Controller) (s : Connection) → AreUsed c → Owns c.channels c.links s.number (roles_of s) → ArePlaced (used_channels s)
+owns_placed c s used owns = subst (λ (cs : List Channel). ArePlaced (undone s.draining ++ s.serving ∷ cs)) (target_in-role s.state)
     (AllByRecursion-append (λ (x : Channel). x.station ≢ SWITCH_LINK) (undone s.draining) (s.serving ∷ target_channels (target_role s.state))
-    (used-placed c (Releasing s.number) (undone s.draining) used (λ is. absurd cc) owns.releasing)
-    (used-placed c (InUse s.number) (s.serving ∷ target_channels (target_role s.state)) used (λ is. absurd cc) owns.using))
+    (used_placed c (Releasing s.number) (undone s.draining) used (λ is. absurd cc) owns.releasing)
+    (used_placed c (InUse s.number) (s.serving ∷ target_channels (target_role s.state)) used (λ is. absurd cc) owns.using))
 
 -- all are its own
-state-held : (c : Controller) (state : ChannelState) (number : ℕ) (cs : List Channel) → holder state ≡ Some number → AllByRecursion (λ (x : Channel). state_in c.channels (place_of x) ≡ state) cs → AllByRecursion (λ (x : Channel). holder (channel_state c (place_of x)) ≡ Some number) cs
-state-held c state number [] held all = tt
-state-held c state number (x ∷ xs) held all = (ap holder all.0 ∙ held, state-held c state number xs held all.1)
+state_held : (c : Controller) (state : ChannelState) (number : ℕ) (cs : List Channel) → holder state ≡ Some number → AllByRecursion (λ (x : Channel). state_in c.channels (place_of x) ≡ state) cs → AllByRecursion (λ (x : Channel). holder (channel_state c (place_of x)) ≡ Some number) cs
+state_held c state number [] held all = tt
+state_held c state number (x ∷ xs) held all = (ap holder all.0 ∙ held, state_held c state number xs held all.1)
 
-pub used-held : (c : Controller) (s : Connection) → Owns c.channels c.links s.number (roles_of s) → AllByRecursion (λ (x : Channel). holder (channel_state c (place_of x)) ≡ Some s.number) (used_channels s)
-used-held c s owns = subst (λ (cs : List Channel). AllByRecursion (λ (x : Channel). holder (channel_state c (place_of x)) ≡ Some s.number) (undone s.draining ++ s.serving ∷ cs)) (target_in-role s.state)
+pub used_held : (c : Controller) (s : Connection) → Owns c.channels c.links s.number (roles_of s) → AllByRecursion (λ (x : Channel). holder (channel_state c (place_of x)) ≡ Some s.number) (used_channels s)
+used_held c s owns = subst (λ (cs : List Channel). AllByRecursion (λ (x : Channel). holder (channel_state c (place_of x)) ≡ Some s.number) (undone s.draining ++ s.serving ∷ cs)) (target_in-role s.state)
     (AllByRecursion-append (λ (x : Channel). holder (channel_state c (place_of x)) ≡ Some s.number) (undone s.draining) (s.serving ∷ target_channels (target_role s.state))
-    (state-held c (Releasing s.number) s.number (undone s.draining) refl owns.releasing)
-    (state-held c (InUse s.number) s.number (s.serving ∷ target_channels (target_role s.state)) refl owns.using))
+    (state_held c (Releasing s.number) s.number (undone s.draining) refl owns.releasing)
+    (state_held c (InUse s.number) s.number (s.serving ∷ target_channels (target_role s.state)) refl owns.using))
 
 -- their links are up
-pub used-linked : (c : Controller) (s : Connection) → Owns c.channels c.links s.number (roles_of s) → AllByRecursion (λ (x : Channel). is_link_up c.links x.station ≡ true) (used_channels s)
-used-linked c s owns = subst (λ (cs : List Channel). AllByRecursion (λ (x : Channel). is_link_up c.links x.station ≡ true) (undone s.draining ++ s.serving ∷ cs)) (target_in-role s.state) owns.linked
+pub used_linked : (c : Controller) (s : Connection) → Owns c.channels c.links s.number (roles_of s) → AllByRecursion (λ (x : Channel). is_link_up c.links x.station ≡ true) (used_channels s)
+used_linked c s owns = subst (λ (cs : List Channel). AllByRecursion (λ (x : Channel). is_link_up c.links x.station ≡ true) (undone s.draining ++ s.serving ∷ cs)) (target_in-role s.state) owns.linked
 
 -- ---- the controller
 
@@ -74,7 +74,7 @@ known settings events s allowed had =
       ready = ready_by c now.fits now.holds now.uses;
       fits = now.fits;
       there = there;
-      stands = ConnectionsStand-new settings events s.number s had.there;
+      stands = connections_stand_new settings events s.number s had.there;
       owns = subst (OwnsOpen c.channels c.links s.number) there (now.holds.each s.number) had.is_open;
     })
     had.there
@@ -85,8 +85,8 @@ pub record Steps (c : Controller) (s : Step) (number : ℕ) : Type 0 where
   pub acts : ActsOn number c s
   pub after : (next : Connection) → connection_of (step c s).next next.number ≡ Some next → IsOpen next.state → AreApart (used_channels next) × ArePlaced (used_channels next)
 
-pub steps-known : (settings : Parameters) (events : List Event) (s : Step) (number : ℕ) → AreAllowed settings → CameInOctets settings events → ComesInOctets s → 1 ≤ number → Steps (world settings events).controller s number
-steps-known settings events s number allowed octets own from_one =
+pub steps_known : (settings : Parameters) (events : List Event) (s : Step) (number : ℕ) → AreAllowed settings → CameInOctets settings events → ComesInOctets s → 1 ≤ number → Steps (world settings events).controller s number
+steps_known settings events s number allowed octets own from_one =
     let lives = LivesByTable-new settings events in
     let steps = all_steps (new_actors settings) events in
     subst (λ (c : Controller). Steps c s number) (sym lives)
@@ -98,17 +98,17 @@ steps-known settings events s number allowed octets own from_one =
       acts = life_acts settings steps s number from_one;
       after = λ next there is_open.
           let owns : Owns (step c s).next.channels (step c s).next.links next.number (roles_of next) = subst (OwnsOpen (step c s).next.channels (step c s).next.links next.number) there (after.holds.each next.number) is_open in
-          (used_apart next owns.apart, owns-placed (step c s).next next (ready_uses (step c s).next (ready_by (step c s).next after.fits after.holds after.uses)) owns);
+          (used_apart next owns.apart, owns_placed (step c s).next next (ready_uses (step c s).next (ready_by (step c s).next after.fits after.holds after.uses)) owns);
     })
 
 -- its request stays the same
-pub names-known : (settings : Parameters) (events : List Event) (s : Step) (number : ℕ) → 1 ≤ number → SameRequest (connection_of (world settings events).controller number) (connection_of (step (world settings events).controller s).next number)
-names-known settings events s number from_one =
+pub names_known : (settings : Parameters) (events : List Event) (s : Step) (number : ℕ) → 1 ≤ number → SameRequest (connection_of (world settings events).controller number) (connection_of (step (world settings events).controller s).next number)
+names_known settings events s number from_one =
     subst (λ (c : Controller). SameRequest (connection_of c number) (connection_of (step c s).next number)) (sym (LivesByTable-new settings events)) (life_names settings (all_steps (new_actors settings) events) s number from_one).stays
 
 -- its entry
-pub entry-there : (c : Controller) (number : ℕ) (s : Connection) → connection_of c number ≡ Some s → (e : Entry) × (entry_of c number ≡ Some e) × (e.connection ≡ s)
-entry-there c number s there = by (entry_of c number) refl there where
+pub entry_there : (c : Controller) (number : ℕ) (s : Connection) → connection_of c number ≡ Some s → (e : Entry) × (entry_of c number ≡ Some e) × (e.connection ≡ s)
+entry_there c number s there = by (entry_of c number) refl there where
   by : (o : Option Entry) → entry_of c number ≡ o → option_map (λ (e : Entry). e.connection) o ≡ Some s → (e : Entry) × (entry_of c number ≡ Some e) × (e.connection ≡ s)
   by None is found = absurd cc
   by (Some e) is found = (e, is, cc)

@@ -15,8 +15,8 @@ use Rattle.world_laws.specs.Handled.{awaited_in}
 use Rattle.world_laws.specs.LineUps.{is_ended}
 use Rattle.world_laws.specs.OwnFrame.{IsRequested}
 use Rattle.world_laws.specs.OwnItem.{said_by}
-use Rattle.world_laws.proofs.OwnReleases.{same-at, undone-none}
-use Rattle.world_laws.proofs.Quiet.{all-of}
+use Rattle.world_laws.proofs.OwnReleases.{same-at, undone_none}
+use Rattle.world_laws.proofs.Quiet.{all_of}
 use Rattle.world_laws.proofs.Handling.Dropped.{AreBeside}
 use Rattle.world_laws.proofs.Handling.Saying.{IsControl}
 use Rattle.controller_model.proofs.LifeLaws.OwningLife.{none_if}
@@ -41,12 +41,12 @@ said-elsewhere _ text at place here other = refl
 -- ---- no row
 
 -- a message of SAPI 0 on this channel, or an end
-off-beside : (at : Place) (items : List Item) (c : Channel) → is_at at c ≡ false → AreBeside (if same_place (place_of c) at then items else [])
-off-beside at items c other = subst AreBeside (sym (off (same_place (place_of c) at) items (same-at at c ∙ other))) tt
+off_beside : (at : Place) (items : List Item) (c : Channel) → is_at at c ≡ false → AreBeside (if same_place (place_of c) at then items else [])
+off_beside at items c other = subst AreBeside (sym (off (same_place (place_of c) at) items (same-at at c ∙ other))) tt
 
 -- of a connection that awaits CC nothing drains
-none-drains : (s : Connection) → Stands s → s.state ≡ WaitConfirm → s.draining ≡ []
-none-drains s stands is = (subst (λ (state : State). StandsBy state s.draining s.down s.up.tenures s.link s.waits) is stands.state).none_drains
+none_drains_before : (s : Connection) → Stands s → s.state ≡ WaitConfirm → s.draining ≡ []
+none_drains_before s stands is = (subst (λ (state : State). StandsBy state s.draining s.down s.up.tenures s.link s.waits) is stands.state).none_drains
 
 -- ---- a message of SAPI 0
 
@@ -54,68 +54,68 @@ OnSapiZero : Place → List ℕ → Channel → Type 0
 OnSapiZero at message c = AreBeside (if same_place (place_of c) at then brought message ∷ [] else [])
 
 -- on a target nothing came
-silent-beside : (at : Place) (message : List ℕ) (c : Channel) → messages_in (if same_place (place_of c) at then brought message ∷ [] else []) ≡ [] → OnSapiZero at message c
+silent_beside : (at : Place) (message : List ℕ) (c : Channel) → messages_in (if same_place (place_of c) at then brought message ∷ [] else []) ≡ [] → OnSapiZero at message c
 unfolding OnSapiZero
-silent-beside at message c = by (same_place (place_of c) at) where
+silent_beside at message c = by (same_place (place_of c) at) where
   by : (b : Bool) → messages_in (if b then brought message ∷ [] else []) ≡ [] → AreBeside (if b then brought message ∷ [] else [])
   by true none = absurd cc
   by false none = tt
 
-in-none : (o : Option ℕ) (reference : ℕ) (stage : Stage) (s : Connection) (at : Place) (message : List ℕ) → dtap_in o reference stage s at Zero message ≡ None → (o ≡ None) × (dtap_on_target reference stage s at Zero ≡ None)
-in-none None reference stage s at message none = (refl, none)
-in-none (Some zero) reference stage s at message none = absurd cc
-in-none (Some (suc tenure)) reference stage s at message none = absurd cc
+in_none : (o : Option ℕ) (reference : ℕ) (stage : Stage) (s : Connection) (at : Place) (message : List ℕ) → dtap_in o reference stage s at Zero message ≡ None → (o ≡ None) × (dtap_on_target reference stage s at Zero ≡ None)
+in_none None reference stage s at message none = (refl, none)
+in_none (Some zero) reference stage s at message none = absurd cc
+in_none (Some (suc tenure)) reference stage s at message none = absurd cc
 
-no-tenure : (at : Place) (serving : Channel) (draining : List Drain) → tenure_at at serving draining ≡ None → (is_at at serving ≡ false) × (drain_at at draining ≡ None)
-no-tenure at serving draining = by (is_at at serving) where
+no_tenure : (at : Place) (serving : Channel) (draining : List Drain) → tenure_at at serving draining ≡ None → (is_at at serving ≡ false) × (drain_at at draining ≡ None)
+no_tenure at serving draining = by (is_at at serving) where
   by : (b : Bool) → (if b then Some (length draining) else drain_at at draining) ≡ None → (b ≡ false) × (drain_at at draining ≡ None)
   by true none = absurd cc
   by false none = (refl, none)
 
-on-targets : (at : Place) (message : List ℕ) (reference : ℕ) (stage : Stage) (s : Connection) → dtap_on_target reference stage s at Zero ≡ None
+on_targets : (at : Place) (message : List ℕ) (reference : ℕ) (stage : Stage) (s : Connection) → dtap_on_target reference stage s at Zero ≡ None
     → AllByRecursion (λ c. messages_in (if same_place (place_of c) at then brought message ∷ [] else []) ≡ []) (awaited_in (Live reference stage)) → AllByRecursion (OnSapiZero at message) (target_in (Live reference stage))
 unfolding OnSapiZero
-on-targets at message reference Active s none silent = tt
-on-targets at message reference Draining s none silent = tt
-on-targets at message reference (Preparing target) s none silent = (silent-beside at message target.channel silent.0, tt)
-on-targets at message reference (Changing target) s none silent = (off-beside at (brought message ∷ []) target.channel (none_if (is_at at target.channel) _ none), tt)
+on_targets at message reference Active s none silent = tt
+on_targets at message reference Draining s none silent = tt
+on_targets at message reference (Preparing target) s none silent = (silent_beside at message target.channel silent.0, tt)
+on_targets at message reference (Changing target) s none silent = (off_beside at (brought message ∷ []) target.channel (none_if (is_at at target.channel) _ none), tt)
 
-dtap-missed : (state : State) (s : Connection) (at : Place) (message : List ℕ) → s.state ≡ state → IsRequested state → Stands s → on_dtap state s at Zero message ≡ None
+dtap_missed : (state : State) (s : Connection) (at : Place) (message : List ℕ) → s.state ≡ state → IsRequested state → Stands s → on_dtap state s at Zero message ≡ None
     → AllByRecursion (λ c. messages_in (if same_place (place_of c) at then brought message ∷ [] else []) ≡ []) (awaited_in state) → AllByRecursion (OnSapiZero at message) (undone s.draining ++ s.serving ∷ target_in state)
 unfolding OnSapiZero
-dtap-missed WaitConfirm s at message is requested stands none silent =
-    AllByRecursion-append (OnSapiZero at message) (undone s.draining) (s.serving ∷ []) (subst (λ (ds : List Drain). AllByRecursion (OnSapiZero at message) (undone ds)) (sym (none-drains s stands is)) tt)
-    (off-beside at (brought message ∷ []) s.serving (none_if (is_at at s.serving) _ none), tt)
-dtap-missed (Live reference stage) s at message is requested stands none silent =
-    let both = in-none (tenure_at at s.serving s.draining) reference stage s at message none in
-    let elsewhere = no-tenure at s.serving s.draining both.0 in
+dtap_missed WaitConfirm s at message is requested stands none silent =
+    AllByRecursion-append (OnSapiZero at message) (undone s.draining) (s.serving ∷ []) (subst (λ (ds : List Drain). AllByRecursion (OnSapiZero at message) (undone ds)) (sym (none_drains_before s stands is)) tt)
+    (off_beside at (brought message ∷ []) s.serving (none_if (is_at at s.serving) _ none), tt)
+dtap_missed (Live reference stage) s at message is requested stands none silent =
+    let both = in_none (tenure_at at s.serving s.draining) reference stage s at message none in
+    let elsewhere = no_tenure at s.serving s.draining both.0 in
     AllByRecursion-append (OnSapiZero at message) (undone s.draining) (s.serving ∷ target_in (Live reference stage))
-    (AllByRecursion-so (λ c. is_at at c ≡ false) (OnSapiZero at message) (off-beside at (brought message ∷ [])) (undone s.draining) (undone-none at s.draining elsewhere.1))
-    (off-beside at (brought message ∷ []) s.serving elsewhere.0, on-targets at message reference stage s both.1 silent)
-dtap-missed _ s at message is requested stands none silent = absurd requested
+    (AllByRecursion-so (λ c. is_at at c ≡ false) (OnSapiZero at message) (off_beside at (brought message ∷ [])) (undone s.draining) (undone_none at s.draining elsewhere.1))
+    (off_beside at (brought message ∷ []) s.serving elsewhere.0, on_targets at message reference stage s both.1 silent)
+dtap_missed _ s at message is requested stands none silent = absurd requested
 
 -- ---- an RF CHANNEL RELEASE ACK
 
 OnEnd : Place → Channel → Type 0
 OnEnd at c = AreBeside (if same_place (place_of c) at then released ∷ [] else [])
 
-unended-beside : (at : Place) (c : Channel) → is_ended (if same_place (place_of c) at then released ∷ [] else []) ≡ false → OnEnd at c
+unended_beside : (at : Place) (c : Channel) → is_ended (if same_place (place_of c) at then released ∷ [] else []) ≡ false → OnEnd at c
 unfolding OnEnd
-unended-beside at c = by (same_place (place_of c) at) where
+unended_beside at c = by (same_place (place_of c) at) where
   by : (b : Bool) → is_ended (if b then released ∷ [] else []) ≡ false → AreBeside (if b then released ∷ [] else [])
   by true is = absurd cc
   by false is = tt
 
-release-none : (o : Option ℕ) (reference : ℕ) (stage : Stage) (offer : Option Channel) (s : Connection) → release_in o reference stage offer s ≡ None → o ≡ None
-release-none None reference stage offer s none = refl
-release-none (Some place) reference stage offer s none = absurd cc
+release_none : (o : Option ℕ) (reference : ℕ) (stage : Stage) (offer : Option Channel) (s : Connection) → release_in o reference stage offer s ≡ None → o ≡ None
+release_none None reference stage offer s none = refl
+release_none (Some place) reference stage offer s none = absurd cc
 
-ends-missed : (state : State) (s : Connection) (at : Place) (offer : Option Channel) → s.state ≡ state → IsRequested state → Stands s → on_release_ack state s at offer ≡ None → AllByRecursion (OnEnd at) (undone s.draining)
+ends_missed : (state : State) (s : Connection) (at : Place) (offer : Option Channel) → s.state ≡ state → IsRequested state → Stands s → on_release_ack state s at offer ≡ None → AllByRecursion (OnEnd at) (undone s.draining)
 unfolding OnEnd
-ends-missed WaitConfirm s at offer is requested stands none = subst (λ (ds : List Drain). AllByRecursion (OnEnd at) (undone ds)) (sym (none-drains s stands is)) tt
-ends-missed (Live reference stage) s at offer is requested stands none =
-    AllByRecursion-so (λ c. is_at at c ≡ false) (OnEnd at) (off-beside at (released ∷ [])) (undone s.draining) (undone-none at s.draining (release-none (drain_at at s.draining) reference stage offer s none))
-ends-missed _ s at offer is requested stands none = absurd requested
+ends_missed WaitConfirm s at offer is requested stands none = subst (λ (ds : List Drain). AllByRecursion (OnEnd at) (undone ds)) (sym (none_drains_before s stands is)) tt
+ends_missed (Live reference stage) s at offer is requested stands none =
+    AllByRecursion-so (λ c. is_at at c ≡ false) (OnEnd at) (off_beside at (released ∷ [])) (undone s.draining) (undone_none at s.draining (release_none (drain_at at s.draining) reference stage offer s none))
+ends_missed _ s at offer is requested stands none = absurd requested
 
 -- ---- any input
 
@@ -124,28 +124,28 @@ abbrev pub NotInitial : Input → Channel → Type 0
 NotInitial (inputs.EstablishIndication at Zero (Some initial)) c = same_place (place_of c) at ≡ false
 NotInitial _ c = Unit {0}
 
-control-beside : (b : Bool) (text : List ℕ) → is_control text ≡ true → AreBeside (if b then brought text ∷ [] else [])
-control-beside true text control = (is_control-apart text control, tt)
-control-beside false text control = tt
+control_beside : (b : Bool) (text : List ℕ) → is_control text ≡ true → AreBeside (if b then brought text ∷ [] else [])
+control_beside true text control = (is_control-apart text control, tt)
+control_beside false text control = tt
 
-pub missed-beside : (s : Connection) (input : Input) (text : List ℕ) (offer : Option Channel) → IsRequested s.state → Stands s → row_of s input offer ≡ None → IsControl input text
+pub missed_beside : (s : Connection) (input : Input) (text : List ℕ) (offer : Option Channel) → IsRequested s.state → Stands s → row_of s input offer ≡ None → IsControl input text
     → AllByRecursion (λ c. is_ended (said_by input text (place_of c)) ≡ false) (s.serving ∷ target_in s.state) → AllByRecursion (λ c. messages_in (said_by input text (place_of c)) ≡ []) (awaited_in s.state)
     → AllByRecursion (NotInitial input) (used_channels s) → AllByRecursion (λ c. AreBeside (said_by input text (place_of c))) (used_channels s)
 unfolding row_of OnSapiZero OnEnd
-missed-beside s (inputs.Dtap at Zero message) text offer requested stands none control goes_on silent initial = dtap-missed s.state s at message refl requested stands none silent
-missed-beside s (inputs.ReleaseAck at) text offer requested stands none control goes_on silent initial =
-    AllByRecursion-append (OnEnd at) (undone s.draining) (s.serving ∷ target_in s.state) (ends-missed s.state s at offer refl requested stands none)
-    (AllByRecursion-so (λ c. is_ended (said_by (inputs.ReleaseAck at) text (place_of c)) ≡ false) (OnEnd at) (unended-beside at) (s.serving ∷ target_in s.state) goes_on)
-missed-beside s (inputs.EstablishIndication at Zero (Some message)) text offer requested stands none control goes_on silent initial =
+missed_beside s (inputs.Dtap at Zero message) text offer requested stands none control goes_on silent initial = dtap_missed s.state s at message refl requested stands none silent
+missed_beside s (inputs.ReleaseAck at) text offer requested stands none control goes_on silent initial =
+    AllByRecursion-append (OnEnd at) (undone s.draining) (s.serving ∷ target_in s.state) (ends_missed s.state s at offer refl requested stands none)
+    (AllByRecursion-so (λ c. is_ended (said_by (inputs.ReleaseAck at) text (place_of c)) ≡ false) (OnEnd at) (unended_beside at) (s.serving ∷ target_in s.state) goes_on)
+missed_beside s (inputs.EstablishIndication at Zero (Some message)) text offer requested stands none control goes_on silent initial =
     AllByRecursion-so (NotInitial (inputs.EstablishIndication at Zero (Some message))) (λ c. AreBeside (said_by (inputs.EstablishIndication at Zero (Some message)) text (place_of c)))
     (λ c other. subst AreBeside (sym (off (same_place (place_of c) at) (brought message ∷ []) other)) tt) (used_channels s) initial
-missed-beside s (inputs.Complete at change cause) text offer requested stands none control goes_on silent initial =
-    all-of (λ c. AreBeside (said_by (inputs.Complete at change cause) text (place_of c))) (used_channels s) (λ c. control-beside (same_place (place_of c) at) text control)
-missed-beside s (inputs.Failure at change cause) text offer requested stands none control goes_on silent initial =
-    all-of (λ c. AreBeside (said_by (inputs.Failure at change cause) text (place_of c))) (used_channels s) (λ c. control-beside (same_place (place_of c) at) text control)
-missed-beside s (inputs.Dtap at Three message) text offer requested stands none control goes_on silent initial = all-of (λ c. AreBeside (said_by (inputs.Dtap at Three message) text (place_of c))) (used_channels s) (λ c. tt)
-missed-beside s (inputs.EstablishIndication at Zero None) text offer requested stands none control goes_on silent initial = all-of (λ c. AreBeside (said_by (inputs.EstablishIndication at Zero None) text (place_of c))) (used_channels s) (λ c. tt)
-missed-beside s (inputs.EstablishIndication at Three message) text offer requested stands none control goes_on silent initial = all-of (λ c. AreBeside (said_by (inputs.EstablishIndication at Three message) text (place_of c))) (used_channels s) (λ c. tt)
-missed-beside s (inputs.ActivationAck at) text offer requested stands none control goes_on silent initial = all-of (λ c. AreBeside (said_by (inputs.ActivationAck at) text (place_of c))) (used_channels s) (λ c. tt)
-missed-beside s (inputs.ActivationNack at) text offer requested stands none control goes_on silent initial = all-of (λ c. AreBeside (said_by (inputs.ActivationNack at) text (place_of c))) (used_channels s) (λ c. tt)
-missed-beside s _ text offer requested stands none control goes_on silent initial = all-of (λ (c : Channel). AreBeside []) (used_channels s) (λ c. tt)
+missed_beside s (inputs.Complete at change cause) text offer requested stands none control goes_on silent initial =
+    all_of (λ c. AreBeside (said_by (inputs.Complete at change cause) text (place_of c))) (used_channels s) (λ c. control_beside (same_place (place_of c) at) text control)
+missed_beside s (inputs.Failure at change cause) text offer requested stands none control goes_on silent initial =
+    all_of (λ c. AreBeside (said_by (inputs.Failure at change cause) text (place_of c))) (used_channels s) (λ c. control_beside (same_place (place_of c) at) text control)
+missed_beside s (inputs.Dtap at Three message) text offer requested stands none control goes_on silent initial = all_of (λ c. AreBeside (said_by (inputs.Dtap at Three message) text (place_of c))) (used_channels s) (λ c. tt)
+missed_beside s (inputs.EstablishIndication at Zero None) text offer requested stands none control goes_on silent initial = all_of (λ c. AreBeside (said_by (inputs.EstablishIndication at Zero None) text (place_of c))) (used_channels s) (λ c. tt)
+missed_beside s (inputs.EstablishIndication at Three message) text offer requested stands none control goes_on silent initial = all_of (λ c. AreBeside (said_by (inputs.EstablishIndication at Three message) text (place_of c))) (used_channels s) (λ c. tt)
+missed_beside s (inputs.ActivationAck at) text offer requested stands none control goes_on silent initial = all_of (λ c. AreBeside (said_by (inputs.ActivationAck at) text (place_of c))) (used_channels s) (λ c. tt)
+missed_beside s (inputs.ActivationNack at) text offer requested stands none control goes_on silent initial = all_of (λ c. AreBeside (said_by (inputs.ActivationNack at) text (place_of c))) (used_channels s) (λ c. tt)
+missed_beside s _ text offer requested stands none control goes_on silent initial = all_of (λ (c : Channel). AreBeside []) (used_channels s) (λ c. tt)

@@ -26,7 +26,7 @@ use Rattle.world_laws.specs.LineUp.Alive.{Stands as AliveStands}
 use Rattle.world_laws.specs.LineUp.Alive.Stands.{arrives, leaves, opens, rests, returns, waits}
 use Rattle.world_laws.specs.LineUp.Places.{Item, controls_in, messages_in}
 use Rattle.world_laws.specs.LineUp.Places.Item.{brought, released}
-use Rattle.world_laws.proofs.LineUp.Lines.{controls-first}
+use Rattle.world_laws.proofs.LineUp.Lines.{controls_first}
 use Rattle.ruled_relay.specs.declared.item.What.TheVariants as whats
 use Rattle.world_laws.specs.Acknowledged.{NoneReleases, acknowledgements_up, read_by, read_of}
 use Rattle.world_laws.specs.ComingUp.{brings_by, brings_in, coming_up}
@@ -38,73 +38,73 @@ use Rattle.world_laws.specs.OwnFrame.{IsFrameFor, IsRequested, IsSaidTo}
 use Rattle.world_laws.specs.OwnFrame.IsSaidTo.{on_channel, on_connection}
 use Rattle.world_laws.specs.OwnItem.{IsBesideTarget, IsRead, said_by}
 use Rattle.world_laws.specs.Seated.{LinedUp, commanded_channels}
-use Rattle.world_laws.proofs.Acknowledged.{AllAcksTell-new}
-use Rattle.world_laws.proofs.Apart.{all-both}
-use Rattle.world_laws.proofs.Ending.{LineUpsMayEnd-new}
-use Rattle.world_laws.proofs.Framing.{all-right}
-use Rattle.world_laws.proofs.OwnFrameLaw.{FrameIsHandled-new}
+use Rattle.world_laws.proofs.Acknowledged.{all_acks_tell_new}
+use Rattle.world_laws.proofs.Apart.{all_both}
+use Rattle.world_laws.proofs.Ending.{line_ups_may_end_new}
+use Rattle.world_laws.proofs.Framing.{all_right}
+use Rattle.world_laws.proofs.OwnFrameLaw.{frame_is_handled_new}
 use Rattle.world_laws.proofs.OwnReleases.{same-at}
-use Rattle.world_laws.proofs.PutAsRead.{AllowedFramesKeepLineUps-new, still-there}
-use Rattle.world_laws.proofs.Quiet.{all-of}
-use Rattle.world_laws.proofs.TurnsLife.{same-places}
+use Rattle.world_laws.proofs.PutAsRead.{allowed_frames_keep_line_ups_new, still_there}
+use Rattle.world_laws.proofs.Quiet.{all_of}
+use Rattle.world_laws.proofs.TurnsLife.{same_places}
 use Rattle.world_laws.specs.Handling.Faring.{FaresOn}
 use Rattle.world_laws.specs.Handling.Faring.FaresOn.{goes_on}
-use Rattle.world_laws.proofs.Handling.Dropped.{AreBeside, coming-first, item-drops, without_first}
-use Rattle.world_laws.proofs.Handling.Finishing.{controller-is, ended-before, handle-is, now-ended, still-lined}
-use Rattle.world_laws.proofs.Handling.Knowing.{IsKnown, Steps, known, names-known, steps-known}
-use Rattle.world_laws.proofs.Handling.Leaving.{line-itself, none-forwarded, nothing-down, silent-forwards}
-use Rattle.world_laws.proofs.Handling.Missing.{NotInitial, missed-beside}
-use Rattle.world_laws.proofs.Handling.Saying.{IsInitial, SaysOn, SaysUp, Tells, frame-tells, none-read, word-says}
+use Rattle.world_laws.proofs.Handling.Dropped.{AreBeside, coming-first, item_drops, without_first}
+use Rattle.world_laws.proofs.Handling.Finishing.{controller-is, ended_before, handle_is, now_ended, still_lined}
+use Rattle.world_laws.proofs.Handling.Knowing.{IsKnown, Steps, known, names_known, steps_known}
+use Rattle.world_laws.proofs.Handling.Leaving.{line_itself, none_forwarded, nothing_down, silent_forwards}
+use Rattle.world_laws.proofs.Handling.Missing.{NotInitial, missed_beside}
+use Rattle.world_laws.proofs.Handling.Saying.{IsInitial, SaysOn, SaysUp, Tells, frame_tells, none_read, word_says}
 use Rattle.world_laws.proofs.Handling.Saying.Tells.{message, nothing}
-use Rattle.world_laws.proofs.Handling.Turning.{Turns, next_by, outs_by, word-turns}
+use Rattle.world_laws.proofs.Handling.Turning.{Turns, next_by, outs_by, word_turns}
 use Rattle.controller_model.proofs.LifeLaws.SeenStations.{open_or}
 use Rattle.world_laws.proofs.OwnFrames.{brings_read}
 use Rattle.world_laws.proofs.Events.{world}
 
 -- ---- it stays one that asked for its connection
 
-live-requested : (state : State) → IsLive state → IsRequested state
-live-requested (Live reference stage) live = tt
-live-requested WaitActivation live = absurd live
-live-requested WaitEstablish live = absurd live
-live-requested WaitConfirm live = absurd live
-live-requested (Closed clearing) live = absurd live
-live-requested Removed live = absurd live
+live_requested : (state : State) → IsLive state → IsRequested state
+live_requested (Live reference stage) live = tt
+live_requested WaitActivation live = absurd live
+live_requested WaitEstablish live = absurd live
+live_requested WaitConfirm live = absurd live
+live_requested (Closed clearing) live = absurd live
+live_requested Removed live = absurd live
 
-pub still-requested : (s : Connection) (input : Input) (offer : Option Channel) (r : Row) → IsRequested s.state → row_of s input offer ≡ Some r → IsOpen r.next.state → IsRequested r.next.state
-still-requested s input offer r requested fits is_open = by s.state requested ((subst (OfRow (Advances s.state input)) fits (advances s input offer)) is_open) where
+pub still_requested : (s : Connection) (input : Input) (offer : Option Channel) (r : Row) → IsRequested s.state → row_of s input offer ≡ Some r → IsOpen r.next.state → IsRequested r.next.state
+still_requested s input offer r requested fits is_open = by s.state requested ((subst (OfRow (Advances s.state input)) fits (advances s input offer)) is_open) where
   by : (state : State) → IsRequested state → Next state input r.next.state r.outs → IsRequested r.next.state
   by WaitConfirm requested next = elim next.1 [
     | inl stays ↦ subst IsRequested (sym stays.0) tt
-    | inr live ↦ live-requested r.next.state live.0
+    | inr live ↦ live_requested r.next.state live.0
   ]
-  by (Live reference stage) requested next = live-requested r.next.state next
+  by (Live reference stage) requested next = live_requested r.next.state next
   by WaitActivation requested next = absurd requested
   by WaitEstablish requested next = absurd requested
   by (Closed clearing) requested next = absurd requested
   by Removed requested next = absurd requested
 
 -- its request stays the same
-pub same-request : (before after : Option Connection) (s next : Connection) → before ≡ Some s → after ≡ Some next → SameRequest before after → next.request ≡ s.request
-same-request before after s next was is same = subst (λ (o : Option Connection). SameRequest (Some s) o) is (subst (λ (o : Option Connection). SameRequest o after) was same)
+pub same_request : (before after : Option Connection) (s next : Connection) → before ≡ Some s → after ≡ Some next → SameRequest before after → next.request ≡ s.request
+same_request before after s next was is same = subst (λ (o : Option Connection). SameRequest (Some s) o) is (subst (λ (o : Option Connection). SameRequest o after) was same)
 
 -- ---- a target is silent where its activation is acknowledged, or where FAILURE comes
 
-row_if-some : (b : Bool) (r q : Row) → row_if b r ≡ Some q → b ≡ true
-row_if-some true r q is = refl
-row_if-some false r q is = absurd cc
+row_if_some : (b : Bool) (r q : Row) → row_if b r ≡ Some q → b ≡ true
+row_if_some true r q is = refl
+row_if_some false r q is = absurd cc
 
 -- ACTIVATION ACK fits where the target is awaited
-ack-awaits : (state : State) (s : Connection) (at : Place) (r : Row) → IsRequested state → on_activation_ack state s at ≡ Some r → target_in state ≡ awaited_in state
-ack-awaits WaitConfirm s at r requested fits = refl
-ack-awaits (Live reference (Preparing target)) s at r requested fits = refl
-ack-awaits (Live reference Active) s at r requested fits = refl
-ack-awaits (Live reference Draining) s at r requested fits = refl
-ack-awaits (Live reference (Changing target)) s at r requested fits = absurd cc
-ack-awaits WaitActivation s at r requested fits = absurd requested
-ack-awaits WaitEstablish s at r requested fits = absurd requested
-ack-awaits (Closed clearing) s at r requested fits = absurd requested
-ack-awaits Removed s at r requested fits = absurd requested
+ack_awaits : (state : State) (s : Connection) (at : Place) (r : Row) → IsRequested state → on_activation_ack state s at ≡ Some r → target_in state ≡ awaited_in state
+ack_awaits WaitConfirm s at r requested fits = refl
+ack_awaits (Live reference (Preparing target)) s at r requested fits = refl
+ack_awaits (Live reference Active) s at r requested fits = refl
+ack_awaits (Live reference Draining) s at r requested fits = refl
+ack_awaits (Live reference (Changing target)) s at r requested fits = absurd cc
+ack_awaits WaitActivation s at r requested fits = absurd requested
+ack_awaits WaitEstablish s at r requested fits = absurd requested
+ack_awaits (Closed clearing) s at r requested fits = absurd requested
+ack_awaits Removed s at r requested fits = absurd requested
 
 -- FAILURE fits where its change is under way, and comes on the serving channel
 record Fails (state : State) (s : Connection) (at : Place) : Type 0 where
@@ -113,30 +113,30 @@ record Fails (state : State) (s : Connection) (at : Place) : Type 0 where
   targets : target_in state ≡ commanded_channels (commanded_target state)
   here : is_at at s.serving ≡ true
 
-failure-is : (state : State) (s : Connection) (at : Place) (change : _) (cause : ℕ) (offer : Option Channel) (r : Row) → on_failure state s at change cause offer ≡ Some r → Fails state s at
-failure-is (Live reference (Changing target)) s at change cause offer r fits =
-    record { target = target; commanded = refl; targets = refl; here = and-left (is_at at s.serving) (same_change change target.change) (row_if-some (is_at at s.serving && same_change change target.change) _ r fits) }
-failure-is (Live reference Active) s at change cause offer r fits = absurd cc
-failure-is (Live reference (Preparing target)) s at change cause offer r fits = absurd cc
-failure-is (Live reference Draining) s at change cause offer r fits = absurd cc
-failure-is WaitActivation s at change cause offer r fits = absurd cc
-failure-is WaitEstablish s at change cause offer r fits = absurd cc
-failure-is WaitConfirm s at change cause offer r fits = absurd cc
-failure-is (Closed clearing) s at change cause offer r fits = absurd cc
-failure-is Removed s at change cause offer r fits = absurd cc
+failure_is : (state : State) (s : Connection) (at : Place) (change : _) (cause : ℕ) (offer : Option Channel) (r : Row) → on_failure state s at change cause offer ≡ Some r → Fails state s at
+failure_is (Live reference (Changing target)) s at change cause offer r fits =
+    record { target = target; commanded = refl; targets = refl; here = and-left (is_at at s.serving) (same_change change target.change) (row_if_some (is_at at s.serving && same_change change target.change) _ r fits) }
+failure_is (Live reference Active) s at change cause offer r fits = absurd cc
+failure_is (Live reference (Preparing target)) s at change cause offer r fits = absurd cc
+failure_is (Live reference Draining) s at change cause offer r fits = absurd cc
+failure_is WaitActivation s at change cause offer r fits = absurd cc
+failure_is WaitEstablish s at change cause offer r fits = absurd cc
+failure_is WaitConfirm s at change cause offer r fits = absurd cc
+failure_is (Closed clearing) s at change cause offer r fits = absurd cc
+failure_is Removed s at change cause offer r fits = absurd cc
 
 -- FAILURE is on its way: so no COMPLETE is
-no-complete : {opening changing : Bool} {commands serving texts target link : ℕ} {seat : _} → AliveStands opening changing commands seat serving texts target link → 1 ≤ serving → target ≡ 0
-no-complete (opens stays none) some = omega arith
-no-complete (rests stays none) some = omega arith
-no-complete (waits stays few none) some = omega arith
-no-complete (leaves none) some = omega arith
-no-complete (arrives stays none few) some = absurd (omega arith)
-no-complete (returns stays none few) some = omega arith
+no_complete : {opening changing : Bool} {commands serving texts target link : ℕ} {seat : _} → AliveStands opening changing commands seat serving texts target link → 1 ≤ serving → target ≡ 0
+no_complete (opens stays none) some = omega arith
+no_complete (rests stays none) some = omega arith
+no_complete (waits stays few none) some = omega arith
+no_complete (leaves none) some = omega arith
+no_complete (arrives stays none few) some = absurd (omega arith)
+no_complete (returns stays none few) some = omega arith
 
-fails-silent : {m : ℕ} {w : Actors} {p : Mobile} {s : Connection} {at : Place} → Fails s.state s at → LinedUp m w p s → AllByRecursion (λ c. IsLed (coming_up w (place_of c))) (commanded_channels (commanded_target s.state)) → 1 ≤ controls_in (coming_up w (place_of s.serving))
+fails_silent : {m : ℕ} {w : Actors} {p : Mobile} {s : Connection} {at : Place} → Fails s.state s at → LinedUp m w p s → AllByRecursion (λ c. IsLed (coming_up w (place_of c))) (commanded_channels (commanded_target s.state)) → 1 ≤ controls_in (coming_up w (place_of s.serving))
     → AllByRecursion (λ c. messages_in (coming_up w (place_of c)) ≡ []) (target_in s.state)
-fails-silent {m} {w} {p} {s} fails lined led some =
+fails_silent {m} {w} {p} {s} fails lined led some =
     subst (AllByRecursion (λ c. messages_in (coming_up w (place_of c)) ≡ [])) (sym (fails.targets ∙ ap commanded_channels fails.commanded)) (silent, tt) where
       items : List Item
       items = coming_up w (place_of fails.target.channel)
@@ -145,14 +145,14 @@ fails-silent {m} {w} {p} {s} fails lined led some =
       is_led = (subst (λ (o : Option Target). AllByRecursion (λ c. IsLed (coming_up w (place_of c))) (commanded_channels o)) fails.commanded led).0
 
       none : controls_in items ≡ 0
-      none = sym (ap (λ (o : Option Target). controls_in (target_tenure (coming_up w) (is_station_up w) (seat_from s.serving p.seat) o).items) fails.commanded) ∙ no-complete lined.alive.stands some
+      none = sym (ap (λ (o : Option Target). controls_in (target_tenure (coming_up w) (is_station_up w) (seat_from s.serving p.seat) o).items) fails.commanded) ∙ no_complete lined.alive.stands some
 
       silent : messages_in items ≡ []
       silent = elim is_led [ inl empty ↦ empty | inr more ↦ absurd (omega (arith, none, more)) ]
 
 -- FAILURE that comes first is one more
-controls-more : (text : List ℕ) (items all : List Item) → is_control text ≡ true → all ≡ brought text ∷ items → 1 ≤ controls_in all
-controls-more text items all control is = let more = controls-first text (messages_in items) control in subst (λ (xs : List Item). 1 ≤ controls_in xs) (sym is) (omega arith)
+controls_more : (text : List ℕ) (items all : List Item) → is_control text ≡ true → all ≡ brought text ∷ items → 1 ≤ controls_in all
+controls_more text items all control is = let more = controls_first text (messages_in items) control in subst (λ (xs : List Item). 1 ≤ controls_in xs) (sym is) (omega arith)
 
 -- ---- what a frame finds
 
@@ -166,49 +166,49 @@ pub record Handling (settings : Parameters) (events : List Event) (mobile : ℕ)
   pub lives : Lives (modulus_in settings) (world settings events) mobile s
   pub agree : AcksAgree (world settings events) s
 
-silent-for : {w : Actors} {m mobile : ℕ} {s : Connection} (item : RelayItem) (items : List RelayItem) (input : Input) (offer : Option Channel) (r : Row) (text : List ℕ) → w.inbox ≡ item ∷ items → Lives m w mobile s → row_of s input offer ≡ Some r → IsRead input text → ((at : Place) → brings_in at item ≡ said_by input text at)
+silent_for : {w : Actors} {m mobile : ℕ} {s : Connection} (item : RelayItem) (items : List RelayItem) (input : Input) (offer : Option Channel) (r : Row) (text : List ℕ) → w.inbox ≡ item ∷ items → Lives m w mobile s → row_of s input offer ≡ Some r → IsRead input text → ((at : Place) → brings_in at item ≡ said_by input text at)
     → IsBesideTarget input → AllByRecursion (λ c. messages_in (coming_up w (place_of c)) ≡ []) (target_in s.state)
 unfolding row_of
-silent-for {w} {s = s} item items (inputs.ActivationAck at) offer r text stood lives fits read brings beside =
-    subst (AllByRecursion (λ c. messages_in (coming_up w (place_of c)) ≡ [])) (sym (ack-awaits s.state s at r lives.requested fits)) lives.fresh.silent
-silent-for {w} {s = s} item items (inputs.Failure at change cause) offer r text stood lives fits read brings beside =
-    let fails = failure-is s.state s at change cause.0 offer r fits in
-    fails-silent fails lives.lined.lined lives.fresh.led
-    (controls-more text (coming_up (without_first w items) (place_of s.serving)) (coming_up w (place_of s.serving)) read
+silent_for {w} {s = s} item items (inputs.ActivationAck at) offer r text stood lives fits read brings beside =
+    subst (AllByRecursion (λ c. messages_in (coming_up w (place_of c)) ≡ [])) (sym (ack_awaits s.state s at r lives.requested fits)) lives.fresh.silent
+silent_for {w} {s = s} item items (inputs.Failure at change cause) offer r text stood lives fits read brings beside =
+    let fails = failure_is s.state s at change cause.0 offer r fits in
+    fails_silent fails lives.lined.lined lives.fresh.led
+    (controls_more text (coming_up (without_first w items) (place_of s.serving)) (coming_up w (place_of s.serving)) read
     (coming-first w item items stood (place_of s.serving) ∙ ap (λ (xs : List Item). xs ++ coming_up (without_first w items) (place_of s.serving)) (brings (place_of s.serving) ∙ ap (λ (b : Bool). if b then brought text ∷ [] else []) (same-at at s.serving ∙ fails.here))))
-silent-for item items _ offer r text stood lives fits read brings beside = absurd beside
+silent_for item items _ offer r text stood lives fits read brings beside = absurd beside
 
-ready-for : {settings : Parameters} {events : List Event} {mobile : ℕ} {s : Connection} {item : RelayItem} {items : List RelayItem} (input : Input) (offer : Option Channel) (r : Row) → Handling settings events mobile s item items → IsFrameFor (world settings events) item s input offer r → IsReadyFor (world settings events) s input
-ready-for {settings} {events} {s = s} {item} {items} input offer r h comes =
-    let handles = FrameIsHandled-new (world settings events) item s input offer r comes in
+ready_for : {settings : Parameters} {events : List Event} {mobile : ℕ} {s : Connection} {item : RelayItem} {items : List RelayItem} (input : Input) (offer : Option Channel) (r : Row) → Handling settings events mobile s item items → IsFrameFor (world settings events) item s input offer r → IsReadyFor (world settings events) s input
+ready_for {settings} {events} {s = s} {item} {items} input offer r h comes =
+    let handles = frame_is_handled_new (world settings events) item s input offer r comes in
     record {
       switch_up = h.up;
       old_end = h.agree.old_end;
       others_go_on = h.agree.others_go_on;
-      silent = silent-for item items input offer r handles.0 h.stood h.lives comes.fits handles.1.read handles.1.brings;
+      silent = silent_for item items input offer r handles.0 h.stood h.lives comes.fits handles.1.read handles.1.brings;
       uncommanded = h.lives.fresh.uncommanded;
     }
 
 -- ---- a row that fits
 
 -- it stays open
-keeps-on : {settings : Parameters} {events : List Event} {mobile : ℕ} {s : Connection} {item : RelayItem} {items : List RelayItem} {input : Input} {offer : Option Channel} (r : Row) → Handling settings events mobile s item items → IsFrameFor (world settings events) item s input offer r
+keeps_on : {settings : Parameters} {events : List Event} {mobile : ℕ} {s : Connection} {item : RelayItem} {items : List RelayItem} {input : Input} {offer : Option Channel} (r : Row) → Handling settings events mobile s item items → IsFrameFor (world settings events) item s input offer r
     → connection_of (take item (world settings events).controller).next s.number ≡ Some r.next → FaresOn (modulus_in settings) (actors_after (world settings events) Handle) mobile s
-keeps-on {settings} {events} {mobile} {s} {item} {items} {input} {offer} r h comes next =
+keeps_on {settings} {events} {mobile} {s} {item} {items} {input} {offer} r h comes next =
     let w : Actors = world settings events in
     let number : r.next.number ≡ s.number = subst (OfRow (λ (q : Row). q.next.number ≡ s.number)) comes.fits (keeps_number s input offer) in
-    let now : (actors_after w Handle).controller ≡ (take item w.controller).next = ap (λ (x : Actors). x.controller) (handle-is w item items h.stood) ∙ controller-is (tenure_in w item.source item.what) (take item w.controller) (record w { inbox = items }) in
+    let now : (actors_after w Handle).controller ≡ (take item w.controller).next = ap (λ (x : Actors). x.controller) (handle_is w item items h.stood) ∙ controller-is (tenure_in w item.source item.what) (take item w.controller) (record w { inbox = items }) in
     let there : connection_of (actors_after w Handle).controller r.next.number ≡ Some r.next = ap (λ (c : Controller). connection_of c r.next.number) now ∙ ap (connection_of (take item w.controller).next) number ∙ next in
     goes_on r.next number
     (record { there = there; is_open = comes.stays_open; from_one = subst (λ (n : ℕ). 1 ≤ n) (sym number) h.lives.had.from_one })
-    (still-requested s input offer r h.lives.requested comes.fits comes.stays_open)
-    (same-request (connection_of w.controller s.number) (connection_of (take item w.controller).next s.number) s r.next h.lives.had.there next (names-known settings events (Take item) s.number h.lives.had.from_one))
-    (AllowedFramesKeepLineUps-new settings events mobile s item items input offer r h.allowed h.octets h.own h.stood comes (ready-for input offer r h comes) h.lives.lined)
+    (still_requested s input offer r h.lives.requested comes.fits comes.stays_open)
+    (same_request (connection_of w.controller s.number) (connection_of (take item w.controller).next s.number) s r.next h.lives.had.there next (names_known settings events (Take item) s.number h.lives.had.from_one))
+    (allowed_frames_keep_line_ups_new settings events mobile s item items input offer r h.allowed h.octets h.own h.stood comes (ready_for input offer r h comes) h.lives.lined)
 
 -- ---- what the item tells
 
-pub item-tells : {settings : Parameters} {events : List Event} {mobile : ℕ} {s : Connection} {item : RelayItem} {items : List RelayItem} (frame : Frame) → Handling settings events mobile s item items → item.what ≡ whats.Frame frame → Tells item.source frame
-item-tells {settings} {events} {item = item} frame h is = frame-tells item.source frame (subst (λ (x : What). IsKnownItem (record { source = item.source; what = x })) is (subst (AllByRecursion IsKnownItem) h.stood (known-inbox settings events)).0)
+pub item_tells : {settings : Parameters} {events : List Event} {mobile : ℕ} {s : Connection} {item : RelayItem} {items : List RelayItem} (frame : Frame) → Handling settings events mobile s item items → item.what ≡ whats.Frame frame → Tells item.source frame
+item_tells {settings} {events} {item = item} frame h is = frame_tells item.source frame (subst (λ (x : What). IsKnownItem (record { source = item.source; what = x })) is (subst (AllByRecursion IsKnownItem) h.stood (known-inbox settings events)).0)
 
 -- ---- no row fits
 
@@ -217,13 +217,13 @@ abbrev pub DropsOut : Connection → RelayItem → Type 0
 DropsOut s item = AllByRecursion (λ c. AreBeside (brings_in (place_of c) item)) (used_channels s)
 
 -- in a frame in which there is no message of a station
-pub none-drops : (s : Connection) (item : RelayItem) (frame : Frame) → item.what ≡ whats.Frame frame → rsl_in frame ≡ None → DropsOut s item
-none-drops s item frame is none = all-of (λ c. AreBeside (brings_in (place_of c) item)) (used_channels s)
-    (λ c. subst AreBeside (sym (ap (brings_by (place_of c) item.source) is ∙ ap (λ (o : Option Rsl). brings_read item.source o (place_of c)) none ∙ none-read item.source (place_of c))) tt)
+pub none_drops : (s : Connection) (item : RelayItem) (frame : Frame) → item.what ≡ whats.Frame frame → rsl_in frame ≡ None → DropsOut s item
+none_drops s item frame is none = all_of (λ c. AreBeside (brings_in (place_of c) item)) (used_channels s)
+    (λ c. subst AreBeside (sym (ap (brings_by (place_of c) item.source) is ∙ ap (λ (o : Option Rsl). brings_read item.source o (place_of c)) none ∙ none_read item.source (place_of c))) tt)
 
 -- an initial message is among those on their way
-first-initial : (w : Actors) (item : RelayItem) (items : List RelayItem) (at : Place) (m : Rsl) (initial : List ℕ) → w.inbox ≡ item ∷ items → read_of at.station item ≡ m ∷ [] → initial_by at.number m ≡ initial ∷ [] → initials_up w at ≡ [] → ⊥
-first-initial w item items at m initial stood read is none = never (sym all ∙ none) where
+first_initial : (w : Actors) (item : RelayItem) (items : List RelayItem) (at : Place) (m : Rsl) (initial : List ℕ) → w.inbox ≡ item ∷ items → read_of at.station item ≡ m ∷ [] → initial_by at.number m ≡ initial ∷ [] → initials_up w at ≡ [] → ⊥
+first_initial w item items at m initial stood read is none = never (sym all ∙ none) where
   made : List Rsl
   made = (base_of w at.station).messages
 
@@ -238,40 +238,40 @@ first-initial w item items at m initial stood read is none = never (sym all ∙ 
   never : initial ∷ flat_map (initial_by at.number) rest ≡ [] → ⊥
   never h = absurd cc
 
-not-initial : (w : Actors) (item : RelayItem) (items : List RelayItem) (frame : Frame) (m : Rsl) (at : Place) (input : Input) (cs : List Channel) → w.inbox ≡ item ∷ items → item.what ≡ whats.Frame frame → rsl_in frame ≡ Some m → at.station ≡ item.source → IsAtPlace at input → IsInitial m input
+not_initial : (w : Actors) (item : RelayItem) (items : List RelayItem) (frame : Frame) (m : Rsl) (at : Place) (input : Input) (cs : List Channel) → w.inbox ≡ item ∷ items → item.what ≡ whats.Frame frame → rsl_in frame ≡ Some m → at.station ≡ item.source → IsAtPlace at input → IsInitial m input
     → AllByRecursion (λ c. initials_up w (place_of c) ≡ []) cs → AllByRecursion (NotInitial input) cs
-not-initial w item items frame m at (inputs.EstablishIndication there Zero (Some initial)) cs stood is says from here initials none_comes =
+not_initial w item items frame m at (inputs.EstablishIndication there Zero (Some initial)) cs stood is says from here initials none_comes =
     AllByRecursion-so (λ c. initials_up w (place_of c) ≡ []) (NotInitial (inputs.EstablishIndication there Zero (Some initial))) (λ c none. elim (cases_Bool (same_place (place_of c) there)) [
       | inr other ↦ other
-      | inl same ↦ absurd (first-initial w item items there m initial stood
+      | inl same ↦ absurd (first_initial w item items there m initial stood
           (ap (read_by there.station item.source) is ∙ ap (λ (b : Bool). if b then option_to_list (rsl_in frame) else []) (eq-eqb item.source there.station (sym (ap (λ (p : Place). p.station) here ∙ from))) ∙ ap option_to_list says)
-          initials (ap (initials_up w) (sym (same-places (place_of c) there same)) ∙ none))
+          initials (ap (initials_up w) (sym (same_places (place_of c) there same)) ∙ none))
     ]) cs none_comes
-not-initial w item items frame m at (inputs.EstablishIndication there Zero None) cs stood is says from here initials none_comes = all-of (λ (c : Channel). Unit {0}) cs (λ c. tt)
-not-initial w item items frame m at (inputs.EstablishIndication there Three text) cs stood is says from here initials none_comes = all-of (λ (c : Channel). Unit {0}) cs (λ c. tt)
-not-initial w item items frame m at _ cs stood is says from here initials none_comes = all-of (λ (c : Channel). Unit {0}) cs (λ c. tt)
+not_initial w item items frame m at (inputs.EstablishIndication there Zero None) cs stood is says from here initials none_comes = all_of (λ (c : Channel). Unit {0}) cs (λ c. tt)
+not_initial w item items frame m at (inputs.EstablishIndication there Three text) cs stood is says from here initials none_comes = all_of (λ (c : Channel). Unit {0}) cs (λ c. tt)
+not_initial w item items frame m at _ cs stood is says from here initials none_comes = all_of (λ (c : Channel). Unit {0}) cs (λ c. tt)
 
 -- what is on its way tells it of what comes first
-first-unended : (xs ys : List Item) → is_ended (xs ++ ys) ≡ false → is_ended xs ≡ false
-first-unended [] ys is = refl
-first-unended (brought text ∷ xs) ys is = first-unended xs ys is
-first-unended (released ∷ xs) ys is = absurd cc
+first_unended : (xs ys : List Item) → is_ended (xs ++ ys) ≡ false → is_ended xs ≡ false
+first_unended [] ys is = refl
+first_unended (brought text ∷ xs) ys is = first_unended xs ys is
+first_unended (released ∷ xs) ys is = absurd cc
 
-first-silent : (xs ys : List Item) → messages_in (xs ++ ys) ≡ [] → messages_in xs ≡ []
-first-silent [] ys is = refl
-first-silent (brought text ∷ xs) ys is = absurd cc
-first-silent (released ∷ xs) ys is = first-silent xs ys is
+first_silent : (xs ys : List Item) → messages_in (xs ++ ys) ≡ [] → messages_in xs ≡ []
+first_silent [] ys is = refl
+first_silent (brought text ∷ xs) ys is = absurd cc
+first_silent (released ∷ xs) ys is = first_silent xs ys is
 
-missed-drops : {settings : Parameters} {events : List Event} {mobile : ℕ} {s : Connection} {item : RelayItem} {items : List RelayItem} (input : Input) (offer : Option Channel) (frame : Frame) (m : Rsl) (at : Place) → Handling settings events mobile s item items → IsKnown (world settings events).controller s → item.what ≡ whats.Frame frame → rsl_in frame ≡ Some m
+missed_drops : {settings : Parameters} {events : List Event} {mobile : ℕ} {s : Connection} {item : RelayItem} {items : List RelayItem} (input : Input) (offer : Option Channel) (frame : Frame) (m : Rsl) (at : Place) → Handling settings events mobile s item items → IsKnown (world settings events).controller s → item.what ≡ whats.Frame frame → rsl_in frame ≡ Some m
     → at.station ≡ item.source → IsAtPlace at input → SaysOn item.source m input → row_of s input offer ≡ None → DropsOut s item
-missed-drops {settings} {events} {s = s} {item} {items} input offer frame m at h known is says from here on none =
+missed_drops {settings} {events} {s = s} {item} {items} input offer frame m at h known is says from here on none =
     AllByRecursion-so (λ c. AreBeside (said_by input on.text (place_of c))) (λ c. AreBeside (brings_in (place_of c) item)) (λ c beside. subst AreBeside (sym (brings (place_of c))) beside) (used_channels s)
-    (missed-beside s input on.text offer h.lives.requested known.stands none on.control
+    (missed_beside s input on.text offer h.lives.requested known.stands none on.control
     (AllByRecursion-so (λ c. is_ended (coming_up w (place_of c)) ≡ false) (λ c. is_ended (said_by input on.text (place_of c)) ≡ false)
-    (λ c unended. first-unended (said_by input on.text (place_of c)) (coming_up (without_first w items) (place_of c)) (ap is_ended (sym (first (place_of c))) ∙ unended)) (s.serving ∷ target_in s.state) goes_on)
+    (λ c unended. first_unended (said_by input on.text (place_of c)) (coming_up (without_first w items) (place_of c)) (ap is_ended (sym (first (place_of c))) ∙ unended)) (s.serving ∷ target_in s.state) goes_on)
     (AllByRecursion-so (λ c. messages_in (coming_up w (place_of c)) ≡ []) (λ c. messages_in (said_by input on.text (place_of c)) ≡ [])
-    (λ c silent. first-silent (said_by input on.text (place_of c)) (coming_up (without_first w items) (place_of c)) (ap messages_in (sym (first (place_of c))) ∙ silent)) (awaited_in s.state) h.lives.fresh.silent)
-    (not-initial w item items frame m at input (used_channels s) h.stood is says from here on.initial h.lives.opened.none_comes)) where
+    (λ c silent. first_silent (said_by input on.text (place_of c)) (coming_up (without_first w items) (place_of c)) (ap messages_in (sym (first (place_of c))) ∙ silent)) (awaited_in s.state) h.lives.fresh.silent)
+    (not_initial w item items frame m at input (used_channels s) h.stood is says from here on.initial h.lives.opened.none_comes)) where
       w : Actors
       w = world settings events
 
@@ -282,32 +282,32 @@ missed-drops {settings} {events} {s = s} {item} {items} input offer frame m at h
       first place = coming-first w item items h.stood place ∙ ap (λ (xs : List Item). xs ++ coming_up (without_first w items) place) (brings place)
 
       goes_on : AllByRecursion (λ c. is_ended (coming_up w (place_of c)) ≡ false) (s.serving ∷ target_in s.state)
-      goes_on = all-both (λ c. c.station ≢ SWITCH_LINK) (λ c. NoneReleases (acknowledgements_up w (place_of c))) (λ c. is_ended (coming_up w (place_of c)) ≡ false) (s.serving ∷ target_in s.state)
-          (λ c placed releases. (AllAcksTell-new settings events (place_of c) placed).none releases)
-          (all-right (λ c. c.station ≢ SWITCH_LINK) (undone s.draining) (s.serving ∷ target_in s.state) h.lives.lined.lined.placed) h.agree.others_go_on
+      goes_on = all_both (λ c. c.station ≢ SWITCH_LINK) (λ c. NoneReleases (acknowledgements_up w (place_of c))) (λ c. is_ended (coming_up w (place_of c)) ≡ false) (s.serving ∷ target_in s.state)
+          (λ c placed releases. (all_acks_tell_new settings events (place_of c) placed).none releases)
+          (all_right (λ c. c.station ≢ SWITCH_LINK) (undone s.draining) (s.serving ∷ target_in s.state) h.lives.lined.lined.placed) h.agree.others_go_on
 
-said-drops : {settings : Parameters} {events : List Event} {mobile : ℕ} {s : Connection} {item : RelayItem} {items : List RelayItem} {input : Input} {offer : Option Channel} (frame : Frame) → Handling settings events mobile s item items → IsKnown (world settings events).controller s → item.what ≡ whats.Frame frame
+said_drops : {settings : Parameters} {events : List Event} {mobile : ℕ} {s : Connection} {item : RelayItem} {items : List RelayItem} {input : Input} {offer : Option Channel} (frame : Frame) → Handling settings events mobile s item items → IsKnown (world settings events).controller s → item.what ≡ whats.Frame frame
     → IsSaidTo (world settings events).controller (word_of item.source frame) s input offer → row_of s input offer ≡ None → Tells item.source frame → DropsOut s item
-said-drops {s = s} {item} frame h known is said none (nothing says) = none-drops s item frame is says
-said-drops {item = item} frame h known is (on_channel at input e word_is found same) none (message m says word) =
+said_drops {s = s} {item} frame h known is said none (nothing says) = none_drops s item frame is says
+said_drops {item = item} frame h known is (on_channel at input e word_is found same) none (message m says word) =
     let from : (at.station ≡ item.source) × IsAtPlace at input = subst (IsFrom item.source) word_is (word_from item.source frame) in
-    missed-drops input _ frame m at h known is says from.0 from.1 (subst (SaysUp item.source m) (sym word ∙ word_is) (word-says item.source m)) none
-said-drops {item = item} frame h known is (on_connection number input e word_is found same) none (message m says word) =
-    absurd (subst (SaysUp item.source m) (sym word ∙ word_is) (word-says item.source m))
+    missed_drops input _ frame m at h known is says from.0 from.1 (subst (SaysUp item.source m) (sym word ∙ word_is) (word_says item.source m)) none
+said_drops {item = item} frame h known is (on_connection number input e word_is found same) none (message m says word) =
+    absurd (subst (SaysUp item.source m) (sym word ∙ word_is) (word_says item.source m))
 
 -- ---- the frame
 
-said-carried : {c : Controller} {s : Connection} {input : Input} {offer : Option Channel} (source : ℕ) (frame : Frame) → IsSaidTo c (word_of source frame) s input offer → IsCarried input
-said-carried source frame (on_channel at input e word_is found same) = subst IsCarriedBy word_is (word_carried source frame)
-said-carried source frame (on_connection number input e word_is found same) = subst IsCarriedBy word_is (word_carried source frame)
+said_carried : {c : Controller} {s : Connection} {input : Input} {offer : Option Channel} (source : ℕ) (frame : Frame) → IsSaidTo c (word_of source frame) s input offer → IsCarried input
+said_carried source frame (on_channel at input e word_is found same) = subst IsCarriedBy word_is (word_carried source frame)
+said_carried source frame (on_connection number input e word_is found same) = subst IsCarriedBy word_is (word_carried source frame)
 
 pub take-frame : (c : Controller) (item : RelayItem) (frame : Frame) → hears c item.source ≡ true → item.what ≡ whats.Frame frame → take item c ≡ on_word item.source (word_of item.source frame) c
 unfolding take
 take-frame c item frame up is = ap (λ (b : Bool). on_what b item.source item.what c) up ∙ ap (λ (x : What). on_what true item.source x c) is
 
-pub said-fares : {settings : Parameters} {events : List Event} {mobile : ℕ} {s : Connection} {item : RelayItem} {items : List RelayItem} {input : Input} {offer : Option Channel} (frame : Frame) → Handling settings events mobile s item items → hears (world settings events).controller item.source ≡ true → item.what ≡ whats.Frame frame
+pub said_fares : {settings : Parameters} {events : List Event} {mobile : ℕ} {s : Connection} {item : RelayItem} {items : List RelayItem} {input : Input} {offer : Option Channel} (frame : Frame) → Handling settings events mobile s item items → hears (world settings events).controller item.source ≡ true → item.what ≡ whats.Frame frame
     → IsSaidTo (world settings events).controller (word_of item.source frame) s input offer → FaresOn (modulus_in settings) (actors_after (world settings events) Handle) mobile s
-said-fares {settings} {events} {mobile} {s} {item} {items} {input} {offer} frame h up is said = by (row_of s input offer) refl where
+said_fares {settings} {events} {mobile} {s} {item} {items} {input} {offer} frame h up is said = by (row_of s input offer) refl where
   w : Actors
   w = world settings events
 
@@ -321,34 +321,34 @@ said-fares {settings} {events} {mobile} {s} {item} {items} {input} {offer} frame
   one = known settings events s h.allowed h.lives.had
 
   does : Steps c (Take item) s.number
-  does = steps-known settings events (Take item) s.number h.allowed h.octets h.own h.lives.had.from_one
+  does = steps_known settings events (Take item) s.number h.allowed h.octets h.own h.lives.had.from_one
 
   turns : Turns s (row_of s input offer) t
-  turns = subst (Turns s (row_of s input offer)) (sym (take-frame c item frame up is)) (word-turns item.source one.ready said)
+  turns = subst (Turns s (row_of s input offer)) (sym (take-frame c item frame up is)) (word_turns item.source one.ready said)
 
   tells : Tells item.source frame
-  tells = item-tells frame h is
+  tells = item_tells frame h is
 
   carried : IsCarried input
-  carried = said-carried item.source frame said
+  carried = said_carried item.source frame said
 
   by : (o : Option Row) → row_of s input offer ≡ o → FaresOn (modulus_in settings) (actors_after w Handle) mobile s
   by None none =
       let silent : t.outs ≡ [] = turns.outs ∙ ap (outs_by s.number) none in
-      subst (λ (x : Actors). FaresOn (modulus_in settings) x mobile s) (sym (handle-is w item items h.stood))
-      (still-lined s (tenure_in w item.source item.what) t h.lives.had.from_one h.up (ap (λ (outs : List Out). forwarded outs s.number) silent ∙ silent-forwards s.number [] refl) (nothing-down (record w { inbox = items }) (tenure_in w item.source item.what) t silent)
-      (record { line = line-itself s; there = turns.next ∙ ap (next_by s) none; requested = h.lives.requested; request = refl })
+      subst (λ (x : Actors). FaresOn (modulus_in settings) x mobile s) (sym (handle_is w item items h.stood))
+      (still_lined s (tenure_in w item.source item.what) t h.lives.had.from_one h.up (ap (λ (outs : List Out). forwarded outs s.number) silent ∙ silent_forwards s.number [] refl) (nothing_down (record w { inbox = items }) (tenure_in w item.source item.what) t silent)
+      (record { line = line_itself s; there = turns.next ∙ ap (next_by s) none; requested = h.lives.requested; request = refl })
       h.lives.lined.lined.apart h.lives.lined.lined.placed h.lives.lined.found
-      (item-drops item items h.stood (said-drops frame h one is said none tells) h.lives.lined.lined))
+      (item_drops item items h.stood (said_drops frame h one is said none tells) h.lives.lined.lined))
   by (Some r) fits =
       let next : connection_of t.next s.number ≡ kept r.next = turns.next ∙ ap (next_by s) fits in
       let outs : outs_for s.number t.outs ≡ outs_of s.number r.outs = ap (outs_for s.number) (turns.outs ∙ ap (outs_by s.number) fits) ∙ outs_own s.number r.outs in
       let final : IsFinal s r = subst (OfRow (IsFinal s)) fits (IsFinal-row s input offer) in
       elim (open_or r.next.state) [
-        | inl is_open ↦ keeps-on r h (record { frame = frame; is = is; up = up; said = said; requested = h.lives.requested; fits = fits; stays_open = is_open; carried = carried }) (next ∙ still-there r.next.state r.next is_open)
-        | inr shut ↦ subst (λ (x : Actors). FaresOn (modulus_in settings) x mobile s) (sym (handle-is w item items h.stood))
-            (now-ended (tenure_in w item.source item.what) t h.up
-            (none-forwarded s.number t.outs r.outs h.lives.had.from_one outs (subst (OfRow PutsUsual) fits (usual_row s input offer)) does.sent (final.relays shut))
+        | inl is_open ↦ keeps_on r h (record { frame = frame; is = is; up = up; said = said; requested = h.lives.requested; fits = fits; stays_open = is_open; carried = carried }) (next ∙ still_there r.next.state r.next is_open)
+        | inr shut ↦ subst (λ (x : Actors). FaresOn (modulus_in settings) x mobile s) (sym (handle_is w item items h.stood))
+            (now_ended (tenure_in w item.source item.what) t h.up
+            (none_forwarded s.number t.outs r.outs h.lives.had.from_one outs (subst (OfRow PutsUsual) fits (usual_row s input offer)) does.sent (final.relays shut))
             (λ there. shut (kept_there r.next.state r.next (subst IsThere next there)))
-            (ended-before items (LineUpsMayEnd-new (modulus_in settings) w mobile s h.lives.lined)))
+            (ended_before items (line_ups_may_end_new (modulus_in settings) w mobile s h.lives.lined)))
       ]

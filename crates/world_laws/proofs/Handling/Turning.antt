@@ -8,7 +8,7 @@ use Rattle.conn_rules.specs.Table.{row_of}
 use Rattle.controller_model.proofs.LifeLaws.Acting.{row_found}
 use Rattle.world_laws.specs.OwnFrame.{IsSaidTo, freed_for}
 use Rattle.world_laws.specs.OwnFrame.IsSaidTo.{on_channel, on_connection}
-use Rattle.world_laws.proofs.PutAsRead.{number-at}
+use Rattle.world_laws.proofs.PutAsRead.{number_at}
 
 -- ---- one connection
 
@@ -24,50 +24,50 @@ pub record Turns (s : Connection) (o : Option Row) (t : Turn) : Type 0 where
   pub outs : t.outs ≡ outs_by s.number o
   pub next : connection_of t.next s.number ≡ next_by s o
 
-fitting-turns : (c : Controller) (otherwise : Turn) (e : Entry) (input : Input) (offer : Option Channel) (o : Option Row) → row_of e.connection input offer ≡ o → AreRising c.entries → entry_of c e.connection.number ≡ Some e
+fitting_turns : (c : Controller) (otherwise : Turn) (e : Entry) (input : Input) (offer : Option Channel) (o : Option Row) → row_of e.connection input offer ≡ o → AreRising c.entries → entry_of c e.connection.number ≡ Some e
     → otherwise.outs ≡ [] → connection_of otherwise.next e.connection.number ≡ Some e.connection → Turns e.connection o (by_fitting otherwise e o c)
-fitting-turns c otherwise e input offer None is rising there silent same = record { outs = silent; next = same }
-fitting-turns c otherwise e input offer (Some r) is rising there silent same = record {
+fitting_turns c otherwise e input offer None is rising there silent same = record { outs = silent; next = same }
+fitting_turns c otherwise e input offer (Some r) is rising there silent same = record {
   outs = refl;
   next = row_found c e e r rising (subst (OfRow (λ (q : Row). q.next.number ≡ e.connection.number)) is (keeps_number e.connection input offer)) there;
 }
 
 -- where it may free a channel
-freed-turns : (b : Bool) (at : Place) (input : Input) (c : Controller) (e : Entry) → AreRising c.entries → entry_of c e.connection.number ≡ Some e
+freed_turns : (b : Bool) (at : Place) (input : Input) (c : Controller) (e : Entry) → AreRising c.entries → entry_of c e.connection.number ≡ Some e
     → Turns e.connection (row_of e.connection input (request_offer (if b then freed at c else c) e.connection input)) (on_freed b at input c (Some e))
-freed-turns true at input c e rising there = fitting-turns (freed at c) (turn [] (freed at c)) e input (request_offer (freed at c) e.connection input) _ refl rising there refl (ap (option_map (λ (x : Entry). x.connection)) there)
-freed-turns false at input c e rising there = fitting-turns c (ignoring c) e input (request_offer c e.connection input) _ refl rising there refl (ap (option_map (λ (x : Entry). x.connection)) there)
+freed_turns true at input c e rising there = fitting_turns (freed at c) (turn [] (freed at c)) e input (request_offer (freed at c) e.connection input) _ refl rising there refl (ap (option_map (λ (x : Entry). x.connection)) there)
+freed_turns false at input c e rising there = fitting_turns c (ignoring c) e input (request_offer c e.connection input) _ refl rising there refl (ap (option_map (λ (x : Entry). x.connection)) there)
 
 -- ---- a word that is for a connection
 
 abbrev FreedBy : Controller → Place → Input → Option Entry → Connection → Option Row
 FreedBy c at input o s = row_of s input (request_offer (if frees (channel_state c at) o input then freed at c else c) s input)
 
-channel-turns : {c : Controller} (at : Place) (input : Input) (e : Entry) → Ready c → (n : ℕ) → entry_of c n ≡ Some e → entry_at c (channel_state c at) ≡ Some e
+channel_turns : {c : Controller} (at : Place) (input : Input) (e : Entry) → Ready c → (n : ℕ) → entry_of c n ≡ Some e → entry_at c (channel_state c at) ≡ Some e
     → Turns e.connection (row_of e.connection input (request_offer (freed_for c at input) e.connection input)) (on_freed (frees (channel_state c at) (entry_at c (channel_state c at)) input) at input c (entry_at c (channel_state c at)))
-channel-turns {c} at input e ready n there found =
+channel_turns {c} at input e ready n there found =
     let here = here_of c n e ready there in
     subst (λ (o : Option Entry). Turns e.connection (FreedBy c at input o e.connection) (on_freed (frees (channel_state c at) o input) at input c o)) (sym found)
-    (freed-turns (frees (channel_state c at) (Some e) input) at input c e here.rising here.there)
+    (freed_turns (frees (channel_state c at) (Some e) input) at input c e here.rising here.there)
 
-pub word-turns : {c : Controller} {word : Word} {s : Connection} {input : Input} {offer : Option Channel} (source : ℕ) → Ready c → IsSaidTo c word s input offer → Turns s (row_of s input offer) (on_word source word c)
-word-turns {c} {s = s} source ready (on_channel at input e word_is found is) =
-    let number = number-at c (channel_state c at) e found in
+pub word_turns : {c : Controller} {word : Word} {s : Connection} {input : Input} {offer : Option Channel} (source : ℕ) → Ready c → IsSaidTo c word s input offer → Turns s (row_of s input offer) (on_word source word c)
+word_turns {c} {s = s} source ready (on_channel at input e word_is found is) =
+    let number = number_at c (channel_state c at) e found in
     subst (λ (w : Word). Turns s (row_of s input (request_offer (freed_for c at input) s input)) (on_word source w c)) (sym word_is)
-    (subst (λ (x : Connection). Turns x (row_of x input (request_offer (freed_for c at input) x input)) (on_word source (OnChannel at input) c)) is (channel-turns at input e ready number.0 number.1 found))
-word-turns {c} {s = s} source ready (on_connection number input e word_is found is) =
+    (subst (λ (x : Connection). Turns x (row_of x input (request_offer (freed_for c at input) x input)) (on_word source (OnChannel at input) c)) is (channel_turns at input e ready number.0 number.1 found))
+word_turns {c} {s = s} source ready (on_connection number input e word_is found is) =
     let here = here_of c number e ready found in
     subst (λ (w : Word). Turns s (row_of s input (request_offer c s input)) (on_word source w c)) (sym word_is)
     (subst (λ (x : Connection). Turns x (row_of x input (request_offer c x input)) (on_word source (OnConnection number input) c)) is
     (subst (λ (o : Option Entry). Turns e.connection (row_of e.connection input (request_offer c e.connection input)) (concerning input c o)) (sym found)
-    (fitting-turns c (ignoring c) e input (request_offer c e.connection input) _ refl here.rising here.there refl (ap (option_map (λ (x : Entry). x.connection)) here.there))))
+    (fitting_turns c (ignoring c) e input (request_offer c e.connection input) _ refl here.rising here.there refl (ap (option_map (λ (x : Entry). x.connection)) here.there))))
 
 -- ---- what is for it
 
 -- it has the channel
-pub said-on : (c : Controller) (word : Word) (at : Place) (input : Input) (number : ℕ) (s : Connection) (e : Entry) → word ≡ OnChannel at input → holder (channel_state c at) ≡ Some number → entry_of c number ≡ Some e → e.connection ≡ s → IsSaidTo c word s input (request_offer (freed_for c at input) s input)
-said-on c word at input number s e word_is held there is = on_channel at input e word_is (ap (λ (o : Option ℕ). option_and_then (entry_of c) o) held ∙ there) is
+pub said_on : (c : Controller) (word : Word) (at : Place) (input : Input) (number : ℕ) (s : Connection) (e : Entry) → word ≡ OnChannel at input → holder (channel_state c at) ≡ Some number → entry_of c number ≡ Some e → e.connection ≡ s → IsSaidTo c word s input (request_offer (freed_for c at input) s input)
+said_on c word at input number s e word_is held there is = on_channel at input e word_is (ap (λ (o : Option ℕ). option_and_then (entry_of c) o) held ∙ there) is
 
 -- or the reference
-pub said-to : (c : Controller) (word : Word) (input : Input) (number : ℕ) (s : Connection) (e : Entry) → word ≡ OnConnection number input → entry_of c number ≡ Some e → e.connection ≡ s → IsSaidTo c word s input (request_offer c s input)
-said-to c word input number s e word_is there is = on_connection number input e word_is there is
+pub said_to : (c : Controller) (word : Word) (input : Input) (number : ℕ) (s : Connection) (e : Entry) → word ≡ OnConnection number input → entry_of c number ≡ Some e → e.connection ≡ s → IsSaidTo c word s input (request_offer c s input)
+said_to c word input number s e word_is there is = on_connection number input e word_is there is

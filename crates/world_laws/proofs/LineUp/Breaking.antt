@@ -5,46 +5,46 @@ use Rattle.world_laws.specs.LineUp.Alive.{Alive, Condition, Follows}
 use Rattle.world_laws.specs.LineUp.Alive.Condition.{lost_old, lost_serving, lost_target}
 use Rattle.world_laws.specs.LineUp.BreakStep.{BreakStep, lost}
 use Rattle.world_laws.specs.LineUp.BreakStep.BreakStep.{breaks_serving, breaks_target, breaks_old}
-use Rattle.world_laws.proofs.LineUp.Lines.{parts-front, parts-broken, some_lost-here, FirstRelays-at, controls-front, texts-front}
-use Rattle.world_laws.proofs.LineUp.Standing.{Stands-serving, Stands-target}
-use Rattle.world_laws.proofs.LineUp.Following.{Follows-front}
+use Rattle.world_laws.proofs.LineUp.Lines.{parts_front, parts_broken, some_lost-here, first_relays_at, controls_front, texts_front}
+use Rattle.world_laws.proofs.LineUp.Standing.{stands_serving, stands_target}
+use Rattle.world_laws.proofs.LineUp.Following.{follows_front}
 
 -- a front of the parts leaves a front of the line
-Follows-parts : {m : ℕ} {sent xs : List (List ℕ)} {link : DataLinkState} {ok : Bool} (front ys zs : List (List ℕ)) → xs ≡ ys ++ zs → Follows m sent (front ++ xs) link ok → Follows m sent (front ++ ys) link false
-Follows-parts front ys zs is follows = Follows-front (front ++ ys) zs (ap (λ (list : List (List ℕ)). front ++ list) is ∙ sym (append_assoc front ys zs)) follows
+follows_parts : {m : ℕ} {sent xs : List (List ℕ)} {link : DataLinkState} {ok : Bool} (front ys zs : List (List ℕ)) → xs ≡ ys ++ zs → Follows m sent (front ++ xs) link ok → Follows m sent (front ++ ys) link false
+follows_parts front ys zs is follows = follows_front (front ++ ys) zs (ap (λ (list : List (List ℕ)). front ++ list) is ∙ sym (append_assoc front ys zs)) follows
 
-pub Alive-break : {m : ℕ} {before after : LineUp} → BreakStep before after → Alive m before → Alive m after
-Alive-break (breaks_serving l t items dropped) alive =
-    let broken = parts-broken t items dropped (l.target ∷ []) in
-    let front = parts-front l.old (with_items t (items ++ dropped) ∷ l.target ∷ []) (lost t items ∷ l.target ∷ []) broken.0 broken.1 in
+pub alive_break : {m : ℕ} {before after : LineUp} → BreakStep before after → Alive m before → Alive m after
+alive_break (breaks_serving l t items dropped) alive =
+    let broken = parts_broken t items dropped (l.target ∷ []) in
+    let front = parts_front l.old (with_items t (items ++ dropped) ∷ l.target ∷ []) (lost t items ∷ l.target ∷ []) broken.0 broken.1 in
     record {
-      follows = Follows-parts (flow l.taken ++ flow l.out) _ front.0 front.1 alive.follows;
+      follows = follows_parts (flow l.taken ++ flow l.out) _ front.0 front.1 alive.follows;
       first = alive.first;
-      stands = Stands-serving (controls-front items dropped) alive.stands;
+      stands = stands_serving (controls_front items dropped) alive.stands;
       condition = lost_serving;
       bare = alive.bare;
     }
-Alive-break (breaks_target l t items dropped here) alive =
-    let broken = parts-broken t items dropped [] in
-    let behind = parts-front (l.serving ∷ []) (with_items t (items ++ dropped) ∷ []) (lost t items ∷ []) broken.0 broken.1 in
-    let front = parts-front l.old (l.serving ∷ with_items t (items ++ dropped) ∷ []) (l.serving ∷ lost t items ∷ []) behind.0 behind.1 in
+alive_break (breaks_target l t items dropped here) alive =
+    let broken = parts_broken t items dropped [] in
+    let behind = parts_front (l.serving ∷ []) (with_items t (items ++ dropped) ∷ []) (lost t items ∷ []) broken.0 broken.1 in
+    let front = parts_front l.old (l.serving ∷ with_items t (items ++ dropped) ∷ []) (l.serving ∷ lost t items ∷ []) behind.0 behind.1 in
     record {
-      follows = Follows-parts (flow l.taken ++ flow l.out) _ front.0 front.1 alive.follows;
+      follows = follows_parts (flow l.taken ++ flow l.out) _ front.0 front.1 alive.follows;
       first = alive.first;
-      stands = Stands-target (texts-front items dropped) (controls-front items dropped) alive.stands;
+      stands = stands_target (texts_front items dropped) (controls_front items dropped) alive.stands;
       condition = lost_target here;
       bare = alive.bare;
     }
-Alive-break (breaks_old l before t after items dropped) alive =
+alive_break (breaks_old l before t after items dropped) alive =
     let d : Tenure = with_items t (items ++ dropped) in
     let behind : List Tenure = l.serving ∷ l.target ∷ [] in
-    let broken = parts-broken t items dropped (after ++ behind) in
-    let front = parts-front before (d ∷ (after ++ behind)) (lost t items ∷ (after ++ behind)) broken.0 broken.1 in
+    let broken = parts_broken t items dropped (after ++ behind) in
+    let front = parts_front before (d ∷ (after ++ behind)) (lost t items ∷ (after ++ behind)) broken.0 broken.1 in
     let regrouped : parts_of ((before ++ d ∷ after) ++ behind) ≡ parts_of ((before ++ lost t items ∷ after) ++ behind) ++ front.0 =
     ap parts_of (append_assoc before (d ∷ after) behind) ∙ front.1 ∙ ap (λ (list : List Tenure). parts_of list ++ front.0) (sym (append_assoc before (lost t items ∷ after) behind)) in
     record {
-      follows = Follows-parts (flow l.taken ++ flow l.out) _ front.0 regrouped alive.follows;
-      first = FirstRelays-at l.is_confirmed before d (lost t items) after l.serving.hold refl alive.first;
+      follows = follows_parts (flow l.taken ++ flow l.out) _ front.0 regrouped alive.follows;
+      first = first_relays_at l.is_confirmed before d (lost t items) after l.serving.hold refl alive.first;
       stands = alive.stands;
       condition = subst (λ (b : Bool). Condition l.seat b l.serving.is_lost l.target.is_lost false) (sym (some_lost-here before (lost t items) after refl)) lost_old;
       bare = alive.bare;

@@ -8,10 +8,10 @@ use Rattle.world_laws.specs.LineUp.ChangeStep.{ChangeStep, after_complete, done}
 use Rattle.world_laws.specs.LineUp.ChangeStep.ChangeStep.{commands, completes, goes_back, is_released, releases, leaves_to_old}
 use Rattle.world_laws.specs.LineUp.ChangeStep.ChangeStep.{leaves_to_serving}
 use Rattle.world_laws.proofs.LineUp.Lines.{flow-apart, messages_in-append, hold_relayed, parts-within, parts-tail, some_lost-at}
-use Rattle.world_laws.proofs.LineUp.Lines.{some_lost-push, FirstRelays-at, FirstRelays-push, controls-first, bare_target}
-use Rattle.world_laws.proofs.LineUp.Standing.{Stands-commands, Stands-completes, Stands-goes_back}
-use Rattle.world_laws.proofs.LineUp.Conditions.{Condition-completes, Condition-goes_back}
-use Rattle.world_laws.proofs.LineUp.Following.{Follows-line}
+use Rattle.world_laws.proofs.LineUp.Lines.{some_lost-push, first_relays_at, first_relays_push, controls_first, bare_target}
+use Rattle.world_laws.proofs.LineUp.Standing.{stands_commands, stands_completes, stands_goes_back}
+use Rattle.world_laws.proofs.LineUp.Conditions.{condition_completes, condition_goes_back}
+use Rattle.world_laws.proofs.LineUp.Following.{follows_line}
 
 -- a control message has no place on the line
 part-control : (t : Tenure) (x : List ℕ) (items : List Item) → is_control x ≡ true → part_of (with_items t (brought x ∷ items)) ≡ part_of (with_items t items)
@@ -31,43 +31,43 @@ target_goes old t x items target is bare =
     (ap (λ (part : List (List ℕ)). part ++ cond t.is_lost [] (parts_of (target ∷ []))) (part-control t x items is)
     ∙ ap (λ (rest : List (List ℕ)). part_of (with_items t items) ++ cond t.is_lost [] rest) bare)
 
-pub Alive-change : {m : ℕ} {before after : LineUp} → ChangeStep before after → Alive m before → Alive m after
-Alive-change (commands l) alive = record { follows = alive.follows; first = alive.first; stands = Stands-commands alive.stands; condition = alive.condition; bare = alive.bare }
-Alive-change (completes l t x items is) alive = record {
-  follows = Follows-line (ap (λ (parts : List (List ℕ)). (flow l.taken ++ flow l.out) ++ parts) (roles_change l.old l.serving t x items is)) alive.follows;
-  first = FirstRelays-push l.old l.serving t.hold alive.first;
-  stands = Stands-completes (controls-first x (messages_in items) is) alive.stands;
-  condition = subst (λ (b : Bool). Condition (after_complete l.seat) b t.is_lost false l.is_intact) (sym (some_lost-push l.old l.serving)) (Condition-completes alive.condition);
+pub alive_change : {m : ℕ} {before after : LineUp} → ChangeStep before after → Alive m before → Alive m after
+alive_change (commands l) alive = record { follows = alive.follows; first = alive.first; stands = stands_commands alive.stands; condition = alive.condition; bare = alive.bare }
+alive_change (completes l t x items is) alive = record {
+  follows = follows_line (ap (λ (parts : List (List ℕ)). (flow l.taken ++ flow l.out) ++ parts) (roles_change l.old l.serving t x items is)) alive.follows;
+  first = first_relays_push l.old l.serving t.hold alive.first;
+  stands = stands_completes (controls_first x (messages_in items) is) alive.stands;
+  condition = subst (λ (b : Bool). Condition (after_complete l.seat) b t.is_lost false l.is_intact) (sym (some_lost-push l.old l.serving)) (condition_completes alive.condition);
   bare = refl;
 }
-Alive-change (goes_back l t x items is) alive =
-    let back = Stands-goes_back (controls-first x (messages_in items) is) alive.stands in
+alive_change (goes_back l t x items is) alive =
+    let back = stands_goes_back (controls_first x (messages_in items) is) alive.stands in
     record {
-      follows = Follows-line (ap (λ (parts : List (List ℕ)). (flow l.taken ++ flow l.out) ++ parts) (target_goes l.old t x items l.target is (bare_target l.target alive.bare back.2))) alive.follows;
+      follows = follows_line (ap (λ (parts : List (List ℕ)). (flow l.taken ++ flow l.out) ++ parts) (target_goes l.old t x items l.target is (bare_target l.target alive.bare back.2))) alive.follows;
       first = alive.first;
       stands = back.1;
-      condition = Condition-goes_back back.0 alive.condition;
+      condition = condition_goes_back back.0 alive.condition;
       bare = refl;
     }
-Alive-change (is_released l before t after whole) alive =
+alive_change (is_released l before t after whole) alive =
     let e : Tenure = with_items t (t.items ++ released ∷ []) in
     let part : part_of t ≡ part_of e = ap (λ (messages : List (List ℕ)). flow t.hold ++ flow messages) (sym (messages_in-append t.items (released ∷ []) ∙ append-nil (messages_in t.items))) in
     record {
-      follows = Follows-line (ap (λ (parts : List (List ℕ)). (flow l.taken ++ flow l.out) ++ parts) (parts-within before t e after (l.serving ∷ l.target ∷ []) part refl)) alive.follows;
-      first = FirstRelays-at l.is_confirmed before t e after l.serving.hold refl alive.first;
+      follows = follows_line (ap (λ (parts : List (List ℕ)). (flow l.taken ++ flow l.out) ++ parts) (parts-within before t e after (l.serving ∷ l.target ∷ []) part refl)) alive.follows;
+      first = first_relays_at l.is_confirmed before t e after l.serving.hold refl alive.first;
       stands = alive.stands;
       condition = subst (λ (b : Bool). Condition l.seat b l.serving.is_lost l.target.is_lost l.is_intact) (some_lost-at before t e after refl) alive.condition;
       bare = alive.bare;
     }
-Alive-change (releases l before t after) alive = record {
-  follows = Follows-line (ap (λ (parts : List (List ℕ)). (flow l.taken ++ flow l.out) ++ parts) (parts-within before (with_items t (released ∷ [])) (done t) after (l.serving ∷ l.target ∷ []) refl refl)) alive.follows;
-  first = FirstRelays-at l.is_confirmed before (with_items t (released ∷ [])) (done t) after l.serving.hold refl alive.first;
+alive_change (releases l before t after) alive = record {
+  follows = follows_line (ap (λ (parts : List (List ℕ)). (flow l.taken ++ flow l.out) ++ parts) (parts-within before (with_items t (released ∷ [])) (done t) after (l.serving ∷ l.target ∷ []) refl refl)) alive.follows;
+  first = first_relays_at l.is_confirmed before (with_items t (released ∷ [])) (done t) after l.serving.hold refl alive.first;
   stands = alive.stands;
   condition = subst (λ (b : Bool). Condition l.seat b l.serving.is_lost l.target.is_lost l.is_intact) (some_lost-at before (with_items t (released ∷ [])) (done t) after refl) alive.condition;
   bare = alive.bare;
 }
-Alive-change (leaves_to_old l hold next others) alive = record {
-  follows = Follows-line
+alive_change (leaves_to_old l hold next others) alive = record {
+  follows = follows_line
       (ap (λ (held : List (List ℕ)). (flow l.taken ++ flow l.out) ++ ((flow held ++ []) ++ parts_of ((next ∷ others) ++ l.serving ∷ l.target ∷ []))) alive.first
       ∙ hold_relayed (flow l.taken) l.out next.hold (flow (messages_in next.items)) _)
       alive.follows;
@@ -76,8 +76,8 @@ Alive-change (leaves_to_old l hold next others) alive = record {
   condition = alive.condition;
   bare = alive.bare;
 }
-Alive-change (leaves_to_serving l hold) alive = record {
-  follows = Follows-line
+alive_change (leaves_to_serving l hold) alive = record {
+  follows = follows_line
       (ap (λ (held : List (List ℕ)). (flow l.taken ++ flow l.out) ++ ((flow held ++ []) ++ parts_of (l.serving ∷ l.target ∷ []))) alive.first
       ∙ hold_relayed (flow l.taken) l.out l.serving.hold (flow (messages_in l.serving.items)) _)
       alive.follows;

@@ -59,14 +59,14 @@ parts-tail [] xs ys same = same
 parts-tail (t ∷ before) xs ys same = ap (λ (list : List (List ℕ)). part_of t ++ cond t.is_lost [] list) (parts-tail before xs ys same)
 
 -- behind a lost one nothing counts
-lost-step : (b c : Bool) (part p q : List (List ℕ)) → (b || c) ≡ true → (c ≡ true → p ≡ q) → part ++ cond b [] p ≡ part ++ cond b [] q
-lost-step true c part p q some same = refl
-lost-step false c part p q some same = ap (λ (list : List (List ℕ)). part ++ list) (same some)
+lost_step : (b c : Bool) (part p q : List (List ℕ)) → (b || c) ≡ true → (c ≡ true → p ≡ q) → part ++ cond b [] p ≡ part ++ cond b [] q
+lost_step true c part p q some same = refl
+lost_step false c part p q some same = ap (λ (list : List (List ℕ)). part ++ list) (same some)
 
 pub parts-lost : (before xs ys : List Tenure) → some_lost before ≡ true → parts_of (before ++ xs) ≡ parts_of (before ++ ys)
 parts-lost [] xs ys some = absurd cc
 parts-lost (t ∷ before) xs ys some =
-    lost-step t.is_lost (some_lost before) (part_of t) (parts_of (before ++ xs)) (parts_of (before ++ ys)) some (parts-lost before xs ys)
+    lost_step t.is_lost (some_lost before) (part_of t) (parts_of (before ++ xs)) (parts_of (before ++ ys)) some (parts-lost before xs ys)
 
 -- behind whole ones all counts
 pub none_lost : (b c : Bool) → (b || c) ≡ false → (b ≡ false) × (c ≡ false)
@@ -83,19 +83,19 @@ parts-whole (t ∷ before) xs ys zs none more =
     ∙ ap (λ (list : List (List ℕ)). (part_of t ++ list) ++ zs) (sym (cond-false t.is_lost [] (parts_of (before ++ ys)) both.0))
 
 -- a front stays a front
-front-step : (b : Bool) (part p q zs : List (List ℕ)) → p ≡ q ++ zs → (more : List (List ℕ)) × (part ++ cond b [] p ≡ (part ++ cond b [] q) ++ more)
-front-step true part p q zs front = ([], sym (append-nil (part ++ [])))
-front-step false part p q zs front = (zs, ap (λ (list : List (List ℕ)). part ++ list) front ∙ sym (append_assoc part q zs))
+front_step : (b : Bool) (part p q zs : List (List ℕ)) → p ≡ q ++ zs → (more : List (List ℕ)) × (part ++ cond b [] p ≡ (part ++ cond b [] q) ++ more)
+front_step true part p q zs front = ([], sym (append-nil (part ++ [])))
+front_step false part p q zs front = (zs, ap (λ (list : List (List ℕ)). part ++ list) front ∙ sym (append_assoc part q zs))
 
-pub parts-front : (before xs ys : List Tenure) (zs : List (List ℕ)) → parts_of xs ≡ parts_of ys ++ zs → (more : List (List ℕ)) × (parts_of (before ++ xs) ≡ parts_of (before ++ ys) ++ more)
-parts-front [] xs ys zs front = (zs, front)
-parts-front (t ∷ before) xs ys zs front =
-    let rec = parts-front before xs ys zs front in
-    front-step t.is_lost (part_of t) (parts_of (before ++ xs)) (parts_of (before ++ ys)) rec.0 rec.1
+pub parts_front : (before xs ys : List Tenure) (zs : List (List ℕ)) → parts_of xs ≡ parts_of ys ++ zs → (more : List (List ℕ)) × (parts_of (before ++ xs) ≡ parts_of (before ++ ys) ++ more)
+parts_front [] xs ys zs front = (zs, front)
+parts_front (t ∷ before) xs ys zs front =
+    let rec = parts_front before xs ys zs front in
+    front_step t.is_lost (part_of t) (parts_of (before ++ xs)) (parts_of (before ++ ys)) rec.0 rec.1
 
 -- of a channel that breaks a front is left
-pub parts-broken : (t : Tenure) (items dropped : List Item) (after : List Tenure) → (more : List (List ℕ)) × (parts_of (with_items t (items ++ dropped) ∷ after) ≡ parts_of (lost t items ∷ after) ++ more)
-parts-broken t items dropped after =
+pub parts_broken : (t : Tenure) (items dropped : List Item) (after : List Tenure) → (more : List (List ℕ)) × (parts_of (with_items t (items ++ dropped) ∷ after) ≡ parts_of (lost t items ∷ after) ++ more)
+parts_broken t items dropped after =
     let rest : List (List ℕ) = cond t.is_lost [] (parts_of after) in (
       flow (messages_in dropped) ++ rest,
       rw (messages_in-append items dropped, flow-append (messages_in items) (messages_in dropped)) (simp (append_assoc, append-nil) refl),
@@ -111,57 +111,57 @@ pub some_lost-at : (before : List Tenure) (d e : Tenure) (after : List Tenure) �
 some_lost-at [] d e after same = ap (λ (b : Bool). b || some_lost after) same
 some_lost-at (t ∷ before) d e after same = ap (λ (b : Bool). t.is_lost || b) (some_lost-at before d e after same)
 
-or-true : (b : Bool) → (b || true) ≡ true
-or-true true = refl
-or-true false = refl
+or_true : (b : Bool) → (b || true) ≡ true
+or_true true = refl
+or_true false = refl
 
 pub some_lost-here : (before : List Tenure) (d : Tenure) (after : List Tenure) → d.is_lost ≡ true → some_lost (before ++ d ∷ after) ≡ true
 some_lost-here [] d after here = ap (λ (b : Bool). b || some_lost after) here
-some_lost-here (t ∷ before) d after here = ap (λ (b : Bool). t.is_lost || b) (some_lost-here before d after here) ∙ or-true t.is_lost
+some_lost-here (t ∷ before) d after here = ap (λ (b : Bool). t.is_lost || b) (some_lost-here before d after here) ∙ or_true t.is_lost
 
-or-false : (b : Bool) → (b || false) ≡ b
-or-false true = refl
-or-false false = refl
+or_false : (b : Bool) → (b || false) ≡ b
+or_false true = refl
+or_false false = refl
 
-or-assoc : (a b c : Bool) → (a || (b || c)) ≡ ((a || b) || c)
-or-assoc true b c = refl
-or-assoc false b c = refl
+or_assoc : (a b c : Bool) → (a || (b || c)) ≡ ((a || b) || c)
+or_assoc true b c = refl
+or_assoc false b c = refl
 
 pub some_lost-push : (before : List Tenure) (d : Tenure) → some_lost (before ++ d ∷ []) ≡ (some_lost before || d.is_lost)
-some_lost-push [] d = or-false d.is_lost
-some_lost-push (t ∷ before) d = ap (λ (b : Bool). t.is_lost || b) (some_lost-push before d) ∙ or-assoc t.is_lost (some_lost before) d.is_lost
+some_lost-push [] d = or_false d.is_lost
+some_lost-push (t ∷ before) d = ap (λ (b : Bool). t.is_lost || b) (some_lost-push before d) ∙ or_assoc t.is_lost (some_lost before) d.is_lost
 
 -- ---- what is held of the oldest
 
-pub FirstRelays-at : (confirmed : Bool) (before : List Tenure) (d e : Tenure) (after : List Tenure) (hold : List (List ℕ)) → d.hold ≡ e.hold → FirstRelays confirmed (before ++ d ∷ after) hold → FirstRelays confirmed (before ++ e ∷ after) hold
-FirstRelays-at confirmed [] d e after hold same first = sym same ∙ first
-FirstRelays-at confirmed (t ∷ before) d e after hold same first = first
+pub first_relays_at : (confirmed : Bool) (before : List Tenure) (d e : Tenure) (after : List Tenure) (hold : List (List ℕ)) → d.hold ≡ e.hold → FirstRelays confirmed (before ++ d ∷ after) hold → FirstRelays confirmed (before ++ e ∷ after) hold
+first_relays_at confirmed [] d e after hold same first = sym same ∙ first
+first_relays_at confirmed (t ∷ before) d e after hold same first = first
 
-pub FirstRelays-push : (old : List Tenure) (t : Tenure) (hold : List (List ℕ)) → FirstRelays true old t.hold → FirstRelays true (old ++ t ∷ []) hold
-FirstRelays-push [] t hold first = first refl
-FirstRelays-push (o ∷ old) t hold first = first
+pub first_relays_push : (old : List Tenure) (t : Tenure) (hold : List (List ℕ)) → FirstRelays true old t.hold → FirstRelays true (old ++ t ∷ []) hold
+first_relays_push [] t hold first = first refl
+first_relays_push (o ∷ old) t hold first = first
 
 -- ---- counts
 
 pub controls-append : (xs ys : List (List ℕ)) → controls_of (xs ++ ys) ≡ controls_of xs + controls_of ys
 controls-append xs ys = ap length (filter-append is_control xs ys) ∙ length-append (filter is_control xs) (filter is_control ys)
 
-pub controls-behind : (x : List ℕ) (xs : List (List ℕ)) → controls_of xs ≤ controls_of (x ∷ xs)
-controls-behind x xs = let sum = controls-append (x ∷ []) xs in omega arith
+pub controls_behind : (x : List ℕ) (xs : List (List ℕ)) → controls_of xs ≤ controls_of (x ∷ xs)
+controls_behind x xs = let sum = controls-append (x ∷ []) xs in omega arith
 
-pub texts-behind : (x : List ℕ) (xs : List (List ℕ)) → length (flow xs) ≤ length (flow (x ∷ xs))
-texts-behind x xs = let sum = ap length (flow-cons x xs) ∙ length-append (flow (x ∷ [])) (flow xs) in omega arith
+pub texts_behind : (x : List ℕ) (xs : List (List ℕ)) → length (flow xs) ≤ length (flow (x ∷ xs))
+texts_behind x xs = let sum = ap length (flow-cons x xs) ∙ length-append (flow (x ∷ [])) (flow xs) in omega arith
 
-pub controls-first : (x : List ℕ) (xs : List (List ℕ)) → is_control x ≡ true → controls_of xs + 1 ≤ controls_of (x ∷ xs)
-controls-first x xs is = let count = ap length (cond-true (is_control x) (x ∷ filter is_control xs) (filter is_control xs) is) in omega arith
+pub controls_first : (x : List ℕ) (xs : List (List ℕ)) → is_control x ≡ true → controls_of xs + 1 ≤ controls_of (x ∷ xs)
+controls_first x xs is = let count = ap length (cond-true (is_control x) (x ∷ filter is_control xs) (filter is_control xs) is) in omega arith
 
-pub controls-front : (xs ys : List Item) → controls_in xs ≤ controls_in (xs ++ ys)
-controls-front xs ys =
+pub controls_front : (xs ys : List Item) → controls_in xs ≤ controls_in (xs ++ ys)
+controls_front xs ys =
     let sum : controls_in (xs ++ ys) ≡ controls_in xs + controls_in ys = ap controls_of (messages_in-append xs ys) ∙ controls-append (messages_in xs) (messages_in ys) in
     omega arith
 
-pub texts-front : (xs ys : List Item) → texts_in xs ≤ texts_in (xs ++ ys)
-texts-front xs ys =
+pub texts_front : (xs ys : List Item) → texts_in xs ≤ texts_in (xs ++ ys)
+texts_front xs ys =
     let sum : texts_in (xs ++ ys) ≡ texts_in xs + texts_in ys =
     ap (λ (list : List (List ℕ)). length (flow list)) (messages_in-append xs ys) ∙ ap length (flow-append (messages_in xs) (messages_in ys))
     ∙ length-append (flow (messages_in xs)) (flow (messages_in ys)) in

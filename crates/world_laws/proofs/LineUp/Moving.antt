@@ -18,26 +18,26 @@ use Rattle.world_laws.specs.LineUp.MobileStep.MobileStep.{follows_command, loses
 use Rattle.world_laws.specs.LineUp.MobileStep.MobileStep.{dismissed_from_target}
 use Rattle.world_laws.proofs.LineUp.Lines.{messages_in-append, controls-append, parts-whole, parts-lost, parts-tail, part-push, bare_target}
 use Rattle.world_laws.proofs.LineUp.Lines.{last_part}
-use Rattle.world_laws.proofs.LineUp.Standing.{Stands-fewer, Stands-link, Stands-taken_on_serving, Stands-taken_on_target, Stands-follows}
-use Rattle.world_laws.proofs.LineUp.Standing.{Stands-arrives, Stands-returns, Stands-dismissed_from_serving, Stands-dismissed_from_target}
-use Rattle.world_laws.proofs.LineUp.Standing.{Stands-no_texts}
-use Rattle.world_laws.proofs.LineUp.Conditions.{Condition-intact, Condition-on_serving, Condition-on_target, Condition-follows}
-use Rattle.world_laws.proofs.LineUp.Conditions.{Condition-arrives, Condition-returns}
-use Rattle.world_laws.proofs.LineUp.Following.{Follows-rise, Follows-link, Follows-sent, Follows-taken}
+use Rattle.world_laws.proofs.LineUp.Standing.{stands_fewer, stands_link, stands_taken_on_serving, stands_taken_on_target, stands_follows}
+use Rattle.world_laws.proofs.LineUp.Standing.{stands_arrives, stands_returns, stands_dismissed_from_serving, stands_dismissed_from_target}
+use Rattle.world_laws.proofs.LineUp.Standing.{stands_no_texts}
+use Rattle.world_laws.proofs.LineUp.Conditions.{condition_intact, condition_on_serving, condition_on_target, condition_follows}
+use Rattle.world_laws.proofs.LineUp.Conditions.{condition_arrives, condition_returns}
+use Rattle.world_laws.proofs.LineUp.Following.{follows_rise, follows_link, follows_sent, follows_taken}
 
 -- ---- control messages of the link
 
 -- a message of the flow isn't one
-pub flow-no_control : (x : List ℕ) → is_flow_message x ≡ true → is_control x ≡ false
-flow-no_control x flow =
+pub flow_no_control : (x : List ℕ) → is_flow_message x ≡ true → is_control x ≡ false
+flow_no_control x flow =
     elim (cases_Bool (is_control x)) [
       | inl control ↦ let apart = is_control-apart x control in absurd cc
       | inr other ↦ other
     ]
 
 -- a message that isn't one waits
-pub controls-waits : (link : DataLinkState) (x : List ℕ) → is_control x ≡ false → controls_of (to_be_taken (waits link x)) ≤ controls_of (to_be_taken link)
-controls-waits link x other =
+pub controls_waits : (link : DataLinkState) (x : List ℕ) → is_control x ≡ false → controls_of (to_be_taken (waits link x)) ≤ controls_of (to_be_taken link)
+controls_waits link x other =
     let sum = ap controls_of (to_be_taken-waits link x) ∙ controls-append (to_be_taken link) (x ∷ []) in
     let none = ap length (cond-false (is_control x) (x ∷ []) [] other) in
     omega arith
@@ -90,86 +90,86 @@ passes_target : (old : List Tenure) (serving t : Tenure) (x : List ℕ) → (som
 passes_target old serving t x (inl some) = parts-lost old _ _ some
 passes_target old serving t x (inr lost) = parts-tail old _ _ (parts-lost (serving ∷ []) (with_items t (t.items ++ brought x ∷ []) ∷ []) (t ∷ []) (ap (λ (b : Bool). b || false) lost))
 
-pub Alive-mobile : {m : ℕ} {before after : LineUp} → MobileStep m before after → Alive m before → Alive m after
-Alive-mobile {m} (sends_numbered l x clear) alive = record {
-  follows = Follows-sent (x ∷ []) (GoesOn-numbered l.link x clear) alive.follows;
+pub alive_mobile : {m : ℕ} {before after : LineUp} → MobileStep m before after → Alive m before → Alive m after
+alive_mobile {m} (sends_numbered l x clear) alive = record {
+  follows = follows_sent (x ∷ []) (GoesOn-numbered l.link x clear) alive.follows;
   first = alive.first;
-  stands = Stands-link (controls-waits l.link (with_number (length l.sent % m) x) (flow-no_control (with_number (length l.sent % m) x) (is_flow-with_number (length l.sent % m) x ∙ clear.is_flow))) alive.stands;
+  stands = stands_link (controls_waits l.link (with_number (length l.sent % m) x) (flow_no_control (with_number (length l.sent % m) x) (is_flow-with_number (length l.sent % m) x ∙ clear.is_flow))) alive.stands;
   condition = alive.condition;
   bare = alive.bare;
 }
-Alive-mobile (sends_other l x apart other) alive = record {
-  follows = Follows-link (GoesOn-unnumbered l.link x apart) alive.follows;
+alive_mobile (sends_other l x apart other) alive = record {
+  follows = follows_link (GoesOn-unnumbered l.link x apart) alive.follows;
   first = alive.first;
-  stands = Stands-link (controls-waits l.link x other) alive.stands;
+  stands = stands_link (controls_waits l.link x other) alive.stands;
   condition = alive.condition;
   bare = alive.bare;
 }
-Alive-mobile (taken_on_serving l x lent whole) alive =
-    let bare : parts_of (l.target ∷ []) ≡ [] = bare_target l.target alive.bare (Stands-no_texts alive.stands) in
+alive_mobile (taken_on_serving l x lent whole) alive =
+    let bare : parts_of (l.target ∷ []) ≡ [] = bare_target l.target alive.bare (stands_no_texts alive.stands) in
     let front : List (List ℕ) = flow l.taken ++ flow l.out in
     record {
       follows =
-          Follows-taken (line l) _ l.link x lent
-          (λ intact. ap (λ (parts : List (List ℕ)). front ++ parts) (joins_serving l.old l.serving l.target x (Condition-intact intact alive.condition).0 bare)
+          follows_taken (line l) _ l.link x lent
+          (λ intact. ap (λ (parts : List (List ℕ)). front ++ parts) (joins_serving l.old l.serving l.target x (condition_intact intact alive.condition).0 bare)
           ∙ sym (append_assoc front (parts_of (l.old ++ l.serving ∷ l.target ∷ [])) (flow (x ∷ []))))
-          (λ isnt. ap (λ (parts : List (List ℕ)). front ++ parts) (parts-lost l.old _ _ (Condition-on_serving isnt whole alive.condition)))
+          (λ isnt. ap (λ (parts : List (List ℕ)). front ++ parts) (parts-lost l.old _ _ (condition_on_serving isnt whole alive.condition)))
           alive.follows;
       first = alive.first;
-      stands = Stands-taken_on_serving (controls-lent l.link x l.serving.items lent) alive.stands;
+      stands = stands_taken_on_serving (controls-lent l.link x l.serving.items lent) alive.stands;
       condition = alive.condition;
       bare = alive.bare;
     }
-Alive-mobile (taken_on_target l x lent whole) alive =
+alive_mobile (taken_on_target l x lent whole) alive =
     let front : List (List ℕ) = flow l.taken ++ flow l.out in
     record {
       follows =
-          Follows-taken (line l) _ l.link x lent
+          follows_taken (line l) _ l.link x lent
           (λ intact.
-          let none = Condition-intact intact alive.condition in
+          let none = condition_intact intact alive.condition in
           ap (λ (parts : List (List ℕ)). front ++ parts) (joins_target l.old l.serving l.target x none.0 none.1)
           ∙ sym (append_assoc front (parts_of (l.old ++ l.serving ∷ l.target ∷ [])) (flow (x ∷ []))))
-          (λ isnt. ap (λ (parts : List (List ℕ)). front ++ parts) (passes_target l.old l.serving l.target x (Condition-on_target isnt whole alive.condition)))
+          (λ isnt. ap (λ (parts : List (List ℕ)). front ++ parts) (passes_target l.old l.serving l.target x (condition_on_target isnt whole alive.condition)))
           alive.follows;
       first = alive.first;
-      stands = Stands-taken_on_target (controls-lent l.link x l.target.items lent) alive.stands;
+      stands = stands_taken_on_target (controls-lent l.link x l.target.items lent) alive.stands;
       condition = alive.condition;
       bare = alive.bare;
     }
-Alive-mobile (acknowledged l) alive =
+alive_mobile (acknowledged l) alive =
     let same = ap controls_of (to_be_taken-acknowledged l.link.waiting l.link.air) in
     record {
-      follows = Follows-link (GoesOn-acknowledged l.link) alive.follows;
+      follows = follows_link (GoesOn-acknowledged l.link) alive.follows;
       first = alive.first;
-      stands = Stands-link (omega arith) alive.stands;
+      stands = stands_link (omega arith) alive.stands;
       condition = alive.condition;
       bare = alive.bare;
     }
-Alive-mobile (follows_command l) alive = record { follows = alive.follows; first = alive.first; stands = Stands-follows alive.stands; condition = Condition-follows alive.condition; bare = alive.bare }
-Alive-mobile (loses_command l) alive = record {
+alive_mobile (follows_command l) alive = record { follows = alive.follows; first = alive.first; stands = stands_follows alive.stands; condition = condition_follows alive.condition; bare = alive.bare }
+alive_mobile (loses_command l) alive = record {
   follows = alive.follows;
   first = alive.first;
-  stands = Stands-fewer (omega arith) (omega arith) (omega arith) (omega arith) (omega arith) alive.stands;
+  stands = stands_fewer (omega arith) (omega arith) (omega arith) (omega arith) (omega arith) alive.stands;
   condition = alive.condition;
   bare = alive.bare;
 }
-Alive-mobile (arrives l complete is) alive = record {
-  follows = Follows-link (GoesOn-resumed l.link complete is) alive.follows;
+alive_mobile (arrives l complete is) alive = record {
+  follows = follows_link (GoesOn-resumed l.link complete is) alive.follows;
   first = alive.first;
-  stands = Stands-arrives (controls-resumed l.link complete is) alive.stands;
-  condition = Condition-arrives alive.condition;
+  stands = stands_arrives (controls-resumed l.link complete is) alive.stands;
+  condition = condition_arrives alive.condition;
   bare = alive.bare;
 }
-Alive-mobile (returns l failure is) alive = record {
-  follows = Follows-link (GoesOn-resumed l.link failure is) alive.follows;
+alive_mobile (returns l failure is) alive = record {
+  follows = follows_link (GoesOn-resumed l.link failure is) alive.follows;
   first = alive.first;
-  stands = Stands-returns (controls-resumed l.link failure is) alive.stands;
-  condition = Condition-returns alive.condition;
+  stands = stands_returns (controls-resumed l.link failure is) alive.stands;
+  condition = condition_returns alive.condition;
   bare = alive.bare;
 }
-Alive-mobile (dismissed_from_serving l) alive =
-    let rise = Follows-rise alive.follows in
-    record { follows = rises rise.0 rise.1; first = alive.first; stands = Stands-dismissed_from_serving alive.stands; condition = left_the_cell; bare = alive.bare }
-Alive-mobile (dismissed_from_target l) alive =
-    let rise = Follows-rise alive.follows in
-    record { follows = rises rise.0 rise.1; first = alive.first; stands = Stands-dismissed_from_target alive.stands; condition = left_the_cell; bare = alive.bare }
+alive_mobile (dismissed_from_serving l) alive =
+    let rise = follows_rise alive.follows in
+    record { follows = rises rise.0 rise.1; first = alive.first; stands = stands_dismissed_from_serving alive.stands; condition = left_the_cell; bare = alive.bare }
+alive_mobile (dismissed_from_target l) alive =
+    let rise = follows_rise alive.follows in
+    record { follows = rises rise.0 rise.1; first = alive.first; stands = stands_dismissed_from_target alive.stands; condition = left_the_cell; bare = alive.bare }

@@ -7,81 +7,81 @@ use Rattle.world_laws.specs.LineUp.RelayStep.{RelayStep}
 use Rattle.world_laws.specs.LineUp.RelayStep.RelayStep.{relays_serving, holds_before_confirm, holds_serving, relays_oldest, holds_old}
 use Rattle.world_laws.specs.LineUp.RelayStep.RelayStep.{ignores_serving, ignores_old, ignores_target, confirms, switch_takes}
 use Rattle.world_laws.proofs.LineUp.Lines.{flow-apart, relayed, held, hold_relayed, switch_taken, parts-at, parts-within, parts-tail}
-use Rattle.world_laws.proofs.LineUp.Lines.{some_lost-at, FirstRelays-at, controls-behind, texts-behind}
-use Rattle.world_laws.proofs.LineUp.Standing.{Stands-serving, Stands-target}
-use Rattle.world_laws.proofs.LineUp.Following.{Follows-line}
+use Rattle.world_laws.proofs.LineUp.Lines.{some_lost-at, first_relays_at, controls_behind, texts_behind}
+use Rattle.world_laws.proofs.LineUp.Standing.{stands_serving, stands_target}
+use Rattle.world_laws.proofs.LineUp.Following.{follows_line}
 
-pub Alive-relay : {m : ℕ} {before after : LineUp} → RelayStep before after → Alive m before → Alive m after
-Alive-relay (relays_serving l t x items) alive = record {
-  follows = Follows-line (relayed (flow l.taken) l.out t.hold x (messages_in items) _ (alive.first refl)) alive.follows;
+pub alive_relay : {m : ℕ} {before after : LineUp} → RelayStep before after → Alive m before → Alive m after
+alive_relay (relays_serving l t x items) alive = record {
+  follows = follows_line (relayed (flow l.taken) l.out t.hold x (messages_in items) _ (alive.first refl)) alive.follows;
   first = alive.first;
-  stands = Stands-serving (controls-behind x (messages_in items)) alive.stands;
+  stands = stands_serving (controls_behind x (messages_in items)) alive.stands;
   condition = alive.condition;
   bare = alive.bare;
 }
-Alive-relay (holds_before_confirm l t x items) alive = record {
-  follows = Follows-line (ap (λ (parts : List (List ℕ)). (flow l.taken ++ flow l.out) ++ parts) (parts-at [] (with_items t (brought x ∷ items)) (holding t x items) (l.target ∷ []) (held t.hold x (messages_in items)) refl)) alive.follows;
+alive_relay (holds_before_confirm l t x items) alive = record {
+  follows = follows_line (ap (λ (parts : List (List ℕ)). (flow l.taken ++ flow l.out) ++ parts) (parts-at [] (with_items t (brought x ∷ items)) (holding t x items) (l.target ∷ []) (held t.hold x (messages_in items)) refl)) alive.follows;
   first = λ confirmed. absurd cc;
-  stands = Stands-serving (controls-behind x (messages_in items)) alive.stands;
+  stands = stands_serving (controls_behind x (messages_in items)) alive.stands;
   condition = alive.condition;
   bare = alive.bare;
 }
-Alive-relay (holds_serving l oldest others t x items) alive = record {
-  follows = Follows-line (ap (λ (parts : List (List ℕ)). (flow l.taken ++ flow l.out) ++ parts) (parts-at (oldest ∷ others) (with_items t (brought x ∷ items)) (holding t x items) (l.target ∷ []) (held t.hold x (messages_in items)) refl)) alive.follows;
+alive_relay (holds_serving l oldest others t x items) alive = record {
+  follows = follows_line (ap (λ (parts : List (List ℕ)). (flow l.taken ++ flow l.out) ++ parts) (parts-at (oldest ∷ others) (with_items t (brought x ∷ items)) (holding t x items) (l.target ∷ []) (held t.hold x (messages_in items)) refl)) alive.follows;
   first = alive.first;
-  stands = Stands-serving (controls-behind x (messages_in items)) alive.stands;
+  stands = stands_serving (controls_behind x (messages_in items)) alive.stands;
   condition = alive.condition;
   bare = alive.bare;
 }
-Alive-relay (relays_oldest l t others x items) alive = record {
-  follows = Follows-line (relayed (flow l.taken) l.out t.hold x (messages_in items) _ alive.first) alive.follows;
+alive_relay (relays_oldest l t others x items) alive = record {
+  follows = follows_line (relayed (flow l.taken) l.out t.hold x (messages_in items) _ alive.first) alive.follows;
   first = alive.first;
   stands = alive.stands;
   condition = alive.condition;
   bare = alive.bare;
 }
-Alive-relay {m} (holds_old l oldest before t after x items) alive = record {
-  follows = Follows-line (ap (λ (parts : List (List ℕ)). (flow l.taken ++ flow l.out) ++ parts)
+alive_relay {m} (holds_old l oldest before t after x items) alive = record {
+  follows = follows_line (ap (λ (parts : List (List ℕ)). (flow l.taken ++ flow l.out) ++ parts)
       (parts-within (oldest ∷ before) (with_items t (brought x ∷ items)) (holding t x items) after (l.serving ∷ l.target ∷ []) (held t.hold x (messages_in items)) refl)) alive.follows;
   first = alive.first;
   stands = alive.stands;
   condition = subst (λ b. Condition l.seat b l.serving.is_lost l.target.is_lost l.is_intact) (some_lost-at (oldest ∷ before) (with_items t (brought x ∷ items)) (holding t x items) after refl) alive.condition;
   bare = alive.bare;
 }
-Alive-relay (ignores_serving l t x items apart) alive = record {
-  follows = Follows-line (ap (λ (parts : List (List ℕ)). (flow l.taken ++ flow l.out) ++ parts)
+alive_relay (ignores_serving l t x items apart) alive = record {
+  follows = follows_line (ap (λ (parts : List (List ℕ)). (flow l.taken ++ flow l.out) ++ parts)
       (parts-at l.old (with_items t (brought x ∷ items)) (with_items t items) (l.target ∷ []) (ap (λ (list : List (List ℕ)). flow t.hold ++ list) (flow-apart x (messages_in items) apart)) refl)) alive.follows;
   first = alive.first;
-  stands = Stands-serving (controls-behind x (messages_in items)) alive.stands;
+  stands = stands_serving (controls_behind x (messages_in items)) alive.stands;
   condition = alive.condition;
   bare = alive.bare;
 }
-Alive-relay (ignores_old l before t after x items apart) alive = record {
-  follows = Follows-line (ap (λ (parts : List (List ℕ)). (flow l.taken ++ flow l.out) ++ parts)
+alive_relay (ignores_old l before t after x items apart) alive = record {
+  follows = follows_line (ap (λ (parts : List (List ℕ)). (flow l.taken ++ flow l.out) ++ parts)
       (parts-within before (with_items t (brought x ∷ items)) (with_items t items) after (l.serving ∷ l.target ∷ []) (ap (λ (list : List (List ℕ)). flow t.hold ++ list) (flow-apart x (messages_in items) apart)) refl)) alive.follows;
-  first = FirstRelays-at l.is_confirmed before (with_items t (brought x ∷ items)) (with_items t items) after l.serving.hold refl alive.first;
+  first = first_relays_at l.is_confirmed before (with_items t (brought x ∷ items)) (with_items t items) after l.serving.hold refl alive.first;
   stands = alive.stands;
   condition = subst (λ b. Condition l.seat b l.serving.is_lost l.target.is_lost l.is_intact) (some_lost-at before (with_items t (brought x ∷ items)) (with_items t items) after refl) alive.condition;
   bare = alive.bare;
 }
-Alive-relay (ignores_target l t x items apart) alive = record {
-  follows = Follows-line (ap (λ (parts : List (List ℕ)). (flow l.taken ++ flow l.out) ++ parts)
+alive_relay (ignores_target l t x items apart) alive = record {
+  follows = follows_line (ap (λ (parts : List (List ℕ)). (flow l.taken ++ flow l.out) ++ parts)
       (parts-tail l.old (l.serving ∷ with_items t (brought x ∷ items) ∷ []) (l.serving ∷ with_items t items ∷ [])
       (parts-at (l.serving ∷ []) (with_items t (brought x ∷ items)) (with_items t items) [] (ap (λ (list : List (List ℕ)). flow t.hold ++ list) (flow-apart x (messages_in items) apart)) refl))) alive.follows;
   first = alive.first;
-  stands = Stands-target (texts-behind x (messages_in items)) (controls-behind x (messages_in items)) alive.stands;
+  stands = stands_target (texts_behind x (messages_in items)) (controls_behind x (messages_in items)) alive.stands;
   condition = alive.condition;
   bare = alive.bare;
 }
-Alive-relay (confirms l t) alive = record {
-  follows = Follows-line (hold_relayed (flow l.taken) l.out t.hold (flow (messages_in t.items)) _) alive.follows;
+alive_relay (confirms l t) alive = record {
+  follows = follows_line (hold_relayed (flow l.taken) l.out t.hold (flow (messages_in t.items)) _) alive.follows;
   first = λ confirmed. refl;
   stands = alive.stands;
   condition = alive.condition;
   bare = alive.bare;
 }
-Alive-relay (switch_takes l x out) alive = record {
-  follows = Follows-line (switch_taken l.taken x out _) alive.follows;
+alive_relay (switch_takes l x out) alive = record {
+  follows = follows_line (switch_taken l.taken x out _) alive.follows;
   first = alive.first;
   stands = alive.stands;
   condition = alive.condition;

@@ -21,7 +21,7 @@ use Rattle.world_laws.specs.LineUp.BreakStep.BreakStep.{breaks_target}
 use Rattle.world_laws.specs.LineUp.Steps.{Steps}
 use Rattle.world_laws.specs.LineUp.Steps.Step.{by_mobile, by_relaying, by_change, by_break}
 use Rattle.world_laws.specs.LineUp.Steps.Steps.{none, first}
-use Rattle.world_laws.proofs.LineUp.Ordering.{IsInOrder-alive}
+use Rattle.world_laws.proofs.LineUp.Ordering.{is_in_order_alive}
 use Rattle.world_laws.proofs.Usual.{paging_response, opening_sent}
 
 -- what the upper layers sent, and each message with its number modulo 4
@@ -192,14 +192,14 @@ abbrev with_taken : List (List ℕ) → LineUp
 with_taken taken = record in_handover { taken = taken; out = [] }
 
 gap_of_two : Alive 4 (with_taken (m0 ∷ m2 ∷ [])) → ⊥
-gap_of_two alive = let order = (IsInOrder-alive (omega arith) alive).no_gap in cc
+gap_of_two alive = let order = (is_in_order_alive (omega arith) alive).no_gap in cc
 
 -- from the last but one on it is no repeat
 two_back : Alive 4 (with_taken (m0 ∷ m1 ∷ m2 ∷ m1 ∷ [])) → ⊥
-two_back alive = let order = (IsInOrder-alive (omega arith) alive).no_gap in cc
+two_back alive = let order = (is_in_order_alive (omega arith) alive).no_gap in cc
 
 swapped : Alive 4 (with_taken (m1 ∷ m0 ∷ [])) → ⊥
-swapped alive = let order = (IsInOrder-alive (omega arith) alive).no_gap in cc
+swapped alive = let order = (is_in_order_alive (omega arith) alive).no_gap in cc
 
 -- ---- a run: an initial message, CC, a handover on which message 1 comes again, and the old channel's end
 

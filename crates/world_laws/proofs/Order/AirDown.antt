@@ -2,7 +2,7 @@
 use Rattle.world_laws.proofs.Prelude.{◌≡◌, ◌≢◌, inl, inr, ℕ, false, List, [], ◌∷◌, refl, sym, ap, ◌∙◌, subst, cases_Bool, Place}
 use Rattle.world_laws.proofs.Prelude.{SWITCH_LINK, place_at, BaseState, Event, BaseTakes, AirMessage, OutboxEntry, actors_after, Actors}
 use Rattle.world_laws.proofs.Prelude.{Spot, outbox_of, spot_at, with_base, with_spot, up-right, spot-with_base, Respots, event-keeps}
-use Rattle.world_laws.proofs.Targets.Places.{is_place, same-place, spot-apart, spot-here}
+use Rattle.world_laws.proofs.Targets.Places.{is_place, same_place, spot-apart, spot_here}
 use Rattle.world_laws.specs.Order.QuietDown.{NoDataEntry}
 use Rattle.world_model.proofs.Footprints.Respots.{airs, asks_up, counts, goes_down, is_left, short_up}
 
@@ -16,8 +16,8 @@ module _ (at : Place) (at_is : at.station ≢ SWITCH_LINK) where
   spotted : (p : Place) (spot : Spot) (u : Actors) → p.station ≢ SWITCH_LINK → (at ≡ p → spot.air ≡ []) → (is_place at p ≡ false → Empty u) → Empty (with_spot p spot u)
   spotted p spot u p_is here other = elim (cases_Bool (is_place at p)) [
     | inl hit ↦
-        let same : at ≡ p = same-place at p hit in
-        subst (λ (q : Place). (spot_at (with_spot p spot u) q).air ≡ []) (sym same) (elim (spot-here u p spot) [
+        let same : at ≡ p = same_place at p hit in
+        subst (λ (q : Place). (spot_at (with_spot p spot u) q).air ≡ []) (sym same) (elim (spot_here u p spot) [
           | inl is ↦ ap (λ (s : Spot). s.air) is ∙ here same
           | inr none ↦ ap (λ (s : Spot). s.air) none
         ])

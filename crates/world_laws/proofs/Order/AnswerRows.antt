@@ -4,7 +4,7 @@ use Rattle.world_laws.proofs.Prelude.{to_be_taken, BasePush, Connect, Handle, ac
 use Rattle.world_laws.specs.LineUp.Places.{controls_of}
 use Rattle.world_model.proofs.Worlds.{on_literals}
 use Rattle.world_laws.specs.Access.Coming.{behind_first, IsNew}
-use Rattle.world_laws.proofs.Order.Coming.{connected-goes}
+use Rattle.world_laws.proofs.Order.Coming.{connected_goes}
 use Rattle.world_laws.proofs.Usual.{begin, service_request}
 
 -- a mobile that asks with PAGING RESPONSE
@@ -46,17 +46,17 @@ behind_paging = refl
 
 -- so a mobile is new with any initial message
 new_with_service : IsNew 4 (connected 4 7 service_request true)
-new_with_service = record { opens = refl; goes_on = connected-goes 4 service_request refl; no_control = refl }
+new_with_service = record { opens = refl; goes_on = connected_goes 4 service_request refl; no_control = refl }
 
 new_with_paging : IsNew 4 (connected 4 7 paging true)
-new_with_paging = record { opens = refl; goes_on = connected-goes 4 paging refl; no_control = refl }
+new_with_paging = record { opens = refl; goes_on = connected_goes 4 paging refl; no_control = refl }
 
 -- and not with a message of radio resource management behind it
-one-and-none : (n : ℕ) → n ≡ 1 → n ≡ 0 → ⊥
-one-and-none n one none = absurd (omega (arith, one, none))
+one_and_none : (n : ℕ) → n ≡ 1 → n ≡ 0 → ⊥
+one_and_none n one none = absurd (omega (arith, one, none))
 
 not_new_with_paging_behind : (p : Mobile) → to_be_taken p.end.zero ≡ service_request ∷ paging ∷ [] → IsNew 4 p → ⊥
-not_new_with_paging_behind p holds new = one-and-none 1 refl (ap (λ (messages : List (List ℕ)). controls_of (behind_first messages)) (sym holds) ∙ new.no_control)
+not_new_with_paging_behind p holds new = one_and_none 1 refl (ap (λ (messages : List (List ℕ)). controls_of (behind_first messages)) (sym holds) ∙ new.no_control)
 
 -- a connection begins for a mobile with PAGING RESPONSE as for any other
 begun_with_paging : option_map (λ s. s.request.access) (connection_of (actors_after_all begin (Connect 7 1 paging true ∷ BasePush 1 ∷ Handle ∷ [])).controller 1) ≡ Some 7

@@ -21,7 +21,7 @@ use Rattle.controller_model.specs.Controller.{is_up}
 use Rattle.controller_model.specs.Life.{life}
 use Rattle.rsl_codec.specs.declared.rsl.Rsl.TheVariants as rsl
 use Rattle.controller_model.proofs.LifeLaws.Passing.{UsesElsewhere}
-use Rattle.world_laws.proofs.PutAsRead.{still-there}
+use Rattle.world_laws.proofs.PutAsRead.{still_there}
 
 begun_avoids : (at : Place) (begun : Option Target) (roles : Roles) → AreElsewhere at (with_target begun roles) → AllByRecursion (Avoids at) (begin_orders begun)
 begun_avoids at None roles away = tt
@@ -51,7 +51,7 @@ acts_pass number next up brought before after put at (goes old s input offer r i
     subst (AllByRecursion (Avoids at)) (sym put_is)
     (row_passes at s input offer r (changes_of s input offer r stands fits)
     (aged_holds (λ (c : Connection). IsOpen c.state → AreElsewhere at (roles_of c)) (λ ms c away. away) old s aged (subst (UsesElsewhere at) is was))
-    (λ is_open. subst (UsesElsewhere at) (same ∙ still-there r.next.state r.next is_open) now is_open))
+    (λ is_open. subst (UsesElsewhere at) (same ∙ still_there r.next.state r.next is_open) now is_open))
 
 not_same : (at other : Place) → other ≢ at → same_place at other ≡ false
 not_same at other differ = elim (cases_Bool (same_place at other)) [
@@ -107,8 +107,8 @@ pub record OthersPut (m : ℕ) (c : Controller) (s : Step) (at : Place) : Type 0
   pub outs : outs_for m (step c s).outs ≡ outs_of m put
   pub off : AllByRecursion (IsNotOn at) put
 
-pub others-put : (p : Parameters) (steps : List Step) (s : Step) (n m : ℕ) (at : Place) (state : ChannelState) → AreAllowed p → 1 ≤ m → n ≢ m → (InUse m ≡ state → ⊥) → channel_state (life p steps).next at ≡ state → channel_state (step (life p steps).next s).next at ≡ InUse n → OthersPut m (life p steps).next s at
-others-put p steps s n m at state allowed from_one differ differs before used =
+pub others_put : (p : Parameters) (steps : List Step) (s : Step) (n m : ℕ) (at : Place) (state : ChannelState) → AreAllowed p → 1 ≤ m → n ≢ m → (InUse m ≡ state → ⊥) → channel_state (life p steps).next at ≡ state → channel_state (step (life p steps).next s).next at ≡ InUse n → OthersPut m (life p steps).next s at
+others_put p steps s n m at state allowed from_one differ differs before used =
     let c : Controller = (life p steps).next in
     let now = life_after p steps allowed in
     let after = run_step c s now.fits now.holds now.uses in

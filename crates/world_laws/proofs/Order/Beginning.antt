@@ -30,58 +30,58 @@ use Rattle.world_model.specs.Life.{event_after}
 use Rattle.world_model.specs.Relay.{entry_of}
 use Rattle.world_laws.specs.ComingUp.{brings_in, coming_up, made_of}
 use Rattle.world_laws.specs.GoingDown.{going_down, leading_by, leading_from_outbox}
-use Rattle.world_laws.proofs.Others.{down-joined, entry-out, turn-mobiles}
-use Rattle.world_laws.proofs.OrderTexts.{activation_back, read-of}
-use Rattle.world_laws.proofs.OwnerRun.{life-settings, not-zero}
-use Rattle.world_laws.proofs.Sublists.{Sub, sub-behind, sub-nothing}
-use Rattle.world_laws.proofs.Access.Passes.{Passes, passes-itself}
-use Rattle.world_laws.proofs.Access.Travels.{event-passes, is_passing}
+use Rattle.world_laws.proofs.Others.{down-joined, entry-out, turn_mobiles}
+use Rattle.world_laws.proofs.OrderTexts.{activation_back, read_of}
+use Rattle.world_laws.proofs.OwnerRun.{life-settings, not_zero}
+use Rattle.world_laws.proofs.Sublists.{Sub, sub_behind, sub_nothing}
+use Rattle.world_laws.proofs.Access.Passes.{Passes, passes_itself}
+use Rattle.world_laws.proofs.Access.Travels.{event_passes, is_passing}
 use Rattle.world_laws.proofs.Access.Upcoming.{initials-none}
 use Rattle.world_laws.specs.Order.Beginning.{Begins, ConnectionsBegin, HasBegun}
 use Rattle.world_laws.specs.Order.Beginning.HasBegun.{begins as has_begun, not_yet}
 use Rattle.world_laws.specs.Order.Unanswered.{StillAsks, WasNeverAnswered}
-use Rattle.world_laws.proofs.Order.Naming.{step-names, turn-names}
-use Rattle.world_laws.proofs.Order.Opens.{Opens, take-opens, tick-numbers}
+use Rattle.world_laws.proofs.Order.Naming.{step_names, turn_names}
+use Rattle.world_laws.proofs.Order.Opens.{Opens, take_opens, tick_numbers}
 use Rattle.world_laws.proofs.Order.Opens.Opens.{begins as opens_one, stays as opens_none}
-use Rattle.world_laws.proofs.Order.Unanswered.{UnansweredMobilesAsk-new}
+use Rattle.world_laws.proofs.Order.Unanswered.{unanswered_mobiles_ask_new}
 use Rattle.world_laws.specs.Owners.OneEach.{AsksOnce, requests_in, requests_up, said_in}
-use Rattle.world_laws.proofs.Owners.Asking.{asking-says}
+use Rattle.world_laws.proofs.Owners.Asking.{asking_says}
 use Rattle.world_laws.proofs.Owners.Making.{requests-append}
-use Rattle.world_laws.proofs.Owners.OneEach.{NoneWasAnswered-new, RequestsComeOnce-new}
+use Rattle.world_laws.proofs.Owners.OneEach.{none_was_answered_new, requests_come_once_new}
 use Rattle.world_laws.specs.Targets.Quiet.{IsQuiet}
-use Rattle.world_laws.proofs.Targets.FreeQuiet.{FreeChannelsAreQuiet-new}
-use Rattle.world_laws.proofs.Events.{split-steps}
+use Rattle.world_laws.proofs.Targets.FreeQuiet.{free_channels_are_quiet_new}
+use Rattle.world_laws.proofs.Events.{split_steps}
 
 -- ---- the steps of a run
 
 -- ---- the channel that a connection is given is one of the station that asked
 
-in-cell : (p : Parameters) (station : ℕ) (cell : CellParameters) (o : Option ℕ) (c : Channel) → option_map (channel_in p station 0 cell) o ≡ Some c → c.station ≡ station
-in-cell p station cell None c is = absurd cc
-in-cell p station cell (Some n) c is = ap (λ (d : Channel). d.station) (sym (of is)) where
+in_cell : (p : Parameters) (station : ℕ) (cell : CellParameters) (o : Option ℕ) (c : Channel) → option_map (channel_in p station 0 cell) o ≡ Some c → c.station ≡ station
+in_cell p station cell None c is = absurd cc
+in_cell p station cell (Some n) c is = ap (λ (d : Channel). d.station) (sym (of is)) where
   of : (let o : Option Channel = Some (channel_in p station 0 cell n) in o) ≡ Some c → channel_in p station 0 cell n ≡ c
   of is = cc
 
-given-there : (c : Controller) (station : ℕ) (channel : Channel) → access_channel c station ≡ Some channel → (channel.station ≡ station) × (station - 1 < length c.settings.cells)
-given-there c station channel is = elim (cases_Bool (hears c station)) [
+given_there : (c : Controller) (station : ℕ) (channel : Channel) → access_channel c station ≡ Some channel → (channel.station ≡ station) × (station - 1 < length c.settings.cells)
+given_there c station channel is = elim (cases_Bool (hears c station)) [
   | inr miss ↦ absurd (let none : None ≡ Some channel = sym (cond-false _ (free_channel c.settings c.channels station 0 Sdcch) None miss) ∙ is in cc)
   | inl hit ↦ option_and_then_some (channel_of_kind c.settings c.channels station 0 Sdcch) (slice_get c.settings.cells (station - 1)) channel (sym (cond-true _ (free_channel c.settings c.channels station 0 Sdcch) None hit) ∙ is)
-      (λ cell there of. (in-cell c.settings station cell (free_in c.channels station Sdcch cell) channel of, slice_get_within c.settings.cells (station - 1) cell there))
+      (λ cell there of. (in_cell c.settings station cell (free_in c.channels station Sdcch cell) channel of, slice_get_within c.settings.cells (station - 1) cell there))
 ]
 
 -- ---- an activation leads nowhere
 
-activation-leads : (k n station : ℕ) (a : Activation) (target : Option Tenure) → IsSent (out_of n (Station station (rsl.ChannelActivation a))) → leading_from_outbox k (entry_of target (out_of n (Station station (rsl.ChannelActivation a)))) ≡ []
+activation_leads : (k n station : ℕ) (a : Activation) (target : Option Tenure) → IsSent (out_of n (Station station (rsl.ChannelActivation a))) → leading_from_outbox k (entry_of target (out_of n (Station station (rsl.ChannelActivation a)))) ≡ []
 unfolding out_of
-activation-leads k n station a target sent =
+activation_leads k n station a target sent =
     let out : Out = out_of n (Station station (rsl.ChannelActivation a)) in
-    let read = read-of n station (rsl.ChannelActivation a) sent in
+    let read = read_of n station (rsl.ChannelActivation a) sent in
     let back = activation_back read.0 a (sym read.1.text) in
     ap (λ (o : Out). leading_by k (entry_of target out).target (rsl_in o.frame)) (entry-out target out)
     ∙ ap (leading_by k (entry_of target out).target) (ap result_ok read.1.reading ∙ ap (λ (y : Rsl). Some y) back.1)
 
-none-behind : (xs ys : List Brought) → messages_in (xs ++ ys) ≡ [] → messages_in ys ≡ []
-none-behind xs ys none = sub-nothing (subst (Sub (messages_in ys)) (sym (messages_in-append xs ys) ∙ none) (sub-behind (messages_in xs) (messages_in ys)))
+none_behind : (xs ys : List Brought) → messages_in (xs ++ ys) ≡ [] → messages_in ys ≡ []
+none_behind xs ys none = sub_nothing (subst (Sub (messages_in ys)) (sym (messages_in-append xs ys) ∙ none) (sub_behind (messages_in xs) (messages_in ys)))
 
 module _ (settings : Parameters) (done : List Event) where
   abbrev world : Actors
@@ -105,16 +105,16 @@ module _ (settings : Parameters) (done : List Event) where
   request-up item items frame request delay stood is asks =
       let known : IsKnownItem item = (subst (AllByRecursion IsKnownItem) stood (known-inbox settings done)).0 in
       let own : item ≡ record { source = item.source; what = whats.Frame frame } = ap (λ (x : What). record { source = item.source; what = x }) is in
-      let said : requests_in request.access (said_by (whats.Frame frame)) ≡ 1 = asking-says item.source frame request delay (subst IsKnownItem own known) asks in
+      let said : requests_in request.access (said_by (whats.Frame frame)) ≡ 1 = asking_says item.source frame request delay (subst IsKnownItem own known) asks in
       let one : requests_in request.access (said_by item.what) ≡ 1 = ap (λ (x : What). requests_in request.access (said_by x)) is ∙ said in
       let all : requests_in request.access (said_in world.inbox) ≡ requests_in request.access (said_in (item ∷ items)) = ap (λ (xs : List Item). requests_in request.access (said_in xs)) stood in
       let parts = requests-append request.access (said_by item.what) (said_in items) in
       omega (arith, one, all, parts)
 
   asker-still-asks : (k : ℕ) → AreAllowed settings → AllByRecursion ComesInOctets steps_done → 1 ≤ requests_up world k → StillAsks modulus done world k
-  asker-still-asks k allowed octets some = UnansweredMobilesAsk-new settings done k allowed octets never where
+  asker-still-asks k allowed octets some = unanswered_mobiles_ask_new settings done k allowed octets never where
     never : WasNeverAnswered settings done k
-    never before after whole = NoneWasAnswered-new settings before after k (subst (λ (xs : List Event). 1 ≤ requests_up (actors_after_all (new_actors settings) xs) k) whole some)
+    never before after whole = none_was_answered_new settings before after k (subst (λ (xs : List Event). 1 ≤ requests_up (actors_after_all (new_actors settings) xs) k) whole some)
 
   -- ---- its channel
 
@@ -122,11 +122,11 @@ module _ (settings : Parameters) (done : List Event) where
   channel-quiet source frame channel request delay allowed octets asks free =
       let ready : Ready world.controller = subst Ready (sym lives) (life_ready settings steps_done allowed) in
       let offered : IsOffered world.controller.channels world.controller.links channel = offered_free world.controller world.controller.links source 0 Sdcch channel refl ready.holds.shaped free in
-      let there = given-there world.controller source channel free in
+      let there = given_there world.controller source channel free in
       let station : source ≢ SWITCH_LINK = subst (IsAskedOf source) asks (word_asked source frame) in
       let cells : length world.controller.settings.cells ≡ length settings.cells = ap (λ (p : Parameters). length p.cells) (ap (λ (c : Controller). c.settings) lives ∙ life-settings settings steps_done) in
-      let least : 1 ≤ source = not-zero source station in
-      FreeChannelsAreQuiet-new settings done (place_of channel) allowed octets (subst (λ (n : ℕ). 1 ≤ n) (sym there.0) least) (subst (λ (n : ℕ). n ≤ length settings.cells) (sym there.0) (within source (length world.controller.settings.cells) (length settings.cells) there.1 cells)) offered.is_free offered.is_up
+      let least : 1 ≤ source = not_zero source station in
+      free_channels_are_quiet_new settings done (place_of channel) allowed octets (subst (λ (n : ℕ). 1 ≤ n) (sym there.0) least) (subst (λ (n : ℕ). n ≤ length settings.cells) (sym there.0) (within source (length world.controller.settings.cells) (length settings.cells) there.1 cells)) offered.is_free offered.is_up
     where
       within : (n a b : ℕ) → n - 1 < a → a ≡ b → n ≤ b
       within n a b less same = omega (arith, less, same)
@@ -154,7 +154,7 @@ module _ (settings : Parameters) (done : List Event) where
     v = with_turn target t (waiting items)
 
     none : messages_in (coming_up v at) ≡ []
-    none = ap messages_in (v-coming target t (waiting items) at) ∙ none-behind (brings_in at item) (coming_up (waiting items) at) (ap messages_in (sym (coming-behind item items at stood)) ∙ quiet.nothing_comes)
+    none = ap messages_in (v-coming target t (waiting items) at) ∙ none_behind (brings_in at item) (coming_up (waiting items) at) (ap messages_in (sym (coming-behind item items at stood)) ∙ quiet.nothing_comes)
 
     u : Actors
     u = record (waiting items) { controller = t.next }
@@ -163,7 +163,7 @@ module _ (settings : Parameters) (done : List Event) where
     out = out_of n (access_activation channel)
 
     one : (b : Bool) → going_down (if b then with_outbox out.to (outbox_of u out.to ++ entry_of target out ∷ []) u else u) at ≡ going_down u at
-    one true = down-joined u target out channel (λ is. activation-leads channel.number n channel.station _ target (subst (AllByRecursion IsSent) outs sent).0)
+    one true = down-joined u target out channel (λ is. activation_leads channel.number n channel.station _ target (subst (AllByRecursion IsSent) outs sent).0)
     one false = refl
 
     down : going_down v at ≡ going_down world at
@@ -187,10 +187,10 @@ module _ (settings : Parameters) (done : List Event) where
     };
     state = refl;
     one = once.one;
-    found = ap (λ (ms : List Mobile). find (has_number request.access) ms) (turn-mobiles target t.outs (record (waiting items) { controller = t.next })) ∙ once.found;
+    found = ap (λ (ms : List Mobile). find (has_number request.access) ms) (turn_mobiles target t.outs (record (waiting items) { controller = t.next })) ∙ once.found;
     as_connected = still.as_connected once.one once.found;
     quiet = turn-quiet item items target t world.controller.next_number channel stood (ap (λ (x : Turn). x.outs) opens) sent (channel-quiet item.source frame channel request delay allowed octets asks free);
-    none_names = turn-names request.access target t.outs (record (waiting items) { controller = t.next }) (λ station. still.none_names station) (step-names settings done (steps.Take item) request.access allowed octets own once.unanswered);
+    none_names = turn_names request.access target t.outs (record (waiting items) { controller = t.next }) (λ station. still.none_names station) (step_names settings done (steps.Take item) request.access allowed octets own once.unanswered);
   } where
     target : Option Tenure
     target = target_in world item.source item.what
@@ -202,7 +202,7 @@ module _ (settings : Parameters) (done : List Event) where
     some = request-up item items frame request delay stood is asks
 
     once : AsksOnce world request.access
-    once = RequestsComeOnce-new settings done request.access some
+    once = requests_come_once_new settings done request.access some
 
     still : StillAsks modulus done world request.access
     still = asker-still-asks request.access allowed octets some
@@ -217,7 +217,7 @@ module _ (settings : Parameters) (done : List Event) where
 
   take-begins : (item : Item) (items : List Item) (number : ℕ) → AreAllowed settings → AllByRecursion ComesInOctets steps_done → ComesInOctets (steps.Take item) → world.controller.next_number ≤ number → world.inbox ≡ item ∷ items
       → HasBegun (Begins modulus done) (with_turn (target_in world item.source item.what) (take item world.controller) (waiting items)) number
-  take-begins item items number allowed octets own past stood = by (take-opens world.controller item) where
+  take-begins item items number allowed octets own past stood = by (take_opens world.controller item) where
     v : Actors
     v = with_turn (target_in world item.source item.what) (take item world.controller) (waiting items)
 
@@ -244,7 +244,7 @@ module _ (settings : Parameters) (done : List Event) where
 
   tick-begins : (ms number : ℕ) → world.controller.next_number ≤ number → HasBegun (Begins modulus done) (actors_after world (events.Tick ms)) number
   unfolding event_after
-  tick-begins ms number past = same-number (with_turn None (tick ms world.controller) world) number (ap (λ (c : Controller). c.next_number) (v-controller None (tick ms world.controller) world) ∙ tick-numbers ms world.controller) past
+  tick-begins ms number past = same-number (with_turn None (tick ms world.controller) world) number (ap (λ (c : Controller). c.next_number) (v-controller None (tick ms world.controller) world) ∙ tick_numbers ms world.controller) past
 
   sent-begins : (n number : ℕ) → world.controller.next_number ≤ number → HasBegun (Begins modulus done) (actors_after world (events.AirUp n Zero)) number
   unfolding event_after
@@ -254,7 +254,7 @@ module _ (settings : Parameters) (done : List Event) where
 
   passing-begins : (event : Event) (number : ℕ) → is_passing event ≡ true → world.controller.next_number ≤ number → HasBegun (Begins modulus done) (actors_after world event) number
   passing-begins event number passing past =
-      let passes : Passes world (actors_after world event) = after-taken (Passes world) (event_after world event) world (event-passes world event passing (good-all (new_actors settings) done (good-new settings))) (passes-itself world) in
+      let passes : Passes world (actors_after world event) = after-taken (Passes world) (event_after world event) world (event_passes world event passing (good-all (new_actors settings) done (good-new settings))) (passes_itself world) in
       same-number (actors_after world event) number (ap (λ (c : Controller). c.next_number) passes.controller) past
 
   event-begins : (event : Event) (number : ℕ) → AreAllowed settings → AllByRecursion ComesInOctets steps_done → AllByRecursion ComesInOctets (step_at world event) → world.controller.next_number ≤ number → HasBegun (Begins modulus done) (actors_after world event) number
@@ -264,7 +264,7 @@ module _ (settings : Parameters) (done : List Event) where
   event-begins (events.AirUp n Three) number allowed octets own past = passing-begins (events.AirUp n Three) number refl past
   event-begins event number allowed octets own past = passing-begins event number refl past
 
-pub ConnectionsBegin-new : (settings : Parameters) (done : List Event) (event : Event) → ConnectionsBegin settings done event
-ConnectionsBegin-new settings done event number allowed octets from_one past =
-    let parts = split-steps ComesInOctets (new_actors settings) done event octets in
+pub connections_begin_new : (settings : Parameters) (done : List Event) (event : Event) → ConnectionsBegin settings done event
+connections_begin_new settings done event number allowed octets from_one past =
+    let parts = split_steps ComesInOctets (new_actors settings) done event octets in
     event-begins settings done event number allowed parts.0 parts.1 past

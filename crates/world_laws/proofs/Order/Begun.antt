@@ -23,46 +23,46 @@ use Rattle.world_model.proofs.OwnerPuts.Goes.{activates as goes_activates}
 use Rattle.world_model.proofs.OwnerRuns.{ServesAt}
 use Rattle.world_laws.specs.Acknowledged.{acknowledgements_up, is_release_ack, read_of}
 use Rattle.world_laws.specs.OthersFrame.{CameInOctets, IsHad}
-use Rattle.world_laws.proofs.OwnerRun.{serves-event}
-use Rattle.world_laws.proofs.Channels.Agreeing.{IsPlaced, owns-at, placed-at, used-at}
-use Rattle.world_laws.proofs.Handling.Finishing.{controller-is, handle-is, tick-is}
-use Rattle.world_laws.proofs.Handling.Knowing.{Steps, octets-came, steps-known}
+use Rattle.world_laws.proofs.OwnerRun.{serves_event}
+use Rattle.world_laws.proofs.Channels.Agreeing.{IsPlaced, owns_at, placed_at, used_at}
+use Rattle.world_laws.proofs.Handling.Finishing.{controller-is, handle_is, tick_is}
+use Rattle.world_laws.proofs.Handling.Knowing.{Steps, octets_came, steps_known}
 use Rattle.world_laws.specs.Targets.Quiet.{is_ending}
-use Rattle.world_laws.proofs.Targets.Calm.{down-active}
-use Rattle.world_laws.proofs.Targets.FreeQuiet.{Known, hear-free, known-new}
-use Rattle.world_laws.proofs.Targets.Ways.{heard-read}
+use Rattle.world_laws.proofs.Targets.Calm.{down_active}
+use Rattle.world_laws.proofs.Targets.FreeQuiet.{Known, hear_free, known_new}
+use Rattle.world_laws.proofs.Targets.Ways.{heard_read}
 use Rattle.world_laws.specs.Order.QuietDown.{ChannelsBeginQuiet, NoDataEntry, Quiet, Waits}
 use Rattle.world_laws.specs.Order.QuietDown.Quiet.{begun, waits}
-use Rattle.world_laws.proofs.Order.Avoiding.{OthersPut, others-put}
-use Rattle.world_laws.proofs.Order.Begin.{begins-waiting}
-use Rattle.world_laws.proofs.Order.Down.{less-one, stations-all}
+use Rattle.world_laws.proofs.Order.Avoiding.{OthersPut, others_put}
+use Rattle.world_laws.proofs.Order.Begin.{begins_waiting}
+use Rattle.world_laws.proofs.Order.Down.{less_one, stations-all}
 use Rattle.world_laws.proofs.Order.Early.{Fate, fate}
 use Rattle.world_laws.proofs.Order.Early.Fate.{begins, stayed}
-use Rattle.world_laws.proofs.Order.NoData.{NoDataOut, by-each, entries-none, messages-none, pong-none}
+use Rattle.world_laws.proofs.Order.NoData.{NoDataOut, by_each, entries_none, messages_none, pong_none}
 use Rattle.world_laws.proofs.Order.QuietDown.{IsIdle, quiet-step}
-use Rattle.world_laws.proofs.Events.{snoc-actors, snoc-steps, world}
-use Rattle.world_laws.proofs.References.Numbered.{outs-of-one}
+use Rattle.world_laws.proofs.Events.{snoc_actors, snoc_steps, world}
+use Rattle.world_laws.proofs.References.Numbered.{outs_of_one}
 use Rattle.world_laws.specs.References.Taken.{IsEarlyIn}
 
-hear-use : (heard : List Rsl) (state : ChannelState) (n : ℕ) → hear heard state ≡ InUse n → state ≡ InUse n
-hear-use [] state n is = is
-hear-use (rsl.RfChannelReleaseAck channel ∷ rest) (Releasing m) n is = absurd cc
-hear-use (rsl.RfChannelReleaseAck channel ∷ rest) Free n is = is
-hear-use (rsl.RfChannelReleaseAck channel ∷ rest) (InUse m) n is = is
-hear-use (_ ∷ rest) state n is = is
+hear_use : (heard : List Rsl) (state : ChannelState) (n : ℕ) → hear heard state ≡ InUse n → state ≡ InUse n
+hear_use [] state n is = is
+hear_use (rsl.RfChannelReleaseAck channel ∷ rest) (Releasing m) n is = absurd cc
+hear_use (rsl.RfChannelReleaseAck channel ∷ rest) Free n is = is
+hear_use (rsl.RfChannelReleaseAck channel ∷ rest) (InUse m) n is = is
+hear_use (_ ∷ rest) state n is = is
 
 hear-used : (heard : List Rsl) (n : ℕ) → hear heard (InUse n) ≡ InUse n
 hear-used [] n = refl
 hear-used (rsl.RfChannelReleaseAck channel ∷ rest) n = refl
 hear-used (_ ∷ rest) n = refl
 
-goes-from : {at : Place} {state end : ChannelState} {outs : List Out} (n : ℕ) → Goes at state outs end → end ≡ InUse n → (state ≡ InUse n) ⊎ (state ≡ Free)
-goes-from n (runs all) is = inl (runs-kept n all is)
-goes-from n (first_passes beside rest) is = goes-from n rest is
-goes-from n (goes_activates a says channel few rest) is = inr refl
+goes_from : {at : Place} {state end : ChannelState} {outs : List Out} (n : ℕ) → Goes at state outs end → end ≡ InUse n → (state ≡ InUse n) ⊎ (state ≡ Free)
+goes_from n (runs all) is = inl (runs-kept n all is)
+goes_from n (first_passes beside rest) is = goes_from n rest is
+goes_from n (goes_activates a says channel few rest) is = inr refl
 
-number-is : {a b : ℕ} → InUse a ≡ InUse b → a ≡ b
-number-is both = cc
+number_is : {a b : ℕ} → InUse a ≡ InUse b → a ≡ b
+number_is both = cc
 
 module _ (settings : Parameters) (done : List Event) (event : Event) (s : Connection) (allowed : AreAllowed settings) (octets : CameInOctets settings (done ++ event ∷ []))
     (new : connection_of (world settings done).controller s.number ≡ None) (has : IsHad (world settings (done ++ event ∷ [])) s) (early_then : IsEarlyIn s.state) where
@@ -82,45 +82,45 @@ module _ (settings : Parameters) (done : List Event) (event : Event) (s : Connec
   at = place_of s.serving
 
   same : vv ≡ v
-  same = snoc-actors (new_actors settings) done event
+  same = snoc_actors (new_actors settings) done event
 
   came : CameInOctets settings done × AllByRecursion ComesInOctets (step_at w event)
-  came = octets-came settings done event octets
+  came = octets_came settings done event octets
 
   used_then : channel_state vv.controller at ≡ InUse s.number
-  used_then = (owns-at settings (done ++ event ∷ []) allowed s.number s has.there has.is_open).using.0
+  used_then = (owns_at settings (done ++ event ∷ []) allowed s.number s has.there has.is_open).using.0
 
   placed : IsPlaced settings vv at
-  placed = placed-at settings (done ++ event ∷ []) allowed at (λ free. absurd (let both : Free ≡ InUse s.number = sym free ∙ used_then in cc))
+  placed = placed_at settings (done ++ event ∷ []) allowed at (λ free. absurd (let both : Free ≡ InUse s.number = sym free ∙ used_then in cc))
 
   at_is : at.station ≢ SWITCH_LINK
   at_is is = absurd (let least = placed.least in omega (arith, is, least))
 
   before : Known settings done at
-  before = known-new settings done at allowed came.0 placed.least placed.most
+  before = known_new settings done at allowed came.0 placed.least placed.most
 
   after : Known settings (done ++ event ∷ []) at
-  after = known-new settings (done ++ event ∷ []) at allowed octets placed.least placed.most
+  after = known_new settings (done ++ event ∷ []) at allowed octets placed.least placed.most
 
   pub agree : AllAgree settings (owner_in (new_actors settings) done) w
-  agree = λ p least most. (known-new settings done p allowed came.0 least most).agrees
+  agree = λ p least most. (known_new settings done p allowed came.0 least most).agrees
 
   rests-not : step_at w event ≡ [] → Quiet vv at
   rests-not none =
       let still : vv.controller ≡ c =
       LivesByTable-new settings (done ++ event ∷ [])
-      ∙ ap (λ (ss : List Step). (life settings ss).next) (snoc-steps (new_actors settings) done event ∙ ap (λ (ss : List Step). all_steps (new_actors settings) done ++ ss) none ∙ append-nil (all_steps (new_actors settings) done))
+      ∙ ap (λ (ss : List Step). (life settings ss).next) (snoc_steps (new_actors settings) done event ∙ ap (λ (ss : List Step). all_steps (new_actors settings) done ++ ss) none ∙ append-nil (all_steps (new_actors settings) done))
       ∙ sym (LivesByTable-new settings done) in
       absurd (let both : Some s ≡ None = sym has.there ∙ ap (λ (d : Controller). connection_of d s.number) still ∙ new in cc)
 
   -- s isn't there before
   unused : channel_state c at ≡ InUse s.number → ⊥
-  unused used = contains_none at (subst (λ (o : Option Connection). Contains (used_places o) at) new (((used-at settings done allowed).using at s.number).0 used))
+  unused used = contains_none at (subst (λ (o : Option Connection). Contains (used_places o) at) new (((used_at settings done allowed).using at s.number).0 used))
 
   module _ (x : Step) (target : Option Tenure) (heard rest : List Rsl) (own : ComesInOctets x) (puts : outputs w event ≡ map (entry_of target) (step c x).outs) (next : vv.controller ≡ (step c x).next) (untaken : taken at.station w event ≡ [])
       (serves : Serves (owner_in (new_actors settings) done) w at target (step c x) heard) (hears_it : acknowledgements_up w at ≡ heard ++ rest) where
     does : Steps c x s.number
-    does = steps-known settings done x s.number allowed came.0 own has.from_one
+    does = steps_known settings done x s.number allowed came.0 own has.from_one
 
     there : connection_of (step c x).next s.number ≡ Some s
     there = ap (λ (d : Controller). connection_of d s.number) (sym next) ∙ has.there
@@ -141,13 +141,13 @@ module _ (settings : Parameters) (done : List Event) (event : Event) (s : Connec
     hearing = serves.hearing hearing_next
 
     heard_free : hear heard (channel_state c at) ≡ Free
-    heard_free = elim (goes-from s.number (serves.goes hearing_next) end_is) [
-      | inl used ↦ absurd (unused (hear-use heard (channel_state c at) s.number used))
+    heard_free = elim (goes_from s.number (serves.goes hearing_next) end_is) [
+      | inl used ↦ absurd (unused (hear_use heard (channel_state c at) s.number used))
       | inr free ↦ free
     ]
 
     why : (channel_state c at ≡ Free) ⊎ (is_ending w at ≡ true)
-    why = elim (hear-free heard (channel_state c at) heard_free) [
+    why = elim (hear_free heard (channel_state c at) heard_free) [
       | inl free ↦ inl free
       | inr acks ↦ inr (ap (list_any is_release_ack) (hears_it ∙ ap (λ (xs : List Rsl). xs ++ rest) acks.2))
     ]
@@ -157,12 +157,12 @@ module _ (settings : Parameters) (done : List Event) (event : Event) (s : Connec
 
     others : (k : ℕ) → 1 ≤ k → s.number ≢ k → OthersPut k c x at
     others k from_one differs = subst (λ (d : Controller). channel_state d at ≡ channel_state c at → channel_state (step d x).next at ≡ InUse s.number → OthersPut k d x at) (sym (LivesByTable-new settings done))
-        (λ here_now here_next. others-put settings (all_steps (new_actors settings) done) x s.number k at (channel_state c at) allowed from_one differs
+        (λ here_now here_next. others_put settings (all_steps (new_actors settings) done) x s.number k at (channel_state c at) allowed from_one differs
         (λ both. free≢use _ (sym heard_free ∙ ap (hear heard) (sym both) ∙ hear-used heard k)) here_now here_next)
         refl end_is
 
     of-messages : (k : ℕ) (ms : List Message) → outs_for k (step c x).outs ≡ outs_of k ms → AllByRecursion (IsNotOn at) ms → AllByRecursion (NoDataOut at) (outs_for k (step c x).outs)
-    of-messages k ms is none = subst (AllByRecursion (NoDataOut at)) (sym is) (messages-none at k ms placed.least (subst (AllByRecursion IsSent) is (AllByRecursion-filter IsSent (is_for k) (step c x).outs does.sent)) none)
+    of-messages k ms is none = subst (AllByRecursion (NoDataOut at)) (sym is) (messages_none at k ms placed.least (subst (AllByRecursion IsSent) is (AllByRecursion-filter IsSent (is_for k) (step c x).outs does.sent)) none)
 
     own-none : AllByRecursion (IsNotOn at) does.acts.put
     own-none = by (fate s.number c.next_number (hears c SWITCH_LINK) (brought_in c s.number x) (connection_of c s.number) does.acts.put s at fine early_then (subst (λ (o : Option Connection). Acts s.number c.next_number (hears c SWITCH_LINK) (brought_in c s.number x) (connection_of c s.number) does.acts.put o) there does.acts.acts)) where
@@ -171,7 +171,7 @@ module _ (settings : Parameters) (done : List Event) (event : Event) (s : Connec
       by (begins none put_is) = subst (AllByRecursion (IsNotOn at)) (sym put_is) (tt, tt)
 
     nodata : AllByRecursion (NoDataOut at) (step c x).outs
-    nodata = by-each (NoDataOut at) (step c x).outs (outs-of-one c x ready.numbered) (pong-none at) (λ k from_one. elim (cases_Bool (nat_eq s.number k)) [
+    nodata = by_each (NoDataOut at) (step c x).outs (outs_of_one c x ready.numbered) (pong_none at) (λ k from_one. elim (cases_Bool (nat_eq s.number k)) [
       | inl hit ↦ subst (λ (n : ℕ). AllByRecursion (NoDataOut at) (outs_for n (step c x).outs)) (eqb-true s.number k hit) (of-messages s.number does.acts.put does.acts.outs own-none)
       | inr miss ↦ let other = others k from_one (eqb-false s.number k miss) in of-messages k other.put other.outs other.off
     ])
@@ -179,22 +179,22 @@ module _ (settings : Parameters) (done : List Event) (event : Event) (s : Connec
     nothing : AllByRecursion (NoDataEntry at.number) (put at.station w event)
     nothing = by (is_up w at.station) where
       by : (b : Bool) → AllByRecursion (NoDataEntry at.number) (if b then to_link at.station (outputs w event) else [])
-      by true = subst (λ (es : List OutboxEntry). AllByRecursion (NoDataEntry at.number) (to_link at.station es)) (sym puts) (entries-none at target (step c x).outs nodata)
+      by true = subst (λ (es : List OutboxEntry). AllByRecursion (NoDataEntry at.number) (to_link at.station es)) (sym puts) (entries_none at target (step c x).outs nodata)
       by false = tt
 
     idle_then : IsIdle v at
     idle_then = subst (λ (y : Actors). IsIdle y at) same after.settled.air
 
     pipe : PipeStep at.station at.number w event v
-    pipe = pipe-step at.station at.number w event at_is (less-one at.station (length w.stations) (length settings.cells) placed.least placed.most (stations-all (new_actors settings) done ∙ length-stations_from 1 settings.cells)) before.none
+    pipe = pipe-step at.station at.number w event at_is (less_one at.station (length w.stations) (length settings.cells) placed.least placed.most (stations-all (new_actors settings) done ∙ length-stations_from 1 settings.cells)) before.none
 
     down-quiet : is_up v at.station ≡ false → outbox_of v at.station ≡ [] → Quiet v at
     down-quiet down empty =
-        begun (idle_then (ap (λ (active : List ℕ). is_active active at.number) (down-active at.station w event at_is down) ∙ inactive)) (subst (AllByRecursion (NoDataEntry at.number)) (sym empty) tt)
+        begun (idle_then (ap (λ (active : List ℕ). is_active active at.number) (down_active at.station w event at_is down) ∙ inactive)) (subst (AllByRecursion (NoDataEntry at.number)) (sym empty) tt)
 
     waiting : is_up w at.station ≡ true → Waits at.number (outbox_of w at.station ++ put at.station w event)
     waiting up = subst (λ (es : List OutboxEntry). Waits at.number (outbox_of w at.station ++ es)) (sym (ap (λ (b : Bool). if b then to_link at.station (outputs w event) else []) up ∙ ap (to_link at.station) puts))
-        (begins-waiting (owner_in (new_actors settings) done) w at target s.number before.agrees hearing up why inactive (serves.goes hearing_next) end_is (λ used. unused (hear-use heard (channel_state c at) s.number used)) nodata)
+        (begins_waiting (owner_in (new_actors settings) done) w at target s.number before.agrees hearing up why inactive (serves.goes hearing_next) end_is (λ used. unused (hear_use heard (channel_state c at) s.number used)) nodata)
 
     up-quiet : is_up w at.station ≡ true → OutboxStep at.station w event v → PipeStep at.station at.number w event v → Quiet v at
     up-quiet up (breaks broken unput gone) p = down-quiet (ap (λ (l : Link). l.up) broken) (ap (λ (l : Link). l.outbox) broken)
@@ -209,9 +209,9 @@ module _ (settings : Parameters) (done : List Event) (event : Event) (s : Connec
       by true up = up-quiet up (outbox-step at.station w event) pipe
       by false down = quiet-step w event at at_is before.settled.air idle_then nothing pipe (begun (before.settled.air inactive) (subst (AllByRecursion (NoDataEntry at.number)) (sym (before.none down)) tt))
 
-pub ChannelsBeginQuiet-new : (settings : Parameters) (done : List Event) (event : Event) → ChannelsBeginQuiet settings done event
+pub channels_begin_quiet_new : (settings : Parameters) (done : List Event) (event : Event) → ChannelsBeginQuiet settings done event
 unfolding ServesAt
-ChannelsBeginQuiet-new settings done events.Handle s allowed octets new has early_then = by w.inbox refl where
+channels_begin_quiet_new settings done events.Handle s allowed octets new has early_then = by w.inbox refl where
   w : Actors
   w = world settings done
 
@@ -222,27 +222,27 @@ ChannelsBeginQuiet-new settings done events.Handle s allowed octets new has earl
   by [] stood = rests-not settings done events.Handle s allowed octets new has early_then (ap first_taken stood)
   by (item ∷ items) stood =
       let at : Place = place_of s.serving in
-      let came = octets-came settings done events.Handle octets in
+      let came = octets_came settings done events.Handle octets in
       let place = placed settings done events.Handle s allowed octets new has early_then in
       begins-quiet settings done events.Handle s allowed octets new has early_then (steps.Take item) (target_in w item.source item.what) (heard_of at item)
       (acknowledgements at.number (flat_map (read_of n) items ++ (base_of w n).messages))
       (subst (λ (xs : List RelayItem). AllByRecursion ComesInOctets (first_taken xs)) stood came.1).0
       (ap (outputs_at w) stood)
-      (ap (λ (x : Actors). x.controller) (snoc-actors (new_actors settings) done events.Handle ∙ handle-is w item items stood) ∙ controller-is (target_in w item.source item.what) (take item w.controller) (record w { inbox = items }))
+      (ap (λ (x : Actors). x.controller) (snoc_actors (new_actors settings) done events.Handle ∙ handle_is w item items stood) ∙ controller-is (target_in w item.source item.what) (take item w.controller) (record w { inbox = items }))
       refl
-      (serves-event settings (owner_in (new_actors settings) done) done w events.Handle refl allowed came.0 came.1 (agree settings done events.Handle s allowed octets new has early_then) item items stood at place.least place.most)
+      (serves_event settings (owner_in (new_actors settings) done) done w events.Handle refl allowed came.0 came.1 (agree settings done events.Handle s allowed octets new has early_then) item items stood at place.least place.most)
       (ap (λ (xs : List RelayItem). acknowledgements at.number (flat_map (read_of n) xs ++ (base_of w n).messages)) stood
       ∙ ap (acknowledgements at.number) (append_assoc (read_of n item) (flat_map (read_of n) items) (base_of w n).messages)
       ∙ acks-append at.number (read_of n item) (flat_map (read_of n) items ++ (base_of w n).messages)
-      ∙ ap (λ (xs : List Rsl). xs ++ acknowledgements at.number (flat_map (read_of n) items ++ (base_of w n).messages)) (sym (heard-read at item ∙ ap (acknowledgements at.number) (append-nil (read_of n item)))))
-ChannelsBeginQuiet-new settings done (events.Tick ms) s allowed octets new has early_then =
+      ∙ ap (λ (xs : List Rsl). xs ++ acknowledgements at.number (flat_map (read_of n) items ++ (base_of w n).messages)) (sym (heard_read at item ∙ ap (acknowledgements at.number) (append-nil (read_of n item)))))
+channels_begin_quiet_new settings done (events.Tick ms) s allowed octets new has early_then =
     let w : Actors = world settings done in
     let at : Place = place_of s.serving in
-    let came = octets-came settings done (events.Tick ms) octets in
+    let came = octets_came settings done (events.Tick ms) octets in
     let place = placed settings done (events.Tick ms) s allowed octets new has early_then in
     begins-quiet settings done (events.Tick ms) s allowed octets new has early_then (steps.Tick ms) None [] (acknowledgements_up w at) tt refl
-    (ap (λ (x : Actors). x.controller) (snoc-actors (new_actors settings) done (events.Tick ms) ∙ tick-is w ms) ∙ controller-is None (tick ms w.controller) w)
+    (ap (λ (x : Actors). x.controller) (snoc_actors (new_actors settings) done (events.Tick ms) ∙ tick_is w ms) ∙ controller-is None (tick ms w.controller) w)
     refl
-    (serves-event settings (owner_in (new_actors settings) done) done w (events.Tick ms) refl allowed came.0 came.1 (agree settings done (events.Tick ms) s allowed octets new has early_then) at place.least place.most)
+    (serves_event settings (owner_in (new_actors settings) done) done w (events.Tick ms) refl allowed came.0 came.1 (agree settings done (events.Tick ms) s allowed octets new has early_then) at place.least place.most)
     refl
-ChannelsBeginQuiet-new settings done _ s allowed octets new has early_then = rests-not settings done _ s allowed octets new has early_then refl
+channels_begin_quiet_new settings done _ s allowed octets new has early_then = rests-not settings done _ s allowed octets new has early_then refl

@@ -22,9 +22,9 @@ use Rattle.controller_model.specs.Controller.{is_up}
 use Rattle.controller_model.specs.Life.{life}
 use Rattle.world_laws.specs.Order.OctetEvents.{HasFairCause, IsFair}
 use Rattle.world_laws.proofs.Order.CauseRows.{HasSmall, IsSmallMessage, IsSmallRow, row_small}
-use Rattle.world_laws.proofs.References.Numbered.{IsOfOne, outs-of-one}
+use Rattle.world_laws.proofs.References.Numbered.{IsOfOne, outs_of_one}
 use Rattle.world_laws.proofs.References.Moving.{each-append}
-use Rattle.world_laws.proofs.Framing.{all-left}
+use Rattle.world_laws.proofs.Framing.{all_left}
 
 -- ---- a connection of the controller
 
@@ -32,16 +32,16 @@ abbrev HasSmallOf : Option Connection → Type 0
 HasSmallOf None = Unit {0}
 HasSmallOf (Some s) = HasSmall s.state
 
-kept-small : (state : State) (s : Connection) → HasSmall s.state → HasSmallOf (kept_in state s)
-kept-small Removed s is = tt
-kept-small WaitActivation s is = is
-kept-small WaitEstablish s is = is
-kept-small WaitConfirm s is = is
-kept-small (Live reference stage) s is = is
-kept-small (Closed clearing) s is = is
+kept_small : (state : State) (s : Connection) → HasSmall s.state → HasSmallOf (kept_in state s)
+kept_small Removed s is = tt
+kept_small WaitActivation s is = is
+kept_small WaitEstablish s is = is
+kept_small WaitConfirm s is = is
+kept_small (Live reference stage) s is = is
+kept_small (Closed clearing) s is = is
 
-aged-small : (old s : Connection) → IsAged old s → HasSmall old.state → HasSmall s.state
-aged-small old s aged is = aged_holds (λ (c : Connection). HasSmall c.state) (λ ms c is. is) old s aged is
+aged_small : (old s : Connection) → IsAged old s → HasSmall old.state → HasSmall s.state
+aged_small old s aged is = aged_holds (λ (c : Connection). HasSmall c.state) (λ ms c is. is) old s aged is
 
 -- what is put for it to the switch has its number for a reference
 abbrev IsReferred : ℕ → Message → Type 0
@@ -51,39 +51,39 @@ IsReferred number _ = IsReference number
 abbrev IsFine : ℕ → Message → Type 0
 IsFine number m = IsSmallMessage m × IsReferred number m
 
-all-fine : (number : ℕ) (put : List Message) → IsReference number → AllByRecursion IsSmallMessage put → AllByRecursion (IsFine number) put
-all-fine number [] is all = tt
-all-fine number (m ∷ ms) is all = ((all.0, by m), all-fine number ms is all.1) where
+all_fine : (number : ℕ) (put : List Message) → IsReference number → AllByRecursion IsSmallMessage put → AllByRecursion (IsFine number) put
+all_fine number [] is all = tt
+all_fine number (m ∷ ms) is all = ((all.0, by m), all_fine number ms is all.1) where
   by : (m : Message) → IsReferred number m
   by (Station station message) = tt
   by (Request message) = is
   by (Data destination message) = is
   by (ReleaseComplete destination) = is
 
-row-fine : (old s : Connection) (input : Input) (offer : _) (r : Row) → IsAged old s → row_of s input offer ≡ Some r → HasSmall old.state → IsSmallRow r
-row-fine old s input offer r aged fits small = subst (OfRow IsSmallRow) fits (row_small s input offer (aged-small old s aged small))
+row_fine : (old s : Connection) (input : Input) (offer : _) (r : Row) → IsAged old s → row_of s input offer ≡ Some r → HasSmall old.state → IsSmallRow r
+row_fine old s input offer r aged fits small = subst (OfRow IsSmallRow) fits (row_small s input offer (aged_small old s aged small))
 
 record IsFineStep (number : ℕ) (put : List Message) (after : Option Connection) : Type 0 where
   small : HasSmallOf after
   fine : AllByRecursion (IsFine number) put
 
-acts-fine : (number next : ℕ) (up : Bool) (brought : Brought) (before after : Option Connection) (put : List Message) → ((s : Connection) → before ≡ Some s → IsReference number) → HasSmallOf before → Acts number next up brought before put after → IsFineStep number put after
-acts-fine number next up brought before after put below small (rests silent same none) = record { small = subst HasSmallOf (sym same) small; fine = subst (AllByRecursion (IsFine number)) (sym silent) tt }
-acts-fine number next up brought before after put below small (ages old s is_time is aged silent same) =
-    record { small = subst HasSmallOf (sym same) (aged-small old s aged (subst HasSmallOf is small)); fine = subst (AllByRecursion (IsFine number)) (sym silent) tt }
-acts-fine number next up brought before after put below small (opens begins linked channel request delay is_nothing none put_is same) =
+acts_fine : (number next : ℕ) (up : Bool) (brought : Brought) (before after : Option Connection) (put : List Message) → ((s : Connection) → before ≡ Some s → IsReference number) → HasSmallOf before → Acts number next up brought before put after → IsFineStep number put after
+acts_fine number next up brought before after put below small (rests silent same none) = record { small = subst HasSmallOf (sym same) small; fine = subst (AllByRecursion (IsFine number)) (sym silent) tt }
+acts_fine number next up brought before after put below small (ages old s is_time is aged silent same) =
+    record { small = subst HasSmallOf (sym same) (aged_small old s aged (subst HasSmallOf is small)); fine = subst (AllByRecursion (IsFine number)) (sym silent) tt }
+acts_fine number next up brought before after put below small (opens begins linked channel request delay is_nothing none put_is same) =
     record { small = subst HasSmallOf (sym same) tt; fine = subst (AllByRecursion (IsFine number)) (sym put_is) ((tt, tt), tt) }
-acts-fine number next up brought before after put below small (goes old s input offer r is aged by fits put_is same) =
-    let row = row-fine old s input offer r aged fits (subst HasSmallOf is small) in
+acts_fine number next up brought before after put below small (goes old s input offer r is aged by fits put_is same) =
+    let row = row_fine old s input offer r aged fits (subst HasSmallOf is small) in
     record {
-      small = subst HasSmallOf (sym same) (kept-small r.next.state r.next row.0);
-      fine = subst (AllByRecursion (IsFine number)) (sym put_is) (all-fine number r.outs (below old is) row.1);
+      small = subst HasSmallOf (sym same) (kept_small r.next.state r.next row.0);
+      fine = subst (AllByRecursion (IsFine number)) (sym put_is) (all_fine number r.outs (below old is) row.1);
     }
 
 -- ---- a life
 
-below-next : (number : ℕ) (c : Controller) (s : Connection) → IsNumbered c → connection_of c number ≡ Some s → c.next_number ≤ 2 ^ 24 → IsReference number
-below-next number c s numbered there few = elim (cases_Bool (leb c.next_number number)) [
+below_next : (number : ℕ) (c : Controller) (s : Connection) → IsNumbered c → connection_of c number ≡ Some s → c.next_number ≤ 2 ^ 24 → IsReference number
+below_next number c s numbered there few = elim (cases_Bool (leb c.next_number number)) [
   | inl past ↦ absurd (none-some s (sym (ap (option_map (λ (e : Entry). e.connection)) (find_below number c.entries (weaker c.entries (leb-true c.next_number number past) numbered.below))) ∙ there))
   | inr less ↦ omega (arith, leb-false c.next_number number less, few)
 ] where
@@ -100,8 +100,8 @@ module _ (p : Parameters) (allowed : AreAllowed p) (number : ℕ) (from_one : 1 
       let does = step_does number c s from_one numbered in (
         does.put,
         does.outs,
-        acts-fine number c.next_number (is_up c SWITCH_LINK) (brought_in c number s) (connection_of c number) (connection_of (step c s).next number) does.put
-            (λ old there. below-next number c old numbered there (life_sound p steps allowed octets).next) small does.acts,
+        acts_fine number c.next_number (is_up c SWITCH_LINK) (brought_in c number s) (connection_of c number) (connection_of (step c s).next number) does.put
+            (λ old there. below_next number c old numbered there (life_sound p steps allowed octets).next) small does.acts,
       )
 
   small-through : (done rest : List Step) → AllByRecursion ComesInOctets (done ++ rest) → HasSmallOf (connection_of (life p done).next number) → HasSmallOf (connection_of (life p (done ++ rest)).next number)
@@ -109,7 +109,7 @@ module _ (p : Parameters) (allowed : AreAllowed p) (number : ℕ) (from_one : 1 
   small-through done [] octets small = subst (λ (steps : List Step). HasSmallOf (connection_of (life p steps).next number)) (sym (append-nil done)) small
   small-through done (s ∷ rest) octets small =
       let same : (done ++ s ∷ []) ++ rest ≡ done ++ s ∷ rest = append_assoc done (s ∷ []) rest in
-      let own = step-fine done s (all-left ComesInOctets done (s ∷ rest) octets) small in
+      let own = step-fine done s (all_left ComesInOctets done (s ∷ rest) octets) small in
       subst (λ (steps : List Step). HasSmallOf (connection_of (life p steps).next number)) same
       (small-through (done ++ s ∷ []) rest (subst (AllByRecursion ComesInOctets) (sym same) octets)
       (subst (λ (c : Controller). HasSmallOf (connection_of c number)) (sym (each-append (new_controller p) done (s ∷ []))) own.2.small))
@@ -124,13 +124,13 @@ module _ (p : Parameters) (allowed : AreAllowed p) (number : ℕ) (from_one : 1 
 abbrev IsFineOut : Out → Type 0
 IsFineOut out = (number : ℕ) × (m : Message) × (out ≡ out_of number m) × IsFine number m
 
-fine-outs : (number : ℕ) (put : List Message) → AllByRecursion (IsFine number) put → AllByRecursion IsFineOut (outs_of number put)
-fine-outs number [] all = tt
-fine-outs number (m ∷ ms) all = ((number, m, refl, all.0), fine-outs number ms all.1)
+fine_outs : (number : ℕ) (put : List Message) → AllByRecursion (IsFine number) put → AllByRecursion IsFineOut (outs_of number put)
+fine_outs number [] all = tt
+fine_outs number (m ∷ ms) all = ((number, m, refl, all.0), fine_outs number ms all.1)
 
-all-own : (xs : List Out) → ((number : ℕ) → 1 ≤ number → AllByRecursion IsFineOut (outs_for number xs)) → AllByRecursion (λ (out : Out). 1 ≤ out.conn → IsFineOut out) xs
-all-own [] each = tt
-all-own (x ∷ xs) each = ((λ from_one. first (x.conn == x.conn) (eq-eqb x.conn x.conn refl) (each x.conn from_one)), all-own xs (λ number from_one. others (x.conn == number) number (each number from_one))) where
+all_own : (xs : List Out) → ((number : ℕ) → 1 ≤ number → AllByRecursion IsFineOut (outs_for number xs)) → AllByRecursion (λ (out : Out). 1 ≤ out.conn → IsFineOut out) xs
+all_own [] each = tt
+all_own (x ∷ xs) each = ((λ from_one. first (x.conn == x.conn) (eq-eqb x.conn x.conn refl) (each x.conn from_one)), all_own xs (λ number from_one. others (x.conn == number) number (each number from_one))) where
   first : (b : Bool) → b ≡ true → AllByRecursion IsFineOut (if b then x ∷ outs_for x.conn xs else outs_for x.conn xs) → IsFineOut x
   first true is all = all.0
   first false is all = absurd (true≢false (sym is))
@@ -141,93 +141,93 @@ all-own (x ∷ xs) each = ((λ from_one. first (x.conn == x.conn) (eq-eqb x.conn
 
 -- ---- what the switch reads of it
 
-read-fair : (frame : Frame) (message : Sccp) → sccp_reading frame.body ≡ Ok message → IsFair (Some message) → IsFair (sccp_in frame)
-read-fair frame message read fair = by (frame.stream == SCCP_STREAM) where
+read_fair : (frame : Frame) (message : Sccp) → sccp_reading frame.body ≡ Ok message → IsFair (Some message) → IsFair (sccp_in frame)
+read_fair frame message read fair = by (frame.stream == SCCP_STREAM) where
   by : (b : Bool) → IsFair (if b then result_ok (sccp_reading frame.body) else None)
   by true = subst (λ (r : Result Sccp InterfaceFault). IsFair (result_ok r)) (sym read) fair
   by false = tt
 
-pong-fair : (out : Out) → out ≡ pong out.to → IsFair (sccp_in out.frame)
-pong-fair out is = subst (λ (o : Out). IsFair (sccp_in o.frame)) (sym is) tt
+pong_fair : (out : Out) → out ≡ pong out.to → IsFair (sccp_in out.frame)
+pong_fair out is = subst (λ (o : Out). IsFair (sccp_in o.frame)) (sym is) tt
 
 third : {xs ys : List ℕ} → xs ≡ ys → slice_index_or xs 2 0 ≡ slice_index_or ys 2 0
 third same = ap (λ (xs : List ℕ). slice_index_or xs 2 0) same
 
-first-of : {xs ys : List ℕ} → xs ≡ ys → slice_index_or xs 0 0 ≡ slice_index_or ys 0 0
-first-of same = ap (λ (xs : List ℕ). slice_index_or xs 0 0) same
+first_of : {xs ys : List ℕ} → xs ≡ ys → slice_index_or xs 0 0 ≡ slice_index_or ys 0 0
+first_of same = ap (λ (xs : List ℕ). slice_index_or xs 0 0) same
 
 -- two texts of CLEAR REQUEST have one cause
-clear-of : (b : Bssmap) (cause : Cause) → bssap_text (Management b) ≡ bssap_text (Management (bssmap.ClearRequest cause)) → HasFairCause (Some (Management b)) → HasFairCause (Some (Management (bssmap.ClearRequest cause)))
-clear-of (bssmap.ClearRequest own) cause same fair =
+clear_of : (b : Bssmap) (cause : Cause) → bssap_text (Management b) ≡ bssap_text (Management (bssmap.ClearRequest cause)) → HasFairCause (Some (Management b)) → HasFairCause (Some (Management (bssmap.ClearRequest cause)))
+clear_of (bssmap.ClearRequest own) cause same fair =
     (fair.0, fair.1, sym (sym (append-nil own.0) ∙ ap (drop 5) same ∙ append-nil cause.0) ∙ fair.2)
-clear-of (bssmap.AssignmentRequest channel_type) cause same fair = absurd (eqb-false _ _ refl (third same))
-clear-of (bssmap.AssignmentComplete rr_cause) cause same fair = absurd (eqb-false _ _ refl (third same))
-clear-of (bssmap.AssignmentFailure own rr_cause) cause same fair = absurd (eqb-false _ _ refl (third same))
-clear-of (bssmap.HandoverPerformed own cell) cause same fair = absurd (eqb-false _ _ refl (third same))
-clear-of (bssmap.ClearCommand own) cause same fair = absurd (eqb-false _ _ refl (third same))
-clear-of (bssmap.SapiNReject dlci own) cause same fair = absurd (eqb-false _ _ refl (third same))
-clear-of (bssmap.CompleteLayer3Information cell initial) cause same fair = absurd (eqb-false _ _ refl (third same))
-clear-of (bssmap.CipherModeReject own) cause same fair = absurd (eqb-false _ _ refl (third same))
-clear-of bssmap.ClearComplete cause same fair = absurd (eqb-false _ _ refl (third same))
-clear-of bssmap.CipherModeCommand cause same fair = absurd (eqb-false _ _ refl (third same))
+clear_of (bssmap.AssignmentRequest channel_type) cause same fair = absurd (eqb-false _ _ refl (third same))
+clear_of (bssmap.AssignmentComplete rr_cause) cause same fair = absurd (eqb-false _ _ refl (third same))
+clear_of (bssmap.AssignmentFailure own rr_cause) cause same fair = absurd (eqb-false _ _ refl (third same))
+clear_of (bssmap.HandoverPerformed own cell) cause same fair = absurd (eqb-false _ _ refl (third same))
+clear_of (bssmap.ClearCommand own) cause same fair = absurd (eqb-false _ _ refl (third same))
+clear_of (bssmap.SapiNReject dlci own) cause same fair = absurd (eqb-false _ _ refl (third same))
+clear_of (bssmap.CompleteLayer3Information cell initial) cause same fair = absurd (eqb-false _ _ refl (third same))
+clear_of (bssmap.CipherModeReject own) cause same fair = absurd (eqb-false _ _ refl (third same))
+clear_of bssmap.ClearComplete cause same fair = absurd (eqb-false _ _ refl (third same))
+clear_of bssmap.CipherModeCommand cause same fair = absurd (eqb-false _ _ refl (third same))
 
-text-fair : (b own : Bssap) → bssap_text b ≡ bssap_text own → HasFairCause (Some b) → HasFairCause (Some own)
-text-fair b (Transfer dlci message) same fair = tt
-text-fair (Management b) (Management (bssmap.ClearRequest cause)) same fair = clear-of b cause same fair
-text-fair (Transfer dlci message) (Management (bssmap.ClearRequest cause)) same fair = absurd (eqb-false _ _ refl (first-of same))
-text-fair b (Management (bssmap.AssignmentRequest channel_type)) same fair = tt
-text-fair b (Management (bssmap.AssignmentComplete rr_cause)) same fair = tt
-text-fair b (Management (bssmap.AssignmentFailure own rr_cause)) same fair = tt
-text-fair b (Management (bssmap.HandoverPerformed own cell)) same fair = tt
-text-fair b (Management (bssmap.ClearCommand own)) same fair = tt
-text-fair b (Management (bssmap.SapiNReject dlci own)) same fair = tt
-text-fair b (Management (bssmap.CompleteLayer3Information cell initial)) same fair = tt
-text-fair b (Management (bssmap.CipherModeReject own)) same fair = tt
-text-fair b (Management bssmap.ClearComplete) same fair = tt
-text-fair b (Management bssmap.CipherModeCommand) same fair = tt
+text_fair : (b own : Bssap) → bssap_text b ≡ bssap_text own → HasFairCause (Some b) → HasFairCause (Some own)
+text_fair b (Transfer dlci message) same fair = tt
+text_fair (Management b) (Management (bssmap.ClearRequest cause)) same fair = clear_of b cause same fair
+text_fair (Transfer dlci message) (Management (bssmap.ClearRequest cause)) same fair = absurd (eqb-false _ _ refl (first_of same))
+text_fair b (Management (bssmap.AssignmentRequest channel_type)) same fair = tt
+text_fair b (Management (bssmap.AssignmentComplete rr_cause)) same fair = tt
+text_fair b (Management (bssmap.AssignmentFailure own rr_cause)) same fair = tt
+text_fair b (Management (bssmap.HandoverPerformed own cell)) same fair = tt
+text_fair b (Management (bssmap.ClearCommand own)) same fair = tt
+text_fair b (Management (bssmap.SapiNReject dlci own)) same fair = tt
+text_fair b (Management (bssmap.CompleteLayer3Information cell initial)) same fair = tt
+text_fair b (Management (bssmap.CipherModeReject own)) same fair = tt
+text_fair b (Management bssmap.ClearComplete) same fair = tt
+text_fair b (Management bssmap.CipherModeCommand) same fair = tt
 
 -- a frame of a message that is read so, and is that of one that is fine
-data-fair : (conn number destination : ℕ) (own : Bssap) (m : Message) → out_of conn (Data destination own) ≡ out_of number m → IsFine number m → HasFairCause (Some own)
+data_fair : (conn number destination : ℕ) (own : Bssap) (m : Message) → out_of conn (Data destination own) ≡ out_of number m → IsFine number m → HasFairCause (Some own)
 unfolding out_of
-data-fair conn number destination own (Station station message) same fine = absurd (eqb-false _ _ refl (ap (λ (o : Out). o.frame.stream) same))
-data-fair conn number destination own (Request message) same fine = absurd (eqb-false _ _ refl (first-of (ap (λ (o : Out). o.frame.body) same)))
-data-fair conn number destination own (ReleaseComplete reference) same fine = absurd (eqb-false _ _ refl (first-of (ap (λ (o : Out). o.frame.body) same)))
-data-fair conn number destination own (Data reference message) same fine = text-fair message own (sym (ap (λ (o : Out). drop 7 o.frame.body) same)) fine.0
+data_fair conn number destination own (Station station message) same fine = absurd (eqb-false _ _ refl (ap (λ (o : Out). o.frame.stream) same))
+data_fair conn number destination own (Request message) same fine = absurd (eqb-false _ _ refl (first_of (ap (λ (o : Out). o.frame.body) same)))
+data_fair conn number destination own (ReleaseComplete reference) same fine = absurd (eqb-false _ _ refl (first_of (ap (λ (o : Out). o.frame.body) same)))
+data_fair conn number destination own (Data reference message) same fine = text_fair message own (sym (ap (λ (o : Out). drop 7 o.frame.body) same)) fine.0
 
-request-fair : (conn number : ℕ) (own : Bssap) (m : Message) → out_of conn (Request own) ≡ out_of number m → IsFine number m → IsReference conn
+request_fair : (conn number : ℕ) (own : Bssap) (m : Message) → out_of conn (Request own) ≡ out_of number m → IsFine number m → IsReference conn
 unfolding out_of
-request-fair conn number own (Station station message) same fine = absurd (eqb-false _ _ refl (ap (λ (o : Out). o.frame.stream) same))
-request-fair conn number own (Request message) same fine = subst IsReference (sym (ap (λ (o : Out). o.conn) same)) fine.1
-request-fair conn number own (ReleaseComplete reference) same fine = subst IsReference (sym (ap (λ (o : Out). o.conn) same)) fine.1
-request-fair conn number own (Data reference message) same fine = subst IsReference (sym (ap (λ (o : Out). o.conn) same)) fine.1
+request_fair conn number own (Station station message) same fine = absurd (eqb-false _ _ refl (ap (λ (o : Out). o.frame.stream) same))
+request_fair conn number own (Request message) same fine = subst IsReference (sym (ap (λ (o : Out). o.conn) same)) fine.1
+request_fair conn number own (ReleaseComplete reference) same fine = subst IsReference (sym (ap (λ (o : Out). o.conn) same)) fine.1
+request_fair conn number own (Data reference message) same fine = subst IsReference (sym (ap (λ (o : Out). o.conn) same)) fine.1
 
-station-fair : (conn station : ℕ) (message : Rsl) → IsFair (sccp_in (out_of conn (Station station message)).frame)
+station_fair : (conn station : ℕ) (message : Rsl) → IsFair (sccp_in (out_of conn (Station station message)).frame)
 unfolding out_of
-station-fair conn station message = tt
+station_fair conn station message = tt
 
-message-fair : (out : Out) (own : Message) → out ≡ out_of out.conn own → IsReadOf out.conn own out.frame.body → IsFineOut out → IsFair (sccp_in out.frame)
-message-fair out (Station station message) put read fine = subst (λ (o : Out). IsFair (sccp_in o.frame)) (sym put) (station-fair out.conn station message)
-message-fair out (Request own) put read fine = read-fair out.frame (sccp.ConnectionRequest out.conn (Some read.0)) read.1 (request-fair out.conn fine.0 own fine.1 (sym put ∙ fine.2) fine.3)
-message-fair out (Data destination own) put read fine =
-    read-fair out.frame (sccp.DataForm1 destination read.0) read.1
-    (subst (λ (r : Result Bssap InterfaceFault). HasFairCause (result_ok r)) (sym read.2) (data-fair out.conn fine.0 destination own fine.1 (sym put ∙ fine.2) fine.3))
-message-fair out (ReleaseComplete destination) put read fine = read-fair out.frame (sccp.ReleaseComplete destination out.conn) read tt
+message_fair : (out : Out) (own : Message) → out ≡ out_of out.conn own → IsReadOf out.conn own out.frame.body → IsFineOut out → IsFair (sccp_in out.frame)
+message_fair out (Station station message) put read fine = subst (λ (o : Out). IsFair (sccp_in o.frame)) (sym put) (station_fair out.conn station message)
+message_fair out (Request own) put read fine = read_fair out.frame (sccp.ConnectionRequest out.conn (Some read.0)) read.1 (request_fair out.conn fine.0 own fine.1 (sym put ∙ fine.2) fine.3)
+message_fair out (Data destination own) put read fine =
+    read_fair out.frame (sccp.DataForm1 destination read.0) read.1
+    (subst (λ (r : Result Bssap InterfaceFault). HasFairCause (result_ok r)) (sym read.2) (data_fair out.conn fine.0 destination own fine.1 (sym put ∙ fine.2) fine.3))
+message_fair out (ReleaseComplete destination) put read fine = read_fair out.frame (sccp.ReleaseComplete destination out.conn) read tt
 
-out-fair : (out : Out) → IsSent out → IsOfOne out → (1 ≤ out.conn → IsFineOut out) → IsFair (sccp_in out.frame)
-out-fair out sent (inr is) fine = pong-fair out is
-out-fair out sent (inl from_one) fine = by sent.is where
+out_fair : (out : Out) → IsSent out → IsOfOne out → (1 ≤ out.conn → IsFineOut out) → IsFair (sccp_in out.frame)
+out_fair out sent (inr is) fine = pong_fair out is
+out_fair out sent (inl from_one) fine = by sent.is where
   by : IsMessage out ⊎ (out ≡ pong out.to) → IsFair (sccp_in out.frame)
-  by (inl message) = message-fair out message.message message.put message.read (fine from_one)
-  by (inr is) = pong-fair out is
+  by (inl message) = message_fair out message.message message.put message.read (fine from_one)
+  by (inr is) = pong_fair out is
 
-all-fair : (xs : List Out) → AllByRecursion IsSent xs → AllByRecursion IsOfOne xs → AllByRecursion (λ (out : Out). 1 ≤ out.conn → IsFineOut out) xs → AllByRecursion (λ (out : Out). IsFair (sccp_in out.frame)) xs
-all-fair [] sent ones fine = tt
-all-fair (x ∷ xs) sent ones fine = (out-fair x sent.0 ones.0 fine.0, all-fair xs sent.1 ones.1 fine.1)
+all_fair : (xs : List Out) → AllByRecursion IsSent xs → AllByRecursion IsOfOne xs → AllByRecursion (λ (out : Out). 1 ≤ out.conn → IsFineOut out) xs → AllByRecursion (λ (out : Out). IsFair (sccp_in out.frame)) xs
+all_fair [] sent ones fine = tt
+all_fair (x ∷ xs) sent ones fine = (out_fair x sent.0 ones.0 fine.0, all_fair xs sent.1 ones.1 fine.1)
 
-pub step-fair : (p : Parameters) (steps : List Step) (s : Step) → AreAllowed p → AllByRecursion ComesInOctets steps → ComesInOctets s → AllByRecursion (λ (out : Out). IsFair (sccp_in out.frame)) (step (life p steps).next s).outs
-step-fair p steps s allowed octets own =
+pub step_fair : (p : Parameters) (steps : List Step) (s : Step) → AreAllowed p → AllByRecursion ComesInOctets steps → ComesInOctets s → AllByRecursion (λ (out : Out). IsFair (sccp_in out.frame)) (step (life p steps).next s).outs
+step_fair p steps s allowed octets own =
     let c : Controller = (life p steps).next in
-    all-fair (step c s).outs (life_sends p steps s allowed octets own) (outs-of-one c s (life_fits p steps 1 (omega arith)).numbered)
-    (all-own (step c s).outs (λ number from_one.
+    all_fair (step c s).outs (life_sends p steps s allowed octets own) (outs_of_one c s (life_fits p steps 1 (omega arith)).numbered)
+    (all_own (step c s).outs (λ number from_one.
     let fine = step-fine p allowed number from_one steps s octets (small-life p allowed number from_one steps octets) in
-    subst (AllByRecursion IsFineOut) (sym fine.1) (fine-outs number fine.0 fine.2.fine)))
+    subst (AllByRecursion IsFineOut) (sym fine.1) (fine_outs number fine.0 fine.2.fine)))

@@ -15,16 +15,16 @@ use Rattle.world_laws.specs.Access.Requested.{AssignsAnother}
 use Rattle.world_laws.specs.Order.Beginning.{Begins, ConnectionsBeginComing, HasBegun}
 use Rattle.world_laws.specs.Order.Beginning.HasBegun.{begins, not_yet}
 use Rattle.world_laws.specs.Order.Unanswered.{IsAsItConnected}
-use Rattle.world_laws.proofs.Order.Beginning.{ConnectionsBegin-new}
-use Rattle.world_laws.proofs.Access.Turning.{another-assigns}
+use Rattle.world_laws.proofs.Order.Beginning.{connections_begin_new}
+use Rattle.world_laws.proofs.Access.Turning.{another_assigns}
 use Rattle.world_laws.specs.References.Taken.{IsEarlyIn}
 use Rattle.world_laws.proofs.Events.{world}
 
 -- ---- a mobile as it connected
 
 -- its link begins with what its upper layers sent
-pub connected-goes : (m : ℕ) (initial : List ℕ) → is_initial initial ≡ true → GoesOn m (after_connect (new_mobile m) (Some initial)).sent [] (after_connect (new_mobile m) (Some initial)).zero
-connected-goes m initial lawful = by (is_flow_message initial) refl where
+pub connected_goes : (m : ℕ) (initial : List ℕ) → is_initial initial ≡ true → GoesOn m (after_connect (new_mobile m) (Some initial)).sent [] (after_connect (new_mobile m) (Some initial)).zero
+connected_goes m initial lawful = by (is_flow_message initial) refl where
   by : (b : Bool) → is_flow_message initial ≡ b
       → GoesOn m (connected_mobile (if b then after_number (new_mobile m) initial else with_link (new_mobile m) Zero (waits (link_of (new_mobile m) Zero) initial))).sent []
       (connected_mobile (if b then after_number (new_mobile m) initial else with_link (new_mobile m) Zero (waits (link_of (new_mobile m) Zero) initial))).zero
@@ -32,39 +32,39 @@ connected-goes m initial lawful = by (is_flow_message initial) refl where
   by false apart = GoesOn-unnumbered {m = m} {sent = []} {xs = []} idle_link initial apart (GoesOn-new m)
 
 -- and nothing stands behind it
-connected-controls : (m : ℕ) (initial : List ℕ) → controls_of (behind_first (to_be_taken (after_connect (new_mobile m) (Some initial)).zero)) ≡ 0
-connected-controls m initial = by (is_flow_message initial) where
+connected_controls : (m : ℕ) (initial : List ℕ) → controls_of (behind_first (to_be_taken (after_connect (new_mobile m) (Some initial)).zero)) ≡ 0
+connected_controls m initial = by (is_flow_message initial) where
   by : (b : Bool) → controls_of (behind_first (to_be_taken (connected_mobile (if b then after_number (new_mobile m) initial else with_link (new_mobile m) Zero (waits (link_of (new_mobile m) Zero) initial))).zero)) ≡ 0
   by true = refl
   by false = refl
 
-new-connected : (m : ℕ) (run : List Event) (mobile : ℕ) (p : Mobile) → IsAsItConnected m run mobile p → IsNew m p
-new-connected m run mobile p is = subst (IsNew m) (sym is.same) (record { opens = refl; goes_on = connected-goes m is.initial is.lawful; no_control = connected-controls m is.initial })
+new_connected : (m : ℕ) (run : List Event) (mobile : ℕ) (p : Mobile) → IsAsItConnected m run mobile p → IsNew m p
+new_connected m run mobile p is = subst (IsNew m) (sym is.same) (record { opens = refl; goes_on = connected_goes m is.initial is.lawful; no_control = connected_controls m is.initial })
 
 -- ---- no one told it a channel
 
-another-all : (k : ℕ) (s : Connection) (station : ℕ) (entries : List OutboxEntry) → AllByRecursion (λ entry. AssignsAnother k (rsl_in entry.out.frame)) entries → AllByRecursion (AssignsIn k s station) entries
-another-all k s station [] all = tt
-another-all k s station (entry ∷ entries) all = (another-assigns k s station (rsl_in entry.out.frame) all.0, another-all k s station entries all.1)
+another_all : (k : ℕ) (s : Connection) (station : ℕ) (entries : List OutboxEntry) → AllByRecursion (λ entry. AssignsAnother k (rsl_in entry.out.frame)) entries → AllByRecursion (AssignsIn k s station) entries
+another_all k s station [] all = tt
+another_all k s station (entry ∷ entries) all = (another_assigns k s station (rsl_in entry.out.frame) all.0, another_all k s station entries all.1)
 
 -- ---- the law
 
-begins-coming : (m : ℕ) (run : List Event) (v : Actors) (s : Connection) → Begins m run v s → IsComing m v s.request.access s
-begins-coming m run v s begun = record {
+begins_coming : (m : ℕ) (run : List Event) (v : Actors) (s : Connection) → Begins m run v s → IsComing m v s.request.access s
+begins_coming m run v s begun = record {
   had = begun.had;
   early = subst IsEarlyIn (sym begun.state) tt;
   asked = refl;
   one = begun.one;
   found = begun.found;
-  comes = asks (ap (λ (p : Mobile). p.seat) begun.as_connected.same) (new-connected m run s.request.access begun.one begun.as_connected) begun.quiet.nothing_comes begun.quiet.none_commanded;
-  assigned = λ station. another-all s.request.access s station (outbox_of v station) (begun.none_names station);
+  comes = asks (ap (λ (p : Mobile). p.seat) begun.as_connected.same) (new_connected m run s.request.access begun.one begun.as_connected) begun.quiet.nothing_comes begun.quiet.none_commanded;
+  assigned = λ station. another_all s.request.access s station (outbox_of v station) (begun.none_names station);
 }
 
-pub ConnectionsBeginComing-new : (settings : Parameters) (done : List Event) (event : Event) → ConnectionsBeginComing settings done event
-ConnectionsBeginComing-new settings done event number allowed octets from_one past = by (ConnectionsBegin-new settings done event number allowed octets from_one past) where
+pub connections_begin_coming_new : (settings : Parameters) (done : List Event) (event : Event) → ConnectionsBeginComing settings done event
+connections_begin_coming_new settings done event number allowed octets from_one past = by (connections_begin_new settings done event number allowed octets from_one past) where
   v : Actors
   v = actors_after (world settings done) event
 
   by : HasBegun (Begins (modulus_in settings) done) v number → HasBegun (λ w s. IsComing (modulus_in settings) w s.request.access s) v number
   by (not_yet still) = not_yet still
-  by (begins s is begun) = begins s is (begins-coming (modulus_in settings) done v s begun)
+  by (begins s is begun) = begins s is (begins_coming (modulus_in settings) done v s begun)

@@ -7,20 +7,20 @@ use Rattle.world_laws.proofs.Prelude.{all_steps, step_at, Actors, new_actors, Li
 use Rattle.controller_model.specs.Life.{life}
 use Rattle.world_laws.specs.OthersFrame.{CameInOctets}
 use Rattle.world_laws.proofs.References.Moving.{each-append}
-use Rattle.world_laws.proofs.Events.{snoc-actors, snoc-steps, world}
+use Rattle.world_laws.proofs.Events.{snoc_actors, snoc_steps, world}
 
 -- ---- the steps of a run
 
-append-steps : (w : Actors) (events more : List Event) → all_steps w (events ++ more) ≡ all_steps w events ++ all_steps (actors_after_all w events) more
-append-steps w [] more = refl
-append-steps w (x ∷ xs) more =
-    ap (λ (steps : List Step). step_at w x ++ steps) (append-steps (actors_after w x) xs more)
+append_steps : (w : Actors) (events more : List Event) → all_steps w (events ++ more) ≡ all_steps w events ++ all_steps (actors_after_all w events) more
+append_steps w [] more = refl
+append_steps w (x ∷ xs) more =
+    ap (λ (steps : List Step). step_at w x ++ steps) (append_steps (actors_after w x) xs more)
     ∙ sym (append_assoc (step_at w x) (all_steps (actors_after w x) xs) (all_steps (actors_after_all (actors_after w x) xs) more))
 
 -- what came before was octets, too
-pub octets-front : (settings : Parameters) (events more : List Event) → CameInOctets settings (events ++ more) → CameInOctets settings events
-octets-front settings events more octets =
-    front (all_steps (new_actors settings) events) (all_steps (world settings events) more) (subst (AllByRecursion ComesInOctets) (append-steps (new_actors settings) events more) octets) where
+pub octets_front : (settings : Parameters) (events more : List Event) → CameInOctets settings (events ++ more) → CameInOctets settings events
+octets_front settings events more octets =
+    front (all_steps (new_actors settings) events) (all_steps (world settings events) more) (subst (AllByRecursion ComesInOctets) (append_steps (new_actors settings) events more) octets) where
       front : (steps others : List Step) → AllByRecursion ComesInOctets (steps ++ others) → AllByRecursion ComesInOctets steps
       front [] others all = tt
       front (s ∷ ss) others all = (all.0, front ss others all.1)
@@ -30,8 +30,8 @@ octets-front settings events more octets =
 -- after a world of the run
 controller-then : (settings : Parameters) (events : List Event) (event : Event) → (actors_after (world settings events) event).controller ≡ (life settings (all_steps (new_actors settings) events ++ step_at (world settings events) event)).next
 controller-then settings events event =
-    ap (λ (w : Actors). w.controller) (sym (snoc-actors (new_actors settings) events event)) ∙ LivesByTable-new settings (events ++ event ∷ [])
-    ∙ ap (λ (steps : List Step). (life settings steps).next) (snoc-steps (new_actors settings) events event)
+    ap (λ (w : Actors). w.controller) (sym (snoc_actors (new_actors settings) events event)) ∙ LivesByTable-new settings (events ++ event ∷ [])
+    ∙ ap (λ (steps : List Step). (life settings steps).next) (snoc_steps (new_actors settings) events event)
 
 -- it is as it was where it takes nothing
 pub controller-stays : (settings : Parameters) (events : List Event) (event : Event) → step_at (world settings events) event ≡ [] → (actors_after (world settings events) event).controller ≡ (world settings events).controller
@@ -43,27 +43,27 @@ controller-stays settings events event none =
 
 -- ---- numbers
 
-each-rises : (c : Controller) (steps : List Step) → c.next_number ≤ (each step c steps).next.next_number
-each-rises c [] = omega arith
-each-rises c (s ∷ ss) = omega (arith, (step_goes c s).numbers, each-rises (step c s).next ss)
+each_rises : (c : Controller) (steps : List Step) → c.next_number ≤ (each step c steps).next.next_number
+each_rises c [] = omega arith
+each_rises c (s ∷ ss) = omega (arith, (step_goes c s).numbers, each_rises (step c s).next ss)
 
 -- they go on from the number that is next
-pub next-rises : (settings : Parameters) (events : List Event) (event : Event) → (world settings events).controller.next_number ≤ (actors_after (world settings events) event).controller.next_number
+pub next_rises : (settings : Parameters) (events : List Event) (event : Event) → (world settings events).controller.next_number ≤ (actors_after (world settings events) event).controller.next_number
 unfolding life
-next-rises settings events event =
+next_rises settings events event =
     let steps : List Step = all_steps (new_actors settings) events in
     let more : List Step = step_at (world settings events) event in
     let before : (world settings events).controller ≡ (each step (new_controller settings) steps).next = LivesByTable-new settings events in
     let after : (actors_after (world settings events) event).controller ≡ (each step (each step (new_controller settings) steps).next more).next = controller-then settings events event ∙ each-append (new_controller settings) steps more in
     subst (λ (n : ℕ). n ≤ (actors_after (world settings events) event).controller.next_number) (sym (ap (λ (c : Controller). c.next_number) before))
-    (subst (λ (n : ℕ). (each step (new_controller settings) steps).next.next_number ≤ n) (sym (ap (λ (c : Controller). c.next_number) after)) (each-rises (each step (new_controller settings) steps).next more))
+    (subst (λ (n : ℕ). (each step (new_controller settings) steps).next.next_number ≤ n) (sym (ap (λ (c : Controller). c.next_number) after)) (each_rises (each step (new_controller settings) steps).next more))
 
 numbered : (settings : Parameters) (events : List Event) → IsNumbered (world settings events).controller
 numbered settings events = subst IsNumbered (sym (LivesByTable-new settings events)) (life_fits settings (all_steps (new_actors settings) events) 1 (omega arith)).numbered
 
 -- a number that is still to be given has no connection
-pub none-given : (settings : Parameters) (events : List Event) (number : ℕ) → (world settings events).controller.next_number ≤ number → connection_of (world settings events).controller number ≡ None
-none-given settings events number past = ap (option_map (λ (e : Entry). e.connection)) (find_below number entries (weaker entries (numbered settings events).below)) where
+pub none_given : (settings : Parameters) (events : List Event) (number : ℕ) → (world settings events).controller.next_number ≤ number → connection_of (world settings events).controller number ≡ None
+none_given settings events number past = ap (option_map (λ (e : Entry). e.connection)) (find_below number entries (weaker entries (numbered settings events).below)) where
   entries : List Entry
   entries = (world settings events).controller.entries
 
@@ -71,14 +71,14 @@ none-given settings events number past = ap (option_map (λ (e : Entry). e.conne
   weaker [] all = tt
   weaker (e ∷ es) all = (omega (arith, all.0, past), weaker es all.1)
 
-pub none-given-then : (settings : Parameters) (events : List Event) (event : Event) (number : ℕ) → (actors_after (world settings events) event).controller.next_number ≤ number
+pub none_given_then : (settings : Parameters) (events : List Event) (event : Event) (number : ℕ) → (actors_after (world settings events) event).controller.next_number ≤ number
     → connection_of (actors_after (world settings events) event).controller number ≡ None
-none-given-then settings events event number =
-    subst (λ (w : Actors). w.controller.next_number ≤ number → connection_of w.controller number ≡ None) (snoc-actors (new_actors settings) events event) (none-given settings (events ++ event ∷ []) number)
+none_given_then settings events event number =
+    subst (λ (w : Actors). w.controller.next_number ≤ number → connection_of w.controller number ≡ None) (snoc_actors (new_actors settings) events event) (none_given settings (events ++ event ∷ []) number)
 
 -- and that of a connection is below
-pub given-below : (settings : Parameters) (events : List Event) (number : ℕ) (s : Connection) → connection_of (world settings events).controller number ≡ Some s → number < (world settings events).controller.next_number
-given-below settings events number s there = elim (cases_Bool (leb (world settings events).controller.next_number number)) [
-  | inl past ↦ absurd (none-some s (sym (none-given settings events number (leb-true (world settings events).controller.next_number number past)) ∙ there))
+pub given_below : (settings : Parameters) (events : List Event) (number : ℕ) (s : Connection) → connection_of (world settings events).controller number ≡ Some s → number < (world settings events).controller.next_number
+given_below settings events number s there = elim (cases_Bool (leb (world settings events).controller.next_number number)) [
+  | inl past ↦ absurd (none-some s (sym (none_given settings events number (leb-true (world settings events).controller.next_number number past)) ∙ there))
   | inr below ↦ leb-false (world settings events).controller.next_number number below
 ]

@@ -15,18 +15,18 @@ use Rattle.world_model.specs.Relay.{entry_of}
 use Rattle.world_model.proofs.Counting.{same-stations}
 use Rattle.world_laws.specs.OthersFrame.{CameInOctets, IsHad}
 use Rattle.world_laws.specs.Access.Arriving.{LetsNoneGo}
-use Rattle.world_laws.proofs.Channels.Agreeing.{IsPlaced, owns-at, placed-at}
-use Rattle.world_laws.proofs.Handling.Finishing.{controller-is, handle-is, tick-is}
-use Rattle.world_laws.proofs.Handling.Knowing.{Steps, octets-came, steps-known, known}
-use Rattle.world_laws.proofs.Targets.FreeQuiet.{Known, known-new}
+use Rattle.world_laws.proofs.Channels.Agreeing.{IsPlaced, owns_at, placed_at}
+use Rattle.world_laws.proofs.Handling.Finishing.{controller-is, handle_is, tick_is}
+use Rattle.world_laws.proofs.Handling.Knowing.{Steps, octets_came, steps_known, known}
+use Rattle.world_laws.proofs.Targets.FreeQuiet.{Known, known_new}
 use Rattle.world_laws.specs.Order.QuietDown.{ChannelsStayQuiet, NoDataEntry, Quiet, QuietLetsNoneGo}
-use Rattle.world_laws.proofs.Order.Avoiding.{OthersPut, others-put}
+use Rattle.world_laws.proofs.Order.Avoiding.{OthersPut, others_put}
 use Rattle.world_laws.proofs.Order.Early.{Fate, fate}
 use Rattle.world_laws.proofs.Order.Early.Fate.{begins, stayed}
-use Rattle.world_laws.proofs.Order.NoData.{NoDataOut, by-each, entries-none, messages-none, pong-none}
-use Rattle.world_laws.proofs.Order.QuietDown.{IsIdle, quiet-air, quiet-step}
-use Rattle.world_laws.proofs.Events.{snoc-actors, snoc-steps, world}
-use Rattle.world_laws.proofs.References.Numbered.{outs-of-one}
+use Rattle.world_laws.proofs.Order.NoData.{NoDataOut, by_each, entries_none, messages_none, pong_none}
+use Rattle.world_laws.proofs.Order.QuietDown.{IsIdle, quiet_air, quiet-step}
+use Rattle.world_laws.proofs.Events.{snoc_actors, snoc_steps, world}
+use Rattle.world_laws.proofs.References.Numbered.{outs_of_one}
 use Rattle.world_laws.specs.References.Taken.{IsEarlyIn}
 
 -- ---- the steps of a run
@@ -35,9 +35,9 @@ pub stations-all : (w : Actors) (xs : List Event) → length (actors_after_all w
 stations-all w [] = refl
 stations-all w (x ∷ xs) = stations-all (actors_after w x) xs ∙ same-stations w x
 
-pub less-one : (n l cells : ℕ) → 1 ≤ n → n ≤ cells → l ≡ cells → n - 1 < l
-less-one zero l cells least most is = absurd (omega (arith, least))
-less-one (suc n) l cells least most is = omega (arith, most, is)
+pub less_one : (n l cells : ℕ) → 1 ≤ n → n ≤ cells → l ≡ cells → n - 1 < l
+less_one zero l cells least most is = absurd (omega (arith, least))
+less_one (suc n) l cells least most is = omega (arith, most, is)
 
 module _ (settings : Parameters) (done : List Event) (event : Event) (old s : Connection) (allowed : AreAllowed settings) (octets : CameInOctets settings (done ++ event ∷ [])) (had : IsHad (world settings done) old) (early : IsEarlyIn old.state)
     (number : s.number ≡ old.number) (has : IsHad (world settings (done ++ event ∷ [])) s) (early_then : IsEarlyIn s.state) (quiet : Quiet (world settings done) (place_of old.serving)) where
@@ -57,32 +57,32 @@ module _ (settings : Parameters) (done : List Event) (event : Event) (old s : Co
   at = place_of s.serving
 
   same : vv ≡ v
-  same = snoc-actors (new_actors settings) done event
+  same = snoc_actors (new_actors settings) done event
 
   came : CameInOctets settings done × AllByRecursion ComesInOctets (step_at w event)
-  came = octets-came settings done event octets
+  came = octets_came settings done event octets
 
   used_then : channel_state vv.controller at ≡ InUse s.number
-  used_then = (owns-at settings (done ++ event ∷ []) allowed s.number s has.there has.is_open).using.0
+  used_then = (owns_at settings (done ++ event ∷ []) allowed s.number s has.there has.is_open).using.0
 
   placed : IsPlaced settings vv at
-  placed = placed-at settings (done ++ event ∷ []) allowed at (λ free. absurd (let both : Free ≡ InUse s.number = sym free ∙ used_then in cc))
+  placed = placed_at settings (done ++ event ∷ []) allowed at (λ free. absurd (let both : Free ≡ InUse s.number = sym free ∙ used_then in cc))
 
   at_is : at.station ≢ SWITCH_LINK
   at_is is = absurd (let least = placed.least in omega (arith, is, least))
 
   before : Known settings done at
-  before = known-new settings done at allowed came.0 placed.least placed.most
+  before = known_new settings done at allowed came.0 placed.least placed.most
 
   after : Known settings (done ++ event ∷ []) at
-  after = known-new settings (done ++ event ∷ []) at allowed octets placed.least placed.most
+  after = known_new settings (done ++ event ∷ []) at allowed octets placed.least placed.most
 
   -- where it puts no DATA REQUEST for the channel
   goes-quiet : Quiet w at → AllByRecursion (NoDataEntry at.number) (put at.station w event) → Quiet vv at
   goes-quiet now nothing =
       subst (λ (x : Actors). Quiet x at) (sym same)
       (quiet-step w event at at_is before.settled.air (subst (λ (x : Actors). IsIdle x at) same after.settled.air) nothing
-      (pipe-step at.station at.number w event at_is (less-one at.station (length w.stations) (length settings.cells) placed.least placed.most (stations-all (new_actors settings) done ∙ length-stations_from 1 settings.cells)) before.none) now)
+      (pipe-step at.station at.number w event at_is (less_one at.station (length w.stations) (length settings.cells) placed.least placed.most (stations-all (new_actors settings) done ∙ length-stations_from 1 settings.cells)) before.none) now)
 
   put-none : (entries : List OutboxEntry) → outputs w event ≡ entries → AllByRecursion (NoDataEntry at.number) (to_link at.station entries) → AllByRecursion (NoDataEntry at.number) (put at.station w event)
   put-none entries is nothing = by (is_up w at.station) where
@@ -96,7 +96,7 @@ module _ (settings : Parameters) (done : List Event) (event : Event) (old s : Co
   rests-quiet none nothing =
       let still : vv.controller ≡ c =
       LivesByTable-new settings (done ++ event ∷ [])
-      ∙ ap (λ (ss : List Step). (life settings ss).next) (snoc-steps (new_actors settings) done event ∙ ap (λ (ss : List Step). all_steps (new_actors settings) done ++ ss) none ∙ append-nil (all_steps (new_actors settings) done))
+      ∙ ap (λ (ss : List Step). (life settings ss).next) (snoc_steps (new_actors settings) done event ∙ ap (λ (ss : List Step). all_steps (new_actors settings) done ++ ss) none ∙ append-nil (all_steps (new_actors settings) done))
       ∙ sym (LivesByTable-new settings done) in
       let one : s ≡ old = same_Some _ _ (sym has.there ∙ ap (λ (d : Controller). connection_of d s.number) still ∙ ap (connection_of c) number ∙ had.there) in
       goes-quiet (subst (λ (x : Connection). Quiet w (place_of x.serving)) (sym one) quiet) (put-none [] nothing tt)
@@ -105,7 +105,7 @@ module _ (settings : Parameters) (done : List Event) (event : Event) (old s : Co
 
   module _ (x : Step) (target : Option Tenure) (own : ComesInOctets x) (puts : outputs w event ≡ map (entry_of target) (step c x).outs) (next : vv.controller ≡ (step c x).next) where
     does : Steps c x s.number
-    does = steps-known settings done x s.number allowed came.0 own has.from_one
+    does = steps_known settings done x s.number allowed came.0 own has.from_one
 
     there : connection_of (step c x).next s.number ≡ Some s
     there = ap (λ (d : Controller). connection_of d s.number) (sym next) ∙ has.there
@@ -120,25 +120,25 @@ module _ (settings : Parameters) (done : List Event) (event : Event) (old s : Co
     destiny = fate s.number c.next_number (hears c SWITCH_LINK) (brought_in c s.number x) (connection_of c s.number) does.acts.put s at fine early_then (subst (λ (o : Option Connection). Acts s.number c.next_number (hears c SWITCH_LINK) (brought_in c s.number x) (connection_of c s.number) does.acts.put o) there does.acts.acts)
 
     stays-quiet : (now : Connection) → connection_of c s.number ≡ Some now → now.serving ≡ s.serving → AllByRecursion (IsNotOn at) does.acts.put → Quiet vv at
-    stays-quiet now is serving off = goes-quiet (subst (λ (p : Place). Quiet w p) place quiet) (put-none (map (entry_of target) (step c x).outs) puts (entries-none at target (step c x).outs nodata)) where
+    stays-quiet now is serving off = goes-quiet (subst (λ (p : Place). Quiet w p) place quiet) (put-none (map (entry_of target) (step c x).outs) puts (entries_none at target (step c x).outs nodata)) where
       place : place_of old.serving ≡ at
       place = ap (λ (y : Connection). place_of y.serving) (same_Some _ _ (sym was ∙ is)) ∙ ap place_of serving
 
       used : channel_state c at ≡ InUse s.number
-      used = ap (channel_state c) (sym place) ∙ (owns-at settings done allowed old.number old had.there had.is_open).using.0 ∙ ap InUse (sym number)
+      used = ap (channel_state c) (sym place) ∙ (owns_at settings done allowed old.number old had.there had.is_open).using.0 ∙ ap InUse (sym number)
 
       others : (k : ℕ) → 1 ≤ k → s.number ≢ k → OthersPut k c x at
       others k from_one differs = subst (λ (d : Controller). channel_state d at ≡ InUse s.number → channel_state (step d x).next at ≡ InUse s.number → OthersPut k d x at) (sym (LivesByTable-new settings done))
-          (λ here_now here_next. others-put settings (all_steps (new_actors settings) done) x s.number k at (InUse s.number) allowed from_one differs (λ both. differs (number-is (sym both))) here_now here_next)
+          (λ here_now here_next. others_put settings (all_steps (new_actors settings) done) x s.number k at (InUse s.number) allowed from_one differs (λ both. differs (number-is (sym both))) here_now here_next)
           used (ap (λ (d : Controller). channel_state d at) (sym next) ∙ used_then) where
             number-is : {a b : ℕ} → InUse a ≡ InUse b → a ≡ b
             number-is both = cc
 
       of-messages : (k : ℕ) (ms : List Message) → outs_for k (step c x).outs ≡ outs_of k ms → AllByRecursion (IsNotOn at) ms → AllByRecursion (NoDataOut at) (outs_for k (step c x).outs)
-      of-messages k ms is none = subst (AllByRecursion (NoDataOut at)) (sym is) (messages-none at k ms placed.least (subst (AllByRecursion IsSent) is (AllByRecursion-filter IsSent (is_for k) (step c x).outs does.sent)) none)
+      of-messages k ms is none = subst (AllByRecursion (NoDataOut at)) (sym is) (messages_none at k ms placed.least (subst (AllByRecursion IsSent) is (AllByRecursion-filter IsSent (is_for k) (step c x).outs does.sent)) none)
 
       nodata : AllByRecursion (NoDataOut at) (step c x).outs
-      nodata = by-each (NoDataOut at) (step c x).outs (outs-of-one c x (known settings done old allowed had).ready.numbered) (pong-none at) (λ k from_one. elim (cases_Bool (nat_eq s.number k)) [
+      nodata = by_each (NoDataOut at) (step c x).outs (outs_of_one c x (known settings done old allowed had).ready.numbered) (pong_none at) (λ k from_one. elim (cases_Bool (nat_eq s.number k)) [
         | inl hit ↦ subst (λ (n : ℕ). AllByRecursion (NoDataOut at) (outs_for n (step c x).outs)) (eqb-true s.number k hit) (of-messages s.number does.acts.put does.acts.outs off)
         | inr miss ↦ let other = others k from_one (eqb-false s.number k miss) in of-messages k other.put other.outs other.off
       ])
@@ -149,8 +149,8 @@ module _ (settings : Parameters) (done : List Event) (event : Event) (old s : Co
       by (stayed now is early_now serving off) = stays-quiet now is serving off
       by (begins none put_is) = absurd (let both : None ≡ Some old = sym none ∙ was in cc)
 
-pub ChannelsStayQuiet-new : (settings : Parameters) (done : List Event) (event : Event) → ChannelsStayQuiet settings done event
-ChannelsStayQuiet-new settings done events.Handle old s allowed octets had early number has early_then quiet = by w.inbox refl where
+pub channels_stay_quiet_new : (settings : Parameters) (done : List Event) (event : Event) → ChannelsStayQuiet settings done event
+channels_stay_quiet_new settings done events.Handle old s allowed octets had early number has early_then quiet = by w.inbox refl where
   w : Actors
   w = world settings done
 
@@ -158,20 +158,20 @@ ChannelsStayQuiet-new settings done events.Handle old s allowed octets had early
   by [] stood = rests-quiet settings done events.Handle old s allowed octets had early number has early_then quiet (ap first_taken stood) (ap (outputs_at w) stood)
   by (item ∷ items) stood =
       works-quiet settings done events.Handle old s allowed octets had early number has early_then quiet (steps.Take item) (target_in w item.source item.what)
-      (subst (λ (xs : List RelayItem). AllByRecursion ComesInOctets (first_taken xs)) stood (octets-came settings done events.Handle octets).1).0
+      (subst (λ (xs : List RelayItem). AllByRecursion ComesInOctets (first_taken xs)) stood (octets_came settings done events.Handle octets).1).0
       (ap (outputs_at w) stood)
-      (ap (λ (x : Actors). x.controller) (snoc-actors (new_actors settings) done events.Handle ∙ handle-is w item items stood) ∙ controller-is (target_in w item.source item.what) (take item w.controller) (record w { inbox = items }))
-ChannelsStayQuiet-new settings done (events.Tick ms) old s allowed octets had early number has early_then quiet =
+      (ap (λ (x : Actors). x.controller) (snoc_actors (new_actors settings) done events.Handle ∙ handle_is w item items stood) ∙ controller-is (target_in w item.source item.what) (take item w.controller) (record w { inbox = items }))
+channels_stay_quiet_new settings done (events.Tick ms) old s allowed octets had early number has early_then quiet =
     let w : Actors = world settings done in
     works-quiet settings done (events.Tick ms) old s allowed octets had early number has early_then quiet (steps.Tick ms) None tt refl
-    (ap (λ (x : Actors). x.controller) (snoc-actors (new_actors settings) done (events.Tick ms) ∙ tick-is w ms) ∙ controller-is None (tick ms w.controller) w)
-ChannelsStayQuiet-new settings done _ old s allowed octets had early number has early_then quiet = rests-quiet settings done _ old s allowed octets had early number has early_then quiet refl refl
+    (ap (λ (x : Actors). x.controller) (snoc_actors (new_actors settings) done (events.Tick ms) ∙ tick_is w ms) ∙ controller-is None (tick ms w.controller) w)
+channels_stay_quiet_new settings done _ old s allowed octets had early number has early_then quiet = rests-quiet settings done _ old s allowed octets had early number has early_then quiet refl refl
 
-pub QuietLetsNoneGo-new : (settings : Parameters) (done : List Event) → QuietLetsNoneGo settings done
-QuietLetsNoneGo-new settings done s allowed octets had quiet =
+pub quiet_lets_none_go_new : (settings : Parameters) (done : List Event) → QuietLetsNoneGo settings done
+quiet_lets_none_go_new settings done s allowed octets had quiet =
     let w : Actors = world settings done in
     let at : Place = place_of s.serving in
-    let used = (owns-at settings done allowed s.number s had.there had.is_open).using.0 in
-    let placed = placed-at settings done allowed at (λ free. absurd (let both : Free ≡ InUse s.number = sym free ∙ used in cc)) in
-    let before = known-new settings done at allowed octets placed.least placed.most in
-    subst (AllByRecursion LetsNoneGo) (sym (quiet-air w at before.settled.air quiet)) tt
+    let used = (owns_at settings done allowed s.number s had.there had.is_open).using.0 in
+    let placed = placed_at settings done allowed at (λ free. absurd (let both : Free ≡ InUse s.number = sym free ∙ used in cc)) in
+    let before = known_new settings done at allowed octets placed.least placed.most in
+    subst (AllByRecursion LetsNoneGo) (sym (quiet_air w at before.settled.air quiet)) tt

@@ -7,40 +7,40 @@ use Rattle.world_laws.proofs.Prelude.{kept_in, ages, goes, opens, rests, aged_ho
 use Rattle.conn_rules.specs.Table.{row_of}
 use Rattle.controller_model.proofs.LifeLaws.Fitting.{IsFine}
 use Rattle.world_laws.specs.OwnFrame.{IsRequested}
-use Rattle.world_laws.proofs.Access.EarlyRows.{EarlyRow, early-row}
+use Rattle.world_laws.proofs.Access.EarlyRows.{EarlyRow, early_row}
 use Rattle.world_laws.proofs.Access.EarlyRows.EarlyRow.{acked, asked, gone}
-use Rattle.world_laws.proofs.Handling.Own.{still-requested}
+use Rattle.world_laws.proofs.Handling.Own.{still_requested}
 use Rattle.world_laws.specs.References.Taken.{IsEarlyIn}
 
-pub early-open : (state : State) → IsEarlyIn state → IsOpen state
-early-open WaitActivation early = tt
-early-open WaitEstablish early = tt
-early-open WaitConfirm early = absurd early
-early-open (Live reference stage) early = absurd early
-early-open (Closed clearing) early = absurd early
-early-open Removed early = absurd early
+pub early_open : (state : State) → IsEarlyIn state → IsOpen state
+early_open WaitActivation early = tt
+early_open WaitEstablish early = tt
+early_open WaitConfirm early = absurd early
+early_open (Live reference stage) early = absurd early
+early_open (Closed clearing) early = absurd early
+early_open Removed early = absurd early
 
-not-requested : (state : State) → IsEarlyIn state → IsRequested state → ⊥
-not-requested WaitActivation early requested = requested
-not-requested WaitEstablish early requested = requested
-not-requested WaitConfirm early requested = early
-not-requested (Live reference stage) early requested = early
-not-requested (Closed clearing) early requested = early
-not-requested Removed early requested = early
+not_requested : (state : State) → IsEarlyIn state → IsRequested state → ⊥
+not_requested WaitActivation early requested = requested
+not_requested WaitEstablish early requested = requested
+not_requested WaitConfirm early requested = early
+not_requested (Live reference stage) early requested = early
+not_requested (Closed clearing) early requested = early
+not_requested Removed early requested = early
 
 -- no row leads back
-shut-stays : (s : Connection) (input : Input) (offer : Option Channel) (r : Row) → ChangesRoles s input offer r → (IsOpen s.state → ⊥) → IsOpen r.next.state → ⊥
-shut-stays s input offer r (goes_on was is on) shut there = shut was
-shut-stays s input offer r (ends was is over) shut there = shut was
-shut-stays s input offer r (had_ended was is nothing) shut there = is there
+shut_stays : (s : Connection) (input : Input) (offer : Option Channel) (r : Row) → ChangesRoles s input offer r → (IsOpen s.state → ⊥) → IsOpen r.next.state → ⊥
+shut_stays s input offer r (goes_on was is on) shut there = shut was
+shut_stays s input offer r (ends was is over) shut there = shut was
+shut_stays s input offer r (had_ended was is nothing) shut there = is there
 
-was-early : (s : Connection) (input : Input) (offer : Option Channel) (r : Row) → Stands s → row_of s input offer ≡ Some r → IsEarlyIn r.next.state → IsEarlyIn s.state
-was-early s input offer r stands fits early = by s.state refl where
+was_early : (s : Connection) (input : Input) (offer : Option Channel) (r : Row) → Stands s → row_of s input offer ≡ Some r → IsEarlyIn r.next.state → IsEarlyIn s.state
+was_early s input offer r stands fits early = by s.state refl where
   later : IsRequested s.state → ⊥
-  later requested = not-requested r.next.state early (still-requested s input offer r requested fits (early-open r.next.state early))
+  later requested = not_requested r.next.state early (still_requested s input offer r requested fits (early_open r.next.state early))
 
   shut : (IsOpen s.state → ⊥) → ⊥
-  shut closed = shut-stays s input offer r (changes_of s input offer r stands fits) closed (early-open r.next.state early)
+  shut closed = shut_stays s input offer r (changes_of s input offer r stands fits) closed (early_open r.next.state early)
 
   by : (state : State) → s.state ≡ state → IsEarlyIn state
   by WaitActivation is = tt
@@ -50,13 +50,13 @@ was-early s input offer r stands fits early = by s.state refl where
   by (Closed clearing) is = absurd (shut (λ there. subst IsOpen is there))
   by Removed is = absurd (shut (λ there. subst IsOpen is there))
 
-kept-one : (state : State) (x now : Connection) → Some now ≡ kept_in state x → now ≡ x
-kept-one Removed x now is = absurd cc
-kept-one WaitActivation x now is = cc
-kept-one WaitEstablish x now is = cc
-kept-one WaitConfirm x now is = cc
-kept-one (Live reference stage) x now is = cc
-kept-one (Closed clearing) x now is = cc
+kept_one : (state : State) (x now : Connection) → Some now ≡ kept_in state x → now ≡ x
+kept_one Removed x now is = absurd cc
+kept_one WaitActivation x now is = cc
+kept_one WaitEstablish x now is = cc
+kept_one WaitConfirm x now is = cc
+kept_one (Live reference stage) x now is = cc
+kept_one (Closed clearing) x now is = cc
 
 pub data Fate (at : Place) (before : Option Connection) (now : Connection) (put : List Message) : Type 0 where
   stayed : (old : Connection) → before ≡ Some old → IsEarlyIn old.state → old.serving ≡ now.serving → AllByRecursion (IsNotOn at) put → Fate at before now put
@@ -66,12 +66,12 @@ record SamePlace (old s : Connection) : Type 0 where
   state : s.state ≡ old.state
   serving : s.serving ≡ old.serving
 
-after-row : (at : Place) (before : Option Connection) (old s now : Connection) (input : Input) (r : Row) (put : List Message) → before ≡ Some old → SamePlace old s → now ≡ r.next → put ≡ r.outs → IsEarlyIn now.state → EarlyRow s input r → IsEarlyIn s.state → Fate at before now put
-after-row at before old s now input r put was same is put_is early (acked waits row_is) early_s =
+after_row : (at : Place) (before : Option Connection) (old s now : Connection) (input : Input) (r : Row) (put : List Message) → before ≡ Some old → SamePlace old s → now ≡ r.next → put ≡ r.outs → IsEarlyIn now.state → EarlyRow s input r → IsEarlyIn s.state → Fate at before now put
+after_row at before old s now input r put was same is put_is early (acked waits row_is) early_s =
     stayed old was (subst IsEarlyIn same.state early_s) (sym same.serving ∙ sym (ap (λ (x : Row). x.next.serving) row_is) ∙ sym (ap (λ (x : Connection). x.serving) is))
     (subst (AllByRecursion (IsNotOn at)) (sym (put_is ∙ ap (λ (x : Row). x.outs) row_is)) (tt, tt))
-after-row at before old s now input r put was same is put_is early (asked waits place initial says here row_is) early_s = absurd (subst IsEarlyIn (ap (λ (x : Connection). x.state) is ∙ ap (λ (x : Row). x.next.state) row_is) early)
-after-row at before old s now input r put was same is put_is early (gone over) early_s = absurd (subst IsEarlyIn (ap (λ (x : Connection). x.state) is ∙ over) early)
+after_row at before old s now input r put was same is put_is early (asked waits place initial says here row_is) early_s = absurd (subst IsEarlyIn (ap (λ (x : Connection). x.state) is ∙ ap (λ (x : Row). x.next.state) row_is) early)
+after_row at before old s now input r put was same is put_is early (gone over) early_s = absurd (subst IsEarlyIn (ap (λ (x : Connection). x.state) is ∙ over) early)
 
 pub fate : (number next : ℕ) (up : Bool) (brought : Brought) (before : Option Connection) (put : List Message) (now : Connection) (at : Place) → IsFine before → IsEarlyIn now.state → Acts number next up brought before put (Some now) → Fate at before now put
 fate number next up brought before put now at fine early (rests silent same none) = stayed now (sym same) early refl (subst (AllByRecursion (IsNotOn at)) (sym silent) tt)
@@ -83,6 +83,6 @@ fate number next up brought before put now at fine early (opens counts linked ch
     begins none (put_is ∙ ap (λ (x : Connection). access_activation x.serving ∷ []) (sym (same_Some _ _ same)))
 fate number next up brought before put now at fine early (goes old s input offer r is aged by fits put_is same) =
     let older : SamePlace old s = aged_holds (SamePlace old) (λ ms c x. record { state = x.state; serving = x.serving }) old s aged (record { state = refl; serving = refl }) in
-    let now_is : now ≡ r.next = kept-one r.next.state r.next now same in
-    let early_s : IsEarlyIn s.state = was-early s input offer r (fine_old before old s is aged fine).1 fits (subst IsEarlyIn (ap (λ (x : Connection). x.state) now_is) early) in
-    after-row at before old s now input r put is older now_is put_is early (early-row s input offer r early_s fits) early_s
+    let now_is : now ≡ r.next = kept_one r.next.state r.next now same in
+    let early_s : IsEarlyIn s.state = was_early s input offer r (fine_old before old s is aged fine).1 fits (subst IsEarlyIn (ap (λ (x : Connection). x.state) now_is) early) in
+    after_row at before old s now input r put is older now_is put_is early (early_row s input offer r early_s fits) early_s

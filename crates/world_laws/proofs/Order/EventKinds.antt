@@ -40,32 +40,32 @@ working (beside is not none nothing delivers) = rests not none nothing
 
 -- ---- the switch takes what was put, or what it takes is of a connection that it never hears of
 
-pub delivers-or : {w : Actors} {number : ℕ} {event : Event} → Kind w number event → DeliversFirst w number (outbox_of w SWITCH_LINK) ⊎ IsUnheard (actors_after w SwitchTakes) number → DeliversAt w number event ⊎ IsUnheard (actors_after w event) number
-delivers-or handles or = inl tt
-delivers-or (ticks ms) or = inl tt
-delivers-or switch_takes or = or
-delivers-or (station_takes station) or = inl tt
-delivers-or (breaks source) or = inl tt
-delivers-or (beside is not none nothing delivers) or = inl delivers
+pub delivers_or : {w : Actors} {number : ℕ} {event : Event} → Kind w number event → DeliversFirst w number (outbox_of w SWITCH_LINK) ⊎ IsUnheard (actors_after w SwitchTakes) number → DeliversAt w number event ⊎ IsUnheard (actors_after w event) number
+delivers_or handles or = inl tt
+delivers_or (ticks ms) or = inl tt
+delivers_or switch_takes or = or
+delivers_or (station_takes station) or = inl tt
+delivers_or (breaks source) or = inl tt
+delivers_or (beside is not none nothing delivers) or = inl delivers
 
-pub delivers-by : {w : Actors} {number : ℕ} {event : Event} → Kind w number event → DeliversFirst w number (outbox_of w SWITCH_LINK) → DeliversAt w number event
-delivers-by handles first = tt
-delivers-by (ticks ms) first = tt
-delivers-by switch_takes first = first
-delivers-by (station_takes station) first = tt
-delivers-by (breaks source) first = tt
-delivers-by (beside is not none nothing delivers) first = delivers
+pub delivers_by : {w : Actors} {number : ℕ} {event : Event} → Kind w number event → DeliversFirst w number (outbox_of w SWITCH_LINK) → DeliversAt w number event
+delivers_by handles first = tt
+delivers_by (ticks ms) first = tt
+delivers_by switch_takes first = first
+delivers_by (station_takes station) first = tt
+delivers_by (breaks source) first = tt
+delivers_by (beside is not none nothing delivers) first = delivers
 
 -- ---- nothing is put
 
-pub none-put : (w : Actors) (event : Event) (number : ℕ) → put SWITCH_LINK w event ≡ [] → PutsNoMore w number event
-none-put w event number none = subst (AllByRecursion (λ (entry : OutboxEntry). carried_for number entry.out ≡ [])) (sym none) tt
+pub none_put : (w : Actors) (event : Event) (number : ℕ) → put SWITCH_LINK w event ≡ [] → PutsNoMore w number event
+none_put w event number none = subst (AllByRecursion (λ (entry : OutboxEntry). carried_for number entry.out ≡ [])) (sym none) tt
 
-pub quiet-puts : (w : Actors) (event : Event) (number : ℕ) → outputs w event ≡ [] → PutsNoMore w number event
-quiet-puts w event number none = none-put w event number (by (is_up w SWITCH_LINK)) where
+pub quiet_puts : (w : Actors) (event : Event) (number : ℕ) → outputs w event ≡ [] → PutsNoMore w number event
+quiet_puts w event number none = none_put w event number (by (is_up w SWITCH_LINK)) where
   by : (b : Bool) → (if b then to_link SWITCH_LINK (outputs w event) else []) ≡ []
   by true = ap (to_link SWITCH_LINK) none
   by false = refl
 
-pub down-puts : (w : Actors) (event : Event) (number : ℕ) → is_up w SWITCH_LINK ≡ false → PutsNoMore w number event
-down-puts w event number down = none-put w event number (ap (λ (b : Bool). if b then to_link SWITCH_LINK (outputs w event) else []) down)
+pub down_puts : (w : Actors) (event : Event) (number : ℕ) → is_up w SWITCH_LINK ≡ false → PutsNoMore w number event
+down_puts w event number down = none_put w event number (ap (λ (b : Bool). if b then to_link SWITCH_LINK (outputs w event) else []) down)

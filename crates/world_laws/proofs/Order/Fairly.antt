@@ -9,20 +9,20 @@ use Rattle.controller_model.specs.Life.{take, tick}
 use Rattle.world_model.specs.Relay.{entry_of}
 use Rattle.world_laws.specs.OthersFrame.{CameInOctets}
 use Rattle.world_laws.specs.Order.OctetEvents.{ComeInOctets, IsFair, IsFairEntry, PutsFairly}
-use Rattle.world_laws.proofs.Order.CauseLife.{step-fair}
+use Rattle.world_laws.proofs.Order.CauseLife.{step_fair}
 use Rattle.world_laws.proofs.Order.EventKinds.{Kind, kind}
 use Rattle.world_laws.proofs.Order.EventKinds.Kind.{handles, ticks, switch_takes, station_takes, breaks, beside}
-use Rattle.world_laws.proofs.Order.OctetRun.{ComeInFairly-new}
-use Rattle.world_laws.proofs.Events.{snoc-steps, world}
-use Rattle.world_laws.proofs.Framing.{all-left, all-right}
+use Rattle.world_laws.proofs.Order.OctetRun.{come_in_fairly_new}
+use Rattle.world_laws.proofs.Events.{snoc_steps, world}
+use Rattle.world_laws.proofs.Framing.{all_left, all_right}
 
 abbrev AreFair : List Out → Type 0
 AreFair outs = AllByRecursion (λ (out : Out). IsFair (sccp_in out.frame)) outs
 
-entries-fair : (target : Option Tenure) (outs : List Out) → AreFair outs → AllByRecursion IsFairEntry (map (entry_of target) outs)
-entries-fair target [] all = tt
-entries-fair None (out ∷ outs) all = (all.0, entries-fair None outs all.1)
-entries-fair (Some tenure) (out ∷ outs) all = (all.0, entries-fair (Some tenure) outs all.1)
+entries_fair : (target : Option Tenure) (outs : List Out) → AreFair outs → AllByRecursion IsFairEntry (map (entry_of target) outs)
+entries_fair target [] all = tt
+entries_fair None (out ∷ outs) all = (all.0, entries_fair None outs all.1)
+entries_fair (Some tenure) (out ∷ outs) all = (all.0, entries_fair (Some tenure) outs all.1)
 
 module _ (settings : Parameters) (allowed : AreAllowed settings) (events : List Event) where
   abbrev w : Actors
@@ -30,15 +30,15 @@ module _ (settings : Parameters) (allowed : AreAllowed settings) (events : List 
 
   -- a step of the controller that is there
   stepped : (s : Step) → CameInOctets settings events → ComesInOctets s → AreFair (step w.controller s).outs
-  stepped s octets own = subst (λ (c : Controller). AreFair (step c s).outs) (sym (LivesByTable-new settings events)) (step-fair settings (all_steps (new_actors settings) events) s allowed octets own)
+  stepped s octets own = subst (λ (c : Controller). AreFair (step c s).outs) (sym (LivesByTable-new settings events)) (step_fair settings (all_steps (new_actors settings) events) s allowed octets own)
 
   handled : (items : List Item) → CameInOctets settings events → AllByRecursion ComesInOctets (first_taken items) → AllByRecursion IsFairEntry (outputs_at w items)
   handled [] octets own = tt
-  handled (item ∷ items) octets own = entries-fair (target_in w item.source item.what) (take item w.controller).outs (stepped (steps.Take item) octets own.0)
+  handled (item ∷ items) octets own = entries_fair (target_in w item.source item.what) (take item w.controller).outs (stepped (steps.Take item) octets own.0)
 
   outputs-fair : (event : Event) → Kind w 0 event → CameInOctets settings events → AllByRecursion ComesInOctets (step_at w event) → AllByRecursion IsFairEntry (outputs w event)
   outputs-fair event handles octets own = handled w.inbox octets own
-  outputs-fair event (ticks ms) octets own = entries-fair None (tick ms w.controller).outs (stepped (steps.Tick ms) octets own.0)
+  outputs-fair event (ticks ms) octets own = entries_fair None (tick ms w.controller).outs (stepped (steps.Tick ms) octets own.0)
   outputs-fair event switch_takes octets own = tt
   outputs-fair event (station_takes station) octets own = tt
   outputs-fair event (breaks source) octets own = tt
@@ -47,17 +47,17 @@ module _ (settings : Parameters) (allowed : AreAllowed settings) (events : List 
   put-fair : (event : Event) → CameInOctets settings (events ++ event ∷ []) → AllByRecursion IsFairEntry (put SWITCH_LINK w event)
   put-fair event octets = by (is_up w SWITCH_LINK) where
     both : AllByRecursion ComesInOctets (all_steps (new_actors settings) events ++ step_at w event)
-    both = subst (AllByRecursion ComesInOctets) (snoc-steps (new_actors settings) events event) octets
+    both = subst (AllByRecursion ComesInOctets) (snoc_steps (new_actors settings) events event) octets
 
     fair : AllByRecursion IsFairEntry (outputs w event)
-    fair = outputs-fair event (kind w 0 event) (all-left ComesInOctets (all_steps (new_actors settings) events) (step_at w event) both) (all-right ComesInOctets (all_steps (new_actors settings) events) (step_at w event) both)
+    fair = outputs-fair event (kind w 0 event) (all_left ComesInOctets (all_steps (new_actors settings) events) (step_at w event) both) (all_right ComesInOctets (all_steps (new_actors settings) events) (step_at w event) both)
 
     by : (b : Bool) → AllByRecursion IsFairEntry (if b then to_link SWITCH_LINK (outputs w event) else [])
     by true = AllByRecursion-filter IsFairEntry (λ entry. entry.out.to == SWITCH_LINK) (outputs w event) fair
     by false = tt
 
-pub PutsFairly-new : (settings : Parameters) → PutsFairly settings
-PutsFairly-new settings allowed events event octets = put-fair settings allowed events event octets
+pub puts_fairly_new : (settings : Parameters) → PutsFairly settings
+puts_fairly_new settings allowed events event octets = put-fair settings allowed events event octets
 
 pub ComeInOctets-new : (settings : Parameters) (events : List Event) → ComeInOctets settings events
-ComeInOctets-new settings events allowed octets = ComeInFairly-new settings events (PutsFairly-new settings allowed) octets
+ComeInOctets-new settings events allowed octets = come_in_fairly_new settings events (puts_fairly_new settings allowed) octets

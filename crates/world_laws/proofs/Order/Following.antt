@@ -10,29 +10,29 @@ use Rattle.world_laws.specs.Order.Order.{CutNumbersStay, Facts, NumbersStand}
 use Rattle.world_laws.specs.Order.Standing.{OnceDown, Standing}
 use Rattle.world_laws.specs.Order.Standing.Standing.{while_up}
 use Rattle.world_laws.specs.Order.Standing.WhileUp.{unborn}
-use Rattle.world_laws.proofs.Order.Controllers.{octets-front}
-use Rattle.world_laws.proofs.Order.Openers.{snoc-served}
-use Rattle.world_laws.proofs.Order.Steps.{cut-then, stands-then}
-use Rattle.world_laws.proofs.Events.{snoc-actors, world}
+use Rattle.world_laws.proofs.Order.Controllers.{octets_front}
+use Rattle.world_laws.proofs.Order.Openers.{snoc_served}
+use Rattle.world_laws.proofs.Order.Steps.{cut_then, stands-then}
+use Rattle.world_laws.proofs.Events.{snoc_actors, world}
 
 -- it does at the beginning
-stands-first : (settings : Parameters) (number : ℕ) → 1 ≤ number → Standing (modulus_in settings) (new_actors settings) (first_served (new_actors settings) [] number) number
-stands-first settings number from_one = while_up (ap (λ (count : ℕ). (get_or (replicate count new_link) SWITCH_LINK broken_link).up) (add-one (length settings.cells))) (unborn refl from_one)
+stands_first : (settings : Parameters) (number : ℕ) → 1 ≤ number → Standing (modulus_in settings) (new_actors settings) (first_served (new_actors settings) [] number) number
+stands_first settings number from_one = while_up (ap (λ (count : ℕ). (get_or (replicate count new_link) SWITCH_LINK broken_link).up) (add-one (length settings.cells))) (unborn refl from_one)
 
 module _ (settings : Parameters) (facts : Facts settings) (allowed : AreAllowed settings) (number : ℕ) (from_one : 1 ≤ number) where
   -- and after each event
   stands-next : (events : List Event) (event : Event) → CameInOctets settings (events ++ event ∷ []) → Standing (modulus_in settings) (world settings events) (first_served (new_actors settings) events number) number
       → Standing (modulus_in settings) (world settings (events ++ event ∷ [])) (first_served (new_actors settings) (events ++ event ∷ []) number) number
   stands-next events event octets at =
-      let next : world settings (events ++ event ∷ []) ≡ actors_after (world settings events) event = snoc-actors (new_actors settings) events event in
+      let next : world settings (events ++ event ∷ []) ≡ actors_after (world settings events) event = snoc_actors (new_actors settings) events event in
       let now : Standing (modulus_in settings) (actors_after (world settings events) event) (option_or (first_served (new_actors settings) events number) (served_by (actors_after (world settings events) event) number)) number =
       stands-then settings events event (first_served (new_actors settings) events number) number (record {
-        before = facts.holds events allowed (octets-front settings events (event ∷ []) octets);
+        before = facts.holds events allowed (octets_front settings events (event ∷ []) octets);
         at = facts.holds_at events event allowed octets;
         after = subst (Holds (modulus_in settings)) next (facts.holds (events ++ event ∷ []) allowed octets);
       }) from_one at in
       subst (λ (w : Actors). Standing (modulus_in settings) w (first_served (new_actors settings) (events ++ event ∷ []) number) number) (sym next)
-      (subst (λ (o : Option ℕ). Standing (modulus_in settings) (actors_after (world settings events) event) o number) (sym (snoc-served (new_actors settings) events event number)) now)
+      (subst (λ (o : Option ℕ). Standing (modulus_in settings) (actors_after (world settings events) event) o number) (sym (snoc_served (new_actors settings) events event number)) now)
 
   -- these, and then those
   stands-through : (done rest : List Event) → CameInOctets settings (done ++ rest) → Standing (modulus_in settings) (world settings done) (first_served (new_actors settings) done number) number
@@ -41,14 +41,14 @@ module _ (settings : Parameters) (facts : Facts settings) (allowed : AreAllowed 
   stands-through done (event ∷ rest) octets at =
       let same : (done ++ event ∷ []) ++ rest ≡ done ++ event ∷ rest = append_assoc done (event ∷ []) rest in
       subst (λ (events : List Event). Standing (modulus_in settings) (world settings events) (first_served (new_actors settings) events number) number) same
-      (stands-through (done ++ event ∷ []) rest (subst (CameInOctets settings) (sym same) octets) (stands-next done event (octets-front settings (done ++ event ∷ []) rest (subst (CameInOctets settings) (sym same) octets)) at))
+      (stands-through (done ++ event ∷ []) rest (subst (CameInOctets settings) (sym same) octets) (stands-next done event (octets_front settings (done ++ event ∷ []) rest (subst (CameInOctets settings) (sym same) octets)) at))
 
-pub NumbersStand-new : (settings : Parameters) (events : List Event) → NumbersStand settings events
-NumbersStand-new settings events number facts allowed octets from_one = stands-through settings facts allowed number from_one [] events octets (stands-first settings number from_one)
+pub numbers_stand_new : (settings : Parameters) (events : List Event) → NumbersStand settings events
+numbers_stand_new settings events number facts allowed octets from_one = stands-through settings facts allowed number from_one [] events octets (stands_first settings number from_one)
 
 -- ---- once the link is down, without any premise
 
-pub CutNumbersStay-new : (settings : Parameters) (events : List Event) (event : Event) → CutNumbersStay settings events event
-CutNumbersStay-new settings events event number down at =
-    subst (λ (w : Actors). OnceDown (modulus_in settings) w (first_served (new_actors settings) (events ++ event ∷ []) number) number) (sym (snoc-actors (new_actors settings) events event))
-    (subst (λ (o : Option ℕ). OnceDown (modulus_in settings) (actors_after (world settings events) event) o number) (sym (snoc-served (new_actors settings) events event number)) (cut-then settings events event number down at))
+pub cut_numbers_stay_new : (settings : Parameters) (events : List Event) (event : Event) → CutNumbersStay settings events event
+cut_numbers_stay_new settings events event number down at =
+    subst (λ (w : Actors). OnceDown (modulus_in settings) w (first_served (new_actors settings) (events ++ event ∷ []) number) number) (sym (snoc_actors (new_actors settings) events event))
+    (subst (λ (o : Option ℕ). OnceDown (modulus_in settings) (actors_after (world settings events) event) o number) (sym (snoc_served (new_actors settings) events event number)) (cut_then settings events event number down at))

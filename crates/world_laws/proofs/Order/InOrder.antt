@@ -17,8 +17,8 @@ use Rattle.world_laws.specs.Ended.{HasEnded}
 use Rattle.world_laws.specs.LineUps.{is_of_peer, taken_in, taken_of}
 use Rattle.world_laws.specs.OthersFrame.{CameInOctets}
 use Rattle.world_laws.specs.Staying.{AreLinedUp}
-use Rattle.world_laws.proofs.Ending.{EndedAreInOrder-new}
-use Rattle.world_laws.proofs.InOrder.{LineUpsAreInOrder-new}
+use Rattle.world_laws.proofs.Ending.{ended_are_in_order_new}
+use Rattle.world_laws.proofs.InOrder.{line_ups_are_in_order_new}
 use Rattle.world_laws.specs.Order.Facts.{Holds, IsAsking}
 use Rattle.world_laws.specs.Order.Openers.{first_served}
 use Rattle.world_laws.specs.Order.Order.{Facts, IsBeginningOfSent, RunsAreInOrder}
@@ -26,9 +26,9 @@ use Rattle.world_laws.specs.Order.Standing.{Standing}
 use Rattle.world_laws.specs.Order.Standing.OnceDown.{silent, cut}
 use Rattle.world_laws.specs.Order.Standing.Standing.{while_up, once_down}
 use Rattle.world_laws.specs.Order.Standing.WhileUp.{unborn, coming, lives, ended, unheard}
-use Rattle.world_laws.proofs.Order.Following.{NumbersStand-new}
-use Rattle.world_laws.proofs.Order.Modulus.{all-numbered, switch-modulus}
-use Rattle.world_laws.proofs.Order.Steps.{asking-at}
+use Rattle.world_laws.proofs.Order.Following.{numbers_stand_new}
+use Rattle.world_laws.proofs.Order.Modulus.{all_numbered, switch_modulus}
+use Rattle.world_laws.proofs.Order.Steps.{asking_at}
 use Rattle.world_laws.proofs.Events.{world}
 
 -- ---- a connection of the switch, by its number with the controller
@@ -43,34 +43,34 @@ record Accepts (m : ℕ) (w : Actors) (opener : Option ℕ) (taken : List (List 
   accepts : accepted_list m taken ≡ take count one.end.sent
   goes_on : progress m taken ≡ Some count
 
-accepts-in_order : {m : ℕ} {w : Actors} {opener : Option ℕ} {taken coming : List (List ℕ)} (mobile : ℕ) (one : Mobile) → opener ≡ Some mobile → mobile_of w mobile ≡ Some one → IsInOrder m one.end.sent taken coming → Accepts m w opener taken
-accepts-in_order mobile one opened found order = record { mobile = mobile; opened = opened; one = one; found = found; count = order.count; accepts = order.accepted; goes_on = order.no_gap }
+accepts_in_order : {m : ℕ} {w : Actors} {opener : Option ℕ} {taken coming : List (List ℕ)} (mobile : ℕ) (one : Mobile) → opener ≡ Some mobile → mobile_of w mobile ≡ Some one → IsInOrder m one.end.sent taken coming → Accepts m w opener taken
+accepts_in_order mobile one opened found order = record { mobile = mobile; opened = opened; one = one; found = found; count = order.count; accepts = order.accepted; goes_on = order.no_gap }
 
-accepts-ended : {m : ℕ} {w : Actors} {opener : Option ℕ} (number mobile : ℕ) → 2 ≤ m → opener ≡ Some mobile → HasEnded m w mobile number → Accepts m w opener (taken_of w number)
-accepts-ended {m} {w} number mobile two opened has = accepts-in_order mobile has.one opened has.found (EndedAreInOrder-new m w mobile number two has)
+accepts_ended : {m : ℕ} {w : Actors} {opener : Option ℕ} (number mobile : ℕ) → 2 ≤ m → opener ≡ Some mobile → HasEnded m w mobile number → Accepts m w opener (taken_of w number)
+accepts_ended {m} {w} number mobile two opened has = accepts_in_order mobile has.one opened has.found (ended_are_in_order_new m w mobile number two has)
 
-accepts-lined : {m : ℕ} {w : Actors} {opener : Option ℕ} (s : Connection) (mobile : ℕ) → 2 ≤ m → opener ≡ Some mobile → AreLinedUp m w mobile s → Accepts m w opener (taken_of w s.number)
-accepts-lined {m} {w} s mobile two opened lined = accepts-in_order mobile lined.one opened lined.found (LineUpsAreInOrder-new m w mobile s two lined)
+accepts_lined : {m : ℕ} {w : Actors} {opener : Option ℕ} (s : Connection) (mobile : ℕ) → 2 ≤ m → opener ≡ Some mobile → AreLinedUp m w mobile s → Accepts m w opener (taken_of w s.number)
+accepts_lined {m} {w} s mobile two opened lined = accepts_in_order mobile lined.one opened lined.found (line_ups_are_in_order_new m w mobile s two lined)
 
 -- it is none of those that the switch has no connection for
-not-silent : {X : Type 0} {o : Option SwitchConnection} {c : SwitchConnection} → o ≡ Some c → o ≡ None → X
-not-silent {c = c} there none = absurd (none-some c (sym none ∙ there))
+not_silent : {X : Type 0} {o : Option SwitchConnection} {c : SwitchConnection} → o ≡ Some c → o ≡ None → X
+not_silent {c = c} there none = absurd (none-some c (sym none ∙ there))
 
-accepts-standing : {m : ℕ} {w : Actors} {opener : Option ℕ} (number : ℕ) (c : SwitchConnection) → 2 ≤ m → 1 ≤ number → Holds m w → find (is_of_peer number) w.switch.connections ≡ Some c → Standing m w opener number → Accepts m w opener (taken_of w number)
-accepts-standing number c two from_one holds there (while_up up (unborn none past)) = not-silent there (holds.not_given number from_one past).none_taken
-accepts-standing {w = w} number c two from_one holds there (while_up up (coming mobile s none same comes_so)) =
+accepts_standing : {m : ℕ} {w : Actors} {opener : Option ℕ} (number : ℕ) (c : SwitchConnection) → 2 ≤ m → 1 ≤ number → Holds m w → find (is_of_peer number) w.switch.connections ≡ Some c → Standing m w opener number → Accepts m w opener (taken_of w number)
+accepts_standing number c two from_one holds there (while_up up (unborn none past)) = not_silent there (holds.not_given number from_one past).none_taken
+accepts_standing {w = w} number c two from_one holds there (while_up up (coming mobile s none same comes_so)) =
     let is_so = holds.is_coming mobile s comes_so in
-    not-silent there (holds.not_asked number from_one (subst (λ (n : ℕ). IsAsking (had_of w.controller n)) same (asking-at w s.number s is_so.0.there is_so.1))).none_taken
-accepts-standing {m = m} {w = w} {opener = opener} number c two from_one holds there (while_up up (lives mobile s opened same l fresh)) = subst (λ (n : ℕ). Accepts m w opener (taken_of w n)) same (accepts-lined s mobile two opened l.lined)
-accepts-standing number c two from_one holds there (while_up up (ended mobile opened past gone has)) = accepts-ended number mobile two opened has
-accepts-standing number c two from_one holds there (while_up up (unheard u)) = not-silent there u.none_taken
-accepts-standing number c two from_one holds there (once_down down (silent at)) = not-silent there at.none_taken
-accepts-standing number c two from_one holds there (once_down down (cut mobile opened has none)) = accepts-ended number mobile two opened has
+    not_silent there (holds.not_asked number from_one (subst (λ (n : ℕ). IsAsking (had_of w.controller n)) same (asking_at w s.number s is_so.0.there is_so.1))).none_taken
+accepts_standing {m = m} {w = w} {opener = opener} number c two from_one holds there (while_up up (lives mobile s opened same l fresh)) = subst (λ (n : ℕ). Accepts m w opener (taken_of w n)) same (accepts_lined s mobile two opened l.lined)
+accepts_standing number c two from_one holds there (while_up up (ended mobile opened past gone has)) = accepts_ended number mobile two opened has
+accepts_standing number c two from_one holds there (while_up up (unheard u)) = not_silent there u.none_taken
+accepts_standing number c two from_one holds there (once_down down (silent at)) = not_silent there at.none_taken
+accepts_standing number c two from_one holds there (once_down down (cut mobile opened has none)) = accepts_ended number mobile two opened has
 
 -- ---- the order
 
-pub two-numbers : (settings : Parameters) → 2 ≤ modulus_in settings
-two-numbers settings = by settings.network.release98 where
+pub two_numbers : (settings : Parameters) → 2 ≤ modulus_in settings
+two_numbers settings = by settings.network.release98 where
   by : (b : Bool) → 2 ≤ count_of (if b then Two else Four)
   by true = omega arith
   by false = omega arith
@@ -87,10 +87,10 @@ module _ (settings : Parameters) (events : List Event) (facts : Facts settings) 
       let holds : Holds m w = facts.holds events allowed octets in
       let peer = holds.peers k c is in
       subst (Accepts m w (first_served (new_actors settings) events c.peer)) (ap taken_in peer.1)
-      (accepts-standing c.peer c (two-numbers settings) peer.0 holds peer.1 (NumbersStand-new settings events c.peer facts allowed octets peer.0))
+      (accepts_standing c.peer c (two_numbers settings) peer.0 holds peer.1 (numbers_stand_new settings events c.peer facts allowed octets peer.0))
 
   modulus-of : (k : ℕ) (c : SwitchConnection) → connection_of w.switch.connections k ≡ Some c → c.reception.modulus ≡ m
-  modulus-of k c is = all-numbered (λ (c : SwitchConnection). c.reception.modulus ≡ m) w.switch.connections k c is (switch-modulus settings events).all
+  modulus-of k c is = all_numbered (λ (c : SwitchConnection). c.reception.modulus ≡ m) w.switch.connections k c is (switch_modulus settings events).all
 
   begins : (k : ℕ) (c : SwitchConnection) (list : List (List ℕ)) → connection_of w.switch.connections k ≡ Some c → accepted_list c.reception.modulus c.reception.taken ≡ list → IsBeginningOfSent (new_actors settings) events k list
   begins k c list is same =
@@ -117,8 +117,8 @@ module _ (settings : Parameters) (events : List Event) (facts : Facts settings) 
         let at : Accepts m w (first_served (new_actors settings) events c.peer) c.reception.taken = accepts-of k c there in
         subst IsSome (sym at.goes_on ∙ ap (λ (n : ℕ). progress n c.reception.taken) (sym (modulus-of k c there)) ∙ same_Some (progress c.reception.modulus c.reception.taken) o is) refl
 
-pub RunsAreInOrder-new : (settings : Parameters) (events : List Event) → RunsAreInOrder settings events
-RunsAreInOrder-new settings events facts allowed octets = record {
+pub runs_are_in_order_new : (settings : Parameters) (events : List Event) → RunsAreInOrder settings events
+runs_are_in_order_new settings events facts allowed octets = record {
   in_order = in-order settings events facts allowed octets;
   no_gap = no-gap settings events facts allowed octets;
 }

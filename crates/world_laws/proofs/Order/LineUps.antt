@@ -20,22 +20,22 @@ use Rattle.world_laws.specs.Order.Openers.{first_served, has_asked}
 use Rattle.world_laws.specs.Order.Standing.{Standing}
 use Rattle.world_laws.specs.Order.Standing.Standing.{while_up, once_down}
 use Rattle.world_laws.specs.Order.Standing.WhileUp.{unborn, coming as comes, lives, ended, unheard}
-use Rattle.world_laws.proofs.Order.Controllers.{none-given}
+use Rattle.world_laws.proofs.Order.Controllers.{none_given}
 use Rattle.world_laws.proofs.Order.Fairly.{ComeInOctets-new}
-use Rattle.world_laws.proofs.Order.Following.{NumbersStand-new}
-use Rattle.world_laws.proofs.Order.InOrder.{two-numbers}
+use Rattle.world_laws.proofs.Order.Following.{numbers_stand_new}
+use Rattle.world_laws.proofs.Order.InOrder.{two_numbers}
 use Rattle.world_laws.proofs.Order.Whole.{facts}
 use Rattle.world_laws.proofs.Events.{world}
 
-pub AllNumbersStand-new : (settings : Parameters) (events : List Event) → AllNumbersStand settings events
-AllNumbersStand-new settings events number allowed octets from_one =
-    NumbersStand-new settings events number (facts settings) allowed (ComeInOctets-new settings events allowed octets) from_one
+pub all_numbers_stand_new : (settings : Parameters) (events : List Event) → AllNumbersStand settings events
+all_numbers_stand_new settings events number allowed octets from_one =
+    numbers_stand_new settings events number (facts settings) allowed (ComeInOctets-new settings events allowed octets) from_one
 
 -- ---- the places of a line that is followed
 
 -- cut behind what was taken
-cut-order : {m : ℕ} {sent : List (List ℕ)} (taken rest : List (List ℕ)) (k : ℕ) → 2 ≤ m → Rise m sent 0 (flow taken ++ rest) k → (order : IsInOrder m sent taken rest) × (order.last ≡ k)
-cut-order taken rest k two rise =
+cut_order : {m : ℕ} {sent : List (List ℕ)} (taken rest : List (List ℕ)) (k : ℕ) → 2 ≤ m → Rise m sent 0 (flow taken ++ rest) k → (order : IsInOrder m sent taken rest) × (order.last ≡ k)
+cut_order taken rest k two rise =
     let cut = Rise-cut (flow taken) rest rise in
     let front = Rise-of_flow taken cut.1 in
     (record { count = cut.0; accepted = accepted_list_from-rise two front; no_gap = progress_from-rise two front; last = k; rise = cut.2 }, refl)
@@ -47,7 +47,7 @@ module _ (m : ℕ) (two : 2 ≤ m) (taken : List (List ℕ)) (l : LineUp) (same 
       let list : line l ++ flow of_link ≡ flow taken ++ still_to_come l of_link =
       ap (λ (xs : List (List ℕ)). xs ++ flow of_link) same ∙ append_assoc (flow taken) (coming l) (flow of_link)
       ∙ ap (λ (b : Bool). flow taken ++ (coming l ++ (if b then flow of_link else []))) (sym intact) in
-      cut-order taken (still_to_come l of_link) (length l.sent) two (subst (λ (xs : List (List ℕ)). Rise m l.sent 0 xs (length l.sent)) list rise)
+      cut_order taken (still_to_come l of_link) (length l.sent) two (subst (λ (xs : List (List ℕ)). Rise m l.sent 0 xs (length l.sent)) list rise)
 
   -- where something is
   order-cut : l.is_intact ≡ false → (of_link : List (List ℕ)) (k : ℕ) → Rise m l.sent 0 (line l) k → (order : IsInOrder m l.sent taken (still_to_come l of_link)) × (order.last ≡ k)
@@ -55,7 +55,7 @@ module _ (m : ℕ) (two : 2 ≤ m) (taken : List (List ℕ)) (l : LineUp) (same 
       let list : line l ≡ flow taken ++ still_to_come l of_link =
       same ∙ ap (λ (xs : List (List ℕ)). flow taken ++ xs) (sym (append-nil (coming l)))
       ∙ ap (λ (b : Bool). flow taken ++ (coming l ++ (if b then flow of_link else []))) (sym lost) in
-      cut-order taken (still_to_come l of_link) k two (subst (λ (xs : List (List ℕ)). Rise m l.sent 0 xs k) list rise)
+      cut_order taken (still_to_come l of_link) k two (subst (λ (xs : List (List ℕ)). Rise m l.sent 0 xs k) list rise)
 
   places-by : (intact : Bool) → l.is_intact ≡ intact → Follows m l.sent (line l) l.link intact → PlacesRise m taken l
   places-by true is (goes_on going) =
@@ -75,21 +75,21 @@ line-of w s l same =
     ∙ ap (λ (xs : List (List ℕ)). xs ++ flow l.out ++ parts_of (l.old ++ l.serving ∷ l.target ∷ [])) (flow-twice (taken_of w s.number))
     ∙ append_assoc (flow (taken_of w s.number)) (flow l.out) (parts_of (l.old ++ l.serving ∷ l.target ∷ []))
 
-places-of : (m : ℕ) (w : Actors) (mobile : ℕ) (s : Connection) → 2 ≤ m → (l : Lives m w mobile s) → PlacesRise m (taken_of w s.number) (line_up w l.lined.one s)
-places-of m w mobile s two l =
+places_of : (m : ℕ) (w : Actors) (mobile : ℕ) (s : Connection) → 2 ≤ m → (l : Lives m w mobile s) → PlacesRise m (taken_of w s.number) (line_up w l.lined.one s)
+places_of m w mobile s two l =
     let line : LineUp = line_up w l.lined.one s in
     places-by m two (taken_of w s.number) line (line-of w s line refl) line.is_intact refl l.lined.lined.alive.follows
 
 -- ---- in a run
 
 -- one that asked, and is open, isn't one that hasn't
-requested-asked : (state : State) → IsRequested state → has_asked state ≡ true
-requested-asked WaitActivation of = elim of [ ]
-requested-asked WaitEstablish of = elim of [ ]
-requested-asked WaitConfirm of = refl
-requested-asked (Live reference stage) of = refl
-requested-asked (Closed clearing) of = elim of [ ]
-requested-asked Removed of = elim of [ ]
+requested_asked : (state : State) → IsRequested state → has_asked state ≡ true
+requested_asked WaitActivation of = elim of [ ]
+requested_asked WaitEstablish of = elim of [ ]
+requested_asked WaitConfirm of = refl
+requested_asked (Live reference stage) of = refl
+requested_asked (Closed clearing) of = elim of [ ]
+requested_asked Removed of = elim of [ ]
 
 module _ (settings : Parameters) (events : List Event) (s : Connection) (had : IsHad (world settings events) s) (requested : IsRequested s.state) where
   abbrev w : Actors
@@ -104,20 +104,20 @@ module _ (settings : Parameters) (events : List Event) (s : Connection) (had : I
   lined-up : (mobile : ℕ) (other : Connection) → opener ≡ Some mobile → other ≡ s → Lives (modulus_in settings) w mobile other → IsLinedUp (modulus_in settings) w opener s
   lined-up mobile other opened is l =
       let own : Lives (modulus_in settings) w mobile s = subst (Lives (modulus_in settings) w mobile) is l in
-      record { mobile = mobile; opened = opened; lives = own; places = places-of (modulus_in settings) w mobile s (two-numbers settings) own }
+      record { mobile = mobile; opened = opened; lives = own; places = places_of (modulus_in settings) w mobile s (two_numbers settings) own }
 
   rises-by : is_up w SWITCH_LINK ≡ true → AreAllowed settings → CameInOctets settings events → Standing (modulus_in settings) w opener s.number
       → IsLinedUp (modulus_in settings) w opener s ⊎ IsUnheard w s.number
-  rises-by up allowed octets (while_up _ (unborn none past)) = absurd (none-some s (sym (none-given settings events s.number past) ∙ had.there))
+  rises-by up allowed octets (while_up _ (unborn none past)) = absurd (none-some s (sym (none_given settings events s.number past) ∙ had.there))
   rises-by up allowed octets (while_up _ (comes mobile other none same coming_so)) =
       let is_so = ((facts settings).holds events allowed octets).is_coming mobile other coming_so in
-      absurd (cc (sym is_so.1 ∙ ap (λ (c : Connection). has_asked c.state) (same-one other same is_so.0.there) ∙ requested-asked s.state requested))
+      absurd (cc (sym is_so.1 ∙ ap (λ (c : Connection). has_asked c.state) (same-one other same is_so.0.there) ∙ requested_asked s.state requested))
   rises-by up allowed octets (while_up _ (lives mobile other opened same l fresh)) = inl (lined-up mobile other opened (same-one other same l.had.there) l)
   rises-by up allowed octets (while_up _ (ended mobile opened past gone has)) = absurd (gone (subst IsThere (sym had.there) had.is_open))
   rises-by up allowed octets (while_up _ (unheard u)) = inr u
   rises-by up allowed octets (once_down down at) = absurd (cc (sym up ∙ down))
 
-pub AllPlacesRise-new : (settings : Parameters) (events : List Event) → AllPlacesRise settings events
-AllPlacesRise-new settings events s allowed events_octets up had requested =
+pub all_places_rise_new : (settings : Parameters) (events : List Event) → AllPlacesRise settings events
+all_places_rise_new settings events s allowed events_octets up had requested =
     let octets : CameInOctets settings events = ComeInOctets-new settings events allowed events_octets in
-    rises-by settings events s had requested up allowed octets (NumbersStand-new settings events s.number (facts settings) allowed octets had.from_one)
+    rises-by settings events s had requested up allowed octets (numbers_stand_new settings events s.number (facts settings) allowed octets had.from_one)

@@ -15,27 +15,27 @@ use Rattle.msc_end.specs.declared.connection.Stage.{Stage}
 use Rattle.msc_end.specs.Switch.{connection_of}
 use Rattle.world_model.specs.Life.{event_after}
 use Rattle.world_laws.specs.Order.Standing.{IsOfModulus, SwitchIsOfModulus}
-use Rattle.world_laws.proofs.Order.SwitchDown.{SwitchKind, switch-kind}
+use Rattle.world_laws.proofs.Order.SwitchDown.{SwitchKind, switch_kind}
 use Rattle.world_laws.proofs.Order.SwitchDown.SwitchKind.{takes, does, stays}
 
 -- ---- lists
 
-pub all-set : {X : Type 0} (P : X → Type 0) (xs : List X) (i : ℕ) (x : X) → AllByRecursion P xs → P x → AllByRecursion P (set xs i x)
-all-set P [] i x all one = tt
-all-set P (y ∷ ys) zero x all one = (one, all.1)
-all-set P (y ∷ ys) (suc i) x all one = (all.0, all-set P ys i x all.1 one)
+pub all_set : {X : Type 0} (P : X → Type 0) (xs : List X) (i : ℕ) (x : X) → AllByRecursion P xs → P x → AllByRecursion P (set xs i x)
+all_set P [] i x all one = tt
+all_set P (y ∷ ys) zero x all one = (one, all.1)
+all_set P (y ∷ ys) (suc i) x all one = (all.0, all_set P ys i x all.1 one)
 
-all-get : {X : Type 0} (P : X → Type 0) (xs : List X) (i : ℕ) (x : X) → slice_get xs i ≡ Some x → AllByRecursion P xs → P x
-all-get P [] i x is all = absurd (none-some x is)
-all-get P (y ∷ ys) zero x is all = subst P (same_Some y x is) all.0
-all-get P (y ∷ ys) (suc i) x is all = all-get P ys i x is all.1
+all_get : {X : Type 0} (P : X → Type 0) (xs : List X) (i : ℕ) (x : X) → slice_get xs i ≡ Some x → AllByRecursion P xs → P x
+all_get P [] i x is all = absurd (none-some x is)
+all_get P (y ∷ ys) zero x is all = subst P (same_Some y x is) all.0
+all_get P (y ∷ ys) (suc i) x is all = all_get P ys i x is all.1
 
 -- what holds of all connections holds of the one of a number
-pub all-numbered : (P : Connection → Type 0) (cs : List Connection) (n : ℕ) (c : Connection) → connection_of cs n ≡ Some c → AllByRecursion P cs → P c
-all-numbered P cs n c is all = by (n == 0) is where
+pub all_numbered : (P : Connection → Type 0) (cs : List Connection) (n : ℕ) (c : Connection) → connection_of cs n ≡ Some c → AllByRecursion P cs → P c
+all_numbered P cs n c is all = by (n == 0) is where
   by : (b : Bool) → (if b then None else slice_get cs (n - 1)) ≡ Some c → P c
   by true none = absurd (none-some c none)
-  by false there = all-get P cs (n - 1) c there all
+  by false there = all_get P cs (n - 1) c there all
 
 -- ---- a message
 
@@ -57,62 +57,62 @@ after-modulus c message = by c.stage where
 abbrev AllOf : ℕ → List Connection → Type 0
 AllOf m cs = AllByRecursion (λ (c : Connection). c.reception.modulus ≡ m) cs
 
-data-modulus : (m : ℕ) (cs : List Connection) (n : ℕ) (o : Option Connection) (message : Option Bssap) → connection_of cs n ≡ o → AllOf m cs → AllOf m (connections_by cs n o message)
-data-modulus m cs n (Some c) (Some message) is all =
-    all-set (λ (c : Connection). c.reception.modulus ≡ m) cs (n - 1) (connection_after c message) all (after-modulus c message ∙ all-numbered (λ (c : Connection). c.reception.modulus ≡ m) cs n c is all)
-data-modulus m cs n (Some c) None is all = all
-data-modulus m cs n None message is all = all
+data_modulus : (m : ℕ) (cs : List Connection) (n : ℕ) (o : Option Connection) (message : Option Bssap) → connection_of cs n ≡ o → AllOf m cs → AllOf m (connections_by cs n o message)
+data_modulus m cs n (Some c) (Some message) is all =
+    all_set (λ (c : Connection). c.reception.modulus ≡ m) cs (n - 1) (connection_after c message) all (after-modulus c message ∙ all_numbered (λ (c : Connection). c.reception.modulus ≡ m) cs n c is all)
+data_modulus m cs n (Some c) None is all = all
+data_modulus m cs n None message is all = all
 
-message-modulus : (m own : ℕ) (cs : List Connection) (message : Sccp) → own ≡ m → AllOf m cs → AllOf m (connections_after own cs message)
-message-modulus m own cs (ConnectionRequest source user) is all = by (nat_le CONNECTION_LIMIT (length cs)) where
+message_modulus : (m own : ℕ) (cs : List Connection) (message : Sccp) → own ≡ m → AllOf m cs → AllOf m (connections_after own cs message)
+message_modulus m own cs (ConnectionRequest source user) is all = by (nat_le CONNECTION_LIMIT (length cs)) where
   by : (b : Bool) → AllOf m (if b then cs else with_connection own cs source user)
   by true = all
   by false = AllByRecursion-append (λ (c : Connection). c.reception.modulus ≡ m) cs _ all (is, tt)
-message-modulus m own cs (DataForm1 destination user) is all = data-modulus m cs (destination - REFERENCE_BASE) (connection_of cs (destination - REFERENCE_BASE)) (message_in user) refl all
-message-modulus m own cs _ is all = all
+message_modulus m own cs (DataForm1 destination user) is all = data_modulus m cs (destination - REFERENCE_BASE) (connection_of cs (destination - REFERENCE_BASE)) (message_in user) refl all
+message_modulus m own cs _ is all = all
 
-took-modulus : (m : ℕ) (o : Option Sccp) (w : Actors) → IsOfModulus m w.switch → IsOfModulus m (switch_took o w).switch
-took-modulus m None w of = of
-took-modulus m (Some message) w of = record { own = of.own; all = message-modulus m w.switch.modulus w.switch.connections message of.own of.all }
+took_modulus : (m : ℕ) (o : Option Sccp) (w : Actors) → IsOfModulus m w.switch → IsOfModulus m (switch_took o w).switch
+took_modulus m None w of = of
+took_modulus m (Some message) w of = record { own = of.own; all = message_modulus m w.switch.modulus w.switch.connections message of.own of.all }
 
 -- ---- what it does of its own
 
-clear-modulus : (m : ℕ) (switch : SwitchState) (n : ℕ) → IsOfModulus m switch → IsOfModulus m (after_clear switch n)
-clear-modulus m switch n of = record { own = of.own; all = by (connection_of switch.connections n) refl } where
+clear_modulus : (m : ℕ) (switch : SwitchState) (n : ℕ) → IsOfModulus m switch → IsOfModulus m (after_clear switch n)
+clear_modulus m switch n of = record { own = of.own; all = by (connection_of switch.connections n) refl } where
   by : (o : Option Connection) → connection_of switch.connections n ≡ o → AllOf m (connections_after_clear switch.connections n o)
   by None is = of.all
-  by (Some c) is = all-set (λ (c : Connection). c.reception.modulus ≡ m) switch.connections (n - 1) _ of.all (all-numbered (λ (c : Connection). c.reception.modulus ≡ m) switch.connections n c is of.all)
+  by (Some c) is = all_set (λ (c : Connection). c.reception.modulus ≡ m) switch.connections (n - 1) _ of.all (all_numbered (λ (c : Connection). c.reception.modulus ≡ m) switch.connections n c is of.all)
 
-sends-modulus : (m : ℕ) (w : Actors) (connection : ℕ) (message : Bssap) (next : SwitchState) → IsOfModulus m w.switch → IsOfModulus m next → IsOfModulus m (unwrap_or (sent_on w connection message next) w).switch
-sends-modulus m w connection message next of sent = by (may_send_on w connection) where
+sends_modulus : (m : ℕ) (w : Actors) (connection : ℕ) (message : Bssap) (next : SwitchState) → IsOfModulus m w.switch → IsOfModulus m next → IsOfModulus m (unwrap_or (sent_on w connection message next) w).switch
+sends_modulus m w connection message next of sent = by (may_send_on w connection) where
   by : (b : Bool) → IsOfModulus m (unwrap_or (if b then Some (record w { switch = next; switch_made = w.switch_made ++ data_forms_on (connection_of w.switch.connections connection) message }) else None) w).switch
   by true = sent
   by false = of
 
-does-modulus : (m : ℕ) (w : Actors) (action : SwitchAction) → IsOfModulus m w.switch → IsOfModulus m (unwrap_or (after_switch_does w action) w).switch
-does-modulus m w (Assign connection) of = sends-modulus m w connection assignment_request w.switch of of
-does-modulus m w (Clear connection) of = sends-modulus m w connection clear_command (after_clear w.switch connection) of (clear-modulus m w.switch connection of)
-does-modulus m w (Dtap connection sapi message) of = by (is_layer_3 message) where
+does_modulus : (m : ℕ) (w : Actors) (action : SwitchAction) → IsOfModulus m w.switch → IsOfModulus m (unwrap_or (after_switch_does w action) w).switch
+does_modulus m w (Assign connection) of = sends_modulus m w connection assignment_request w.switch of of
+does_modulus m w (Clear connection) of = sends_modulus m w connection clear_command (after_clear w.switch connection) of (clear_modulus m w.switch connection of)
+does_modulus m w (Dtap connection sapi message) of = by (is_layer_3 message) where
   by : (b : Bool) → IsOfModulus m (unwrap_or (if b then sent_on w connection (Transfer (dlci_for sapi) message) w.switch else None) w).switch
-  by true = sends-modulus m w connection (Transfer (dlci_for sapi) message) w.switch of of
+  by true = sends_modulus m w connection (Transfer (dlci_for sapi) message) w.switch of of
   by false = of
 
 -- ---- all events
 
-takes-modulus : (m : ℕ) (w : Actors) (up : Bool) (entries : List OutboxEntry) → IsOfModulus m w.switch → IsOfModulus m (unwrap_or (if up then switch_took_first entries w else None) w).switch
-takes-modulus m w false entries of = of
-takes-modulus m w true [] of = of
-takes-modulus m w true (first ∷ others) of = took-modulus m (sccp_in first.out.frame) (with_outbox SWITCH_LINK others w) of
+takes_modulus : (m : ℕ) (w : Actors) (up : Bool) (entries : List OutboxEntry) → IsOfModulus m w.switch → IsOfModulus m (unwrap_or (if up then switch_took_first entries w else None) w).switch
+takes_modulus m w false entries of = of
+takes_modulus m w true [] of = of
+takes_modulus m w true (first ∷ others) of = took_modulus m (sccp_in first.out.frame) (with_outbox SWITCH_LINK others w) of
 
-modulus-by : {m : ℕ} {w : Actors} {event : Event} → SwitchKind w event → IsOfModulus m w.switch → IsOfModulus m (actors_after w event).switch
+modulus_by : {m : ℕ} {w : Actors} {event : Event} → SwitchKind w event → IsOfModulus m w.switch → IsOfModulus m (actors_after w event).switch
 unfolding event_after
-modulus-by {m} {w} takes of = takes-modulus m w (is_up w SWITCH_LINK) (outbox_of w SWITCH_LINK) of
-modulus-by {m} {w} (does action) of = does-modulus m w action of
-modulus-by {m} (stays same) of = subst (IsOfModulus m) (sym same) of
+modulus_by {m} {w} takes of = takes_modulus m w (is_up w SWITCH_LINK) (outbox_of w SWITCH_LINK) of
+modulus_by {m} {w} (does action) of = does_modulus m w action of
+modulus_by {m} (stays same) of = subst (IsOfModulus m) (sym same) of
 
-modulus-all : (m : ℕ) (w : Actors) (events : List Event) → IsOfModulus m w.switch → IsOfModulus m (actors_after_all w events).switch
-modulus-all m w [] of = of
-modulus-all m w (event ∷ events) of = modulus-all m (actors_after w event) events (modulus-by (switch-kind w event) of)
+modulus_all : (m : ℕ) (w : Actors) (events : List Event) → IsOfModulus m w.switch → IsOfModulus m (actors_after_all w events).switch
+modulus_all m w [] of = of
+modulus_all m w (event ∷ events) of = modulus_all m (actors_after w event) events (modulus_by (switch_kind w event) of)
 
-pub switch-modulus : (settings : Parameters) (events : List Event) → SwitchIsOfModulus settings events
-switch-modulus settings events = modulus-all (modulus_in settings) (new_actors settings) events (record { own = refl; all = tt })
+pub switch_modulus : (settings : Parameters) (events : List Event) → SwitchIsOfModulus settings events
+switch_modulus settings events = modulus_all (modulus_in settings) (new_actors settings) events (record { own = refl; all = tt })

@@ -20,11 +20,11 @@ use Rattle.world_laws.specs.OthersFrame.{CameInOctets}
 use Rattle.world_laws.specs.Order.OctetEvents.{AreOctetEvents, IsFair, IsFairEntry, IsOctetEvent}
 use Rattle.world_laws.proofs.Order.EventKinds.{Kind, kind}
 use Rattle.world_laws.proofs.Order.EventKinds.Kind.{handles, ticks, switch_takes, station_takes, breaks, beside}
-use Rattle.world_laws.proofs.Order.OctetMakers.{Makers, made-new, made-step}
-use Rattle.world_laws.proofs.Order.OctetSwitch.{FairSwitch, IsOctetSccp, Sends, does-octets, replies-octets}
+use Rattle.world_laws.proofs.Order.OctetMakers.{Makers, made_new, made_step}
+use Rattle.world_laws.proofs.Order.OctetSwitch.{FairSwitch, IsOctetSccp, Sends, does_octets, replies_octets}
 use Rattle.world_laws.proofs.Order.OctetTexts.{IsOctetRsl}
-use Rattle.world_laws.proofs.Events.{snoc-actors, snoc-steps, world}
-use Rattle.world_laws.proofs.Framing.{all-right}
+use Rattle.world_laws.proofs.Events.{snoc_actors, snoc_steps, world}
+use Rattle.world_laws.proofs.Framing.{all_right}
 
 -- ---- lists
 
@@ -38,15 +38,15 @@ same : {w u v : Actors} → v.switch ≡ u.switch → v.switch_made ≡ u.switch
 same switch made sends = record { next = subst FairSwitch (sym switch) sends.next; made = subst (AllByRecursion IsOctetSccp) (sym made) sends.made }
 
 -- it takes what is fair
-took-sends : (w u : Actors) (o : Option Sccp) → IsFair o → Sends w u → Sends w (switch_took o u)
-took-sends w u None fair sends = sends
-took-sends w u (Some message) fair sends =
-    let replied = replies-octets u.switch message fair sends.next in
+took_sends : (w u : Actors) (o : Option Sccp) → IsFair o → Sends w u → Sends w (switch_took o u)
+took_sends w u None fair sends = sends
+took_sends w u (Some message) fair sends =
+    let replied = replies_octets u.switch message fair sends.next in
     record { next = replied.next; made = AllByRecursion-append IsOctetSccp u.switch_made (replies u.switch.connections message) sends.made replied.made }
 
 -- what it made first is given to the inbox
-push-sends : (w : Actors) (source : ℕ) → Sends w w → Sends w (unwrap_or (after_base_push w source) w)
-push-sends w source sends = by_source (source == SWITCH_LINK) where
+push_sends : (w : Actors) (source : ℕ) → Sends w w → Sends w (unwrap_or (after_base_push w source) w)
+push_sends w source sends = by_source (source == SWITCH_LINK) where
   by_made : (made : List Sccp) → w.switch_made ≡ made → Sends w (unwrap_or (pushed_by_switch made w) w)
   by_made [] is = sends
   by_made (first ∷ others) is = record { next = sends.next; made = (subst (AllByRecursion IsOctetSccp) is sends.made).1 }
@@ -62,29 +62,29 @@ push-sends w source sends = by_source (source == SWITCH_LINK) where
 after : (w : Actors) (o : Option Actors) → Sends w w → OfTaken (Sends w) o → Sends w (unwrap_or o w)
 after w o sends leads = after-taken (Sends w) o w leads sends
 
-event-sends : (w : Actors) (event : Event) → IsOctetEvent event → Side w → Sends w (actors_after w event)
+event_sends : (w : Actors) (event : Event) → IsOctetEvent event → Side w → Sends w (actors_after w event)
 unfolding event_after FromAir
-event-sends w (BaseTakes station) octets side = after w (after_base_takes w station) side.sends (taking-leads (Sends w) w station (λ first others _ _ mobiles stations. same refl refl side.sends))
-event-sends w (BasePush source) octets side = push-sends w source side.sends
-event-sends w Handle octets side = after w (after_handle w) side.sends (handle-leads (Sends w) w (λ item items _. turn-leads (Sends w) (target_in w item.source item.what) (take item w.controller) (record w { inbox = items }) (λ links. same refl refl side.sends)))
-event-sends w SwitchTakes octets side =
+event_sends w (BaseTakes station) octets side = after w (after_base_takes w station) side.sends (taking-leads (Sends w) w station (λ first others _ _ mobiles stations. same refl refl side.sends))
+event_sends w (BasePush source) octets side = push_sends w source side.sends
+event_sends w Handle octets side = after w (after_handle w) side.sends (handle-leads (Sends w) w (λ item items _. turn-leads (Sends w) (target_in w item.source item.what) (take item w.controller) (record w { inbox = items }) (λ links. same refl refl side.sends)))
+event_sends w SwitchTakes octets side =
     after w (after_switch_takes w) side.sends (switch_takes-leads (Sends w) w (λ first others up stood.
-    took-sends w (with_outbox SWITCH_LINK others w) (sccp_in first.out.frame) (subst (AllByRecursion IsFairEntry) stood side.waits).0 (same refl refl side.sends)))
-event-sends w (SwitchDoes action) octets side = does-octets w action octets side.sends.next side.sends.made
-event-sends w (Tick ms) octets side = turn-leads (Sends w) None (tick ms w.controller) w (λ links. same refl refl side.sends)
-event-sends w (BaseDown source) octets side = after w (after_break w source) side.sends (broken-leads (Sends w) w source (λ _ _. record { next = side.sends.next; made = tt }) (λ _ _. same refl refl side.sends))
-event-sends w event octets side = after w (event_after w event) side.sends (aerial-leads (Sends w) w event refl (λ mobiles stations. same refl refl side.sends))
+    took_sends w (with_outbox SWITCH_LINK others w) (sccp_in first.out.frame) (subst (AllByRecursion IsFairEntry) stood side.waits).0 (same refl refl side.sends)))
+event_sends w (SwitchDoes action) octets side = does_octets w action octets side.sends.next side.sends.made
+event_sends w (Tick ms) octets side = turn-leads (Sends w) None (tick ms w.controller) w (λ links. same refl refl side.sends)
+event_sends w (BaseDown source) octets side = after w (after_break w source) side.sends (broken-leads (Sends w) w source (λ _ _. record { next = side.sends.next; made = tt }) (λ _ _. same refl refl side.sends))
+event_sends w event octets side = after w (event_after w event) side.sends (aerial-leads (Sends w) w event refl (λ mobiles stations. same refl refl side.sends))
 
-waits-then : {w v : Actors} {event : Event} → LinkStep SWITCH_LINK w event v → AllByRecursion IsFairEntry (outbox_of w SWITCH_LINK) → AllByRecursion IsFairEntry (put SWITCH_LINK w event) → AllByRecursion IsFairEntry (outbox_of v SWITCH_LINK)
-waits-then {w} {v} {event} (goes up flows) waits puts =
-    all-right IsFairEntry (taken SWITCH_LINK w event) (outbox_of v SWITCH_LINK)
+waits_then : {w v : Actors} {event : Event} → LinkStep SWITCH_LINK w event v → AllByRecursion IsFairEntry (outbox_of w SWITCH_LINK) → AllByRecursion IsFairEntry (put SWITCH_LINK w event) → AllByRecursion IsFairEntry (outbox_of v SWITCH_LINK)
+waits_then {w} {v} {event} (goes up flows) waits puts =
+    all_right IsFairEntry (taken SWITCH_LINK w event) (outbox_of v SWITCH_LINK)
     (subst (AllByRecursion IsFairEntry) flows (AllByRecursion-append IsFairEntry (outbox_of w SWITCH_LINK) (put SWITCH_LINK w event) waits puts))
-waits-then (link_breaks broken nothing nobody) waits puts = subst (AllByRecursion IsFairEntry) (sym (ap (λ (link : Link). link.outbox) broken)) tt
+waits_then (link_breaks broken nothing nobody) waits puts = subst (AllByRecursion IsFairEntry) (sym (ap (λ (link : Link). link.outbox) broken)) tt
 
-side-then : (w : Actors) (event : Event) → IsOctetEvent event → AllByRecursion IsFairEntry (put SWITCH_LINK w event) → Side w → Side (actors_after w event)
-side-then w event octets puts side =
-    let sends = event-sends w event octets side in
-    record { sends = record { next = sends.next; made = sends.made }; waits = waits-then (step SWITCH_LINK w event) side.waits puts }
+side_then : (w : Actors) (event : Event) → IsOctetEvent event → AllByRecursion IsFairEntry (put SWITCH_LINK w event) → Side w → Side (actors_after w event)
+side_then w event octets puts side =
+    let sends = event_sends w event octets side in
+    record { sends = record { next = sends.next; made = sends.made }; waits = waits_then (step SWITCH_LINK w event) side.waits puts }
 
 -- ---- what comes to the inbox
 
@@ -112,21 +112,21 @@ given w _ makers side = tt
 
 -- ---- what the controller takes
 
-step-octets : (w : Actors) (event : Event) → Kind w 0 event → AllByRecursion IsOctetItem w.inbox → AllByRecursion ComesInOctets (step_at w event)
-step-octets w event handles all = by w.inbox all where
+step_octets : (w : Actors) (event : Event) → Kind w 0 event → AllByRecursion IsOctetItem w.inbox → AllByRecursion ComesInOctets (step_at w event)
+step_octets w event handles all = by w.inbox all where
   by : (items : List Item) → AllByRecursion IsOctetItem items → AllByRecursion ComesInOctets (first_taken items)
   by [] all = tt
   by (item ∷ items) all = (all.0, tt)
-step-octets w event (ticks ms) all = (tt, tt)
-step-octets w event switch_takes all = tt
-step-octets w event (station_takes station) all = tt
-step-octets w event (breaks source) all = tt
-step-octets w event (beside is not none nothing delivers) all = subst (AllByRecursion ComesInOctets) (sym none) tt
+step_octets w event (ticks ms) all = (tt, tt)
+step_octets w event switch_takes all = tt
+step_octets w event (station_takes station) all = tt
+step_octets w event (breaks source) all = tt
+step_octets w event (beside is not none nothing delivers) all = subst (AllByRecursion ComesInOctets) (sym none) tt
 
-append-pushed : (w : Actors) (events : List Event) (event : Event) → all_pushed w (events ++ event ∷ []) ≡ all_pushed w events ++ pushed (actors_after_all w events) event
-append-pushed w [] event = append-nil (pushed w event)
-append-pushed w (x ∷ xs) event =
-    ap (λ (items : List Item). pushed w x ++ items) (append-pushed (actors_after w x) xs event)
+append_pushed : (w : Actors) (events : List Event) (event : Event) → all_pushed w (events ++ event ∷ []) ≡ all_pushed w events ++ pushed (actors_after_all w events) event
+append_pushed w [] event = append-nil (pushed w event)
+append_pushed w (x ∷ xs) event =
+    ap (λ (items : List Item). pushed w x ++ items) (append_pushed (actors_after w x) xs event)
     ∙ sym (append_assoc (pushed w x) (all_pushed (actors_after w x) xs) (pushed (actors_after_all (actors_after w x) xs) event))
 
 -- ---- the run
@@ -141,33 +141,33 @@ record Run (settings : Parameters) (events : List Event) : Type 0 where
   given_all : AllByRecursion IsOctetItem (all_pushed (new_actors settings) events)
   came : CameInOctets settings events
 
-came-then : (settings : Parameters) (events : List Event) (event : Event) → Run settings events → CameInOctets settings (events ++ event ∷ [])
-came-then settings events event run =
-    subst (AllByRecursion ComesInOctets) (sym (snoc-steps (new_actors settings) events event))
-    (AllByRecursion-append ComesInOctets (all_steps (new_actors settings) events) (step_at w event) run.came (step-octets w event (kind w 0 event) waiting)) where
+came_then : (settings : Parameters) (events : List Event) (event : Event) → Run settings events → CameInOctets settings (events ++ event ∷ [])
+came_then settings events event run =
+    subst (AllByRecursion ComesInOctets) (sym (snoc_steps (new_actors settings) events event))
+    (AllByRecursion-append ComesInOctets (all_steps (new_actors settings) events) (step_at w event) run.came (step_octets w event (kind w 0 event) waiting)) where
       w : Actors
       w = world settings events
 
       waiting : AllByRecursion IsOctetItem w.inbox
-      waiting = all-right IsOctetItem (all_popped (new_actors settings) events) w.inbox (subst (AllByRecursion IsOctetItem) (KeepsQueues-new settings events).inbox run.given_all)
+      waiting = all_right IsOctetItem (all_popped (new_actors settings) events) w.inbox (subst (AllByRecursion IsOctetItem) (KeepsQueues-new settings events).inbox run.given_all)
 
-run-then : (settings : Parameters) (events : List Event) (event : Event) → Fairly settings → IsOctetEvent event → Run settings events → Run settings (events ++ event ∷ [])
-run-then settings events event fairly octets run =
+run_then : (settings : Parameters) (events : List Event) (event : Event) → Fairly settings → IsOctetEvent event → Run settings events → Run settings (events ++ event ∷ [])
+run_then settings events event fairly octets run =
     let w : Actors = world settings events in
-    let next : world settings (events ++ event ∷ []) ≡ actors_after w event = snoc-actors (new_actors settings) events event in
-    let came : CameInOctets settings (events ++ event ∷ []) = came-then settings events event run in
+    let next : world settings (events ++ event ∷ []) ≡ actors_after w event = snoc_actors (new_actors settings) events event in
+    let came : CameInOctets settings (events ++ event ∷ []) = came_then settings events event run in
     record {
       good = subst Good (sym next) (good-step w event run.good);
-      makers = subst Makers (sym next) (made-step w event octets run.good run.makers);
-      side = subst Side (sym next) (side-then w event octets (fairly events event came) run.side);
-      given_all = subst (AllByRecursion IsOctetItem) (sym (append-pushed (new_actors settings) events event)) (AllByRecursion-append IsOctetItem (all_pushed (new_actors settings) events) (pushed w event) run.given_all (given w event run.makers run.side));
+      makers = subst Makers (sym next) (made_step w event octets run.good run.makers);
+      side = subst Side (sym next) (side_then w event octets (fairly events event came) run.side);
+      given_all = subst (AllByRecursion IsOctetItem) (sym (append_pushed (new_actors settings) events event)) (AllByRecursion-append IsOctetItem (all_pushed (new_actors settings) events) (pushed w event) run.given_all (given w event run.makers run.side));
       came = came;
     }
 
-run-first : (settings : Parameters) → Run settings []
-run-first settings = record {
+run_first : (settings : Parameters) → Run settings []
+run_first settings = record {
   good = good-new settings;
-  makers = made-new settings;
+  makers = made_new settings;
   side = record { sends = record { next = record { referred = tt; few = least }; made = tt }; waits = subst (AllByRecursion IsFairEntry) (sym (new_outbox (length settings.cells + 1) SWITCH_LINK)) tt };
   given_all = tt;
   came = tt;
@@ -175,10 +175,10 @@ run-first settings = record {
   least : 0 ≤ CONNECTION_LIMIT
   least = omega arith
 
-run-through : (settings : Parameters) (done rest : List Event) → Fairly settings → AreOctetEvents rest → Run settings done → Run settings (done ++ rest)
-run-through settings done [] fairly octets run = subst (Run settings) (sym (append-nil done)) run
-run-through settings done (event ∷ rest) fairly octets run =
-    subst (Run settings) (append_assoc done (event ∷ []) rest) (run-through settings (done ++ event ∷ []) rest fairly octets.1 (run-then settings done event fairly octets.0 run))
+run_through : (settings : Parameters) (done rest : List Event) → Fairly settings → AreOctetEvents rest → Run settings done → Run settings (done ++ rest)
+run_through settings done [] fairly octets run = subst (Run settings) (sym (append-nil done)) run
+run_through settings done (event ∷ rest) fairly octets run =
+    subst (Run settings) (append_assoc done (event ∷ []) rest) (run_through settings (done ++ event ∷ []) rest fairly octets.1 (run_then settings done event fairly octets.0 run))
 
-pub ComeInFairly-new : (settings : Parameters) (events : List Event) → Fairly settings → AreOctetEvents events → CameInOctets settings events
-ComeInFairly-new settings events fairly octets = (run-through settings [] events fairly octets (run-first settings)).came
+pub come_in_fairly_new : (settings : Parameters) (events : List Event) → Fairly settings → AreOctetEvents events → CameInOctets settings events
+come_in_fairly_new settings events fairly octets = (run_through settings [] events fairly octets (run_first settings)).came

@@ -34,8 +34,8 @@ or-assoc : (a b c : Option ℕ) → option_or a (option_or b c) ≡ option_or (o
 or-assoc None b c = refl
 or-assoc (Some x) b c = refl
 
-pub snoc-served : (w : Actors) (events : List Event) (event : Event) (number : ℕ) → first_served w (events ++ event ∷ []) number ≡ option_or (first_served w events number) (served_by (actors_after (actors_after_all w events) event) number)
-snoc-served w [] event number = refl
-snoc-served w (x ∷ xs) event number =
-    ap (option_or (served_by w number)) (snoc-served (actors_after w x) xs event number)
+pub snoc_served : (w : Actors) (events : List Event) (event : Event) (number : ℕ) → first_served w (events ++ event ∷ []) number ≡ option_or (first_served w events number) (served_by (actors_after (actors_after_all w events) event) number)
+snoc_served w [] event number = refl
+snoc_served w (x ∷ xs) event number =
+    ap (option_or (served_by w number)) (snoc_served (actors_after w x) xs event number)
     ∙ or-assoc (served_by w number) (first_served (actors_after w x) xs number) (served_by (actors_after (actors_after_all (actors_after w x) xs) event) number)

@@ -22,51 +22,51 @@ Numbers c t = t.next.next_number ≡ c.next_number
 
 -- ---- what concerns a connection
 
-fitting-numbers : (c : Controller) (otherwise : Turn) (e : Entry) (o : Option Row) (d : Controller) → d.next_number ≡ c.next_number → Numbers c otherwise → Numbers c (by_fitting otherwise e o d)
-fitting-numbers c otherwise e None d is same = same
-fitting-numbers c otherwise e (Some r) d is same = is
+fitting_numbers : (c : Controller) (otherwise : Turn) (e : Entry) (o : Option Row) (d : Controller) → d.next_number ≡ c.next_number → Numbers c otherwise → Numbers c (by_fitting otherwise e o d)
+fitting_numbers c otherwise e None d is same = same
+fitting_numbers c otherwise e (Some r) d is same = is
 
-concerning-numbers : (input : Input) (c : Controller) (o : Option Entry) → Numbers c (concerning input c o)
-concerning-numbers input c None = refl
-concerning-numbers input c (Some e) = fitting-numbers c (ignoring c) e (row_in c e.connection input) c refl refl
+concerning_numbers : (input : Input) (c : Controller) (o : Option Entry) → Numbers c (concerning input c o)
+concerning_numbers input c None = refl
+concerning_numbers input c (Some e) = fitting_numbers c (ignoring c) e (row_in c e.connection input) c refl refl
 
-too-numbers : (c : Controller) (input : Input) (d : Controller) (o : Option Entry) → d.next_number ≡ c.next_number → Numbers c (concerning_too input d o)
-too-numbers c input d None is = is
-too-numbers c input d (Some e) is = fitting-numbers c (turn [] d) e (row_in d e.connection input) d is is
+too_numbers : (c : Controller) (input : Input) (d : Controller) (o : Option Entry) → d.next_number ≡ c.next_number → Numbers c (concerning_too input d o)
+too_numbers c input d None is = is
+too_numbers c input d (Some e) is = fitting_numbers c (turn [] d) e (row_in d e.connection input) d is is
 
-freed-numbers : (b : Bool) (at : Place) (input : Input) (c : Controller) (o : Option Entry) → Numbers c (on_freed b at input c o)
-freed-numbers true at input c o = too-numbers c input (freed at c) o refl
-freed-numbers false at input c o = concerning-numbers input c o
+freed_numbers : (b : Bool) (at : Place) (input : Input) (c : Controller) (o : Option Entry) → Numbers c (on_freed b at input c o)
+freed_numbers true at input c o = too_numbers c input (freed at c) o refl
+freed_numbers false at input c o = concerning_numbers input c o
 
-decision-numbers : (d : Decision) (c : Controller) (e : Entry) → Numbers c (on_decision d c e)
-decision-numbers Stay c e = refl
-decision-numbers (Move cell) c e = fitting-numbers c (turn [] c) e (row_of e.connection inputs.Move (handover_offer c e.connection.serving cell)) c refl refl
+decision_numbers : (d : Decision) (c : Controller) (e : Entry) → Numbers c (on_decision d c e)
+decision_numbers Stay c e = refl
+decision_numbers (Move cell) c e = fitting_numbers c (turn [] c) e (row_of e.connection inputs.Move (handover_offer c e.connection.serving cell)) c refl refl
 
-report-numbers : (at : Place) (of : ℕ) (report : Report) (c : Controller) (o : Option Entry) → Numbers c (on_report at of report c o)
-report-numbers at of report c None = refl
-report-numbers at of report c (Some e) = by (measures at e) where
+report_numbers : (at : Place) (of : ℕ) (report : Report) (c : Controller) (o : Option Entry) → Numbers c (on_report at of report c o)
+report_numbers at of report c None = refl
+report_numbers at of report c (Some e) = by (measures at e) where
   put : Entry
   put = with_report of report e
 
   by : (b : Bool) → Numbers c (if b then measured of report c e else ignoring c)
-  by true = decision-numbers (decision_over put.averages.settings put.averages.reports of) (with_entry put c) put
+  by true = decision_numbers (decision_over put.averages.settings put.averages.reports of) (with_entry put c) put
   by false = refl
 
-each-numbers : (f : Controller → Entry → Turn) → ((d : Controller) (e : Entry) → Numbers d (f d e)) → (c : Controller) (xs : List Entry) → Numbers c (each f c xs)
-each-numbers f own c [] = refl
-each-numbers f own c (x ∷ xs) = each-numbers f own (f c x).next xs ∙ own c x
+each_numbers : (f : Controller → Entry → Turn) → ((d : Controller) (e : Entry) → Numbers d (f d e)) → (c : Controller) (xs : List Entry) → Numbers c (each f c xs)
+each_numbers f own c [] = refl
+each_numbers f own c (x ∷ xs) = each_numbers f own (f c x).next xs ∙ own c x
 
-expiry-numbers : (o : Option Input) (c : Controller) (e : Entry) → Numbers c (on_expiry o c e)
-expiry-numbers None c e = refl
-expiry-numbers (Some input) c e = too-numbers c input c (Some e) refl
+expiry_numbers : (o : Option Input) (c : Controller) (e : Entry) → Numbers c (on_expiry o c e)
+expiry_numbers None c e = refl
+expiry_numbers (Some input) c e = too_numbers c input c (Some e) refl
 
-break-numbers : (source : ℕ) (c : Controller) → Numbers c (on_break source c)
-break-numbers source c = by (source == SWITCH_LINK) where
+break_numbers : (source : ℕ) (c : Controller) → Numbers c (on_break source c)
+break_numbers source c = by (source == SWITCH_LINK) where
   told-all : Turn
   told-all = each (told (break_of source)) (with_down source c) c.entries
 
   same : told-all.next.next_number ≡ c.next_number
-  same = each-numbers (told (break_of source)) (λ d e. too-numbers d (break_of source) d (Some e) refl) (with_down source c) c.entries
+  same = each_numbers (told (break_of source)) (λ d e. too_numbers d (break_of source) d (Some e) refl) (with_down source c) c.entries
 
   by : (b : Bool) → (if b then told-all.next else freed_station source told-all.next).next_number ≡ c.next_number
   by true = same
@@ -79,18 +79,18 @@ data WordOpens (c : Controller) (source : ℕ) (word : Word) (t : Turn) : Type 0
   stays : Numbers c t → WordOpens c source word t
   begins : (channel : Channel) (request : RequestReference) (delay : ℕ) → word ≡ Asks request delay → access_channel c source ≡ Some channel → t ≡ with_connection c channel request delay → WordOpens c source word t
 
-asks-opens : (c : Controller) (source : ℕ) (request : RequestReference) (delay : ℕ) (b : Bool) (o : Option Channel) → access_channel c source ≡ o → WordOpens c source (Asks request delay) (if b then given c request delay o else ignoring c)
-asks-opens c source request delay true (Some channel) is = begins channel request delay refl is refl
-asks-opens c source request delay true None is = stays refl
-asks-opens c source request delay false o is = stays refl
+asks_opens : (c : Controller) (source : ℕ) (request : RequestReference) (delay : ℕ) (b : Bool) (o : Option Channel) → access_channel c source ≡ o → WordOpens c source (Asks request delay) (if b then given c request delay o else ignoring c)
+asks_opens c source request delay true (Some channel) is = begins channel request delay refl is refl
+asks_opens c source request delay true None is = stays refl
+asks_opens c source request delay false o is = stays refl
 
-word-opens : (c : Controller) (source : ℕ) (word : Word) → WordOpens c source word (on_word source word c)
-word-opens c source Nothing = stays refl
-word-opens c source Ping = stays refl
-word-opens c source (Asks request delay) = asks-opens c source request delay (may_open c) (access_channel c source) refl
-word-opens c source (OnChannel at input) = stays (freed-numbers (frees (channel_state c at) (entry_at c (channel_state c at)) input) at input c (entry_at c (channel_state c at)))
-word-opens c source (Reports at of report) = stays (report-numbers at of report c (entry_at c (channel_state c at)))
-word-opens c source (OnConnection number input) = stays (concerning-numbers input c (entry_of c number))
+word_opens : (c : Controller) (source : ℕ) (word : Word) → WordOpens c source word (on_word source word c)
+word_opens c source Nothing = stays refl
+word_opens c source Ping = stays refl
+word_opens c source (Asks request delay) = asks_opens c source request delay (may_open c) (access_channel c source) refl
+word_opens c source (OnChannel at input) = stays (freed_numbers (frees (channel_state c at) (entry_at c (channel_state c at)) input) at input c (entry_at c (channel_state c at)))
+word_opens c source (Reports at of report) = stays (report_numbers at of report c (entry_at c (channel_state c at)))
+word_opens c source (OnConnection number input) = stays (concerning_numbers input c (entry_of c number))
 
 -- it is the next one, and its first channel is activated
 pub data Opens (c : Controller) (item : Item) : Type 0 where
@@ -98,20 +98,20 @@ pub data Opens (c : Controller) (item : Item) : Type 0 where
   begins : (frame : Frame) (channel : Channel) (request : RequestReference) (delay : ℕ) → item.what ≡ whats.Frame frame → word_of item.source frame ≡ Asks request delay → access_channel c item.source ≡ Some channel
       → take item c ≡ with_connection c channel request delay → Opens c item
 
-pub take-opens : (c : Controller) (item : Item) → Opens c item
+pub take_opens : (c : Controller) (item : Item) → Opens c item
 unfolding take
-take-opens c item = by (is_up c item.source) item.what refl refl where
+take_opens c item = by (is_up c item.source) item.what refl refl where
   of-word : (frame : Frame) (t : Turn) → item.what ≡ whats.Frame frame → on_what (is_up c item.source) item.source item.what c ≡ t → WordOpens c item.source (word_of item.source frame) t → Opens c item
   of-word frame t is turns (stays same) = stays (ap (λ (x : Turn). x.next.next_number) turns ∙ same)
   of-word frame t is turns (begins channel request delay asks free opens) = begins frame channel request delay is asks free (turns ∙ opens)
 
   by : (b : Bool) (what : What) → is_up c item.source ≡ b → item.what ≡ what → Opens c item
   by true (whats.Frame frame) up is =
-      of-word frame (on_word item.source (word_of item.source frame) c) is (ap (λ (b : Bool). on_what b item.source item.what c) up ∙ ap (λ (x : What). on_what true item.source x c) is) (word-opens c item.source (word_of item.source frame))
-  by true whats.Down up is = stays (ap (λ (t : Turn). t.next.next_number) (ap (λ (b : Bool). on_what b item.source item.what c) up ∙ ap (λ (x : What). on_what true item.source x c) is) ∙ break-numbers item.source c)
+      of-word frame (on_word item.source (word_of item.source frame) c) is (ap (λ (b : Bool). on_what b item.source item.what c) up ∙ ap (λ (x : What). on_what true item.source x c) is) (word_opens c item.source (word_of item.source frame))
+  by true whats.Down up is = stays (ap (λ (t : Turn). t.next.next_number) (ap (λ (b : Bool). on_what b item.source item.what c) up ∙ ap (λ (x : What). on_what true item.source x c) is) ∙ break_numbers item.source c)
   by false what up is = stays (ap (λ (t : Turn). t.next.next_number) (ap (λ (b : Bool). on_what b item.source item.what c) up))
 
 -- and none by time
-pub tick-numbers : (ms : ℕ) (c : Controller) → Numbers c (tick ms c)
+pub tick_numbers : (ms : ℕ) (c : Controller) → Numbers c (tick ms c)
 unfolding tick
-tick-numbers ms c = each-numbers timed (λ d e. expiry-numbers (expiry d.settings.timers e.connection) d e) (all_aged ms c) (all_aged ms c).entries
+tick_numbers ms c = each_numbers timed (λ d e. expiry_numbers (expiry d.settings.timers e.connection) d e) (all_aged ms c) (all_aged ms c).entries

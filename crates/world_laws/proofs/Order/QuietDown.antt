@@ -8,8 +8,8 @@ use Rattle.std.proofs.Common.{is_some}
 use Rattle.rsl_codec.specs.declared.rsl.Rsl.TheVariants as rsl
 use Rattle.world_model.specs.Life.{event_after}
 use Rattle.world_model.proofs.Outboxes.Step.{goes}
-use Rattle.world_laws.proofs.Framing.{all-right}
-use Rattle.world_laws.proofs.Targets.Calm.{down-active}
+use Rattle.world_laws.proofs.Framing.{all_right}
+use Rattle.world_laws.proofs.Targets.Calm.{down_active}
 use Rattle.world_laws.proofs.Order.AirDown.{air-step}
 use Rattle.world_laws.specs.Order.QuietDown.{NoDataEntry, NoDataOn, Quiet, Waits, activates}
 use Rattle.world_laws.specs.Order.QuietDown.Quiet.{begun, waits}
@@ -18,33 +18,33 @@ use Rattle.world_laws.specs.Order.QuietDown.Waits.{here, later}
 abbrev pub IsIdle : Actors → Place → Type 0
 IsIdle w at = is_active_at w at ≡ false → (spot_at w at).air ≡ []
 
-pub quiet-air : (w : Actors) (at : Place) → IsIdle w at → Quiet w at → (spot_at w at).air ≡ []
-quiet-air w at idle (waits inactive waiting) = idle inactive
-quiet-air w at idle (begun none nothing) = none
+pub quiet_air : (w : Actors) (at : Place) → IsIdle w at → Quiet w at → (spot_at w at).air ≡ []
+quiet_air w at idle (waits inactive waiting) = idle inactive
+quiet_air w at idle (begun none nothing) = none
 
-waits-append : (k : ℕ) {xs : List OutboxEntry} (ys : List OutboxEntry) → Waits k xs → AllByRecursion (NoDataEntry k) ys → Waits k (xs ++ ys)
-waits-append k ys (here {entries = xs} is none) nothing = here is (AllByRecursion-append (NoDataEntry k) xs ys none nothing)
-waits-append k ys (later isnt rest) nothing = later isnt (waits-append k ys rest nothing)
+waits_append : (k : ℕ) {xs : List OutboxEntry} (ys : List OutboxEntry) → Waits k xs → AllByRecursion (NoDataEntry k) ys → Waits k (xs ++ ys)
+waits_append k ys (here {entries = xs} is none) nothing = here is (AllByRecursion-append (NoDataEntry k) xs ys none nothing)
+waits_append k ys (later isnt rest) nothing = later isnt (waits_append k ys rest nothing)
 
 First : ℕ → OutboxEntry → List OutboxEntry → Type 0
 First k x xs = ((activates k (rsl_in x.out.frame) ≡ true) × AllByRecursion (NoDataEntry k) xs) ⊎ ((activates k (rsl_in x.out.frame) ≡ false) × Waits k xs)
 
-behind-first : (k : ℕ) (x : OutboxEntry) (xs : List OutboxEntry) → Waits k (x ∷ xs) → First k x xs
+behind_first : (k : ℕ) (x : OutboxEntry) (xs : List OutboxEntry) → Waits k (x ∷ xs) → First k x xs
 unfolding First
-behind-first k x xs (here is none) = inl (is, none)
-behind-first k x xs (later isnt rest) = inr (isnt, rest)
+behind_first k x xs (here is none) = inl (is, none)
+behind_first k x xs (later isnt rest) = inr (isnt, rest)
 
-pub stays-inactive : (k : ℕ) (o : Option Rsl) → activates k o ≡ false → is_active_then k false o ≡ false
-stays-inactive k (Some (rsl.ChannelActivation a)) isnt = isnt
-stays-inactive k (Some (rsl.RfChannelRelease number)) isnt = by (number == k) where
+pub stays_inactive : (k : ℕ) (o : Option Rsl) → activates k o ≡ false → is_active_then k false o ≡ false
+stays_inactive k (Some (rsl.ChannelActivation a)) isnt = isnt
+stays_inactive k (Some (rsl.RfChannelRelease number)) isnt = by (number == k) where
   by : (b : Bool) → not b && false ≡ false
   by true = refl
   by false = refl
-stays-inactive k None isnt = refl
-stays-inactive k (Some _) isnt = refl
+stays_inactive k None isnt = refl
+stays_inactive k (Some _) isnt = refl
 
-no-data : (k : ℕ) (o : Option Rsl) → activates k o ≡ true → NoDataOn k o
-no-data k o is = λ d says same. absurd (let both : true ≡ false = sym is ∙ ap (activates k) says in cc)
+no_data : (k : ℕ) (o : Option Rsl) → activates k o ≡ true → NoDataOn k o
+no_data k o is = λ d says same. absurd (let both : true ≡ false = sym is ∙ ap (activates k) says in cc)
 
 -- ---- what is taken
 
@@ -55,18 +55,18 @@ data TakenBy (n : ℕ) (w : Actors) (event : Event) : Type 0 where
 abbrev first_by : Bool → Bool → List OutboxEntry → List OutboxEntry
 first_by a b xs = if a then (if b then first_of xs else []) else []
 
-taken-by : (n : ℕ) (w : Actors) (event : Event) → n ≢ SWITCH_LINK → TakenBy n w event
-taken-by n w (BaseTakes station) n_is = by (station == n) refl (is_some (event_after w (BaseTakes station))) refl (outbox_of w n) refl where
+taken_by : (n : ℕ) (w : Actors) (event : Event) → n ≢ SWITCH_LINK → TakenBy n w event
+taken_by n w (BaseTakes station) n_is = by (station == n) refl (is_some (event_after w (BaseTakes station))) refl (outbox_of w n) refl where
   by : (a : Bool) → (station == n) ≡ a → (b : Bool) → is_some (event_after w (BaseTakes station)) ≡ b → (xs : List OutboxEntry) → outbox_of w n ≡ xs → TakenBy n w (BaseTakes station)
   by false miss b taker xs stood = nobody (ap (λ (a : Bool). first_by a (is_some (event_after w (BaseTakes station))) (outbox_of w n)) miss)
   by true hit false taker xs stood = nobody (ap (λ (a : Bool). first_by a (is_some (event_after w (BaseTakes station))) (outbox_of w n)) hit ∙ ap (λ (b : Bool). first_by true b (outbox_of w n)) taker)
   by true hit true taker [] stood = nobody (ap (λ (a : Bool). first_by a (is_some (event_after w (BaseTakes station))) (outbox_of w n)) hit ∙ ap (λ (b : Bool). first_by true b (outbox_of w n)) taker ∙ ap first_of stood)
   by true hit true taker (x ∷ xs) stood = one x xs stood (ap (λ (a : Bool). first_by a (is_some (event_after w (BaseTakes station))) (outbox_of w n)) hit ∙ ap (λ (b : Bool). first_by true b (outbox_of w n)) taker ∙ ap first_of stood)
-taken-by n w SwitchTakes n_is = by (SWITCH_LINK == n) refl where
+taken_by n w SwitchTakes n_is = by (SWITCH_LINK == n) refl where
   by : (b : Bool) → (SWITCH_LINK == n) ≡ b → TakenBy n w SwitchTakes
   by true hit = absurd (n_is (sym (eqb-true SWITCH_LINK n hit)))
   by false miss = nobody (ap (λ (b : Bool). if b then (if is_some (event_after w SwitchTakes) then first_of (outbox_of w n) else []) else []) miss)
-taken-by n w _ n_is = nobody refl
+taken_by n w _ n_is = nobody refl
 
 -- ---- an event that puts no DATA REQUEST for it
 
@@ -83,24 +83,24 @@ module _ (w : Actors) (event : Event) (at : Place) (at_is : at.station ≢ SWITC
   -- the link is down
   down-quiet : is_active_at w at ≡ false → is_up v n ≡ false → outbox_of v n ≡ [] → Quiet v at
   down-quiet inactive down empty =
-      begun (idle_then (ap (λ (active : List ℕ). is_active active k) (down-active n w event at_is down) ∙ inactive)) (subst (AllByRecursion (NoDataEntry k)) (sym empty) tt)
+      begun (idle_then (ap (λ (active : List ℕ). is_active active k) (down_active n w event at_is down) ∙ inactive)) (subst (AllByRecursion (NoDataEntry k)) (sym empty) tt)
 
   waits-step : is_active_at w at ≡ false → Waits k (outbox_of w n) → OutboxStep n w event v → PipeStep n k w event v → Quiet v at
   unfolding First
   waits-step inactive waiting (breaks broken unput none) pipe = down-quiet inactive (ap (λ (l : Link). l.up) broken) (ap (λ (l : Link). l.outbox) broken)
   waits-step inactive waiting (goes up all) (stops down left dropped ungiven none) = down-quiet inactive down dropped
-  waits-step inactive waiting (goes up all) (flows acks active) = by (taken-by n w event at_is) where
+  waits-step inactive waiting (goes up all) (flows acks active) = by (taken_by n w event at_is) where
     rest : Waits k (taken n w event ++ outbox_of v n)
-    rest = subst (Waits k) all (waits-append k (put n w event) waiting nothing)
+    rest = subst (Waits k) all (waits_append k (put n w event) waiting nothing)
 
     now : (ts : List OutboxEntry) → taken n w event ≡ ts → is_active_at v at ≡ active_all k false ts
     now ts is = active ∙ ap (λ (b : Bool). active_all k b (taken n w event)) inactive ∙ ap (active_all k false) is
 
     by : TakenBy n w event → Quiet v at
     by (nobody none) = waits (now [] none) (subst (λ (ts : List OutboxEntry). Waits k (ts ++ outbox_of v n)) none rest)
-    by (one x xs stood is) = elim (behind-first k x (outbox_of v n) (subst (λ (ts : List OutboxEntry). Waits k (ts ++ outbox_of v n)) is rest)) [
-      | inl own ↦ begun (air-step at at_is w event (λ first others takes stands. subst (NoDataEntry k) (same-first (sym stood ∙ stands)) (no-data k (rsl_in x.out.frame) own.0)) (idle inactive)) own.1
-      | inr other ↦ waits (now (x ∷ []) is ∙ stays-inactive k (rsl_in x.out.frame) other.0) other.1
+    by (one x xs stood is) = elim (behind_first k x (outbox_of v n) (subst (λ (ts : List OutboxEntry). Waits k (ts ++ outbox_of v n)) is rest)) [
+      | inl own ↦ begun (air-step at at_is w event (λ first others takes stands. subst (NoDataEntry k) (same-first (sym stood ∙ stands)) (no_data k (rsl_in x.out.frame) own.0)) (idle inactive)) own.1
+      | inr other ↦ waits (now (x ∷ []) is ∙ stays_inactive k (rsl_in x.out.frame) other.0) other.1
     ] where
       same-first : {a b : OutboxEntry} {xs ys : List OutboxEntry} → a ∷ xs ≡ b ∷ ys → a ≡ b
       same-first e = cc
@@ -109,7 +109,7 @@ module _ (w : Actors) (event : Event) (at : Place) (at_is : at.station ≢ SWITC
   begun-step none waiting out = begun (air-step at at_is w event (λ first others takes stands. (subst (AllByRecursion (NoDataEntry k)) stands waiting).0) none) (by out) where
     by : OutboxStep n w event v → AllByRecursion (NoDataEntry k) (outbox_of v n)
     by (breaks broken unput untaken) = subst (λ (l : Link). AllByRecursion (NoDataEntry k) l.outbox) (sym broken) tt
-    by (goes up all) = all-right (NoDataEntry k) (taken n w event) (outbox_of v n) (subst (AllByRecursion (NoDataEntry k)) all (AllByRecursion-append (NoDataEntry k) (outbox_of w n) (put n w event) waiting nothing))
+    by (goes up all) = all_right (NoDataEntry k) (taken n w event) (outbox_of v n) (subst (AllByRecursion (NoDataEntry k)) all (AllByRecursion-append (NoDataEntry k) (outbox_of w n) (put n w event) waiting nothing))
 
   pub quiet-step : PipeStep n k w event v → Quiet w at → Quiet v at
   quiet-step pipe (waits inactive waiting) = waits-step inactive waiting (outbox-step n w event) pipe

@@ -10,7 +10,7 @@ use Rattle.world_laws.specs.Order.Facts.{IsAsking}
 use Rattle.world_laws.specs.Order.LineUps.{still_to_come}
 use Rattle.world_laws.specs.Order.OctetEvents.{IsFair, IsOctetEvent}
 use Rattle.world_laws.specs.Order.Openers.{has_asked}
-use Rattle.world_laws.proofs.Order.OctetTexts.{octets-cons, octets-nil}
+use Rattle.world_laws.proofs.Order.OctetTexts.{octets_cons, octets_nil}
 
 -- from the connection request on
 asked : map has_asked (WaitActivation ∷ WaitEstablish ∷ WaitConfirm ∷ Closed (Due 9) ∷ Removed ∷ []) ≡ false ∷ false ∷ true ∷ true ∷ true ∷ []
@@ -18,7 +18,7 @@ asked = refl
 
 -- a mobile's number is an octet, where it connects
 number_fits : IsOctetEvent (Connect 255 1 (0x05 ∷ []) true)
-number_fits = (omega arith, (octets-cons (omega arith) octets-nil).are)
+number_fits = (omega arith, (octets_cons (omega arith) octets_nil).are)
 
 number_is_past : IsOctetEvent (Connect 256 1 (0x05 ∷ []) true) → ⊥
 number_is_past is = let less : 256 < 256 = is.0 in absurd (omega (arith, less))

@@ -13,10 +13,10 @@ use Rattle.world_laws.specs.OthersFrame.{IsHad}
 use Rattle.world_laws.specs.OwnFrame.{IsRequested}
 use Rattle.world_laws.specs.Seated.{IsAlone}
 use Rattle.world_laws.specs.Staying.{AreLinedUp, DeliversFirst}
-use Rattle.world_laws.proofs.BesideRelay.{MobilesKeepLineUps-new}
-use Rattle.world_laws.proofs.Breaks.{StationBreaksKeepLineUps-new}
-use Rattle.world_laws.proofs.Ending.{EndedStayInOrder-new, LineUpsMayEnd-new}
-use Rattle.world_laws.proofs.SwitchTakes.{SwitchKeepsLineUps-new}
+use Rattle.world_laws.proofs.BesideRelay.{mobiles_keep_line_ups_new}
+use Rattle.world_laws.proofs.Breaks.{station_breaks_keep_line_ups_new}
+use Rattle.world_laws.proofs.Ending.{ended_stay_in_order_new, line_ups_may_end_new}
+use Rattle.world_laws.proofs.SwitchTakes.{switch_keeps_line_ups_new}
 use Rattle.world_laws.proofs.SwitchTook.{waiting_in}
 use Rattle.world_laws.specs.Order.Facts.{Holds, HoldsAt, IsAsking}
 use Rattle.world_laws.specs.Order.Openers.{has_asked, served_by}
@@ -24,12 +24,12 @@ use Rattle.world_laws.specs.Order.Standing.{OnceDown, Standing, WhileUp, IsComin
 use Rattle.world_laws.specs.Order.Standing.OnceDown.{silent, cut}
 use Rattle.world_laws.specs.Order.Standing.Standing.{while_up, once_down}
 use Rattle.world_laws.specs.Order.Standing.WhileUp.{unborn, coming, lives, ended, unheard}
-use Rattle.world_laws.proofs.Order.Controllers.{controller-stays, given-below, next-rises, none-given-then}
-use Rattle.world_laws.proofs.Order.EventKinds.{Kind, Working, kind, working, delivers-by, delivers-or, down-puts, quiet-puts}
+use Rattle.world_laws.proofs.Order.Controllers.{controller-stays, given_below, next_rises, none_given_then}
+use Rattle.world_laws.proofs.Order.EventKinds.{Kind, Working, kind, working, delivers_by, delivers_or, down_puts, quiet_puts}
 use Rattle.world_laws.proofs.Order.EventKinds.Working.{works, rests}
 use Rattle.world_laws.proofs.Order.EventKinds.Kind.{handles, ticks, switch_takes, station_takes, breaks, beside}
 use Rattle.world_laws.proofs.Order.Openers.{served-absent, served-asking, served-confirming, served-there}
-use Rattle.world_laws.proofs.Order.SwitchDown.{break-cuts, outbox-down, station-idle, switch-down}
+use Rattle.world_laws.proofs.Order.SwitchDown.{break_cuts, outbox-down, station-idle, switch-down}
 use Rattle.world_laws.specs.References.Taken.{IsUnheardOf}
 use Rattle.world_laws.specs.Access.Requested.{Came}
 use Rattle.world_laws.specs.Access.Requested.Came.{comes, requests, goes}
@@ -41,67 +41,67 @@ use Rattle.world_laws.proofs.Events.{world}
 
 -- ---- where the link is down
 
-nothing-waits : (w : Actors) (number : ℕ) → outbox_of w SWITCH_LINK ≡ [] → waiting_of w number ≡ []
+nothing_waits : (w : Actors) (number : ℕ) → outbox_of w SWITCH_LINK ≡ [] → waiting_of w number ≡ []
 unfolding forwarded
-nothing-waits w number none = ap (λ (entries : List OutboxEntry). waiting_in entries number) none
+nothing_waits w number none = ap (λ (entries : List OutboxEntry). waiting_in entries number) none
 
 -- there is a connection that hasn't asked
-pub asking-at : (w : Actors) (number : ℕ) (s : Connection) → connection_of w.controller number ≡ Some s → has_asked s.state ≡ false → IsAsking (connection_of w.controller number)
-asking-at w number s there asking = subst IsAsking (sym there) asking
+pub asking_at : (w : Actors) (number : ℕ) (s : Connection) → connection_of w.controller number ≡ Some s → has_asked s.state ≡ false → IsAsking (connection_of w.controller number)
+asking_at w number s there asking = subst IsAsking (sym there) asking
 
-silent-unheard : {w : Actors} {number : ℕ} → IsUnheard w number → IsUnheardOf w number
-silent-unheard u = record { none_taken = u.none_taken; none_waits = u.none_waits }
+silent_unheard : {w : Actors} {number : ℕ} → IsUnheard w number → IsUnheardOf w number
+silent_unheard u = record { none_taken = u.none_taken; none_waits = u.none_waits }
 
 -- what a number that stands so while the link is up is once it is down
-once-cut : {m : ℕ} {w : Actors} {opener : Option ℕ} {number : ℕ} → 1 ≤ number → Holds m w → outbox_of w SWITCH_LINK ≡ [] → WhileUp m w opener number → OnceDown m w opener number
-once-cut {number = number} from_one holds none (unborn is past) = silent (holds.not_given number from_one past)
-once-cut {w = w} {number = number} from_one holds none (coming mobile s is same comes_so) =
+once_cut : {m : ℕ} {w : Actors} {opener : Option ℕ} {number : ℕ} → 1 ≤ number → Holds m w → outbox_of w SWITCH_LINK ≡ [] → WhileUp m w opener number → OnceDown m w opener number
+once_cut {number = number} from_one holds none (unborn is past) = silent (holds.not_given number from_one past)
+once_cut {w = w} {number = number} from_one holds none (coming mobile s is same comes_so) =
     let is_so = holds.is_coming mobile s comes_so in
-    silent (holds.not_asked number from_one (subst (λ (n : ℕ). IsAsking (connection_of w.controller n)) same (asking-at w s.number s is_so.0.there is_so.1)))
-once-cut {m = m} {w = w} {number = number} from_one holds none (lives mobile s is same l fresh) = cut mobile is (subst (HasEnded m w mobile) same (LineUpsMayEnd-new m w mobile s l.lined)) (nothing-waits w number none)
-once-cut {w = w} {number = number} from_one holds none (ended mobile is past gone has) = cut mobile is has (nothing-waits w number none)
-once-cut from_one holds none (unheard u) = silent (silent-unheard u)
+    silent (holds.not_asked number from_one (subst (λ (n : ℕ). IsAsking (connection_of w.controller n)) same (asking_at w s.number s is_so.0.there is_so.1)))
+once_cut {m = m} {w = w} {number = number} from_one holds none (lives mobile s is same l fresh) = cut mobile is (subst (HasEnded m w mobile) same (line_ups_may_end_new m w mobile s l.lined)) (nothing_waits w number none)
+once_cut {w = w} {number = number} from_one holds none (ended mobile is past gone has) = cut mobile is has (nothing_waits w number none)
+once_cut from_one holds none (unheard u) = silent (silent_unheard u)
 
 -- it stands so, whether the link is up or not
 settle : {m : ℕ} {w : Actors} {opener : Option ℕ} {number : ℕ} → 1 ≤ number → Holds m w → (is_up w SWITCH_LINK ≡ false → outbox_of w SWITCH_LINK ≡ []) → WhileUp m w opener number → Standing m w opener number
 settle {m} {w} {opener} {number} from_one holds none at = by (is_up w SWITCH_LINK) refl where
   by : (b : Bool) → is_up w SWITCH_LINK ≡ b → Standing m w opener number
   by true up = while_up up at
-  by false down = once_down down (once-cut from_one holds (none down) at)
+  by false down = once_down down (once_cut from_one holds (none down) at)
 
 -- ---- events in which the controller takes no part
 
 -- a line-up stays, while the switch's link is up
-lined-then : (settings : Parameters) (events : List Event) (event : Event) (mobile : ℕ) (s : Connection)
+lined_then : (settings : Parameters) (events : List Event) (event : Event) (mobile : ℕ) (s : Connection)
     → Holds (modulus_in settings) (world settings events) → IsHad (world settings events) s → IsRequested s.state
     → IsAlone (world settings events) mobile s → Kind (world settings events) s.number event → (is_of_controller event ≡ true → ⊥)
     → DeliversAt (world settings events) s.number event → is_up (world settings events) SWITCH_LINK ≡ true → is_up (actors_after (world settings events) event) SWITCH_LINK ≡ true
     → AreLinedUp (modulus_in settings) (world settings events) mobile s → AreLinedUp (modulus_in settings) (actors_after (world settings events) event) mobile s
-lined-then settings events event mobile s holds had requested alone handles not delivers up up_then lined = absurd (not refl)
-lined-then settings events event mobile s holds had requested alone (ticks ms) not delivers up up_then lined = absurd (not refl)
-lined-then settings events event mobile s holds had requested alone switch_takes not delivers up up_then lined = SwitchKeepsLineUps-new settings events mobile s delivers lined
-lined-then settings events event mobile s holds had requested alone (station_takes station) not delivers up up_then lined =
+lined_then settings events event mobile s holds had requested alone handles not delivers up up_then lined = absurd (not refl)
+lined_then settings events event mobile s holds had requested alone (ticks ms) not delivers up up_then lined = absurd (not refl)
+lined_then settings events event mobile s holds had requested alone switch_takes not delivers up up_then lined = switch_keeps_line_ups_new settings events mobile s delivers lined
+lined_then settings events event mobile s holds had requested alone (station_takes station) not delivers up up_then lined =
     by (is_station_up (world settings events) station) refl where
       by : (b : Bool) → is_station_up (world settings events) station ≡ b → AreLinedUp (modulus_in settings) (actors_after (world settings events) (BaseTakes station)) mobile s
       by true station_up = holds.stations station mobile s (holds.active s station had requested station_up) lined
       by false station_down = subst (λ (w : Actors). AreLinedUp (modulus_in settings) w mobile s) (sym (station-idle (world settings events) station station_down)) lined
-lined-then settings events event mobile s holds had requested alone (breaks source) not delivers up up_then lined = elim (cases_Bool (nat_eq source SWITCH_LINK)) [
+lined_then settings events event mobile s holds had requested alone (breaks source) not delivers up up_then lined = elim (cases_Bool (nat_eq source SWITCH_LINK)) [
   | inl hit ↦ absurd (cut-off (eqb-true source SWITCH_LINK hit))
-  | inr miss ↦ StationBreaksKeepLineUps-new settings events source mobile s (eqb-false source SWITCH_LINK miss) (holds.end_last s had) lined
+  | inr miss ↦ station_breaks_keep_line_ups_new settings events source mobile s (eqb-false source SWITCH_LINK miss) (holds.end_last s had) lined
 ] where
   w : Actors
   w = world settings events
 
   cut-off : source ≡ SWITCH_LINK → ⊥
-  cut-off is = true≢false (sym (subst (λ (n : ℕ). is_up (actors_after w (BaseDown n)) SWITCH_LINK ≡ true) is up_then) ∙ break-cuts w up)
-lined-then settings events event mobile s holds had requested alone (beside is _ none nothing _) not delivers up up_then lined = MobilesKeepLineUps-new settings events event mobile s is alone lined
+  cut-off is = true≢false (sym (subst (λ (n : ℕ). is_up (actors_after w (BaseDown n)) SWITCH_LINK ≡ true) is up_then) ∙ break_cuts w up)
+lined_then settings events event mobile s holds had requested alone (beside is _ none nothing _) not delivers up up_then lined = mobiles_keep_line_ups_new settings events event mobile s is alone lined
 
 -- ---- a number that is cut off stays so, whatever happens
 
-pub cut-then : (settings : Parameters) (events : List Event) (event : Event) {opener : Option ℕ} (number : ℕ) → is_up (world settings events) SWITCH_LINK ≡ false
+pub cut_then : (settings : Parameters) (events : List Event) (event : Event) {opener : Option ℕ} (number : ℕ) → is_up (world settings events) SWITCH_LINK ≡ false
     → OnceDown (modulus_in settings) (world settings events) opener number
     → OnceDown (modulus_in settings) (actors_after (world settings events) event) (option_or opener (served_by (actors_after (world settings events) event) number)) number
-cut-then settings events event {opener} number down at = by at where
+cut_then settings events event {opener} number down at = by at where
   w : Actors
   w = world settings events
 
@@ -109,13 +109,13 @@ cut-then settings events event {opener} number down at = by at where
   v = actors_after w event
 
   waits : waiting_of v number ≡ []
-  waits = nothing-waits v number (down-outbox SWITCH_LINK w event (outbox-down settings events) (down-after SWITCH_LINK w event down))
+  waits = nothing_waits v number (down-outbox SWITCH_LINK w event (outbox-down settings events) (down-after SWITCH_LINK w event down))
 
   by : OnceDown (modulus_in settings) w opener number → OnceDown (modulus_in settings) v (option_or opener (served_by v number)) number
   by (silent at) = silent (record { none_taken = ap (λ (s : SwitchState). find (is_of_peer number) s.connections) (switch-down w event down) ∙ at.none_taken; none_waits = waits })
   by (cut mobile is has none) =
       cut mobile (ap (λ (o : Option ℕ). option_or o (served_by v number)) is)
-      (EndedStayInOrder-new settings events event mobile number (delivers-by (kind w number event) (subst (DeliversFirst w number) (sym (outbox-down settings events down)) tt)) (down-puts w event number down) has)
+      (ended_stay_in_order_new settings events event mobile number (delivers_by (kind w number event) (subst (DeliversFirst w number) (sym (outbox-down settings events down)) tt)) (down_puts w event number down) has)
       waits
 
 -- ---- an event of a run
@@ -163,7 +163,7 @@ module _ (settings : Parameters) (events : List Event) (event : Event) where
   -- ---- a number that is still to be given
 
   begun-then : {opener : Option ℕ} (number : ℕ) → Around → 1 ≤ number → opener ≡ None → HasBegun (λ (x : Actors) (t : Connection). IsComingTo m x t.request.access t) v number → Then opener number
-  begun-then {opener} number around from_one none (not_yet past) = then-up opener around from_one (unborn (first-now number none (served-absent v number (none-given-then settings events event number past))) past)
+  begun-then {opener} number around from_one none (not_yet past) = then-up opener around from_one (unborn (first-now number none (served-absent v number (none_given_then settings events event number past))) past)
   begun-then {opener} number around from_one none (begins s same comes_so) = then-up opener around from_one (coming-then number around none s.request.access s same comes_so)
 
   came-then : {opener : Option ℕ} (number mobile : ℕ) → Around → 1 ≤ number → opener ≡ None → IsAsking (connection_of w.controller number) → Came (IsComingTo m) m v mobile number → Then opener number
@@ -175,11 +175,11 @@ module _ (settings : Parameters) (events : List Event) (event : Event) where
   -- ---- one that ended
 
   ended-then : {opener : Option ℕ} (number mobile : ℕ) → Around → 1 ≤ number → is_up w SWITCH_LINK ≡ true → opener ≡ Some mobile → number < w.controller.next_number → (IsThere (connection_of w.controller number) → ⊥) → HasEnded m w mobile number → Then opener number
-  ended-then {opener} number mobile around from_one up is past gone has = by (delivers-or (kind w number event) (around.before.delivers number from_one up)) where
+  ended-then {opener} number mobile around from_one up is past gone has = by (delivers_or (kind w number event) (around.before.delivers number from_one up)) where
     by : DeliversAt w number event ⊎ IsUnheard v number → Then opener number
     by (inl delivers) =
         let over = around.at.stays_over number from_one past gone in
-        then-up opener around from_one (ended mobile (first-stays number is) over.past over.gone (EndedStayInOrder-new settings events event mobile number delivers over.puts has))
+        then-up opener around from_one (ended mobile (first-stays number is) over.past over.gone (ended_stay_in_order_new settings events event mobile number delivers over.puts has))
     by (inr u) = then-up opener around from_one (unheard u)
 
   -- ---- one that lives
@@ -196,7 +196,7 @@ module _ (settings : Parameters) (events : List Event) (event : Event) where
     agree = around.before.agree s l.had
 
     past : s.number < v.controller.next_number
-    past = omega (arith, given-below settings events s.number s l.had.there, next-rises settings events event)
+    past = omega (arith, given_below settings events s.number s l.had.there, next_rises settings events event)
 
     -- the controller works
     worked : FaresOn m v mobile s → Then opener s.number
@@ -222,7 +222,7 @@ module _ (settings : Parameters) (events : List Event) (event : Event) where
 
       by_link : (b : Bool) → is_up v SWITCH_LINK ≡ b → Then opener s.number
       by_link true up_then =
-          let lined : AreLinedUp m v mobile s = lined-then settings events event mobile s around.before l.had l.requested alone (kind w s.number event) not delivers up up_then l.lined in
+          let lined : AreLinedUp m v mobile s = lined_then settings events event mobile s around.before l.had l.requested alone (kind w s.number event) not delivers up up_then l.lined in
           let fresh : IsFresh v lined.one s = around.at.fresh mobile s s lined.one l alone agree is_fresh refl had lined.found in
           let tells : TargetIsFresh v s = around.after.fresh_tells lined.one s fresh in
           while_up up_then (lives mobile s (first-stays s.number is) refl (record {
@@ -234,11 +234,11 @@ module _ (settings : Parameters) (events : List Event) (event : Event) where
             opened = around.at.opened mobile s s l alone agree refl had tells lined;
           }) fresh)
       by_link false down_then =
-          once_down down_then (cut mobile (first-stays s.number is) (EndedStayInOrder-new settings events event mobile s.number delivers puts (LineUpsMayEnd-new m w mobile s l.lined)) (nothing-waits v s.number (emptied-then down_then)))
+          once_down down_then (cut mobile (first-stays s.number is) (ended_stay_in_order_new settings events event mobile s.number delivers puts (line_ups_may_end_new m w mobile s l.lined)) (nothing_waits v s.number (emptied-then down_then)))
 
     by_work : Working w event → Then opener s.number
     by_work (works of) = worked (around.at.handled mobile s of l agree up)
-    by_work (rests not none nothing) = quiet not (controller-stays settings events event none) (quiet-puts w event s.number nothing) (delivers-or (kind w s.number event) (around.before.delivers s.number from_one up))
+    by_work (rests not none nothing) = quiet not (controller-stays settings events event none) (quiet_puts w event s.number nothing) (delivers_or (kind w s.number event) (around.before.delivers s.number from_one up))
 
   -- ---- all
 
@@ -246,11 +246,11 @@ module _ (settings : Parameters) (events : List Event) (event : Event) where
   up-then {opener} number around from_one up (unborn none past) = begun-then number around from_one none (around.at.begun number from_one up past)
   up-then {opener} number around from_one up (coming mobile s none same comes_so) =
       let is_so = around.before.is_coming mobile s comes_so in
-      subst (λ (n : ℕ). Then opener n) same (came-then s.number mobile around is_so.0.from_one none (asking-at w s.number s is_so.0.there is_so.1) (around.at.came mobile s up comes_so))
+      subst (λ (n : ℕ). Then opener n) same (came-then s.number mobile around is_so.0.from_one none (asking_at w s.number s is_so.0.there is_so.1) (around.at.came mobile s up comes_so))
   up-then {opener} number around from_one up (lives mobile s is same l fresh) = subst (λ (n : ℕ). Then opener n) same (lives-then mobile s around up is l fresh)
   up-then {opener} number around from_one up (ended mobile is past gone has) = ended-then number mobile around from_one up is past gone has
   up-then {opener} number around from_one up (unheard u) = then-up opener around from_one (unheard (around.at.stays_unheard number from_one u))
 
   pub stands-then : (opener : Option ℕ) (number : ℕ) → Around → 1 ≤ number → Standing m w opener number → Then opener number
   stands-then opener number around from_one (while_up up at) = up-then number around from_one up at
-  stands-then opener number around from_one (once_down down at) = once_down (down-after SWITCH_LINK w event down) (cut-then settings events event number down at)
+  stands-then opener number around from_one (once_down down at) = once_down (down-after SWITCH_LINK w event down) (cut_then settings events event number down at)

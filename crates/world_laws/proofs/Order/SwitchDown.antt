@@ -31,16 +31,16 @@ pub data SwitchKind (w : Actors) : Event → Type 0 where
   does : (action : SwitchAction) → SwitchKind w (SwitchDoes action)
   stays : {event : Event} → (actors_after w event).switch ≡ w.switch → SwitchKind w event
 
-pub switch-kind : (w : Actors) (event : Event) → SwitchKind w event
+pub switch_kind : (w : Actors) (event : Event) → SwitchKind w event
 unfolding event_after FromAir
-switch-kind w (BaseTakes station) = stays (still w (after_base_takes w station) (taking-leads (Stays w) w station (λ first others _ _ mobiles stations. refl)))
-switch-kind w (BasePush source) = stays (still w (after_base_push w source) (push-leads (Stays w) w source (λ first others. refl) (λ message _. refl)))
-switch-kind w Handle = stays (still w (after_handle w) (handle-leads (Stays w) w (λ item items _. turn-leads (Stays w) (target_in w item.source item.what) (take item w.controller) (record w { inbox = items }) (λ links. refl))))
-switch-kind w SwitchTakes = takes
-switch-kind w (SwitchDoes action) = does action
-switch-kind w (Tick ms) = stays (turn-leads (Stays w) None (tick ms w.controller) w (λ links. refl))
-switch-kind w (BaseDown source) = stays (still w (after_break w source) (broken-leads (Stays w) w source (λ _ _. refl) (λ _ _. refl)))
-switch-kind w event = stays (still w (event_after w event) (aerial-leads (Stays w) w event refl (λ mobiles stations. refl)))
+switch_kind w (BaseTakes station) = stays (still w (after_base_takes w station) (taking-leads (Stays w) w station (λ first others _ _ mobiles stations. refl)))
+switch_kind w (BasePush source) = stays (still w (after_base_push w source) (push-leads (Stays w) w source (λ first others. refl) (λ message _. refl)))
+switch_kind w Handle = stays (still w (after_handle w) (handle-leads (Stays w) w (λ item items _. turn-leads (Stays w) (target_in w item.source item.what) (take item w.controller) (record w { inbox = items }) (λ links. refl))))
+switch_kind w SwitchTakes = takes
+switch_kind w (SwitchDoes action) = does action
+switch_kind w (Tick ms) = stays (turn-leads (Stays w) None (tick ms w.controller) w (λ links. refl))
+switch_kind w (BaseDown source) = stays (still w (after_break w source) (broken-leads (Stays w) w source (λ _ _. refl) (λ _ _. refl)))
+switch_kind w event = stays (still w (event_after w event) (aerial-leads (Stays w) w event refl (λ mobiles stations. refl)))
 
 -- ---- where its link is down it stays as it is
 
@@ -57,14 +57,14 @@ does-nothing w (Dtap connection sapi message) down = by_length (is_layer_3 messa
   by_length true = sent-nothing w connection (Transfer (dlci_for sapi) message) w.switch down
   by_length false = refl
 
-down-by : {w : Actors} {event : Event} → SwitchKind w event → is_up w SWITCH_LINK ≡ false → (actors_after w event).switch ≡ w.switch
+down_by : {w : Actors} {event : Event} → SwitchKind w event → is_up w SWITCH_LINK ≡ false → (actors_after w event).switch ≡ w.switch
 unfolding event_after
-down-by {w} takes down = ap (λ (up : Bool). (unwrap_or (if up then switch_took_first (outbox_of w SWITCH_LINK) w else None) w).switch) down
-down-by {w} (does action) down = does-nothing w action down
-down-by (stays same) down = same
+down_by {w} takes down = ap (λ (up : Bool). (unwrap_or (if up then switch_took_first (outbox_of w SWITCH_LINK) w else None) w).switch) down
+down_by {w} (does action) down = does-nothing w action down
+down_by (stays same) down = same
 
 pub switch-down : (w : Actors) (event : Event) → is_up w SWITCH_LINK ≡ false → (actors_after w event).switch ≡ w.switch
-switch-down w event down = down-by (switch-kind w event) down
+switch-down w event down = down_by (switch_kind w event) down
 
 -- ---- the outbox is empty
 
@@ -77,9 +77,9 @@ outbox-down settings events down = emptied (new_actors settings) events (λ _. n
 
 -- ---- a link that was up breaks
 
-pub break-cuts : (w : Actors) → is_up w SWITCH_LINK ≡ true → is_up (actors_after w (BaseDown SWITCH_LINK)) SWITCH_LINK ≡ false
+pub break_cuts : (w : Actors) → is_up w SWITCH_LINK ≡ true → is_up (actors_after w (BaseDown SWITCH_LINK)) SWITCH_LINK ≡ false
 unfolding event_after
-break-cuts w up =
+break_cuts w up =
     ap (λ (b : Bool). is_up (unwrap_or (if b then Some (broken SWITCH_LINK w) else None) w) SWITCH_LINK) up
     ∙ ap (λ (link : Link). link.up) (changed_link w.links SWITCH_LINK broken_link up)
 

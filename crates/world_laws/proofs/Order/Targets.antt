@@ -11,9 +11,9 @@ use Rattle.world_laws.specs.Order.Standing.{Standing}
 use Rattle.world_laws.specs.Order.Standing.Standing.{while_up, once_down}
 use Rattle.world_laws.specs.Order.Standing.WhileUp.{unborn, coming, lives, ended, unheard}
 use Rattle.world_laws.specs.Order.Targets.{IsServed, TargetsAreFresh}
-use Rattle.world_laws.proofs.Order.Controllers.{none-given}
+use Rattle.world_laws.proofs.Order.Controllers.{none_given}
 use Rattle.world_laws.proofs.Order.Fairly.{ComeInOctets-new}
-use Rattle.world_laws.proofs.Order.Following.{NumbersStand-new}
+use Rattle.world_laws.proofs.Order.Following.{numbers_stand_new}
 use Rattle.world_laws.proofs.Order.Whole.{facts}
 use Rattle.world_laws.proofs.Events.{world}
 
@@ -36,7 +36,7 @@ module _ (settings : Parameters) (events : List Event) (s : Connection) (referen
   served mobile other opened is l fresh = subst (IsServed (modulus_in settings) w opener) is (record { mobile = mobile; opened = opened; lives = l; fresh = fresh })
 
   served-by : is_up w SWITCH_LINK ≡ true → AreAllowed settings → CameInOctets settings events → Standing (modulus_in settings) w opener s.number → IsServed (modulus_in settings) w opener s
-  served-by up allowed octets (while_up _ (unborn none past)) = absurd (none-some s (sym (none-given settings events s.number past) ∙ had.there))
+  served-by up allowed octets (while_up _ (unborn none past)) = absurd (none-some s (sym (none_given settings events s.number past) ∙ had.there))
   served-by up allowed octets (while_up _ (coming mobile other none same comes)) =
       let is_so = ((facts settings).holds events allowed octets).is_coming mobile other comes in
       absurd (cc (sym is_so.1 ∙ ap (λ (c : Connection). has_asked c.state) (same-one other same is_so.0.there) ∙ asked))
@@ -45,7 +45,7 @@ module _ (settings : Parameters) (events : List Event) (s : Connection) (referen
   served-by up allowed octets (while_up _ (unheard u)) = elim (subst IsBeyondAsking live (subst IsUnconfirmed had.there u.unconfirmed)) [ ]
   served-by up allowed octets (once_down down at) = absurd (cc (sym up ∙ down))
 
-pub targets-are-fresh : (settings : Parameters) (events : List Event) → TargetsAreFresh settings events
-targets-are-fresh settings events s reference stage allowed events_octets up had live =
+pub targets_are_fresh : (settings : Parameters) (events : List Event) → TargetsAreFresh settings events
+targets_are_fresh settings events s reference stage allowed events_octets up had live =
     let octets : CameInOctets settings events = ComeInOctets-new settings events allowed events_octets in
-    served-by settings events s reference stage had live up allowed octets (NumbersStand-new settings events s.number (facts settings) allowed octets had.from_one)
+    served-by settings events s reference stage had live up allowed octets (numbers_stand_new settings events s.number (facts settings) allowed octets had.from_one)

@@ -16,30 +16,30 @@ use Rattle.mobile_end.specs.declared.fault.MobileFault.TheVariants.{BadMessage}
 use Rattle.world_model.specs.declared.event.Event.TheVariants as events
 use Rattle.world_model.specs.Life.{event_after}
 use Rattle.world_model.specs.Mobiles.{told}
-use Rattle.world_laws.proofs.Others.{turn-mobiles}
-use Rattle.world_laws.proofs.OwnerRun.{snoc-steps}
-use Rattle.world_laws.proofs.Sublists.{sub-all}
+use Rattle.world_laws.proofs.Others.{turn_mobiles}
+use Rattle.world_laws.proofs.OwnerRun.{snoc_steps}
+use Rattle.world_laws.proofs.Sublists.{sub_all}
 use Rattle.world_laws.specs.Access.Requested.{AssignsAnother, NamesAnother}
-use Rattle.world_laws.proofs.Access.Mobiles.{AllGo, Goes, IsToMove, all-same, event-goes}
+use Rattle.world_laws.proofs.Access.Mobiles.{AllGo, Goes, IsToMove, all_same, event_goes}
 use Rattle.world_laws.proofs.Access.Mobiles.Goes.{comes as gets, hears, moves, same, stays}
-use Rattle.world_laws.proofs.Access.Passes.{Passes, passes-itself}
-use Rattle.world_laws.proofs.Access.Travels.{event-passes, is_passing}
+use Rattle.world_laws.proofs.Access.Passes.{Passes, passes_itself}
+use Rattle.world_laws.proofs.Access.Travels.{event_passes, is_passing}
 use Rattle.world_laws.specs.Order.Unanswered.{IsAsItConnected, NoneNames, StillAsks, UnansweredMobilesAsk, WasNeverAnswered}
-use Rattle.world_laws.proofs.Order.Naming.{step-names, turn-names}
+use Rattle.world_laws.proofs.Order.Naming.{step_names, turn_names}
 use Rattle.world_laws.specs.Owners.OneEach.{IsUnanswered}
-use Rattle.world_laws.proofs.Owners.Making.{plain-quiet}
-use Rattle.world_laws.proofs.Events.{snoc-actors}
-use Rattle.world_laws.proofs.Framing.{all-left, all-right}
-use Rattle.world_laws.proofs.MobileEvents.{on-asks}
+use Rattle.world_laws.proofs.Owners.Making.{plain_quiet}
+use Rattle.world_laws.proofs.Events.{snoc_actors}
+use Rattle.world_laws.proofs.Framing.{all_left, all_right}
+use Rattle.world_laws.proofs.MobileEvents.{on_asks}
 
 -- ---- lists of mobiles
 
-behind-new : (n : ℕ) (x new : Mobile) (ms : List Mobile) → find (has_number n) ms ≡ None → find (has_number n) (ms ++ new ∷ []) ≡ Some x → (new ≡ x) × (new.number ≡ n)
-behind-new n x new [] none found = by (nat_eq new.number n) refl found where
+behind_new : (n : ℕ) (x new : Mobile) (ms : List Mobile) → find (has_number n) ms ≡ None → find (has_number n) (ms ++ new ∷ []) ≡ Some x → (new ≡ x) × (new.number ≡ n)
+behind_new n x new [] none found = by (nat_eq new.number n) refl found where
   by : (b : Bool) → nat_eq new.number n ≡ b → cond b (Some new) None ≡ Some x → (new ≡ x) × (new.number ≡ n)
   by true hit is = (same_Some _ _ is, eqb-true new.number n hit)
   by false miss is = absurd cc
-behind-new n x new (y ∷ ms) none found = by (has_number n y) (behind-new n x new ms) none found where
+behind_new n x new (y ∷ ms) none found = by (has_number n y) (behind_new n x new ms) none found where
   by : (b : Bool) → (find (has_number n) ms ≡ None → find (has_number n) (ms ++ new ∷ []) ≡ Some x → (new ≡ x) × (new.number ≡ n)) → cond b (Some y) (find (has_number n) ms) ≡ None → cond b (Some y) (find (has_number n) (ms ++ new ∷ [])) ≡ Some x → (new ≡ x) × (new.number ≡ n)
   by true others none found = absurd cc
   by false others none found = others none found
@@ -49,10 +49,10 @@ behind-new n x new (y ∷ ms) none found = by (has_number n y) (behind-new n x n
 Counts : ℕ → Actors → Type 0
 Counts m v = v.modulus ≡ m
 
-counts-all : (m : ℕ) (w : Actors) (run : List Event) → w.modulus ≡ m → (actors_after_all w run).modulus ≡ m
+counts_all : (m : ℕ) (w : Actors) (run : List Event) → w.modulus ≡ m → (actors_after_all w run).modulus ≡ m
 unfolding Counts
-counts-all m w [] is = is
-counts-all m w (event ∷ rest) is = counts-all m (actors_after w event) rest (event-keeps (Counts m) w event (record {
+counts_all m w [] is = is
+counts_all m w (event ∷ rest) is = counts_all m (actors_after w event) rest (event-keeps (Counts m) w event (record {
   puts = λ u number p q _ _ _ same. same;
   joins = λ number initial accepts _ same. same;
   tells = λ u n message _ _ same. same;
@@ -68,18 +68,18 @@ counts-all m w (event ∷ rest) is = counts-all m (actors_after w event) rest (e
 
 -- ---- what becomes of one that asks
 
-goes-asking : {w v : Actors} {event : Event} {number : ℕ} {p q : Mobile} → p.seat ≡ Asking → NoneNames w number → Goes w event v number p q → q ≡ p
-goes-asking seat none (same is) = is
-goes-asking seat none (stays there opens other gives) = absurd (other seat)
-goes-asking seat none (hears tenure command first others there air is) = absurd (on-asks (sym there ∙ seat))
-goes-asking seat none (moves to_move opens) = absurd (subst IsToMove seat to_move)
-goes-asking {w} {number = number} seat none (gets a) =
+goes_asking : {w v : Actors} {event : Event} {number : ℕ} {p q : Mobile} → p.seat ≡ Asking → NoneNames w number → Goes w event v number p q → q ≡ p
+goes_asking seat none (same is) = is
+goes_asking seat none (stays there opens other gives) = absurd (other seat)
+goes_asking seat none (hears tenure command first others there air is) = absurd (on_asks (sym there ∙ seat))
+goes_asking seat none (moves to_move opens) = absurd (subst IsToMove seat to_move)
+goes_asking {w} {number = number} seat none (gets a) =
     let entry : AssignsAnother number (rsl_in a.first.out.frame) = (subst (AllByRecursion (λ (e : OutboxEntry). AssignsAnother number (rsl_in e.out.frame))) a.stood (none a.station)).0 in
     let reading : NamesAnother number (rr_reading a.command.information) = subst (AssignsAnother number) a.reads entry in
     absurd (subst (NamesAnother number) a.says reading a.names)
 
-lawful-of : (initial : List ℕ) → is_none (refusal_of_connect (Some initial)) ≡ true → is_initial initial ≡ true
-lawful-of initial may = by (is_initial initial) may where
+lawful_of : (initial : List ℕ) → is_none (refusal_of_connect (Some initial)) ≡ true → is_initial initial ≡ true
+lawful_of initial may = by (is_initial initial) may where
   by : (b : Bool) → is_none (let o : Option MobileFault = if b then None else Some BadMessage in o) ≡ true → b ≡ true
   by true may = refl
   by false may = absurd cc
@@ -112,24 +112,24 @@ module _ (settings : Parameters) (done : List Event) (k : ℕ) where
   -- neither the controller nor a frame of SAPI 0 takes part, and none connects
   passing-step : (event : Event) → is_passing event ≡ true → ((j : ℕ) → is_none (mobile_of (actors_after world event) j) ≡ is_none (mobile_of world j)) → StillAsks modulus done world k → StillAsks modulus (done ++ event ∷ []) (actors_after world event) k
   passing-step event passing there asks = record {
-    none_names = λ station. sub-all (λ (e : OutboxEntry). AssignsAnother k (rsl_in e.out.frame)) (passes.entries station) (asks.none_names station);
+    none_names = λ station. sub_all (λ (e : OutboxEntry). AssignsAnother k (rsl_in e.out.frame)) (passes.entries station) (asks.none_names station);
     as_connected = λ q found. by q found (mobile_of world k) refl;
   } where
     v : Actors
     v = actors_after world event
 
     passes : Passes world v
-    passes = after-taken (Passes world) (event_after world event) world (event-passes world event passing (good-all (new_actors settings) done (good-new settings))) (passes-itself world)
+    passes = after-taken (Passes world) (event_after world event) world (event_passes world event passing (good-all (new_actors settings) done (good-new settings))) (passes_itself world)
 
     all : AllGo world event v
-    all = after-taken (AllGo world event) (event_after world event) world (event-goes world event passing) (all-same world event world refl)
+    all = after-taken (AllGo world event) (event_after world event) world (event_goes world event passing) (all_same world event world refl)
 
     by : (q : Mobile) → mobile_of v k ≡ Some q → (o : Option Mobile) → mobile_of world k ≡ o → IsAsItConnected modulus (done ++ event ∷ []) k q
     by q found None none = absurd (true≢false (sym (ap is_none none) ∙ sym (there k) ∙ ap is_none found))
     by q found (Some p) was =
         let one = all.each k p was in
         let own = asks.as_connected p was in
-        let is : q ≡ p = same_Some _ _ (sym found ∙ one.1) ∙ goes-asking (ap (λ (x : Mobile). x.seat) own.same) asks.none_names one.2 in
+        let is : q ≡ p = same_Some _ _ (sym found ∙ one.1) ∙ goes_asking (ap (λ (x : Mobile). x.seat) own.same) asks.none_names one.2 in
         subst (IsAsItConnected modulus (done ++ event ∷ []) k) (sym is) (later-one event p own)
 
   -- a station takes a mobile's frame
@@ -153,7 +153,7 @@ module _ (settings : Parameters) (done : List Event) (k : ℕ) where
       by_number : (x : Mobile) → mobile_of (brought world p tenure.at Zero frame) k ≡ Some x → (b : Bool) → nat_eq number k ≡ b → IsAsItConnected modulus (done ++ event ∷ []) k x
       by_number x found true hit =
           let own = asks.as_connected p (ap (mobile_of world) (sym (eqb-true number k hit)) ∙ acts) in
-          absurd (on-asks (sym sits ∙ ap (λ (y : Mobile). y.seat) own.same))
+          absurd (on_asks (sym sits ∙ ap (λ (y : Mobile). y.seat) own.same))
       by_number x found false miss = later-one event x (asks.as_connected x (sym (back-other q world.mobiles k (λ is. eqb-false number k miss (sym q_number ∙ is))) ∙ found))
 
   -- a mobile connects
@@ -176,7 +176,7 @@ module _ (settings : Parameters) (done : List Event) (k : ℕ) where
           let is : x ≡ p = same_Some _ _ (sym found ∙ found-front k p world.mobiles (new ∷ []) was) in
           subst (IsAsItConnected modulus (done ++ event ∷ []) k) (sym is) (later-one event p (asks.as_connected p was))
       by x found None none =
-          let is = behind-new k x new world.mobiles none found in
+          let is = behind_new k x new world.mobiles none found in
           record {
             before = done;
             station = station;
@@ -184,15 +184,15 @@ module _ (settings : Parameters) (done : List Event) (k : ℕ) where
             accepts = accepts;
             after = [];
             came = ap (λ (n : ℕ). done ++ events.Connect n station initial accepts ∷ []) is.1;
-            lawful = lawful-of initial (and-right (is_new world number && is_station_up world station) (is_none (refusal_of_connect (Some initial))) may);
-            same = sym is.0 ∙ ap (λ (m : ℕ). connected m number initial accepts) (counts-all modulus (new_actors settings) done refl) ∙ ap (λ (n : ℕ). connected modulus n initial accepts) is.1;
+            lawful = lawful_of initial (and-right (is_new world number && is_station_up world station) (is_none (refusal_of_connect (Some initial))) may);
+            same = sym is.0 ∙ ap (λ (m : ℕ). connected m number initial accepts) (counts_all modulus (new_actors settings) done refl) ∙ ap (λ (n : ℕ). connected modulus n initial accepts) is.1;
           }
 
   -- the controller works
   turned : (event : Event) (target : Option Tenure) (t : Turn) (u : Actors) → NoneNames u k → u.mobiles ≡ world.mobiles → AllByRecursion (λ out. AssignsAnother k (rsl_in out.frame)) t.outs → StillAsks modulus done world k → StillAsks modulus (done ++ event ∷ []) (with_turn target t u) k
   turned event target t u none mobiles all asks = record {
-    none_names = turn-names k target t.outs (record u { controller = t.next }) (λ station. none station) all;
-    as_connected = λ x found. later-one event x (asks.as_connected x (sym (ap (λ (ms : List Mobile). find (has_number k) ms) (turn-mobiles target t.outs (record u { controller = t.next }) ∙ mobiles)) ∙ found));
+    none_names = turn_names k target t.outs (record u { controller = t.next }) (λ station. none station) all;
+    as_connected = λ x found. later-one event x (asks.as_connected x (sym (ap (λ (ms : List Mobile). find (has_number k) ms) (turn_mobiles target t.outs (record u { controller = t.next }) ∙ mobiles)) ∙ found));
   }
 
   handle-step : AreAllowed settings → AllByRecursion ComesInOctets (all_steps (new_actors settings) done) → AllByRecursion ComesInOctets (first_taken world.inbox) → IsUnanswered world k → StillAsks modulus done world k → StillAsks modulus (done ++ events.Handle ∷ []) (actors_after world events.Handle) k
@@ -204,11 +204,11 @@ module _ (settings : Parameters) (done : List Event) (k : ℕ) where
     handled : (item : Item) (items : List Item) → world.inbox ≡ item ∷ items → P (with_turn (target_in world item.source item.what) (take item world.controller) (record world { inbox = items }))
     handled item items stood =
         turned events.Handle (target_in world item.source item.what) (take item world.controller) (record world { inbox = items }) (λ station. asks.none_names station) refl
-        (step-names settings done (steps.Take item) k allowed octets (subst (λ (xs : List Item). AllByRecursion ComesInOctets (first_taken xs)) stood own).0 unanswered) asks
+        (step_names settings done (steps.Take item) k allowed octets (subst (λ (xs : List Item). AllByRecursion ComesInOctets (first_taken xs)) stood own).0 unanswered) asks
 
   tick-step : (ms : ℕ) → AreAllowed settings → AllByRecursion ComesInOctets (all_steps (new_actors settings) done) → IsUnanswered world k → StillAsks modulus done world k → StillAsks modulus (done ++ events.Tick ms ∷ []) (actors_after world (events.Tick ms)) k
   unfolding event_after
-  tick-step ms allowed octets unanswered asks = turned (events.Tick ms) None (tick ms world.controller) world asks.none_names refl (step-names settings done (steps.Tick ms) k allowed octets tt unanswered) asks
+  tick-step ms allowed octets unanswered asks = turned (events.Tick ms) None (tick ms world.controller) world asks.none_names refl (step_names settings done (steps.Tick ms) k allowed octets tt unanswered) asks
 
   pushed-there : (source j : ℕ) → is_none (mobile_of (actors_after world (events.BasePush source)) j) ≡ is_none (mobile_of world j)
   unfolding event_after
@@ -229,27 +229,27 @@ module _ (settings : Parameters) (done : List Event) (k : ℕ) where
   event-asks events.Handle allowed octets own unanswered asks = handle-step allowed octets own unanswered asks
   event-asks (events.Tick ms) allowed octets own unanswered asks = tick-step ms allowed octets unanswered asks
   event-asks (events.BaseDown source) allowed octets own unanswered asks = passing-step (events.BaseDown source) refl (broken-there source) asks
-  event-asks event allowed octets own unanswered asks = passing-step event refl (plain-quiet world event refl).mobiles asks
+  event-asks event allowed octets own unanswered asks = passing-step event refl (plain_quiet world event refl).mobiles asks
 
 -- ---- all events
 
-asks-through : (settings : Parameters) (k : ℕ) (all done rest : List Event) (w : Actors) → all ≡ done ++ rest → w ≡ actors_after_all (new_actors settings) done → AreAllowed settings → AllByRecursion ComesInOctets (all_steps (new_actors settings) done) → AllByRecursion ComesInOctets (all_steps w rest)
+asks_through : (settings : Parameters) (k : ℕ) (all done rest : List Event) (w : Actors) → all ≡ done ++ rest → w ≡ actors_after_all (new_actors settings) done → AreAllowed settings → AllByRecursion ComesInOctets (all_steps (new_actors settings) done) → AllByRecursion ComesInOctets (all_steps w rest)
     → WasNeverAnswered settings all k → StillAsks (modulus_in settings) done w k → StillAsks (modulus_in settings) all (actors_after_all w rest) k
-asks-through settings k all done [] w whole is allowed octets later never asks = subst (λ (xs : List Event). StillAsks (modulus_in settings) xs w k) (sym (whole ∙ append-nil done)) asks
-asks-through settings k all done (event ∷ rest) w whole is allowed octets later never asks =
-    let front = all-left ComesInOctets (step_at w event) (all_steps (actors_after w event) rest) later in
+asks_through settings k all done [] w whole is allowed octets later never asks = subst (λ (xs : List Event). StillAsks (modulus_in settings) xs w k) (sym (whole ∙ append-nil done)) asks
+asks_through settings k all done (event ∷ rest) w whole is allowed octets later never asks =
+    let front = all_left ComesInOctets (step_at w event) (all_steps (actors_after w event) rest) later in
     let own : AllByRecursion ComesInOctets (step_at (actors_after_all (new_actors settings) done) event) = subst (λ (x : Actors). AllByRecursion ComesInOctets (step_at x event)) is front in
-    asks-through settings k all (done ++ event ∷ []) rest (actors_after w event) (whole ∙ sym (append_assoc done (event ∷ []) rest)) (ap (λ (x : Actors). actors_after x event) is ∙ sym (snoc-actors (new_actors settings) done event)) allowed
-    (snoc-steps ComesInOctets (new_actors settings) done event octets own)
-    (all-right ComesInOctets (step_at w event) (all_steps (actors_after w event) rest) later) never
+    asks_through settings k all (done ++ event ∷ []) rest (actors_after w event) (whole ∙ sym (append_assoc done (event ∷ []) rest)) (ap (λ (x : Actors). actors_after x event) is ∙ sym (snoc_actors (new_actors settings) done event)) allowed
+    (snoc_steps ComesInOctets (new_actors settings) done event octets own)
+    (all_right ComesInOctets (step_at w event) (all_steps (actors_after w event) rest) later) never
     (subst (λ (x : Actors). StillAsks (modulus_in settings) (done ++ event ∷ []) (actors_after x event) k) (sym is)
     (event-asks settings done k event allowed octets own (never done (event ∷ rest) whole) (subst (λ (x : Actors). StillAsks (modulus_in settings) done x k) is asks)))
 
-new-names : (settings : Parameters) (k : ℕ) → StillAsks (modulus_in settings) [] (new_actors settings) k
-new-names settings k = record { none_names = λ station. none station; as_connected = λ p found. absurd cc } where
+new_names : (settings : Parameters) (k : ℕ) → StillAsks (modulus_in settings) [] (new_actors settings) k
+new_names settings k = record { none_names = λ station. none station; as_connected = λ p found. absurd cc } where
   none : (station : ℕ) → AllByRecursion (λ (e : OutboxEntry). AssignsAnother k (rsl_in e.out.frame)) (outbox_of (new_actors settings) station)
   none station = subst (AllByRecursion (λ (e : OutboxEntry). AssignsAnother k (rsl_in e.out.frame))) (sym (new_outbox (length settings.cells + 1) station)) tt
 
-pub UnansweredMobilesAsk-new : (settings : Parameters) (run : List Event) → UnansweredMobilesAsk settings run
-UnansweredMobilesAsk-new settings run mobile allowed octets never =
-    asks-through settings mobile run [] run (new_actors settings) refl refl allowed tt octets never (new-names settings mobile)
+pub unanswered_mobiles_ask_new : (settings : Parameters) (run : List Event) → UnansweredMobilesAsk settings run
+unanswered_mobiles_ask_new settings run mobile allowed octets never =
+    asks_through settings mobile run [] run (new_actors settings) refl refl allowed tt octets never (new_names settings mobile)

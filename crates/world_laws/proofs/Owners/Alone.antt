@@ -28,36 +28,36 @@ use Rattle.world_model.proofs.OwnerPuts.{goes-put}
 use Rattle.world_model.proofs.OwnerRuns.{ServesAt, ServesThrough, beside-number, takes-number}
 use Rattle.world_laws.specs.OthersFrame.{CameInOctets, IsHad}
 use Rattle.world_laws.specs.Seated.{IsElsewhere}
-use Rattle.world_laws.proofs.OwnerRun.{MobilesSitOnTheirs-new, life-settings, serves-through, within-settings, not-zero}
+use Rattle.world_laws.proofs.OwnerRun.{mobiles_sit_on_theirs_new, life-settings, serves_through, within_settings, not_zero}
 use Rattle.world_laws.specs.Owners.Alone.{ChannelsAreMobiles, ConnectionsAreAlone, IsMobiles}
-use Rattle.world_laws.proofs.Owners.LinkEnds.{owns-of}
-use Rattle.world_laws.proofs.Owners.Making.{plain-quiet}
-use Rattle.world_laws.proofs.Owners.OldChannels.{ComesFrom, comes-from, freed-brings}
-use Rattle.world_laws.proofs.Owners.Present.{present-last}
-use Rattle.world_laws.proofs.Owners.Asking.{entry-of}
-use Rattle.world_laws.proofs.OrderServes.{use-free}
-use Rattle.world_laws.proofs.Events.{snoc-actors, world}
-use Rattle.world_laws.proofs.Framing.{all-left, all-right}
+use Rattle.world_laws.proofs.Owners.LinkEnds.{owns_of}
+use Rattle.world_laws.proofs.Owners.Making.{plain_quiet}
+use Rattle.world_laws.proofs.Owners.OldChannels.{ComesFrom, comes_from, freed_brings}
+use Rattle.world_laws.proofs.Owners.Present.{present_last}
+use Rattle.world_laws.proofs.Owners.Asking.{entry_is_found}
+use Rattle.world_laws.proofs.OrderServes.{use_free}
+use Rattle.world_laws.proofs.Events.{snoc_actors, world}
+use Rattle.world_laws.proofs.Framing.{all_left, all_right}
 
 -- ---- a connection of the world's controller
 
-lives-of : (settings : Parameters) (done : List Event) (w : Actors) → w ≡ world settings done → w.controller ≡ (life settings (all_steps (new_actors settings) done)).next
-lives-of settings done w is = ap (λ (x : Actors). x.controller) is ∙ LivesByTable-new settings done
+lives_of : (settings : Parameters) (done : List Event) (w : Actors) → w ≡ world settings done → w.controller ≡ (life settings (all_steps (new_actors settings) done)).next
+lives_of settings done w is = ap (λ (x : Actors). x.controller) is ∙ LivesByTable-new settings done
 
-owns-in : (settings : Parameters) (done : List Event) (w : Actors) (s : Connection) → AreAllowed settings → w ≡ world settings done → IsHad w s → Owns w.controller.channels w.controller.links s.number (roles_of s)
-owns-in settings done w s allowed is had =
-    let lives = lives-of settings done w is in
+owns_in : (settings : Parameters) (done : List Event) (w : Actors) (s : Connection) → AreAllowed settings → w ≡ world settings done → IsHad w s → Owns w.controller.channels w.controller.links s.number (roles_of s)
+owns_in settings done w s allowed is had =
+    let lives = lives_of settings done w is in
     subst (λ (c : Controller). Owns c.channels c.links s.number (roles_of s)) (sym lives)
-    (owns-of settings (all_steps (new_actors settings) done) s allowed (subst (λ (c : Controller). connection_of c s.number ≡ Some s) lives had.there) had.is_open)
+    (owns_of settings (all_steps (new_actors settings) done) s allowed (subst (λ (c : Controller). connection_of c s.number ≡ Some s) lives had.there) had.is_open)
 
 number-is : (c : Controller) (n : ℕ) (s : Connection) → connection_of c n ≡ Some s → s.number ≡ n
 number-is c n s is =
-    let entry = entry-of (entry_of c n) s is in
+    let entry = entry_is_found (entry_of c n) s is in
     ap (λ (x : Connection). x.number) (sym entry.2) ∙ found_number n c.entries entry.0 entry.1
 
-asks-of : (c : Controller) (n : ℕ) (s : Connection) → connection_of c n ≡ Some s → asker c n ≡ Some s.request.access
-asks-of c n s is =
-    let entry = entry-of (entry_of c n) s is in
+asks_of : (c : Controller) (n : ℕ) (s : Connection) → connection_of c n ≡ Some s → asker c n ≡ Some s.request.access
+asks_of c n s is =
+    let entry = entry_is_found (entry_of c n) s is in
     ap (option_map (λ (e : Entry). e.connection.request.access)) entry.1 ∙ ap (λ (x : Connection). Some x.request.access) entry.2
 
 -- a channel that isn't free is one of a station of the settings
@@ -65,21 +65,21 @@ range : (settings : Parameters) (done : List Event) (w : Actors) (at : Place) �
 range settings done w at allowed is used =
     let ss : List Step = all_steps (new_actors settings) done in
     let c : Controller = (life settings ss).next in
-    let busy : channel_state c at ≢ Free = subst (λ (x : Controller). channel_state x at ≢ Free) (lives-of settings done w is) used in (
-      not-zero at.station (λ zero_is. busy (ap (λ (k : ℕ). channel_state c (place_at k at.number)) zero_is ∙ (life_uses settings ss allowed).switch at.number)),
-      within-settings settings c at (life-settings settings ss) (life_ready settings ss allowed) busy,
+    let busy : channel_state c at ≢ Free = subst (λ (x : Controller). channel_state x at ≢ Free) (lives_of settings done w is) used in (
+      not_zero at.station (λ zero_is. busy (ap (λ (k : ℕ). channel_state c (place_at k at.number)) zero_is ∙ (life_uses settings ss allowed).switch at.number)),
+      within_settings settings c at (life-settings settings ss) (life_ready settings ss allowed) busy,
     )
 
-old-state : (channels : List (List ChannelState)) (links : List Bool) (n : ℕ) (s : Connection) (c : Channel) → Owns channels links n (roles_of s) → Contains (undone s.draining) c → state_in channels (place_of c) ≡ Releasing n
-old-state channels links n s c owns has = all_contained (λ (x : Channel). state_in channels (place_of x) ≡ Releasing n) (undone s.draining) c owns.releasing has
+old_state : (channels : List (List ChannelState)) (links : List Bool) (n : ℕ) (s : Connection) (c : Channel) → Owns channels links n (roles_of s) → Contains (undone s.draining) c → state_in channels (place_of c) ≡ Releasing n
+old_state channels links n s c owns has = all_contained (λ (x : Channel). state_in channels (place_of x) ≡ Releasing n) (undone s.draining) c owns.releasing has
 
-old-linked : (channels : List (List ChannelState)) (links : List Bool) (n : ℕ) (s : Connection) (c : Channel) → Owns channels links n (roles_of s) → Contains (undone s.draining) c → is_link_up links c.station ≡ true
-old-linked channels links n s c owns has =
+old_linked : (channels : List (List ChannelState)) (links : List Bool) (n : ℕ) (s : Connection) (c : Channel) → Owns channels links n (roles_of s) → Contains (undone s.draining) c → is_link_up links c.station ≡ true
+old_linked channels links n s c owns has =
     all_contained (λ (x : Channel). is_link_up links x.station ≡ true) (undone s.draining) c
-    (all-left (λ (x : Channel). is_link_up links x.station ≡ true) (undone s.draining) (s.serving ∷ target_channels (target_role s.state)) owns.linked) has
+    (all_left (λ (x : Channel). is_link_up links x.station ≡ true) (undone s.draining) (s.serving ∷ target_channels (target_role s.state)) owns.linked) has
 
-still-up : (w : Actors) (event : Event) (station : ℕ) → is_up (actors_after w event) station ≡ true → is_up w station ≡ true
-still-up w event station up = by (is_up w station) refl where
+still_up : (w : Actors) (event : Event) (station : ℕ) → is_up (actors_after w event) station ≡ true → is_up w station ≡ true
+still_up w event station up = by (is_up w station) refl where
   by : (b : Bool) → is_up w station ≡ b → is_up w station ≡ true
   by true is = is
   by false down = absurd (true≢false (sym up ∙ down-after station w event down))
@@ -92,14 +92,14 @@ OldIn : (Tenure → ℕ) → Actors → Type 0
 OldIn owner w = (s : Connection) → IsHad w s → (c : Channel) → Contains (undone s.draining) c → is_up w c.station ≡ true → owner (tenure_behind w (place_of c)) ≡ s.request.access
 
 -- where the controller does nothing
-rests-old : (settings : Parameters) (owner : Tenure → ℕ) (done : List Event) (w : Actors) (event : Event) → AreAllowed settings → w ≡ world settings done → (actors_after w event).controller ≡ w.controller
+rests_old : (settings : Parameters) (owner : Tenure → ℕ) (done : List Event) (w : Actors) (event : Event) → AreAllowed settings → w ≡ world settings done → (actors_after w event).controller ≡ w.controller
     → ((at : Place) → 1 ≤ at.station → at.station ≤ length settings.cells → is_up (actors_after w event) at.station ≡ true → (tenure_behind (actors_after w event) at).number ≡ (tenure_behind w at).number) → OldIn owner w → OldIn owner (actors_after w event)
 unfolding OldIn
-rests-old settings owner done w event allowed is controller number old s had c has up =
+rests_old settings owner done w event allowed is controller number old s had c has up =
     let before : IsHad w s = record { there = ap (λ (d : Controller). connection_of d s.number) (sym controller) ∙ had.there; is_open = had.is_open; from_one = had.from_one } in
-    let state = old-state w.controller.channels w.controller.links s.number s c (owns-in settings done w s allowed is before) has in
+    let state = old_state w.controller.channels w.controller.links s.number s c (owns_in settings done w s allowed is before) has in
     let within = range settings done w (place_of c) allowed is (λ free. free≢release s.number (sym free ∙ state)) in
-    ap (λ (n : ℕ). owner (record { at = place_of c; number = n })) (number (place_of c) within.0 within.1 up) ∙ old s before c has (still-up w event c.station up)
+    ap (λ (n : ℕ). owner (record { at = place_of c; number = n })) (number (place_of c) within.0 within.1 up) ∙ old s before c has (still_up w event c.station up)
 
 -- ---- a turn of the controller
 
@@ -111,9 +111,9 @@ hear-use (rsl.RfChannelReleaseAck channel ∷ rest) (InUse number) = refl
 hear-use (_ ∷ rest) state = refl
 
 -- no tenure begins of a channel that isn't free once the acknowledgement was heard
-same-turn : (owner : Tenure → ℕ) (w v : Actors) (at : Place) (target : Option Tenure) (t : Turn) (heard : List Rsl) → Turned w v at target t heard → Serves owner w at target t heard → Agrees owner w at → hears t.next at.station ≡ true → is_up w at.station ≡ true
+same_turn : (owner : Tenure → ℕ) (w v : Actors) (at : Place) (target : Option Tenure) (t : Turn) (heard : List Rsl) → Turned w v at target t heard → Serves owner w at target t heard → Agrees owner w at → hears t.next at.station ≡ true → is_up w at.station ≡ true
     → (hear heard (channel_state w.controller at) ≡ Free → ⊥) → (tenure_behind v at).number ≡ (tenure_behind w at).number
-same-turn owner w v at target t heard turned serves agrees hearing up busy =
+same_turn owner w v at target t heard turned serves agrees hearing up busy =
     let n : ℕ = at.station in
     let k : ℕ = at.number in
     let way = agrees.way (serves.hearing hearing) in
@@ -129,38 +129,38 @@ same-turn owner w v at target t heard turned serves agrees hearing up busy =
       | inr begun ↦ absurd (busy begun.1)
     ]
 
-comes-in : (settings : Parameters) (done : List Event) (w : Actors) (s : Step) → AreAllowed settings → w ≡ world settings done → (n : ℕ) (t : Connection) (d : Channel) → 1 ≤ n → connection_of (step w.controller s).next n ≡ Some t → IsOpen t.state → Contains (undone t.draining) d → ComesFrom w.controller s n t d
-comes-in settings done w s allowed is =
-    subst (λ (c : Controller). (n : ℕ) (t : Connection) (d : Channel) → 1 ≤ n → connection_of (step c s).next n ≡ Some t → IsOpen t.state → Contains (undone t.draining) d → ComesFrom c s n t d) (sym (lives-of settings done w is))
-    (λ n t d. comes-from settings (all_steps (new_actors settings) done) s n t d allowed)
+comes_in : (settings : Parameters) (done : List Event) (w : Actors) (s : Step) → AreAllowed settings → w ≡ world settings done → (n : ℕ) (t : Connection) (d : Channel) → 1 ≤ n → connection_of (step w.controller s).next n ≡ Some t → IsOpen t.state → Contains (undone t.draining) d → ComesFrom w.controller s n t d
+comes_in settings done w s allowed is =
+    subst (λ (c : Controller). (n : ℕ) (t : Connection) (d : Channel) → 1 ≤ n → connection_of (step c s).next n ≡ Some t → IsOpen t.state → Contains (undone t.draining) d → ComesFrom c s n t d) (sym (lives_of settings done w is))
+    (λ n t d. comes_from settings (all_steps (new_actors settings) done) s n t d allowed)
 
 -- what is heard frees a channel only by its RF CHANNEL RELEASE ACK
 abbrev FreesBy : Actors → Step → (Place → List Rsl) → Type 0
 FreesBy w s heard =
     (at : Place) (n : ℕ) → channel_state w.controller at ≡ Releasing n → hears w.controller at.station ≡ true → 1 ≤ at.station → hear (heard at) (Releasing n) ≡ Free → brought_in w.controller n s ≡ comes (inputs.ReleaseAck at)
 
-turn-old : (settings : Parameters) (owner : Tenure → ℕ) (done rest : List Event) (w v : Actors) (event : Event) (s : Step) (target : Option Tenure) (heard : Place → List Rsl) → AreAllowed settings → w ≡ world settings done → actors_after w event ≡ v → ((at : Place) → Turned w v at target (step w.controller s) (heard at))
+turn_old : (settings : Parameters) (owner : Tenure → ℕ) (done rest : List Event) (w v : Actors) (event : Event) (s : Step) (target : Option Tenure) (heard : Place → List Rsl) → AreAllowed settings → w ≡ world settings done → actors_after w event ≡ v → ((at : Place) → Turned w v at target (step w.controller s) (heard at))
     → ((at : Place) → 1 ≤ at.station → at.station ≤ length settings.cells → Serves owner w at target (step w.controller s) (heard at)) → FreesBy w s heard → Right settings owner w (event ∷ rest) → OldIn owner w → OldIn owner v
 unfolding OldIn
-turn-old settings owner done rest w v event s target heard allowed is after turned serves frees right old t had d has up =
+turn_old settings owner done rest w v event s target heard allowed is after turned serves frees right old t had d has up =
     let at : Place = place_of d in
     let c : Controller = w.controller in
     let next : Controller = (step c s).next in
-    let now : v ≡ world settings (done ++ event ∷ []) = sym after ∙ ap (λ (x : Actors). actors_after x event) is ∙ sym (snoc-actors (new_actors settings) done event) in
-    let from : ComesFrom c s t.number t d = comes-in settings done w s allowed is t.number t d had.from_one (ap (λ (x : Controller). connection_of x t.number) (sym (turned at).controller) ∙ had.there) had.is_open has in
+    let now : v ≡ world settings (done ++ event ∷ []) = sym after ∙ ap (λ (x : Actors). actors_after x event) is ∙ sym (snoc_actors (new_actors settings) done event) in
+    let from : ComesFrom c s t.number t d = comes_in settings done w s allowed is t.number t d had.from_one (ap (λ (x : Controller). connection_of x t.number) (sym (turned at).controller) ∙ had.there) had.is_open has in
     let o : Connection = from.used.old in
     let number : o.number ≡ t.number = number-is c t.number o from.used.there in
     let before : IsHad w o = record { there = ap (connection_of c) number ∙ from.used.there; is_open = from.used.is_open; from_one = subst (λ (n : ℕ). 1 ≤ n) (sym number) had.from_one } in
-    let owns : Owns c.channels c.links o.number (roles_of o) = owns-in settings done w o allowed is before in
-    let hearing : hears next d.station ≡ true = ap (λ (x : Controller). hears x d.station) (sym (turned at).controller) ∙ old-linked v.controller.channels v.controller.links t.number t d (owns-in settings (done ++ event ∷ []) v t allowed now had) has in
+    let owns : Owns c.channels c.links o.number (roles_of o) = owns_in settings done w o allowed is before in
+    let hearing : hears next d.station ≡ true = ap (λ (x : Controller). hears x d.station) (sym (turned at).controller) ∙ old_linked v.controller.channels v.controller.links t.number t d (owns_in settings (done ++ event ∷ []) v t allowed now had) has in
     let up_before : is_up w d.station ≡ true = sym (turned at).up ∙ up in
     elim from.used.role [
       | inl has_old ↦
-          let state : channel_state c at ≡ Releasing o.number = old-state c.channels c.links o.number o d owns has_old in
+          let state : channel_state c at ≡ Releasing o.number = old_state c.channels c.links o.number o d owns has_old in
           let within = range settings done w at allowed is (λ free. free≢release o.number (sym free ∙ state)) in
           let serving = serves at within.0 within.1 in
           let state_now : channel_state c at ≡ Releasing t.number = state ∙ ap (λ (n : ℕ). Releasing n) number in
-          let same = same-turn owner w v at target (step c s) (heard at) (turned at) serving (right.agree at within.0 within.1) hearing up_before
+          let same = same_turn owner w v at target (step c s) (heard at) (turned at) serving (right.agree at within.0 within.1) hearing up_before
           (λ free. from.unfreed t.number state_now (frees at t.number state_now (serving.hearing hearing) within.0 (sym (ap (hear (heard at)) state_now) ∙ free))) in
           ap (λ (n : ℕ). owner (record { at = at; number = n })) same ∙ old o before d has_old up_before ∙ sym from.access
       | inr served ↦
@@ -168,48 +168,48 @@ turn-old settings owner done rest w v event s target heard allowed is after turn
           let within = range settings done w at allowed is (λ free. free≢use o.number (sym free ∙ state)) in
           let serving = serves at within.0 within.1 in
           let agrees = right.agree at within.0 within.1 in
-          let same = same-turn owner w v at target (step c s) (heard at) (turned at) serving agrees hearing up_before (use-free (heard at) (channel_state c at) o.number state) in
+          let same = same_turn owner w v at target (step c s) (heard at) (turned at) serving agrees hearing up_before (use_free (heard at) (channel_state c at) o.number state) in
           ap (λ (n : ℕ). owner (record { at = at; number = n })) same
-          ∙ agrees.own o.number o.request.access (serving.hearing hearing) state (asks-of c o.number o before.there) (λ down silent. absurd (true≢false (sym up_before ∙ down))) ∙ sym from.access
+          ∙ agrees.own o.number o.request.access (serving.hearing hearing) state (asks_of c o.number o before.there) (λ down silent. absurd (true≢false (sym up_before ∙ down))) ∙ sym from.access
     ]
 
 -- ---- each event
 
-take-frees : (settings : Parameters) (done : List Event) (w : Actors) (item : Item) (items : List Item) → w ≡ world settings done → w.inbox ≡ item ∷ items → FreesBy w (steps.Take item) (λ at. heard_of at item)
-take-frees settings done w item items is stands at n state hearing least free =
+take_frees : (settings : Parameters) (done : List Event) (w : Actors) (item : Item) (items : List Item) → w ≡ world settings done → w.inbox ≡ item ∷ items → FreesBy w (steps.Take item) (λ at. heard_of at item)
+take_frees settings done w item items is stands at n state hearing least free =
     let known : AllByRecursion IsKnownItem (item ∷ items) = subst (AllByRecursion IsKnownItem) stands (subst (λ (x : Actors). AllByRecursion IsKnownItem x.inbox) (sym is) (known-inbox settings done)) in
-    freed-brings w.controller at n item.source item.what state hearing (λ zero_is. nonzero at.station least zero_is) known.0 free
+    freed_brings w.controller at n item.source item.what state hearing (λ zero_is. nonzero at.station least zero_is) known.0 free
   where
     nonzero : (k : ℕ) → 1 ≤ k → k ≡ 0 → ⊥
     nonzero k some none = absurd (omega (arith, some, none))
 
-handle-old : (settings : Parameters) (owner : Tenure → ℕ) (done rest : List Event) (w : Actors) → AreAllowed settings → w ≡ world settings done → ServesAt settings owner w Handle → Right settings owner w (Handle ∷ rest) → OldIn owner w → OldIn owner (actors_after w Handle)
+handle_old : (settings : Parameters) (owner : Tenure → ℕ) (done rest : List Event) (w : Actors) → AreAllowed settings → w ≡ world settings done → ServesAt settings owner w Handle → Right settings owner w (Handle ∷ rest) → OldIn owner w → OldIn owner (actors_after w Handle)
 unfolding ServesAt event_after
-handle-old settings owner done rest w allowed is serves right old = by w.inbox refl where
+handle_old settings owner done rest w allowed is serves right old = by w.inbox refl where
   by : (items : List Item) → w.inbox ≡ items → OldIn owner (actors_after w Handle)
   by [] stands = subst (OldIn owner) (sym (ap (λ (items : List Item). unwrap_or (handled items w) w) stands)) old
   by (item ∷ items) stands =
       let v : Actors = with_turn (target_in w item.source item.what) (take item w.controller) (record w { inbox = items }) in
       let same : actors_after w Handle ≡ v = ap (λ (all : List Item). unwrap_or (handled all w) w) stands in
       subst (OldIn owner) (sym same)
-      (turn-old settings owner done rest w v Handle (steps.Take item) (target_in w item.source item.what) (λ at. heard_of at item) allowed is same
-      (λ at. handle-turned w at item items stands) (serves item items stands) (take-frees settings done w item items is stands) right old)
+      (turn_old settings owner done rest w v Handle (steps.Take item) (target_in w item.source item.what) (λ at. heard_of at item) allowed is same
+      (λ at. handle-turned w at item items stands) (serves item items stands) (take_frees settings done w item items is stands) right old)
 
-tick-old : (settings : Parameters) (owner : Tenure → ℕ) (done rest : List Event) (w : Actors) (ms : ℕ) → AreAllowed settings → w ≡ world settings done → ServesAt settings owner w (Tick ms) → Right settings owner w (Tick ms ∷ rest) → OldIn owner w → OldIn owner (actors_after w (Tick ms))
+tick_old : (settings : Parameters) (owner : Tenure → ℕ) (done rest : List Event) (w : Actors) (ms : ℕ) → AreAllowed settings → w ≡ world settings done → ServesAt settings owner w (Tick ms) → Right settings owner w (Tick ms ∷ rest) → OldIn owner w → OldIn owner (actors_after w (Tick ms))
 unfolding ServesAt event_after
-tick-old settings owner done rest w ms allowed is serves right old =
-    turn-old settings owner done rest w (with_turn None (tick ms w.controller) w) (Tick ms) (steps.Tick ms) None (λ at. []) allowed is refl (λ at. tick-turned w at ms) serves (λ at n state hearing least free. absurd (free≢release n (sym free))) right old
+tick_old settings owner done rest w ms allowed is serves right old =
+    turn_old settings owner done rest w (with_turn None (tick ms w.controller) w) (Tick ms) (steps.Tick ms) None (λ at. []) allowed is refl (λ at. tick-turned w at ms) serves (λ at n state hearing least free. absurd (free≢release n (sym free))) right old
 
-old-step : (settings : Parameters) (owner : Tenure → ℕ) (done rest : List Event) (w : Actors) (event : Event) → AreAllowed settings → w ≡ world settings done → ServesAt settings owner w event → Right settings owner w (event ∷ rest) → OldIn owner w → OldIn owner (actors_after w event)
-old-step settings owner done rest w event allowed is =
+old_step : (settings : Parameters) (owner : Tenure → ℕ) (done rest : List Event) (w : Actors) (event : Event) → AreAllowed settings → w ≡ world settings done → ServesAt settings owner w event → Right settings owner w (event ∷ rest) → OldIn owner w → OldIn owner (actors_after w event)
+old_step settings owner done rest w event allowed is =
     kinds (λ (e : Event). ServesAt settings owner w e → Right settings owner w (e ∷ rest) → OldIn owner w → OldIn owner (actors_after w e))
     (λ e beside serves right old.
-    rests-old settings owner done w e allowed is (beside-step w e beside).controller
+    rests_old settings owner done w e allowed is (beside-step w e beside).controller
     (λ at least most up. beside-number at w e beside (there-of settings owner w (e ∷ rest) at right least most) up) old)
-    (λ serves right old. handle-old settings owner done rest w allowed is serves right old)
-    (λ ms serves right old. tick-old settings owner done rest w ms allowed is serves right old)
+    (λ serves right old. handle_old settings owner done rest w allowed is serves right old)
+    (λ ms serves right old. tick_old settings owner done rest w ms allowed is serves right old)
     (λ station serves right old.
-    rests-old settings owner done w (BaseTakes station) allowed is (plain-quiet w (BaseTakes station) refl).controller
+    rests_old settings owner done w (BaseTakes station) allowed is (plain_quiet w (BaseTakes station) refl).controller
     (λ at least most up. takes-number owner at w station (there-of settings owner w (BaseTakes station ∷ rest) at right least most) right.spots (right.agree at least most) up) old)
     event
 
@@ -220,32 +220,32 @@ unfolding ServesThrough
 run settings owner done [] w allowed is serves right old = (right, old)
 run settings owner done (event ∷ rest) w allowed is serves right old =
     let serving = serves.0 right.agree in
-    run settings owner (done ++ event ∷ []) rest (actors_after w event) allowed (ap (λ (x : Actors). actors_after x event) is ∙ sym (snoc-actors (new_actors settings) done event)) serves.1
-    (right-step settings owner w event rest serving right) (old-step settings owner done rest w event allowed is serving right old)
+    run settings owner (done ++ event ∷ []) rest (actors_after w event) allowed (ap (λ (x : Actors). actors_after x event) is ∙ sym (snoc_actors (new_actors settings) done event)) serves.1
+    (right-step settings owner w event rest serving right) (old_step settings owner done rest w event allowed is serving right old)
 
-old-new : (settings : Parameters) (owner : Tenure → ℕ) → OldIn owner (new_actors settings)
+old_new : (settings : Parameters) (owner : Tenure → ℕ) → OldIn owner (new_actors settings)
 unfolding OldIn
-old-new settings owner s had c has up = absurd (none-some _ had.there)
+old_new settings owner s had c has up = absurd (none-some _ had.there)
 
 ran : (settings : Parameters) (events : List Event) → AreAllowed settings → CameInOctets settings events
     → Right settings (owner_in (new_actors settings) events) (world settings events) [] × OldIn (owner_in (new_actors settings) events) (world settings events)
 ran settings events allowed octets =
     let owner : Tenure → ℕ = owner_in (new_actors settings) events in
-    run settings owner [] events (new_actors settings) allowed refl (serves-through settings owner [] events (new_actors settings) refl allowed tt octets) (right-new settings events) (old-new settings owner)
+    run settings owner [] events (new_actors settings) allowed refl (serves_through settings owner [] events (new_actors settings) refl allowed tt octets) (right-new settings events) (old_new settings owner)
 
 -- ---- the laws
 
-each-contained : (P : Channel → Type 0) (xs : List Channel) → ((c : Channel) → Contains xs c → P c) → AllByRecursion P xs
-each-contained P [] h = tt
-each-contained P (x ∷ xs) h = (h x (contains_first x xs), each-contained P xs (λ c has. h c (contains_behind x c xs has)))
+each_contained : (P : Channel → Type 0) (xs : List Channel) → ((c : Channel) → Contains xs c → P c) → AllByRecursion P xs
+each_contained P [] h = tt
+each_contained P (x ∷ xs) h = (h x (contains_first x xs), each_contained P xs (λ c has. h c (contains_behind x c xs has)))
 
-pub ChannelsAreMobiles-new : (settings : Parameters) (events : List Event) → ChannelsAreMobiles settings events
+pub channels_are_mobiles_new : (settings : Parameters) (events : List Event) → ChannelsAreMobiles settings events
 unfolding OldIn
-ChannelsAreMobiles-new settings events s allowed octets had =
+channels_are_mobiles_new settings events s allowed octets had =
     subst (AllByRecursion (IsMobiles owner w s.request.access)) (channels_of-roles s)
     (AllByRecursion-append (IsMobiles owner w s.request.access) (undone s.draining) (s.serving ∷ targets)
-    (each-contained (IsMobiles owner w s.request.access) (undone s.draining) old)
-    (each-contained (IsMobiles owner w s.request.access) (s.serving ∷ targets) using))
+    (each_contained (IsMobiles owner w s.request.access) (undone s.draining) old)
+    (each_contained (IsMobiles owner w s.request.access) (s.serving ∷ targets) using))
   where
     w : Actors
     w = world settings events
@@ -257,43 +257,43 @@ ChannelsAreMobiles-new settings events s allowed octets had =
     targets = target_channels (target_role s.state)
 
     owns : Owns w.controller.channels w.controller.links s.number (roles_of s)
-    owns = owns-in settings events w s allowed refl had
+    owns = owns_in settings events w s allowed refl had
 
     is-mobiles : (c : Channel) → channel_state w.controller (place_of c) ≢ Free → is_link_up w.controller.links c.station ≡ true → (Agrees owner w (place_of c) → is_up w c.station ≡ true → owner (tenure_behind w (place_of c)) ≡ s.request.access) → IsMobiles owner w s.request.access c
     is-mobiles c used hearing own =
         let within = range settings events w (place_of c) allowed refl used in
         let agrees = (ran settings events allowed octets).0.agree (place_of c) within.0 within.1 in
-        record { last = own agrees; present = λ up active. present-last owner w (place_of c) agrees hearing up active }
+        record { last = own agrees; present = λ up active. present_last owner w (place_of c) agrees hearing up active }
 
     old : (c : Channel) → Contains (undone s.draining) c → IsMobiles owner w s.request.access c
     old c has =
-        let state = old-state w.controller.channels w.controller.links s.number s c owns has in
-        is-mobiles c (λ free. free≢release s.number (sym free ∙ state)) (old-linked w.controller.channels w.controller.links s.number s c owns has)
+        let state = old_state w.controller.channels w.controller.links s.number s c owns has in
+        is-mobiles c (λ free. free≢release s.number (sym free ∙ state)) (old_linked w.controller.channels w.controller.links s.number s c owns has)
         (λ agrees up. (ran settings events allowed octets).1 s had c has up)
 
     using : (c : Channel) → Contains (s.serving ∷ targets) c → IsMobiles owner w s.request.access c
     using c has =
         let state : channel_state w.controller (place_of c) ≡ InUse s.number = all_contained (λ (x : Channel). state_in w.controller.channels (place_of x) ≡ InUse s.number) (s.serving ∷ targets) c owns.using has in
         let hearing : is_link_up w.controller.links c.station ≡ true = all_contained (λ (x : Channel). is_link_up w.controller.links x.station ≡ true) (s.serving ∷ targets) c
-        (all-right (λ (x : Channel). is_link_up w.controller.links x.station ≡ true) (undone s.draining) (s.serving ∷ targets) owns.linked) has in
+        (all_right (λ (x : Channel). is_link_up w.controller.links x.station ≡ true) (undone s.draining) (s.serving ∷ targets) owns.linked) has in
         is-mobiles c (λ free. free≢use s.number (sym free ∙ state)) hearing
-        (λ agrees up. agrees.own s.number s.request.access hearing state (asks-of w.controller s.number s had.there) (λ down silent. absurd (true≢false (sym up ∙ down))))
+        (λ agrees up. agrees.own s.number s.request.access hearing state (asks_of w.controller s.number s had.there) (λ down silent. absurd (true≢false (sym up ∙ down))))
 
 -- a mobile on a tenure is its owner
-sits-by : (owner : Tenure → ℕ) (number : ℕ) (tenure : Tenure) (command : Option Command) → SitsBy owner number (On tenure command) → owner tenure ≡ number
-sits-by owner number tenure None sits = sits
-sits-by owner number tenure (Some command) sits = sits.0
+sits_by : (owner : Tenure → ℕ) (number : ℕ) (tenure : Tenure) (command : Option Command) → SitsBy owner number (On tenure command) → owner tenure ≡ number
+sits_by owner number tenure None sits = sits
+sits_by owner number tenure (Some command) sits = sits.0
 
 -- one that is reached is the present one, of a station that is up
-reached-is : (w : Actors) (t : Tenure) → is_reached w t ≡ true → (is_up w t.at.station ≡ true) × (is_active_at w t.at ≡ true) × (tenure_at w t.at ≡ t)
-reached-is w t reached =
+reached_is : (w : Actors) (t : Tenure) → is_reached w t ≡ true → (is_up w t.at.station ≡ true) × (is_active_at w t.at ≡ true) × (tenure_at w t.at ≡ t)
+reached_is w t reached =
     let parts = reached-up w t reached in
     let number = and-right (is_station_up w t.at.station && is_active_at w t.at) ((spot_at w t.at).tenure == t.number) reached in
     ((up-right t.at.station w parts.0).1, parts.1, ap (λ (n : ℕ). record { at = t.at; number = n }) (eqb-true (spot_at w t.at).tenure t.number number))
 
-pub ConnectionsAreAlone-new : (settings : Parameters) (events : List Event) → ConnectionsAreAlone settings events
-ConnectionsAreAlone-new settings events s allowed octets had other q tenure command differs found seat reached =
-    elsewhere (used_channels s) (ChannelsAreMobiles-new settings events s allowed octets had)
+pub connections_are_alone_new : (settings : Parameters) (events : List Event) → ConnectionsAreAlone settings events
+connections_are_alone_new settings events s allowed octets had other q tenure command differs found seat reached =
+    elsewhere (used_channels s) (channels_are_mobiles_new settings events s allowed octets had)
   where
     w : Actors
     w = world settings events
@@ -303,13 +303,13 @@ ConnectionsAreAlone-new settings events s allowed octets had other q tenure comm
 
     theirs : owner tenure ≡ other
     theirs =
-        let sits : SitsBy owner q.number q.seat = found-all (λ (p : Mobile). SitsBy owner p.number p.seat) other w.mobiles q (MobilesSitOnTheirs-new settings events allowed octets) found in
-        sits-by owner q.number tenure command (subst (SitsBy owner q.number) seat sits) ∙ found-number other w.mobiles q found
+        let sits : SitsBy owner q.number q.seat = found-all (λ (p : Mobile). SitsBy owner p.number p.seat) other w.mobiles q (mobiles_sit_on_theirs_new settings events allowed octets) found in
+        sits_by owner q.number tenure command (subst (SitsBy owner q.number) seat sits) ∙ found-number other w.mobiles q found
 
     never : (c : Channel) → IsMobiles owner w s.request.access c → is_at tenure.at c ≡ true → ⊥
     never c own here =
         let is = place-is tenure.at c here in
-        let now = reached-is w tenure reached in
+        let now = reached_is w tenure reached in
         let station : tenure.at.station ≡ c.station = ap (λ (p : Place). p.station) is in
         let up : is_up w c.station ≡ true = ap (is_up w) (sym station) ∙ now.0 in
         let active : is_active_at w (place_of c) ≡ true = ap (is_active_at w) (sym is) ∙ now.1 in

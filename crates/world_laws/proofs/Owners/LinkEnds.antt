@@ -27,23 +27,23 @@ use Rattle.world_model.proofs.Honesty.{pushing}
 use Rattle.world_model.proofs.Honesty.Plain.{next}
 use Rattle.world_model.proofs.Outboxes.{other_link as link-else}
 use Rattle.world_laws.specs.Owners.LinkEnds.{EndsOnce, EndsWithDown, LinksEndOnce, LinksOfChannelsAreUp, down_of}
-use Rattle.world_laws.proofs.Owners.Making.{connects, is_plain, plain-quiet}
-use Rattle.world_laws.proofs.Owners.OneEach.{inbox-same, plain-pushes}
+use Rattle.world_laws.proofs.Owners.Making.{connects, is_plain, plain_quiet}
+use Rattle.world_laws.proofs.Owners.OneEach.{inbox-same, plain_pushes}
 use Rattle.world_laws.proofs.Events.{world}
 
 -- ---- the links of a connection
 
-pub owns-of : (settings : Parameters) (ss : List Step) (s : Connection) → AreAllowed settings → connection_of (life settings ss).next s.number ≡ Some s → IsOpen s.state → Owns (life settings ss).next.channels (life settings ss).next.links s.number (roles_of s)
-owns-of settings ss s allowed there is_open = subst (OwnsOpen (life settings ss).next.channels (life settings ss).next.links s.number) there (life_owns settings ss s.number allowed) is_open
+pub owns_of : (settings : Parameters) (ss : List Step) (s : Connection) → AreAllowed settings → connection_of (life settings ss).next s.number ≡ Some s → IsOpen s.state → Owns (life settings ss).next.channels (life settings ss).next.links s.number (roles_of s)
+owns_of settings ss s allowed there is_open = subst (OwnsOpen (life settings ss).next.channels (life settings ss).next.links s.number) there (life_owns settings ss s.number allowed) is_open
 
-pub LinksOfChannelsAreUp-new : (settings : Parameters) (events : List Event) → LinksOfChannelsAreUp settings events
-LinksOfChannelsAreUp-new settings events s allowed had =
+pub links_of_channels_are_up_new : (settings : Parameters) (events : List Event) → LinksOfChannelsAreUp settings events
+links_of_channels_are_up_new settings events s allowed had =
     let w : Actors = world settings events in
     let ss : List Step = all_steps (new_actors settings) events in
     let c : Controller = (life settings ss).next in
     let lives : w.controller ≡ c = LivesByTable-new settings events in
     let there : connection_of c s.number ≡ Some s = subst (λ (d : Controller). connection_of d s.number ≡ Some s) lives had.there in
-    let owns : Owns c.channels c.links s.number (roles_of s) = owns-of settings ss s allowed there had.is_open in
+    let owns : Owns c.channels c.links s.number (roles_of s) = owns_of settings ss s allowed there had.is_open in
     let linked : hears c SWITCH_LINK ≡ true = subst (LinkedOf (hears c SWITCH_LINK)) there (life_linked settings ss s.number had.from_one) in
     record {
       switch = subst (λ (d : Controller). hears d SWITCH_LINK ≡ true) (sym lives) linked;
@@ -56,20 +56,20 @@ LinksOfChannelsAreUp-new settings events s allowed had =
 abbrev NoneIsDown : ℕ → List Item → Type 0
 NoneIsDown source items = AllByRecursion (λ item. item ≢ down_of source) items
 
-none-behind : (source : ℕ) (xs ys : List Item) → NoneIsDown source xs → EndsWithDown source ys → EndsWithDown source (xs ++ ys)
-none-behind source [] ys none ends = ends
-none-behind source (x ∷ xs) ys none ends = ((λ is. absurd (none.0 is)), none-behind source xs ys none.1 ends)
+none_behind : (source : ℕ) (xs ys : List Item) → NoneIsDown source xs → EndsWithDown source ys → EndsWithDown source (xs ++ ys)
+none_behind source [] ys none ends = ends
+none_behind source (x ∷ xs) ys none ends = ((λ is. absurd (none.0 is)), none_behind source xs ys none.1 ends)
 
-none-ends : (source : ℕ) (xs : List Item) → NoneIsDown source xs → EndsWithDown source xs
-none-ends source [] none = tt
-none-ends source (x ∷ xs) none = ((λ is. absurd (none.0 is)), none-ends source xs none.1)
+none_ends : (source : ℕ) (xs : List Item) → NoneIsDown source xs → EndsWithDown source xs
+none_ends source [] none = tt
+none_ends source (x ∷ xs) none = ((λ is. absurd (none.0 is)), none_ends source xs none.1)
 
 of-both : (source : ℕ) (xs ys : List Item) → of_source source xs ≡ [] → of_source source ys ≡ [] → of_source source (xs ++ ys) ≡ []
 of-both source xs ys none none_too = filter-append (λ (item : Item). item.source == source) xs ys ∙ ap (λ (items : List Item). items ++ of_source source ys) none ∙ none_too
 
-others-behind : (source : ℕ) (xs ys : List Item) → of_source source ys ≡ [] → NoneIsDown source ys → EndsWithDown source xs → EndsWithDown source (xs ++ ys)
-others-behind source [] ys others none ends = none-ends source ys none
-others-behind source (x ∷ xs) ys others none ends = ((λ is. of-both source xs ys (ends.0 is) others), others-behind source xs ys others none ends.1)
+others_behind : (source : ℕ) (xs ys : List Item) → of_source source ys ≡ [] → NoneIsDown source ys → EndsWithDown source xs → EndsWithDown source (xs ++ ys)
+others_behind source [] ys others none ends = none_ends source ys none
+others_behind source (x ∷ xs) ys others none ends = ((λ is. of-both source xs ys (ends.0 is) others), others_behind source xs ys others none ends.1)
 
 of-behind : (source : ℕ) (x : Item) (xs : List Item) → of_source source (x ∷ xs) ≡ [] → of_source source xs ≡ []
 of-behind source x xs none = by (x.source == source) none where
@@ -77,14 +77,14 @@ of-behind source x xs none = by (x.source == source) none where
   by true is = absurd cc
   by false is = is
 
-other-source : (source : ℕ) (item : Item) → (item.source == source) ≡ false → of_source source (item ∷ []) ≡ []
-other-source source item differs = cond-false _ (item ∷ []) [] differs
+other_source : (source : ℕ) (item : Item) → (item.source == source) ≡ false → of_source source (item ∷ []) ≡ []
+other_source source item differs = cond-false _ (item ∷ []) [] differs
 
-other-down : (source : ℕ) (item : Item) → (item.source == source) ≡ false → item ≢ down_of source
-other-down source item differs is = true≢false (sym (eq-eqb item.source source (ap (λ (i : Item). i.source) is)) ∙ differs)
+other_down : (source : ℕ) (item : Item) → (item.source == source) ≡ false → item ≢ down_of source
+other_down source item differs is = true≢false (sym (eq-eqb item.source source (ap (λ (i : Item). i.source) is)) ∙ differs)
 
-pub frame-down : (source : ℕ) (item : Item) (frame : Frame) → item.what ≡ whats.Frame frame → item ≢ down_of source
-frame-down source item frame is same = never (sym is ∙ ap (λ (i : Item). i.what) same) where
+pub frame_down : (source : ℕ) (item : Item) (frame : Frame) → item.what ≡ whats.Frame frame → item ≢ down_of source
+frame_down source item frame is same = never (sym is ∙ ap (λ (i : Item). i.what) same) where
   never : whats.Frame frame ≡ whats.Down → ⊥
   never both = absurd cc
 
@@ -100,8 +100,8 @@ record Leaves (source : ℕ) (w v : Actors) : Type 0 where
   switch : source ≡ SWITCH_LINK → is_up w source ≡ false → w.switch_made ≡ [] → v.switch_made ≡ []
   station : source ≢ SWITCH_LINK → is_up w source ≡ false → (base_of w source).messages ≡ [] → (base_of v source).messages ≡ []
 
-leaves-ends : (source : ℕ) (w v : Actors) → Leaves source w v → EndsOnce w source → EndsOnce v source
-leaves-ends source w v leaves ends = record {
+leaves_ends : (source : ℕ) (w v : Actors) → Leaves source w v → EndsOnce w source → EndsOnce v source
+leaves_ends source w v leaves ends = record {
   last = subst (EndsWithDown source) (sym leaves.inbox) (by (is_up w source) refl);
   none_yet = λ up. subst (NoneIsDown source) (sym leaves.inbox) (AllByRecursion-append (λ (item : Item). item ≢ down_of source) w.inbox leaves.more (ends.none_yet (sym leaves.up ∙ up)) leaves.frames);
   switch_made = λ is down. leaves.switch is (sym leaves.up ∙ down) (ends.switch_made is (sym leaves.up ∙ down));
@@ -112,13 +112,13 @@ leaves-ends source w v leaves ends = record {
       ap (of_source source) leaves.inbox ∙ of-both source w.inbox leaves.more (ends.over was) (leaves.others (ends.broke was));
 } where
   by : (b : Bool) → is_up w source ≡ b → EndsWithDown source (w.inbox ++ leaves.more)
-  by true up = none-behind source w.inbox leaves.more (ends.none_yet up) (none-ends source leaves.more leaves.frames)
-  by false down = others-behind source w.inbox leaves.more (leaves.others down) leaves.frames ends.last
+  by true up = none_behind source w.inbox leaves.more (ends.none_yet up) (none_ends source leaves.more leaves.frames)
+  by false down = others_behind source w.inbox leaves.more (leaves.others down) leaves.frames ends.last
 
-plain-leaves : (source : ℕ) (w : Actors) (event : Event) → is_plain event ≡ true → Leaves source w (actors_after w event)
-plain-leaves source w event is =
-    let quiet = plain-quiet w event is in
-    let nothing = plain-pushes w event is in
+plain_leaves : (source : ℕ) (w : Actors) (event : Event) → is_plain event ≡ true → Leaves source w (actors_after w event)
+plain_leaves source w event is =
+    let quiet = plain_quiet w event is in
+    let nothing = plain_pushes w event is in
     record {
       up = quiet.links source;
       hearing = ap (λ (c : Controller). hears c source) quiet.controller;
@@ -130,12 +130,12 @@ plain-leaves source w event is =
       station = λ differs down empty. quiet.silent source differs down empty;
     }
 
-stays-leaves : (source : ℕ) (w : Actors) → Leaves source w w
-stays-leaves source w = record { up = refl; hearing = refl; more = []; inbox = sym (append-nil w.inbox); frames = tt; others = λ down. refl; switch = λ same down empty. empty; station = λ differs down empty. empty }
+stays_leaves : (source : ℕ) (w : Actors) → Leaves source w w
+stays_leaves source w = record { up = refl; hearing = refl; more = []; inbox = sym (append-nil w.inbox); frames = tt; others = λ down. refl; switch = λ same down empty. empty; station = λ differs down empty. empty }
 
-connect-leaves : (source : ℕ) (w : Actors) (number station : ℕ) (initial : List ℕ) (accepts : Bool) → Leaves source w (actors_after w (Connect number station initial accepts))
+connect_leaves : (source : ℕ) (w : Actors) (number station : ℕ) (initial : List ℕ) (accepts : Bool) → Leaves source w (actors_after w (Connect number station initial accepts))
 unfolding event_after
-connect-leaves source w number station initial accepts =
+connect_leaves source w number station initial accepts =
     after-taken (Leaves source w) (after_connecting w number station initial accepts) w
     (connect-leads (Leaves source w) w number station initial accepts (λ may.
     let now = connects w number station initial accepts may in
@@ -148,16 +148,16 @@ connect-leaves source w number station initial accepts =
       others = λ down. refl;
       switch = λ same down empty. empty;
       station = λ differs down empty. now.silent source differs down empty;
-    })) (stays-leaves source w)
+    })) (stays_leaves source w)
 
 -- ---- a push
 
 first-none : (messages : List Rsl) → messages ≡ [] → first_of_messages messages ≡ None
 first-none messages is = ap first_of_messages is
 
-push-leaves : (source other : ℕ) (w : Actors) → EndsOnce w source → Leaves source w (actors_after w (BasePush other))
+push_leaves : (source other : ℕ) (w : Actors) → EndsOnce w source → Leaves source w (actors_after w (BasePush other))
 unfolding event_after
-push-leaves source other w ends = record {
+push_leaves source other w ends = record {
   up = up;
   hearing = hearing;
   more = made_item w other;
@@ -193,11 +193,11 @@ push-leaves source other w ends = record {
 
   switch-frames : (made : List Sccp) → NoneIsDown source (map switch_item (first_of made))
   switch-frames [] = tt
-  switch-frames (first ∷ rest) = (frame-down source (switch_item first) _ refl, tt)
+  switch-frames (first ∷ rest) = (frame_down source (switch_item first) _ refl, tt)
 
   station-frames : (o : Option Rsl) → NoneIsDown source (map (station_item other) (option_to_list o))
   station-frames None = tt
-  station-frames (Some message) = (frame-down source (station_item other message) _ refl, tt)
+  station-frames (Some message) = (frame_down source (station_item other message) _ refl, tt)
 
   frames-by : (b : Bool) → NoneIsDown source (if b then map switch_item (first_of w.switch_made) else map (station_item other) (option_to_list (first_message (base_of w other))))
   frames-by true = switch-frames w.switch_made
@@ -208,11 +208,11 @@ push-leaves source other w ends = record {
 
   switch-of : (made : List Sccp) → (source ≡ SWITCH_LINK → made ≡ []) → of_source source (map switch_item (first_of made)) ≡ []
   switch-of [] none = refl
-  switch-of (first ∷ rest) none = other-source source (switch_item first) (ne_eqb SWITCH_LINK source (λ same. absurd (let empty = none (sym same) in cc)))
+  switch-of (first ∷ rest) none = other_source source (switch_item first) (ne_eqb SWITCH_LINK source (λ same. absurd (let empty = none (sym same) in cc)))
 
   station-of : (o : Option Rsl) → (source ≡ other → o ≡ None) → of_source source (map (station_item other) (option_to_list o)) ≡ []
   station-of None none = refl
-  station-of (Some message) none = other-source source (station_item other message) (ne_eqb other source (λ same. absurd (let empty = none (sym same) in cc)))
+  station-of (Some message) none = other_source source (station_item other message) (ne_eqb other source (λ same. absurd (let empty = none (sym same) in cc)))
 
   others-by : is_up w source ≡ false → (b : Bool) → (other == SWITCH_LINK) ≡ b → of_source source (if b then map switch_item (first_of w.switch_made) else map (station_item other) (option_to_list (first_message (base_of w other)))) ≡ []
   others-by down true is = switch-of w.switch_made (λ same. ends.switch_made same down)
@@ -255,16 +255,16 @@ record Broken (source other : ℕ) (w v : Actors) : Type 0 where
   station_now : source ≢ SWITCH_LINK → other ≡ source → (base_of v source).messages ≡ []
   station_left : source ≢ SWITCH_LINK → (base_of w source).messages ≡ [] → (base_of v source).messages ≡ []
 
-broken-ends : (source other : ℕ) (w v : Actors) → Broken source other w v → is_up w other ≡ true → EndsOnce w source → EndsOnce v source
-broken-ends source other w v broken up ends = elim (cases_Bool (nat_eq other source)) [
+broken_ends : (source other : ℕ) (w v : Actors) → Broken source other w v → is_up w other ≡ true → EndsOnce w source → EndsOnce v source
+broken_ends source other w v broken up ends = elim (cases_Bool (nat_eq other source)) [
   | inl hit ↦ own (eqb-true other source hit)
-  | inr miss ↦ leaves-ends source w v (record {
+  | inr miss ↦ leaves_ends source w v (record {
     up = ap (λ (links : List Link). (get_or links source broken_link).up) broken.links ∙ ap (λ (l : Link). l.up) (link-else w source other broken_link (λ same. eqb-false other source miss (sym same)));
     hearing = ap (λ (c : Controller). hears c source) broken.controller;
     more = down_of other ∷ [];
     inbox = broken.inbox;
-    frames = (other-down source (down_of other) miss, tt);
-    others = λ down. other-source source (down_of other) miss;
+    frames = (other_down source (down_of other) miss, tt);
+    others = λ down. other_source source (down_of other) miss;
     switch = λ same down empty. broken.switch_left same empty;
     station = λ differs down empty. broken.station_left differs empty;
   }) ends
@@ -275,7 +275,7 @@ broken-ends source other w v broken up ends = elim (cases_Bool (nat_eq other sou
       let down : is_up v source ≡ false = ap (λ (links : List Link). (get_or links source broken_link).up) broken.links
       ∙ ap (λ (n : ℕ). is_up (with_link n broken_link w) source) same ∙ ap (λ (l : Link). l.up) (changed_link w.links source broken_link was_up) in
       record {
-        last = subst (EndsWithDown source) (sym broken.inbox) (none-behind source w.inbox (down_of other ∷ []) (ends.none_yet was_up) ((λ is. refl), tt));
+        last = subst (EndsWithDown source) (sym broken.inbox) (none_behind source w.inbox (down_of other ∷ []) (ends.none_yet was_up) ((λ is. refl), tt));
         none_yet = λ now_up. absurd (true≢false (sym now_up ∙ down));
         switch_made = λ switch _. broken.switch_now switch same;
         station_made = λ differs _. broken.station_now differs same;
@@ -283,12 +283,12 @@ broken-ends source other w v broken up ends = elim (cases_Bool (nat_eq other sou
         over = λ deaf. absurd (true≢false (sym was_up ∙ ends.broke (ap (λ (c : Controller). hears c source) (sym broken.controller) ∙ deaf)));
       }
 
-break-ends : (source other : ℕ) (w : Actors) → EndsOnce w source → EndsOnce (actors_after w (BaseDown other)) source
+break_ends : (source other : ℕ) (w : Actors) → EndsOnce w source → EndsOnce (actors_after w (BaseDown other)) source
 unfolding event_after
-break-ends source other w ends =
+break_ends source other w ends =
     after-taken (λ (v : Actors). EndsOnce v source) (after_break w other) w
     (broken-leads (λ (v : Actors). EndsOnce v source) w other
-    (λ up is. broken-ends source other w _ (record {
+    (λ up is. broken_ends source other w _ (record {
       links = refl;
       controller = refl;
       inbox = refl;
@@ -297,7 +297,7 @@ break-ends source other w ends =
       station_now = λ differs same. absurd (differs (sym same ∙ is));
       station_left = λ differs empty. empty;
     }) up ends)
-    (λ up other_is. broken-ends source other w _ (record {
+    (λ up other_is. broken_ends source other w _ (record {
       links = refl;
       controller = refl;
       inbox = refl;
@@ -319,23 +319,23 @@ break-ends source other w ends =
 -- ---- the controller works
 
 -- the controller learns that a link broke by the end of the link alone
-what-now : (up : Bool) (from source : ℕ) (what : What) (c : Controller) → is_link_up (links_with up from what c) source ≡ false → is_link_up c.links source ≡ true → (what ≡ whats.Down) × (from ≡ source)
-what-now true from source whats.Down c now was = elim (cases_Bool (nat_eq from source)) [
+what_now : (up : Bool) (from source : ℕ) (what : What) (c : Controller) → is_link_up (links_with up from what c) source ≡ false → is_link_up c.links source ≡ true → (what ≡ whats.Down) × (from ≡ source)
+what_now true from source whats.Down c now was = elim (cases_Bool (nat_eq from source)) [
   | inl hit ↦ (refl, eqb-true from source hit)
   | inr miss ↦ absurd (true≢false (sym was ∙ sym (other_link c.links from source (λ same. eqb-false from source miss (sym same))) ∙ now))
 ]
-what-now true from source (whats.Frame frame) c now was = absurd (true≢false (sym was ∙ now))
-what-now false from source whats.Down c now was = absurd (true≢false (sym was ∙ now))
-what-now false from source (whats.Frame frame) c now was = absurd (true≢false (sym was ∙ now))
+what_now true from source (whats.Frame frame) c now was = absurd (true≢false (sym was ∙ now))
+what_now false from source whats.Down c now was = absurd (true≢false (sym was ∙ now))
+what_now false from source (whats.Frame frame) c now was = absurd (true≢false (sym was ∙ now))
 
 learns : (c : Controller) (item : Item) (source : ℕ) → hears c source ≡ true → hears (take item c).next source ≡ false → item ≡ down_of source
 learns c item source was now =
     let links = (step_goes c (steps.Take item)).links_are in
-    let both = what-now (hears c item.source) item.source source item.what c (ap (λ (ls : List Bool). is_link_up ls source) (sym links) ∙ now) was in
+    let both = what_now (hears c item.source) item.source source item.what c (ap (λ (ls : List Bool). is_link_up ls source) (sym links) ∙ now) was in
     ap (λ (what : What). record { source = item.source; what = what }) both.0 ∙ ap (λ (n : ℕ). down_of n) both.1
 
-take-ends : (source : ℕ) (w : Actors) (item : Item) (items : List Item) → w.inbox ≡ item ∷ items → EndsOnce w source → EndsOnce (with_turn (target_in w item.source item.what) (take item w.controller) (record w { inbox = items })) source
-take-ends source w item items stands ends = record {
+take_ends : (source : ℕ) (w : Actors) (item : Item) (items : List Item) → w.inbox ≡ item ∷ items → EndsOnce w source → EndsOnce (with_turn (target_in w item.source item.what) (take item w.controller) (record w { inbox = items })) source
+take_ends source w item items stands ends = record {
   last = subst (EndsWithDown source) (sym inbox) stood.1;
   none_yet = λ now_up. subst (NoneIsDown source) (sym inbox) (subst (NoneIsDown source) stands (ends.none_yet (sym up ∙ now_up))).1;
   switch_made = λ same down. turn-leads (λ (x : Actors). x.switch_made ≡ w.switch_made) target t u (λ links. refl) ∙ ends.switch_made same (sym up ∙ down);
@@ -379,16 +379,16 @@ take-ends source w item items stands ends = record {
   over-by true was deaf = stood.0 (learns w.controller item source was deaf)
   over-by false was deaf = of-behind source item items (ap (of_source source) (sym stands) ∙ ends.over was)
 
-handle-ends : (source : ℕ) (w : Actors) → EndsOnce w source → EndsOnce (actors_after w Handle) source
+handle_ends : (source : ℕ) (w : Actors) → EndsOnce w source → EndsOnce (actors_after w Handle) source
 unfolding event_after
-handle-ends source w ends = by w.inbox refl where
+handle_ends source w ends = by w.inbox refl where
   by : (items : List Item) → w.inbox ≡ items → EndsOnce (unwrap_or (handled items w) w) source
   by [] stands = ends
-  by (item ∷ items) stands = take-ends source w item items stands ends
+  by (item ∷ items) stands = take_ends source w item items stands ends
 
-tick-leaves : (source : ℕ) (w : Actors) (ms : ℕ) → Leaves source w (actors_after w (Tick ms))
+tick_leaves : (source : ℕ) (w : Actors) (ms : ℕ) → Leaves source w (actors_after w (Tick ms))
 unfolding event_after
-tick-leaves source w ms =
+tick_leaves source w ms =
     let t : Turn = tick ms w.controller in record {
       up = (all_join source None t.outs (record w { controller = t.next })).up;
       hearing = ap (λ (c : Controller). hears c source) (turn-leads (λ (x : Actors). x.controller ≡ t.next) None t w (λ links. refl)) ∙ ap (λ (ls : List Bool). is_link_up ls source) (step_goes w.controller (steps.Tick ms)).links_are;
@@ -402,34 +402,34 @@ tick-leaves source w ms =
 
 -- ---- over all events
 
-ends-step : (source : ℕ) (w : Actors) (event : Event) → EndsOnce w source → EndsOnce (actors_after w event) source
-ends-step source w (Connect number station initial accepts) ends = leaves-ends source w _ (connect-leaves source w number station initial accepts) ends
-ends-step source w (BasePush other) ends = leaves-ends source w _ (push-leaves source other w ends) ends
-ends-step source w (BaseDown other) ends = break-ends source other w ends
-ends-step source w Handle ends = handle-ends source w ends
-ends-step source w (Tick ms) ends = leaves-ends source w _ (tick-leaves source w ms) ends
-ends-step source w event ends = leaves-ends source w _ (plain-leaves source w event refl) ends
+ends_step : (source : ℕ) (w : Actors) (event : Event) → EndsOnce w source → EndsOnce (actors_after w event) source
+ends_step source w (Connect number station initial accepts) ends = leaves_ends source w _ (connect_leaves source w number station initial accepts) ends
+ends_step source w (BasePush other) ends = leaves_ends source w _ (push_leaves source other w ends) ends
+ends_step source w (BaseDown other) ends = break_ends source other w ends
+ends_step source w Handle ends = handle_ends source w ends
+ends_step source w (Tick ms) ends = leaves_ends source w _ (tick_leaves source w ms) ends
+ends_step source w event ends = leaves_ends source w _ (plain_leaves source w event refl) ends
 
-ends-all : (source : ℕ) (w : Actors) (events : List Event) → EndsOnce w source → EndsOnce (actors_after_all w events) source
-ends-all source w [] ends = ends
-ends-all source w (event ∷ events) ends = ends-all source (actors_after w event) events (ends-step source w event ends)
+ends_all : (source : ℕ) (w : Actors) (events : List Event) → EndsOnce w source → EndsOnce (actors_after_all w events) source
+ends_all source w [] ends = ends
+ends_all source w (event ∷ events) ends = ends_all source (actors_after w event) events (ends_step source w event ends)
 
-new-messages : (k from : ℕ) (cells : List CellParameters) → (get_or (stations_from from cells) k no_station).base.messages ≡ []
-new-messages k from [] = refl
-new-messages zero from (cell ∷ cells) = refl
-new-messages (suc k) from (cell ∷ cells) = new-messages k (from + 1) cells
+new_messages : (k from : ℕ) (cells : List CellParameters) → (get_or (stations_from from cells) k no_station).base.messages ≡ []
+new_messages k from [] = refl
+new_messages zero from (cell ∷ cells) = refl
+new_messages (suc k) from (cell ∷ cells) = new_messages k (from + 1) cells
 
 new-links : (count link : ℕ) → get_or (replicate count true) link false ≡ false → (get_or (replicate count new_link) link broken_link).up ≡ false
 new-links zero link deaf = refl
 new-links (suc count) zero deaf = absurd (true≢false deaf)
 new-links (suc count) (suc link) deaf = new-links count link deaf
 
-pub LinksEndOnce-new : (settings : Parameters) (events : List Event) → LinksEndOnce settings events
-LinksEndOnce-new settings events source = ends-all source (new_actors settings) events (record {
+pub links_end_once_new : (settings : Parameters) (events : List Event) → LinksEndOnce settings events
+links_end_once_new settings events source = ends_all source (new_actors settings) events (record {
   last = tt;
   none_yet = λ up. tt;
   switch_made = λ same down. refl;
-  station_made = λ differs down. new-messages (source - 1) 1 settings.cells;
+  station_made = λ differs down. new_messages (source - 1) 1 settings.cells;
   broke = λ deaf. new-links (length settings.cells + 1) source (sym (unwrap_or-slice_get (replicate (length settings.cells + 1) true) source false) ∙ deaf);
   over = λ deaf. refl;
 })

@@ -28,16 +28,16 @@ requests-append k [] ys = omega arith
 requests-append k (x ∷ xs) ys = let rest = requests-append k xs ys in omega (arith, rest)
 
 -- another station in the place of one
-pub made-set : (k : ℕ) (less more : ℕ) (stations : List Station) (i : ℕ) (station : Station) → requests_in k station.base.messages + less ≤ requests_in k (get_or stations i no_station).base.messages + more → requests_in k (made_by (set stations i station)) + less ≤ requests_in k (made_by stations) + more
-made-set k less more [] i station fewer = omega (arith, fewer)
-made-set k less more (first ∷ stations) zero station fewer =
+pub made_set : (k : ℕ) (less more : ℕ) (stations : List Station) (i : ℕ) (station : Station) → requests_in k station.base.messages + less ≤ requests_in k (get_or stations i no_station).base.messages + more → requests_in k (made_by (set stations i station)) + less ≤ requests_in k (made_by stations) + more
+made_set k less more [] i station fewer = omega (arith, fewer)
+made_set k less more (first ∷ stations) zero station fewer =
     let now = requests-append k station.base.messages (made_by stations) in
     let old = requests-append k first.base.messages (made_by stations) in
     omega (arith, fewer, now, old)
-made-set k less more (first ∷ stations) (suc i) station fewer =
+made_set k less more (first ∷ stations) (suc i) station fewer =
     let now = requests-append k first.base.messages (made_by (set stations i station)) in
     let old = requests-append k first.base.messages (made_by stations) in
-    let rest = made-set k less more stations i station fewer in
+    let rest = made_set k less more stations i station fewer in
     omega (arith, rest, now, old)
 
 -- ---- who is there
@@ -62,12 +62,12 @@ back-there k p (x ∷ xs) = elim (cases_Bool (has_number p.number x)) [
   behind false rest = rest
 
 -- one more
-pub push-there : (k : ℕ) (p : Mobile) (xs : List Mobile) → is_none (find (has_number k) (xs ++ p ∷ [])) ≡ (if p.number == k then false else is_none (find (has_number k) xs))
-push-there k p [] = by (p.number == k) where
+pub push_there : (k : ℕ) (p : Mobile) (xs : List Mobile) → is_none (find (has_number k) (xs ++ p ∷ [])) ≡ (if p.number == k then false else is_none (find (has_number k) xs))
+push_there k p [] = by (p.number == k) where
   by : (b : Bool) → is_none (cond b (Some p) None) ≡ (if b then false else true)
   by true = refl
   by false = refl
-push-there k p (x ∷ xs) = by (nat_eq x.number k) (p.number == k) (push-there k p xs) where
+push_there k p (x ∷ xs) = by (nat_eq x.number k) (p.number == k) (push_there k p xs) where
   by : (b d : Bool) → is_none (find (has_number k) (xs ++ p ∷ [])) ≡ (if d then false else is_none (find (has_number k) xs)) → is_none (cond b (Some x) (find (has_number k) (xs ++ p ∷ []))) ≡ (if d then false else is_none (cond b (Some x) (find (has_number k) xs)))
   by true true rest = refl
   by true false rest = refl
@@ -102,7 +102,7 @@ based : {w u : Actors} (n : ℕ) (base : BaseState) → is_station_up w n ≡ tr
 based {w} {u} n base up fewer quiet = record {
   total = λ k.
       let here = fewer k in
-      let set = made-set k 0 0 u.stations (n - 1) (record (station_of u n) { base = base }) (omega (arith, here)) in
+      let set = made_set k 0 0 u.stations (n - 1) (record (station_of u n) { base = base }) (omega (arith, here)) in
       let before = quiet.total k in
       omega (arith, set, before);
   silent = λ m m_is down empty. base-messages m m_is down (quiet.silent m m_is down empty);
@@ -118,7 +118,7 @@ based {w} {u} n base up fewer quiet = record {
 spotted : {w u : Actors} (p : Place) (spot : Spot) → Quiet w u → Quiet w (with_spot p spot u)
 spotted {w} {u} p spot quiet = record {
   total = λ k.
-      let set = made-set k 0 0 u.stations (p.station - 1) (record (station_of u p.station) { spots = set (station_of u p.station).spots p.number spot }) (omega arith) in
+      let set = made_set k 0 0 u.stations (p.station - 1) (record (station_of u p.station) { spots = set (station_of u p.station).spots p.number spot }) (omega arith) in
       let before = quiet.total k in
       omega (arith, set, before);
   silent = λ m m_is down empty. ap (λ (b : BaseState). b.messages) (base-with_spot p spot u m) ∙ quiet.silent m m_is down empty;
@@ -162,9 +162,9 @@ outbox-up (l ∷ ls) (suc n) (suc m) entries = outbox-up ls n m entries
 Kept : Actors → Actors → Type 0
 Kept w v = (v.stations ≡ w.stations) × (v.mobiles ≡ w.mobiles) × (v.controller ≡ w.controller) × ((n : ℕ) → is_up v n ≡ is_up w n)
 
-kept-quiet : (w v : Actors) → (is_up w SWITCH_LINK ≡ false → v.switch_made ≡ w.switch_made) → Kept w v → Quiet w v
+kept_quiet : (w v : Actors) → (is_up w SWITCH_LINK ≡ false → v.switch_made ≡ w.switch_made) → Kept w v → Quiet w v
 unfolding Kept
-kept-quiet w v switch kept = record {
+kept_quiet w v switch kept = record {
   total = λ k. subst (λ (stations : List Station). requests_in k (made_by stations) ≤ requests_in k (made_by w.stations) + 0) (sym kept.0) (same (requests_in k (made_by w.stations)));
   silent = λ n n_is down empty. ap (λ (stations : List Station). (get_or stations (n - 1) no_station).base.messages) kept.0 ∙ empty;
   switch = switch;
@@ -181,9 +181,9 @@ does-none w (Dtap connection sapi message) down = by (is_layer_3 message) where
   by true = ap (λ (o : Option Actors). (unwrap_or o w).switch_made) (sent-down w connection _ _ down)
   by false = refl
 
-does-quiet : (w : Actors) (action : SwitchAction) → Quiet w (unwrap_or (after_switch_does w action) w)
+does_quiet : (w : Actors) (action : SwitchAction) → Quiet w (unwrap_or (after_switch_does w action) w)
 unfolding Kept
-does-quiet w action = kept-quiet w _ (does-none w action) (after-taken (Kept w) (after_switch_does w action) w (does-leads (Kept w) w action (λ next made. (refl, refl, refl, λ n. refl))) (refl, refl, refl, λ n. refl))
+does_quiet w action = kept_quiet w _ (does-none w action) (after-taken (Kept w) (after_switch_does w action) w (does-leads (Kept w) w action (λ next made. (refl, refl, refl, λ n. refl))) (refl, refl, refl, λ n. refl))
 
 -- neither the controller nor the queues take part
 abbrev pub is_plain : Event → Bool
@@ -194,42 +194,42 @@ is_plain (Tick ms) = false
 is_plain (BaseDown source) = false
 is_plain event = true
 
-no-request : {w : Actors} {event : Event} {n : ℕ} {message : Rsl} (k : ℕ) → is_plain event ≡ true → Tells w event n message → is_request_of k message ≡ false
-no-request k is (requires number station initial accepts) = absurd cc
-no-request k is (opens_with number p tenure frame lent) = refl
-no-request k is (brings number sapi p tenure frame lent) = refl
-no-request k is (links number p tenure frame lent) = refl
-no-request k is (detects number tenure reached) = refl
-no-request k is (establishes tenure reached) = refl
-no-request k is (answers station l answer taken) = answer-no k l.channel answer
-no-request k is (reports number report tenure reached long) = refl
+no_request : {w : Actors} {event : Event} {n : ℕ} {message : Rsl} (k : ℕ) → is_plain event ≡ true → Tells w event n message → is_request_of k message ≡ false
+no_request k is (requires number station initial accepts) = absurd cc
+no_request k is (opens_with number p tenure frame lent) = refl
+no_request k is (brings number sapi p tenure frame lent) = refl
+no_request k is (links number p tenure frame lent) = refl
+no_request k is (detects number tenure reached) = refl
+no_request k is (establishes tenure reached) = refl
+no_request k is (answers station l answer taken) = answer-no k l.channel answer
+no_request k is (reports number report tenure reached long) = refl
 
-none-joins : {w : Actors} {event : Event} {number : ℕ} {initial : List ℕ} {accepts : Bool} → is_plain event ≡ true → Joins w event number initial accepts → ⊥
-none-joins is (joins_by_connecting number station initial accepts may) = absurd cc
+none_joins : {w : Actors} {event : Event} {number : ℕ} {initial : List ℕ} {accepts : Bool} → is_plain event ≡ true → Joins w event number initial accepts → ⊥
+none_joins is (joins_by_connecting number station initial accepts may) = absurd cc
 
-air-quiet : (w : Actors) (event : Event) → is_on_air event ≡ true → is_plain event ≡ true → Quiet w (actors_after w event)
+air_quiet : (w : Actors) (event : Event) → is_on_air event ≡ true → is_plain event ≡ true → Quiet w (actors_after w event)
 unfolding Kept
-air-quiet w event on is = air-after (Quiet w) w event on (record {
+air_quiet w event on is = air-after (Quiet w) w event on (record {
   puts = λ u number p q _ _ _ quiet. put q quiet;
-  joins = λ number initial accepts how _. absurd (none-joins is how);
-  tells = λ u n message up how quiet. based n _ up (λ k. tell k (base_of u n).messages message (no-request k is how)) quiet;
+  joins = λ number initial accepts how _. absurd (none_joins is how);
+  tells = λ u n message up how quiet. based n _ up (λ k. tell k (base_of u n).messages message (no_request k is how)) quiet;
   spots = λ u at spot _ _ quiet. spotted at spot quiet;
-  pops = λ station others up quiet. kept-quiet w (with_outbox station others w) (λ down. refl) (refl, refl, refl, λ n. outbox-up w.links station n others);
+  pops = λ station others up quiet. kept_quiet w (with_outbox station others w) (λ down. refl) (refl, refl, refl, λ n. outbox-up w.links station n others);
   activates = λ u s a taken _ quiet. spotted (place_at s a.channel) _ (based s _ taken.up (λ k. tell k (base_of u s).messages _ refl) quiet);
   releases = λ u s channel taken quiet. spotted (place_at s channel) _ (based s _ taken.up (λ k. tell k (base_of u s).messages _ refl) quiet);
 }) (itself w)
 
-pub plain-quiet : (w : Actors) (event : Event) → is_plain event ≡ true → Quiet w (actors_after w event)
+pub plain_quiet : (w : Actors) (event : Event) → is_plain event ≡ true → Quiet w (actors_after w event)
 unfolding event_after Kept
-plain-quiet w (BasePush source) is = absurd cc
-plain-quiet w Handle is = absurd cc
-plain-quiet w (Tick ms) is = absurd cc
-plain-quiet w (BaseDown source) is = absurd cc
-plain-quiet w SwitchTakes is =
+plain_quiet w (BasePush source) is = absurd cc
+plain_quiet w Handle is = absurd cc
+plain_quiet w (Tick ms) is = absurd cc
+plain_quiet w (BaseDown source) is = absurd cc
+plain_quiet w SwitchTakes is =
     quietly w (after_switch_takes w) (switch_takes-leads (Quiet w) w (λ first others up _. switch_took-leads (Quiet w) (with_outbox SWITCH_LINK others w) (sccp_in first.out.frame)
-    (kept-quiet w _ (λ down. refl) (refl, refl, refl, λ n. outbox-up w.links SWITCH_LINK n others)) (λ next made. kept-quiet w _ (λ down. absurd (true≢false (sym up ∙ down))) (refl, refl, refl, λ n. outbox-up w.links SWITCH_LINK n others))))
-plain-quiet w (SwitchDoes action) is = does-quiet w action
-plain-quiet w event is = air-quiet w event refl is
+    (kept_quiet w _ (λ down. refl) (refl, refl, refl, λ n. outbox-up w.links SWITCH_LINK n others)) (λ next made. kept_quiet w _ (λ down. absurd (true≢false (sym up ∙ down))) (refl, refl, refl, λ n. outbox-up w.links SWITCH_LINK n others))))
+plain_quiet w (SwitchDoes action) is = does_quiet w action
+plain_quiet w event is = air_quiet w event refl is
 
 -- ---- a mobile connects
 
@@ -252,10 +252,10 @@ connects w number station initial accepts may =
     record {
       from_one = positive number (and-left (nat_lt 0 number) (is_none (mobile_of w number)) new);
       new = and-right (nat_lt 0 number) (is_none (mobile_of w number)) new;
-      there = λ k. push-there k (connected w.modulus number initial accepts) w.mobiles;
+      there = λ k. push_there k (connected w.modulus number initial accepts) w.mobiles;
       total = λ k.
           let both = requests-append k (base_of w station).messages (channel_required number ∷ []) in
-          let set = made-set k 0 (if number == k then 1 else 0) w.stations (station - 1) (record (station_of w station) { base = after_tell (base_of w station) (channel_required number) }) (one k (requests_in k (base_of w station).messages) (requests_in k (after_tell (base_of w station) (channel_required number)).messages) both) in
+          let set = made_set k 0 (if number == k then 1 else 0) w.stations (station - 1) (record (station_of w station) { base = after_tell (base_of w station) (channel_required number) }) (one k (requests_in k (base_of w station).messages) (requests_in k (after_tell (base_of w station) (channel_required number)).messages) both) in
           omega (arith, set);
       silent = λ m m_is down empty.
           ap (λ (b : BaseState). b.messages) (base-elsewhere w m station _ m_is (up-right station w up).0 (λ is. true≢false (sym (up-right station w up).1 ∙ ap (is_up w) (sym is) ∙ down))) ∙ empty;

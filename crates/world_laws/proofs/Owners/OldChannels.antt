@@ -23,22 +23,22 @@ use Rattle.controller_model.specs.Life.{life}
 use Rattle.controller_model.specs.Reading.{word_of}
 use Rattle.ruled_relay.specs.declared.item.What.TheVariants as whats
 use Rattle.rsl_codec.specs.declared.rsl.Rsl.TheVariants as rsl
-use Rattle.world_laws.proofs.OrderHeard.{read-known, word-known}
+use Rattle.world_laws.proofs.OrderHeard.{read_known, word-known}
 use Rattle.world_laws.proofs.OrderRows.{States}
-use Rattle.world_laws.proofs.Channels.BegunRun.{kept-some}
+use Rattle.world_laws.proofs.Channels.BegunRun.{kept_some}
 
 -- ---- a connection after time passed
 
-aged-draining : (old s : Connection) → IsAged old s → s.draining ≡ old.draining
-aged-draining old s aged = aged_holds (λ (c : Connection). c.draining ≡ old.draining) (λ ms c is. is) old s aged refl
+aged_draining : (old s : Connection) → IsAged old s → s.draining ≡ old.draining
+aged_draining old s aged = aged_holds (λ (c : Connection). c.draining ≡ old.draining) (λ ms c is. is) old s aged refl
 
-aged-roles : (old s : Connection) → IsAged old s → roles_of s ≡ roles_of old
-aged-roles old s aged = aged_holds (λ (c : Connection). roles_of c ≡ roles_of old) (λ ms c is. is) old s aged refl
+aged_roles : (old s : Connection) → IsAged old s → roles_of s ≡ roles_of old
+aged_roles old s aged = aged_holds (λ (c : Connection). roles_of c ≡ roles_of old) (λ ms c is. is) old s aged refl
 
-open-before : (s : Connection) (input : Input) (offer : Option Channel) (r : Row) → ChangesRoles s input offer r → IsOpen r.next.state → IsOpen s.state
-open-before s input offer r (goes_on was_open is_open on) is = was_open
-open-before s input offer r (ends was_open shut over) is = was_open
-open-before s input offer r (had_ended was_shut shut silent) is = absurd (shut is)
+open_before : (s : Connection) (input : Input) (offer : Option Channel) (r : Row) → ChangesRoles s input offer r → IsOpen r.next.state → IsOpen s.state
+open_before s input offer r (goes_on was_open is_open on) is = was_open
+open_before s input offer r (ends was_open shut over) is = was_open
+open_before s input offer r (had_ended was_shut shut silent) is = absurd (shut is)
 
 -- ---- what it was before
 
@@ -48,30 +48,30 @@ pub record WasUsed (before : Option Connection) (d : Channel) : Type 0 where
   pub is_open : IsOpen old.state
   pub role : Contains (undone old.draining) d ⊎ (d ≡ old.serving)
 
-acts-used : (number next : ℕ) (up : Bool) (brought : Brought) (before after : Option Connection) (put : List Message) (t : Connection) (d : Channel) → Acts number next up brought before put after → IsFine before → after ≡ Some t → IsOpen t.state → Contains (undone t.draining) d → WasUsed before d
-acts-used number next up brought before after put t d (rests silent same none) fine is is_open has = record { old = t; there = sym same ∙ is; is_open = is_open; role = inl has }
-acts-used number next up brought before after put t d (ages old s was_time was aged silent same) fine is is_open has =
+acts_used : (number next : ℕ) (up : Bool) (brought : Brought) (before after : Option Connection) (put : List Message) (t : Connection) (d : Channel) → Acts number next up brought before put after → IsFine before → after ≡ Some t → IsOpen t.state → Contains (undone t.draining) d → WasUsed before d
+acts_used number next up brought before after put t d (rests silent same none) fine is is_open has = record { old = t; there = sym same ∙ is; is_open = is_open; role = inl has }
+acts_used number next up brought before after put t d (ages old s was_time was aged silent same) fine is is_open has =
     let now : s ≡ t = same_Some _ _ (sym same ∙ is) in
     record {
       old = old;
       there = was;
       is_open = subst IsOpen (ap (λ (c : Connection). c.state) (sym now) ∙ same_state old s aged) is_open;
-      role = inl (subst (λ (ds : List Drain). Contains (undone ds) d) (ap (λ (c : Connection). c.draining) (sym now) ∙ aged-draining old s aged) has);
+      role = inl (subst (λ (ds : List Drain). Contains (undone ds) d) (ap (λ (c : Connection). c.draining) (sym now) ∙ aged_draining old s aged) has);
     }
-acts-used number next up brought before after put t d (opens begins linked channel request delay is_nothing none put_is same) fine is is_open has =
+acts_used number next up brought before after put t d (opens begins linked channel request delay is_nothing none put_is same) fine is is_open has =
     absurd (contains_none d (subst (λ (ds : List Drain). Contains (undone ds) d) (ap (λ (c : Connection). c.draining) (sym (same_Some _ _ (sym same ∙ is)))) has))
-acts-used number next up brought before after put t d (goes old s input offer r was aged by fits put_is same) fine is is_open has =
-    let now : r.next ≡ t = kept-some r.next.state r.next t (sym same ∙ is) in
+acts_used number next up brought before after put t d (goes old s input offer r was aged by fits put_is same) fine is is_open has =
+    let now : r.next ≡ t = kept_some r.next.state r.next t (sym same ∙ is) in
     let changes = changes_of s input offer r (fine_old before old s was aged fine).1 fits in
     let open_next : IsOpen r.next.state = subst (λ (c : Connection). IsOpen c.state) (sym now) is_open in
     let began = (KeepsAccount-by s input offer r changes).begins_to_drain open_next d (subst (λ (c : Connection). Contains (undone c.draining) d) (sym now) has) in
     record {
       old = old;
       there = was;
-      is_open = subst IsOpen (same_state old s aged) (open-before s input offer r changes open_next);
+      is_open = subst IsOpen (same_state old s aged) (open_before s input offer r changes open_next);
       role = elim began [
-        | inl still ↦ inl (subst (λ (ds : List Drain). Contains (undone ds) d) (aged-draining old s aged) still)
-        | inr served ↦ inr (served.0 ∙ ap (λ (roles : Roles). roles.serving) (aged-roles old s aged))
+        | inl still ↦ inl (subst (λ (ds : List Drain). Contains (undone ds) d) (aged_draining old s aged) still)
+        | inr served ↦ inr (served.0 ∙ ap (λ (roles : Roles). roles.serving) (aged_roles old s aged))
       ];
     }
 
@@ -107,11 +107,11 @@ module _ (channels : States) (links : List Bool) (number k : ℕ) (d : Channel) 
   acts-freed next up before after put t (ages old s was_time was aged silent same) fine is is_open has owns = absurd cc
   acts-freed next up before after put t (opens begins linked channel request delay is_nothing none put_is same) fine is is_open has owns = absurd cc
   acts-freed next up before after put t (goes old s input offer r was aged by fits put_is same) fine is is_open has owns =
-      let now : r.next ≡ t = kept-some r.next.state r.next t (sym same ∙ is) in
+      let now : r.next ≡ t = kept_some r.next.state r.next t (sym same ∙ is) in
       let changes = changes_of s input offer r (fine_old before old s was aged fine).1 fits in
       let open_next : IsOpen r.next.state = subst (λ (c : Connection). IsOpen c.state) (sym now) is_open in
-      let open_old : IsOpen old.state = subst IsOpen (same_state old s aged) (open-before s input offer r changes open_next) in
-      freed-goes s input offer r changes by open_next (subst (Owns channels links number) (sym (aged-roles old s aged)) (owns old was open_old)) (subst (λ (c : Connection). Contains (undone c.draining) d) (sym now) has)
+      let open_old : IsOpen old.state = subst IsOpen (same_state old s aged) (open_before s input offer r changes open_next) in
+      freed-goes s input offer r changes by open_next (subst (Owns channels links number) (sym (aged_roles old s aged)) (owns old was open_old)) (subst (λ (c : Connection). Contains (undone c.draining) d) (sym now) has)
 
 -- ---- of a life of the controller
 
@@ -120,13 +120,13 @@ pub record ComesFrom (c : Controller) (s : Step) (n : ℕ) (t : Connection) (d :
   pub access : t.request.access ≡ used.old.request.access
   pub unfreed : (k : ℕ) → channel_state c (place_of d) ≡ Releasing k → brought_in c n s ≡ comes (inputs.ReleaseAck (place_of d)) → ⊥
 
-pub comes-from : (p : Parameters) (ss : List Step) (s : Step) (n : ℕ) (t : Connection) (d : Channel) → AreAllowed p → 1 ≤ n → connection_of (step (life p ss).next s).next n ≡ Some t → IsOpen t.state → Contains (undone t.draining) d → ComesFrom (life p ss).next s n t d
-comes-from p ss s n t d allowed from_one is is_open has =
+pub comes_from : (p : Parameters) (ss : List Step) (s : Step) (n : ℕ) (t : Connection) (d : Channel) → AreAllowed p → 1 ≤ n → connection_of (step (life p ss).next s).next n ≡ Some t → IsOpen t.state → Contains (undone t.draining) d → ComesFrom (life p ss).next s n t d
+comes_from p ss s n t d allowed from_one is is_open has =
     let c : Controller = (life p ss).next in
     let acts = (life_acts p ss s n from_one).acts in
     let put : List Message = (life_acts p ss s n from_one).put in
     let fine : IsFine (connection_of c n) = (life_fits p ss n from_one).fine in
-    let used : WasUsed (connection_of c n) d = acts-used n c.next_number (hears c SWITCH_LINK) (brought_in c n s) (connection_of c n) (connection_of (step c s).next n) put t d acts fine is is_open has in
+    let used : WasUsed (connection_of c n) d = acts_used n c.next_number (hears c SWITCH_LINK) (brought_in c n s) (connection_of c n) (connection_of (step c s).next n) put t d acts fine is is_open has in
     let stays_same : SameRequest (Some used.old) (Some t) = subst (SameRequest (Some used.old)) is (subst (λ (o : Option Connection). SameRequest o (connection_of (step c s).next n)) used.there (life_names p ss s n from_one).stays) in
     record {
       used = used;
@@ -138,14 +138,14 @@ comes-from p ss s n t d allowed from_one is is_open has =
 
 -- ---- what is heard that frees a channel is its RF CHANNEL RELEASE ACK
 
-end-or-plain : (m : Rsl) (state : ChannelState) → ((channel : ℕ) × (m ≡ rsl.RfChannelReleaseAck channel)) ⊎ (hear (m ∷ []) state ≡ state)
-end-or-plain (rsl.RfChannelReleaseAck channel) state = inl (channel, refl)
-end-or-plain _ state = inr refl
+end_or_plain : (m : Rsl) (state : ChannelState) → ((channel : ℕ) × (m ≡ rsl.RfChannelReleaseAck channel)) ⊎ (hear (m ∷ []) state ≡ state)
+end_or_plain (rsl.RfChannelReleaseAck channel) state = inl (channel, refl)
+end_or_plain _ state = inr refl
 
-freeing-is : (k n : ℕ) (m : Rsl) → hear (acknowledgements k (m ∷ [])) (Releasing n) ≡ Free → m ≡ rsl.RfChannelReleaseAck k
-freeing-is k n m free = elim (cases_Bool (is_bound_of k m)) [
+freeing_is : (k n : ℕ) (m : Rsl) → hear (acknowledgements k (m ∷ [])) (Releasing n) ≡ Free → m ≡ rsl.RfChannelReleaseAck k
+freeing_is k n m free = elim (cases_Bool (is_bound_of k m)) [
   | inr miss ↦ absurd (free≢release n (sym free ∙ ap (λ (b : Bool). hear (cond b (m ∷ []) []) (Releasing n)) miss))
-  | inl hit ↦ elim (end-or-plain m (Releasing n)) [
+  | inl hit ↦ elim (end_or_plain m (Releasing n)) [
     | inr plain ↦ absurd (free≢release n (sym free ∙ ap (λ (b : Bool). hear (cond b (m ∷ []) []) (Releasing n)) hit ∙ plain))
     | inl end ↦ end.1 ∙ ap (λ (x : ℕ). rsl.RfChannelReleaseAck x) (eqb-true end.0 k (sym (ap (is_bound_of k) end.1) ∙ hit))
   ]
@@ -155,17 +155,17 @@ frame-brings : (c : Controller) (at : Place) (n : ℕ) (frame : Frame) → chann
     → hear (acknowledgements at.number (option_to_list (rsl_in frame))) (Releasing n) ≡ Free → brought_in c n (steps.Take (record { source = at.station; what = whats.Frame frame })) ≡ comes (inputs.ReleaseAck at)
 frame-brings c at n frame state hearing station known free =
     let made = known.station station in
-    let says : rsl_in frame ≡ Some made.0 = ap rsl_in made.1 ∙ read-known made.0 made.2 in
-    let is : made.0 ≡ rsl.RfChannelReleaseAck at.number = freeing-is at.number n made.0 (sym (ap (λ (o : Option Rsl). hear (acknowledgements at.number (option_to_list o)) (Releasing n)) says) ∙ free) in
+    let says : rsl_in frame ≡ Some made.0 = ap rsl_in made.1 ∙ read_known made.0 made.2 in
+    let is : made.0 ≡ rsl.RfChannelReleaseAck at.number = freeing_is at.number n made.0 (sym (ap (λ (o : Option Rsl). hear (acknowledgements at.number (option_to_list o)) (Releasing n)) says) ∙ free) in
     let word : word_of at.station frame ≡ rsl_word at.station (rsl.RfChannelReleaseAck at.number) = ap (word_of at.station) made.1 ∙ word-known at.station made.0 station made.2 ∙ ap (rsl_word at.station) is in
     ap (λ (b : Bool). if b then brought_with c n at.station (whats.Frame frame) else nothing) hearing
     ∙ ap (brought_by c n) word
     ∙ ap (λ (s : ChannelState). if_held n (holder s) (inputs.ReleaseAck at)) state
     ∙ ap (λ (b : Bool). if b then comes (inputs.ReleaseAck at) else nothing) (eq-eqb n n refl)
 
-pub freed-brings : (c : Controller) (at : Place) (n : ℕ) (source : ℕ) (what : What) → channel_state c at ≡ Releasing n → hears c at.station ≡ true → at.station ≢ SWITCH_LINK → IsKnownItem (record { source = source; what = what })
+pub freed_brings : (c : Controller) (at : Place) (n : ℕ) (source : ℕ) (what : What) → channel_state c at ≡ Releasing n → hears c at.station ≡ true → at.station ≢ SWITCH_LINK → IsKnownItem (record { source = source; what = what })
     → hear (heard_of at (record { source = source; what = what })) (Releasing n) ≡ Free → brought_in c n (steps.Take (record { source = source; what = what })) ≡ comes (inputs.ReleaseAck at)
-freed-brings c at n source what state hearing station known free = elim (cases_Bool (source == at.station)) [
+freed_brings c at n source what state hearing station known free = elim (cases_Bool (source == at.station)) [
   | inr miss ↦ absurd (free≢release n (sym free ∙ ap (λ (b : Bool). hear (acknowledgements at.number (if b then said_by what else [])) (Releasing n)) miss))
   | inl hit ↦ by what (eqb-true source at.station hit) (subst (λ (k : ℕ). IsKnownItem (record { source = k; what = what })) (eqb-true source at.station hit) known) (sym (ap (λ (b : Bool). hear (acknowledgements at.number (if b then said_by what else [])) (Releasing n)) hit) ∙ free)
 ] where

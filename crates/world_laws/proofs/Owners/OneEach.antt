@@ -20,9 +20,9 @@ use Rattle.world_model.specs.Life.{event_after}
 use Rattle.world_model.specs.Queues.{popped}
 use Rattle.world_laws.specs.Owners.OneEach.{ConnectionsAnswerMobiles, ConnectionsAreOneEach, NoneIsAnsweredAgain, NoneWasAnswered}
 use Rattle.world_laws.specs.Owners.OneEach.{RequestsComeOnce, made_by, requests_in, requests_up, said_in}
-use Rattle.world_laws.proofs.Owners.Asking.{Begins, asking-says, step-begins}
-use Rattle.world_laws.proofs.Owners.Making.{Connects, connects, is_plain, made-set, none, plain-quiet, requests-append}
-use Rattle.world_laws.proofs.Events.{snoc-actors, world}
+use Rattle.world_laws.proofs.Owners.Asking.{Begins, asking_says, step_begins}
+use Rattle.world_laws.proofs.Owners.Making.{Connects, connects, is_plain, made_set, none, plain_quiet, requests-append}
+use Rattle.world_laws.proofs.Events.{snoc_actors, world}
 
 -- ---- what an event does to requests and connections
 
@@ -49,16 +49,16 @@ pub inbox-same : (w : Actors) (event : Event) → pushed w event ≡ [] → popp
 inbox-same w event none_pushed none_popped =
     sym (sym (append-nil w.inbox) ∙ ap (λ (items : List Item). w.inbox ++ items) (sym none_pushed) ∙ inbox-goes w event ∙ ap (λ (items : List Item). items ++ (actors_after w event).inbox) none_popped)
 
-pub plain-pushes : (w : Actors) (event : Event) → is_plain event ≡ true → (pushed w event ≡ []) × (popped w event ≡ [])
-plain-pushes w (BasePush source) is = absurd cc
-plain-pushes w (BaseDown source) is = absurd cc
-plain-pushes w Handle is = absurd cc
-plain-pushes w _ is = (refl, refl)
+pub plain_pushes : (w : Actors) (event : Event) → is_plain event ≡ true → (pushed w event ≡ []) × (popped w event ≡ [])
+plain_pushes w (BasePush source) is = absurd cc
+plain_pushes w (BaseDown source) is = absurd cc
+plain_pushes w Handle is = absurd cc
+plain_pushes w _ is = (refl, refl)
 
-plain-effect : (w : Actors) (event : Event) → is_plain event ≡ true → Effect w (actors_after w event)
-plain-effect w event is =
-    let quiet = plain-quiet w event is in
-    let nothing = plain-pushes w event is in
+plain_effect : (w : Actors) (event : Event) → is_plain event ≡ true → Effect w (actors_after w event)
+plain_effect w event is =
+    let quiet = plain_quiet w event is in
+    let nothing = plain_pushes w event is in
     let inbox = inbox-same w event nothing.0 nothing.1 in
     rests w (actors_after w event) quiet.controller
     (λ k.
@@ -69,9 +69,9 @@ plain-effect w event is =
 unchanged : (w : Actors) → Effect w w
 unchanged w = rests w w refl (λ k. omega arith) (λ k. refl)
 
-connect-effect : (w : Actors) (number station : ℕ) (initial : List ℕ) (accepts : Bool) → Effect w (actors_after w (Connect number station initial accepts))
+connect_effect : (w : Actors) (number station : ℕ) (initial : List ℕ) (accepts : Bool) → Effect w (actors_after w (Connect number station initial accepts))
 unfolding event_after
-connect-effect w number station initial accepts =
+connect_effect w number station initial accepts =
     after-taken (Effect w) (after_connecting w number station initial accepts) w
     (connect-leads (Effect w) w number station initial accepts (λ may. one_connects number (connects w number station initial accepts may) refl)) (unchanged w)
 
@@ -83,20 +83,20 @@ said-last k items item =
     ∙ requests-append k (said_in items) (said_in (item ∷ []))
     ∙ ap (λ (ms : List Rsl). requests_in k (said_in items) + requests_in k ms) (append-nil (said_by item.what))
 
-first-and-behind : (messages : List Rsl) (message : Rsl) → first_of_messages messages ≡ Some message → AllByRecursion IsSound messages → (message ∷ messages_behind_first messages ≡ messages) × IsSound message
-first-and-behind [] message is sound = absurd cc
-first-and-behind (first ∷ others) message is sound =
+first_and_behind : (messages : List Rsl) (message : Rsl) → first_of_messages messages ≡ Some message → AllByRecursion IsSound messages → (message ∷ messages_behind_first messages ≡ messages) × IsSound message
+first_and_behind [] message is sound = absurd cc
+first_and_behind (first ∷ others) message is sound =
     let same : first ≡ message = cc in
     (ap (λ (m : Rsl). m ∷ others) (sym same), subst IsSound same sound.0)
 
-push-effect : (w : Actors) (source : ℕ) → Good w → Effect w (actors_after w (BasePush source))
+push_effect : (w : Actors) (source : ℕ) → Good w → Effect w (actors_after w (BasePush source))
 unfolding event_after
-push-effect w source good =
+push_effect w source good =
     after-taken (Effect w) (after_base_push w source) w
     (push-leads (Effect w) w source
     (λ first others. rests w _ refl (λ k. let said = said-last k w.inbox (switch_item first) in omega (arith, said)) (λ k. refl))
     (λ message is.
-    let parts = first-and-behind (base_of w source).messages message is (end-of w source good).made in
+    let parts = first_and_behind (base_of w source).messages message is (end-of w source good).made in
     let reads : said_by (station_item source message).what ≡ message ∷ [] = ap (λ (r : _). option_to_list (result_ok r)) (sound-read message parts.1) in
     rests w _ refl
     (λ k.
@@ -104,18 +104,18 @@ push-effect w source good =
     let one : requests_in k (said_by (station_item source message).what) ≡ requests_in k (message ∷ []) = ap (requests_in k) reads in
     let whole : requests_in k (message ∷ messages_behind_first (base_of w source).messages) ≡ requests_in k (base_of w source).messages = ap (requests_in k) parts.0 in
     let both = requests-append k (message ∷ []) (messages_behind_first (base_of w source).messages) in
-    let set = made-set k (requests_in k (message ∷ [])) 0 w.stations (source - 1) (record (station_of w source) { base = after_next (base_of w source) }) (omega (arith, whole, both)) in
+    let set = made_set k (requests_in k (message ∷ [])) 0 w.stations (source - 1) (record (station_of w source) { base = after_next (base_of w source) }) (omega (arith, whole, both)) in
     omega (arith, said, one, set)) (λ k. refl))) (unchanged w)
 
-break-effect : (w : Actors) (source : ℕ) → Effect w (actors_after w (BaseDown source))
+break_effect : (w : Actors) (source : ℕ) → Effect w (actors_after w (BaseDown source))
 unfolding event_after
-break-effect w source =
+break_effect w source =
     after-taken (Effect w) (after_break w source) w
     (broken-leads (Effect w) w source
     (λ up is. rests w _ refl (λ k. let said = said-last k w.inbox (record { source = source; what = whats.Down }) in omega (arith, said)) (λ k. refl))
     (λ up is. rests w _ refl (λ k.
     let said = said-last k w.inbox (record { source = source; what = whats.Down }) in
-    let set = made-set k 0 0 w.stations (source - 1) (record (station_of (with_link source broken_link w) source) { base = after_take_down (base_of (with_link source broken_link w) source) }) (omega arith) in
+    let set = made_set k 0 0 w.stations (source - 1) (record (station_of (with_link source broken_link w) source) { base = after_take_down (base_of (with_link source broken_link w) source) }) (omega arith) in
     omega (arith, said, set)) (λ k. refl))) (unchanged w)
 
 -- ---- the controller works
@@ -124,11 +124,11 @@ break-effect w source =
 abbrev CameBy : Controller → Step → ℕ → Connection → Type 0
 CameBy c s n t = ((o : Connection) × (connection_of c n ≡ Some o) × (t.request.access ≡ o.request.access)) ⊎ Begins c s n t
 
-came-by : (p : Parameters) (ss : List Step) (s : Step) (n : ℕ) (t : Connection) → connection_of (step (life p ss).next s).next n ≡ Some t → CameBy (life p ss).next s n t
-came-by p ss s zero t is =
+came_by : (p : Parameters) (ss : List Step) (s : Step) (n : ℕ) (t : Connection) → connection_of (step (life p ss).next s).next n ≡ Some t → CameBy (life p ss).next s n t
+came_by p ss s zero t is =
     let numbered = step_numbered (life p ss).next s (life_fits p ss 1 (omega arith)).numbered in
     absurd (let both : None ≡ Some t = sym (ap (λ (o : Option Entry). option_map (λ (e : Entry). e.connection) o) (find_above 0 (step (life p ss).next s).next.entries numbered.above)) ∙ is in cc)
-came-by p ss s (suc m) t is = by (connection_of c (suc m)) refl where
+came_by p ss s (suc m) t is = by (connection_of c (suc m)) refl where
   c : Controller
   c = (life p ss).next
 
@@ -136,29 +136,29 @@ came-by p ss s (suc m) t is = by (connection_of c (suc m)) refl where
   same o stays = ap (λ (q : RequestReference). q.access) (subst (SameRequest (Some o)) is stays)
 
   by : (o : Option Connection) → connection_of c (suc m) ≡ o → CameBy c s (suc m) t
-  by None none = inr (step-begins c s (suc m) t (omega arith) (life_fits p ss 1 (omega arith)).numbered none is)
+  by None none = inr (step_begins c s (suc m) t (omega arith) (life_fits p ss 1 (omega arith)).numbered none is)
   by (Some o) there = inl (o, there, same o (subst (λ (x : Option Connection). SameRequest x (connection_of (step c s).next (suc m))) there (life_names p ss s (suc m) (omega arith)).stays))
 
-came-in : (settings : Parameters) (done : List Event) (w : Actors) (s : Step) → w ≡ world settings done → (n : ℕ) (t : Connection) → connection_of (step w.controller s).next n ≡ Some t → CameBy w.controller s n t
-came-in settings done w s is =
+came_in : (settings : Parameters) (done : List Event) (w : Actors) (s : Step) → w ≡ world settings done → (n : ℕ) (t : Connection) → connection_of (step w.controller s).next n ≡ Some t → CameBy w.controller s n t
+came_in settings done w s is =
     let lives : w.controller ≡ (life settings (all_steps (new_actors settings) done)).next = ap (λ (x : Actors). x.controller) is ∙ LivesByTable-new settings done in
-    subst (λ (c : Controller). (n : ℕ) (t : Connection) → connection_of (step c s).next n ≡ Some t → CameBy c s n t) (sym lives) (came-by settings (all_steps (new_actors settings) done) s)
+    subst (λ (c : Controller). (n : ℕ) (t : Connection) → connection_of (step c s).next n ≡ Some t → CameBy c s n t) (sym lives) (came_by settings (all_steps (new_actors settings) done) s)
 
 -- the item that it takes says a request
-begins-said : (c : Controller) (item : Item) (n : ℕ) (t : Connection) → IsKnownItem item → Begins c (steps.Take item) n t → 1 ≤ requests_in t.request.access (said_by item.what)
-begins-said c item n t known begins =
+begins_said : (c : Controller) (item : Item) (n : ℕ) (t : Connection) → IsKnownItem item → Begins c (steps.Take item) n t → 1 ≤ requests_in t.request.access (said_by item.what)
+begins_said c item n t known begins =
     let same : item ≡ begins.item = taken-is begins.is in
     let frame : item.what ≡ whats.Frame begins.frame = ap (λ (i : Item). i.what) same ∙ begins.frame_is in
     let own : item ≡ record { source = item.source; what = whats.Frame begins.frame } = ap (λ (x : What). record { source = item.source; what = x }) frame in
-    let said : requests_in t.request.access (said_by (whats.Frame begins.frame)) ≡ 1 = asking-says item.source begins.frame t.request begins.delay (subst IsKnownItem own known) (ap (λ (i : Item). word_of i.source begins.frame) same ∙ begins.asks) in
+    let said : requests_in t.request.access (said_by (whats.Frame begins.frame)) ≡ 1 = asking_says item.source begins.frame t.request begins.delay (subst IsKnownItem own known) (ap (λ (i : Item). word_of i.source begins.frame) same ∙ begins.asks) in
     let all : requests_in t.request.access (said_by item.what) ≡ 1 = ap (λ (x : What). requests_in t.request.access (said_by x)) frame ∙ said in
     omega (arith, all)
   where
     taken-is : {a b : Item} → steps.Take a ≡ steps.Take b → a ≡ b
     taken-is is = cc
 
-take-effect : (settings : Parameters) (done : List Event) (w : Actors) (item : Item) (items : List Item) → w ≡ world settings done → w.inbox ≡ item ∷ items → Effect w (with_turn (target_in w item.source item.what) (take item w.controller) (record w { inbox = items }))
-take-effect settings done w item items is stands =
+take_effect : (settings : Parameters) (done : List Event) (w : Actors) (item : Item) (items : List Item) → w ≡ world settings done → w.inbox ≡ item ∷ items → Effect w (with_turn (target_in w item.source item.what) (take item w.controller) (record w { inbox = items }))
+take_effect settings done w item items is stands =
     let known : AllByRecursion IsKnownItem (item ∷ items) = subst (AllByRecursion IsKnownItem) stands (subst (λ (x : Actors). AllByRecursion IsKnownItem x.inbox) (sym is) (known-inbox settings done)) in
     turn-leads (Effect w) (target_in w item.source item.what) (take item w.controller) (record w { inbox = items }) (λ links.
     takes (λ k. requests_in k (said_by item.what))
@@ -167,17 +167,17 @@ take-effect settings done w item items is stands =
     let parts = requests-append k (said_by item.what) (said_in items) in
     omega (arith, all, parts))
     (λ k. refl)
-    (λ n t now. was n t (came-in settings done w (steps.Take item) is n t now) known.0))
+    (λ n t now. was n t (came_in settings done w (steps.Take item) is n t now) known.0))
   where
     was : (n : ℕ) (t : Connection) → CameBy w.controller (steps.Take item) n t → IsKnownItem item → WasOrBegins (λ k. requests_in k (said_by item.what)) w n t
     was n t (inl before) known = inl before
-    was n t (inr begins) known = inr (begins-said w.controller item n t known begins, begins.number)
+    was n t (inr begins) known = inr (begins_said w.controller item n t known begins, begins.number)
 
-tick-effect : (settings : Parameters) (done : List Event) (w : Actors) (ms : ℕ) → w ≡ world settings done → Effect w (actors_after w (Tick ms))
+tick_effect : (settings : Parameters) (done : List Event) (w : Actors) (ms : ℕ) → w ≡ world settings done → Effect w (actors_after w (Tick ms))
 unfolding event_after
-tick-effect settings done w ms is =
+tick_effect settings done w ms is =
     turn-leads (Effect w) None (tick ms w.controller) w (λ links.
-    takes none (λ k. omega arith) (λ k. refl) (λ n t now. was n t (came-in settings done w (steps.Tick ms) is n t now)))
+    takes none (λ k. omega arith) (λ k. refl) (λ n t now. was n t (came_in settings done w (steps.Tick ms) is n t now)))
   where
     never : (item : Item) → steps.Tick ms ≡ steps.Take item → ⊥
     never item is = absurd cc
@@ -186,20 +186,20 @@ tick-effect settings done w ms is =
     was n t (inl before) = inl before
     was n t (inr begins) = absurd (never begins.item begins.is)
 
-handle-effect : (settings : Parameters) (done : List Event) (w : Actors) → w ≡ world settings done → Effect w (actors_after w Handle)
+handle_effect : (settings : Parameters) (done : List Event) (w : Actors) → w ≡ world settings done → Effect w (actors_after w Handle)
 unfolding event_after
-handle-effect settings done w is = by w.inbox refl where
+handle_effect settings done w is = by w.inbox refl where
   by : (items : List Item) → w.inbox ≡ items → Effect w (unwrap_or (handled items w) w)
   by [] stands = unchanged w
-  by (item ∷ items) stands = take-effect settings done w item items is stands
+  by (item ∷ items) stands = take_effect settings done w item items is stands
 
 effect : (settings : Parameters) (done : List Event) (w : Actors) (event : Event) → w ≡ world settings done → Effect w (actors_after w event)
-effect settings done w (Connect number station initial accepts) is = connect-effect w number station initial accepts
-effect settings done w (BasePush source) is = push-effect w source (subst Good (sym is) (good-all (new_actors settings) done (good-new settings)))
-effect settings done w (BaseDown source) is = break-effect w source
-effect settings done w Handle is = handle-effect settings done w is
-effect settings done w (Tick ms) is = tick-effect settings done w ms is
-effect settings done w event is = plain-effect w event refl
+effect settings done w (Connect number station initial accepts) is = connect_effect w number station initial accepts
+effect settings done w (BasePush source) is = push_effect w source (subst Good (sym is) (good-all (new_actors settings) done (good-new settings)))
+effect settings done w (BaseDown source) is = break_effect w source
+effect settings done w Handle is = handle_effect settings done w is
+effect settings done w (Tick ms) is = tick_effect settings done w ms is
+effect settings done w event is = plain_effect w event refl
 
 -- ---- what is kept
 
@@ -211,17 +211,17 @@ record Once (w : Actors) : Type 0 where
   nobody : is_none (mobile_of w 0) ≡ true
 
 -- a mobile that is new never asked
-new-silent : (w : Actors) (number : ℕ) → Once w → is_none (mobile_of w number) ≡ true → requests_up w number ≡ 0
-new-silent w number once new = by (requests_up w number) (once.known number) where
+new_silent : (w : Actors) (number : ℕ) → Once w → is_none (mobile_of w number) ≡ true → requests_up w number ≡ 0
+new_silent w number once new = by (requests_up w number) (once.known number) where
   by : (n : ℕ) → (1 ≤ n → is_none (mobile_of w number) ≡ false) → n ≡ 0
   by zero known = refl
   by (suc n) known = absurd (true≢false (sym new ∙ known (omega arith)))
 
-not-zero : (a b : ℕ) → 1 ≤ a → b ≡ 0 → a ≤ b → ⊥
-not-zero a b some none less = absurd (omega (arith, some, none, less))
+not_zero : (a b : ℕ) → 1 ≤ a → b ≡ 0 → a ≤ b → ⊥
+not_zero a b some none less = absurd (omega (arith, some, none, less))
 
-once-takes : (w v : Actors) (taken : ℕ → ℕ) → ((k : ℕ) → requests_up v k + taken k ≤ requests_up w k) → ((k : ℕ) → is_none (mobile_of v k) ≡ is_none (mobile_of w k)) → ((n : ℕ) (t : Connection) → connection_of v.controller n ≡ Some t → WasOrBegins taken w n t) → Once w → Once v
-once-takes w v taken fewer there was once = record {
+once_takes : (w v : Actors) (taken : ℕ → ℕ) → ((k : ℕ) → requests_up v k + taken k ≤ requests_up w k) → ((k : ℕ) → is_none (mobile_of v k) ≡ is_none (mobile_of w k)) → ((n : ℕ) (t : Connection) → connection_of v.controller n ≡ Some t → WasOrBegins taken w n t) → Once w → Once v
+once_takes w v taken fewer there was once = record {
   few = λ k. let less = fewer k in let few = once.few k in omega (arith, less, few);
   known = λ k some. there k ∙ once.known k (let less = fewer k in omega (arith, less, some));
   owned = λ n t is. owned-by n t (was n t is);
@@ -256,8 +256,8 @@ once-takes w v taken fewer there was once = record {
   alone-by n m s t (inr (some, next)) (inl (p, is, same)) both = absurd (begun-after s.request.access m p is (both ∙ same) some)
   alone-by n m s t (inr (some, next)) (inr (some_too, next_too)) both = next ∙ sym next_too
 
-once-connects : (w v : Actors) (number : ℕ) → Connects number w v → v.inbox ≡ w.inbox → Once w → Once v
-once-connects w v number now inbox once = record {
+once_connects : (w v : Actors) (number : ℕ) → Connects number w v → v.inbox ≡ w.inbox → Once w → Once v
+once_connects w v number now inbox once = record {
   few = λ k. few-by k (number == k) refl;
   known = λ k some. known-by k some (number == k) refl;
   owned = λ n s is. let before = once.owned n s (ap (λ (c : Controller). connection_of c n) (sym now.controller) ∙ is) in owned-by s.request.access before.0 before.1 (number == s.request.access) refl;
@@ -274,7 +274,7 @@ once-connects w v number now inbox once = record {
       omega (arith, made, same)
 
   silent : (k : ℕ) → (number == k) ≡ true → requests_up w k ≡ 0
-  silent k is = new-silent w k once (ap (λ (m : ℕ). is_none (mobile_of w m)) (sym (eqb-true number k is)) ∙ now.new)
+  silent k is = new_silent w k once (ap (λ (m : ℕ). is_none (mobile_of w m)) (sym (eqb-true number k is)) ∙ now.new)
 
   few-by : (k : ℕ) (b : Bool) → (number == k) ≡ b → requests_up v k ≤ 1
   few-by k true is = let less = more k true is in let none = silent k is in omega (arith, less, none)
@@ -291,9 +291,9 @@ once-connects w v number now inbox once = record {
     now.there k ∙ ap (λ (b : Bool). if b then false else is_none (mobile_of w k)) is ∙ present,
   )
 
-once-by : (w v : Actors) → Effect w v → Once w → Once v
-once-by w v (takes taken fewer there was) once = once-takes w v taken fewer there was once
-once-by w v (one_connects number now inbox) once = once-connects w v number now inbox once
+once_by : (w v : Actors) → Effect w v → Once w → Once v
+once_by w v (takes taken fewer there was) once = once_takes w v taken fewer there was once
+once_by w v (one_connects number now inbox) once = once_connects w v number now inbox once
 
 -- ---- a mobile whose connection is there, or was
 
@@ -303,8 +303,8 @@ record IsDone (mobile number : ℕ) (w : Actors) : Type 0 where
   present : is_none (mobile_of w mobile) ≡ false
   one : (n : ℕ) (s : Connection) → connection_of w.controller n ≡ Some s → s.request.access ≡ mobile → n ≡ number
 
-done-by : (mobile number : ℕ) (w v : Actors) → Effect w v → IsDone mobile number w → IsDone mobile number v
-done-by mobile number w v (takes taken fewer there was) done = record {
+done_by : (mobile number : ℕ) (w v : Actors) → Effect w v → IsDone mobile number w → IsDone mobile number v
+done_by mobile number w v (takes taken fewer there was) done = record {
   silent = let less = fewer mobile in let nothing = done.silent in omega (arith, less, nothing);
   present = there mobile ∙ done.present;
   one = λ n t is same. by n t same (was n t is);
@@ -315,7 +315,7 @@ done-by mobile number w v (takes taken fewer there was) done = record {
   by : (n : ℕ) (t : Connection) → t.request.access ≡ mobile → WasOrBegins taken w n t → n ≡ number
   by n t same (inl (s, is, access)) = done.one n s is (sym access ∙ same)
   by n t same (inr (some, next)) = absurd (none-taken (subst (λ (k : ℕ). 1 ≤ taken k) same some))
-done-by mobile number w v (one_connects other now inbox) done = record {
+done_by mobile number w v (one_connects other now inbox) done = record {
   silent =
       let made : requests_in mobile (made_by v.stations) ≤ requests_in mobile (made_by w.stations) + (if false then 1 else 0) = subst (λ (b : Bool). requests_in mobile (made_by v.stations) ≤ requests_in mobile (made_by w.stations) + (if b then 1 else 0)) differs (now.total mobile) in
       let stood : requests_in mobile (said_in v.inbox) ≡ requests_in mobile (said_in w.inbox) = ap (λ (items : List Item). requests_in mobile (said_in items)) inbox in
@@ -329,81 +329,81 @@ done-by mobile number w v (one_connects other now inbox) done = record {
 
 -- ---- over all events
 
-pub append-actors : (w : Actors) (xs ys : List Event) → actors_after_all w (xs ++ ys) ≡ actors_after_all (actors_after_all w xs) ys
-append-actors w [] ys = refl
-append-actors w (x ∷ xs) ys = append-actors (actors_after w x) xs ys
+pub append_actors : (w : Actors) (xs ys : List Event) → actors_after_all w (xs ++ ys) ≡ actors_after_all (actors_after_all w xs) ys
+append_actors w [] ys = refl
+append_actors w (x ∷ xs) ys = append_actors (actors_after w x) xs ys
 
 -- what each event keeps
-kept-through : (P : Actors → Type 0) → ((w v : Actors) → Effect w v → P w → P v) → (settings : Parameters) (done rest : List Event) (w : Actors) → w ≡ world settings done → P w → P (actors_after_all w rest)
-kept-through P keeps settings done [] w is holds = holds
-kept-through P keeps settings done (event ∷ rest) w is holds =
-    kept-through P keeps settings (done ++ event ∷ []) rest (actors_after w event) (ap (λ (x : Actors). actors_after x event) is ∙ sym (snoc-actors (new_actors settings) done event))
+kept_through : (P : Actors → Type 0) → ((w v : Actors) → Effect w v → P w → P v) → (settings : Parameters) (done rest : List Event) (w : Actors) → w ≡ world settings done → P w → P (actors_after_all w rest)
+kept_through P keeps settings done [] w is holds = holds
+kept_through P keeps settings done (event ∷ rest) w is holds =
+    kept_through P keeps settings (done ++ event ∷ []) rest (actors_after w event) (ap (λ (x : Actors). actors_after x event) is ∙ sym (snoc_actors (new_actors settings) done event))
     (keeps w (actors_after w event) (effect settings done w event is) holds)
 
-new-made : (k : ℕ) (from : ℕ) (cells : List CellParameters) → requests_in k (made_by (stations_from from cells)) ≡ 0
-new-made k from [] = refl
-new-made k from (cell ∷ cells) = new-made k (from + 1) cells
+new_made : (k : ℕ) (from : ℕ) (cells : List CellParameters) → requests_in k (made_by (stations_from from cells)) ≡ 0
+new_made k from [] = refl
+new_made k from (cell ∷ cells) = new_made k (from + 1) cells
 
-once-new : (settings : Parameters) → Once (new_actors settings)
-once-new settings = record {
-  few = λ k. let nothing = new-made k 1 settings.cells in omega (arith, nothing);
-  known = λ k some. absurd (let nothing = new-made k 1 settings.cells in omega (arith, nothing, some));
+once_new : (settings : Parameters) → Once (new_actors settings)
+once_new settings = record {
+  few = λ k. let nothing = new_made k 1 settings.cells in omega (arith, nothing);
+  known = λ k some. absurd (let nothing = new_made k 1 settings.cells in omega (arith, nothing, some));
   owned = λ n s is. absurd cc;
   alone = λ n m s t is other same. absurd cc;
   nobody = refl;
 }
 
-once-all : (settings : Parameters) (events : List Event) → Once (world settings events)
-once-all settings events = kept-through Once once-by settings [] events (new_actors settings) refl (once-new settings)
+once_all : (settings : Parameters) (events : List Event) → Once (world settings events)
+once_all settings events = kept_through Once once_by settings [] events (new_actors settings) refl (once_new settings)
 
 -- ---- the laws
 
-present-of : (o : Option Mobile) → is_none o ≡ false → (p : Mobile) × (o ≡ Some p)
-present-of None is = absurd cc
-present-of (Some p) is = (p, refl)
+present_of : (o : Option Mobile) → is_none o ≡ false → (p : Mobile) × (o ≡ Some p)
+present_of None is = absurd cc
+present_of (Some p) is = (p, refl)
 
-from-one : (w : Actors) (k : ℕ) → Once w → is_none (mobile_of w k) ≡ false → 1 ≤ k
-from-one w zero once present = absurd (true≢false (sym once.nobody ∙ present))
-from-one w (suc k) once present = omega arith
+present_from_one : (w : Actors) (k : ℕ) → Once w → is_none (mobile_of w k) ≡ false → 1 ≤ k
+present_from_one w zero once present = absurd (true≢false (sym once.nobody ∙ present))
+present_from_one w (suc k) once present = omega arith
 
-pub ConnectionsAnswerMobiles-new : (settings : Parameters) (events : List Event) → ConnectionsAnswerMobiles settings events
-ConnectionsAnswerMobiles-new settings events number s is =
-    let once = once-all settings events in
+pub connections_answer_mobiles_new : (settings : Parameters) (events : List Event) → ConnectionsAnswerMobiles settings events
+connections_answer_mobiles_new settings events number s is =
+    let once = once_all settings events in
     let own = once.owned number s is in
-    let one = present-of (mobile_of (world settings events) s.request.access) own.1 in
-    record { from_one = from-one (world settings events) s.request.access once own.1; one = one.0; found = one.1; none_up = own.0 }
+    let one = present_of (mobile_of (world settings events) s.request.access) own.1 in
+    record { from_one = present_from_one (world settings events) s.request.access once own.1; one = one.0; found = one.1; none_up = own.0 }
 
-pub ConnectionsAreOneEach-new : (settings : Parameters) (events : List Event) → ConnectionsAreOneEach settings events
-ConnectionsAreOneEach-new settings events number other s t is there same = (once-all settings events).alone number other s t is there same
+pub connections_are_one_each_new : (settings : Parameters) (events : List Event) → ConnectionsAreOneEach settings events
+connections_are_one_each_new settings events number other s t is there same = (once_all settings events).alone number other s t is there same
 
-pub RequestsComeOnce-new : (settings : Parameters) (events : List Event) → RequestsComeOnce settings events
-RequestsComeOnce-new settings events mobile some =
+pub requests_come_once_new : (settings : Parameters) (events : List Event) → RequestsComeOnce settings events
+requests_come_once_new settings events mobile some =
     let w : Actors = world settings events in
-    let once = once-all settings events in
+    let once = once_all settings events in
     let present = once.known mobile some in
-    let one = present-of (mobile_of w mobile) present in
+    let one = present_of (mobile_of w mobile) present in
     let few = once.few mobile in
     record {
-      from_one = from-one w mobile once present;
+      from_one = present_from_one w mobile once present;
       one = one.0;
       found = one.1;
       only = omega (arith, few, some);
-      unanswered = λ number s is same. not-zero 1 (requests_up w mobile) (omega arith) (ap (requests_up w) (sym same) ∙ (once.owned number s is).0) some;
+      unanswered = λ number s is same. not_zero 1 (requests_up w mobile) (omega arith) (ap (requests_up w) (sym same) ∙ (once.owned number s is).0) some;
     }
 
 -- from a connection on its mobile is done
-done-after : (settings : Parameters) (before after : List Event) (number : ℕ) (s : Connection) → connection_of (world settings before).controller number ≡ Some s → IsDone s.request.access number (world settings (before ++ after))
-done-after settings before after number s is =
-    let once = once-all settings before in
+done_after : (settings : Parameters) (before after : List Event) (number : ℕ) (s : Connection) → connection_of (world settings before).controller number ≡ Some s → IsDone s.request.access number (world settings (before ++ after))
+done_after settings before after number s is =
+    let once = once_all settings before in
     let own = once.owned number s is in
-    subst (IsDone s.request.access number) (sym (append-actors (new_actors settings) before after))
-    (kept-through (IsDone s.request.access number) (done-by s.request.access number) settings before after (world settings before) refl
+    subst (IsDone s.request.access number) (sym (append_actors (new_actors settings) before after))
+    (kept_through (IsDone s.request.access number) (done_by s.request.access number) settings before after (world settings before) refl
     (record { silent = own.0; present = own.1; one = λ n t there same. once.alone n number t s there is same }))
 
-pub NoneWasAnswered-new : (settings : Parameters) (before after : List Event) → NoneWasAnswered settings before after
-NoneWasAnswered-new settings before after mobile some number s is same =
-    let done = done-after settings before after number s is in
-    not-zero 1 (requests_up (world settings (before ++ after)) mobile) (omega arith) (ap (requests_up (world settings (before ++ after))) (sym same) ∙ done.silent) some
+pub none_was_answered_new : (settings : Parameters) (before after : List Event) → NoneWasAnswered settings before after
+none_was_answered_new settings before after mobile some number s is same =
+    let done = done_after settings before after number s is in
+    not_zero 1 (requests_up (world settings (before ++ after)) mobile) (omega arith) (ap (requests_up (world settings (before ++ after))) (sym same) ∙ done.silent) some
 
-pub NoneIsAnsweredAgain-new : (settings : Parameters) (before after : List Event) → NoneIsAnsweredAgain settings before after
-NoneIsAnsweredAgain-new settings before after number other s t is there same = sym ((done-after settings before after number s is).one other t there (sym same))
+pub none_is_answered_again_new : (settings : Parameters) (before after : List Event) → NoneIsAnsweredAgain settings before after
+none_is_answered_again_new settings before after number other s t is there same = sym ((done_after settings before after number s is).one other t there (sym same))

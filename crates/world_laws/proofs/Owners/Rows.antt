@@ -4,7 +4,7 @@ use Rattle.world_laws.proofs.Prelude.{new_connection, connection_of, activation_
 use Rattle.world_laws.proofs.Prelude.{BaseTakes, BasePush, Handle, actors_after_all, channel_required, owner_in, station_item}
 use Rattle.world_model.proofs.Worlds.{on_literals}
 use Rattle.world_laws.specs.Owners.Alone.{IsMobiles}
-use Rattle.world_laws.proofs.Owners.LinkEnds.{frame-down}
+use Rattle.world_laws.proofs.Owners.LinkEnds.{frame_down}
 use Rattle.world_laws.specs.Owners.LinkEnds.{EndsWithDown, LinksAreUp, down_of}
 use Rattle.world_laws.specs.Owners.OneEach.{is_request_of, requests_in, requests_up}
 use Rattle.world_laws.proofs.Usual.{begin, channel}
@@ -61,7 +61,7 @@ abbrev made : Rsl
 made = activation_ack 0x41
 
 down_comes_last : EndsWithDown 1 (station_item 1 made ∷ down_of 1 ∷ station_item 2 made ∷ [])
-down_comes_last = ((λ is. absurd (frame-down 1 (station_item 1 made) _ refl is)), ((λ is. refl), ((λ is. absurd (frame-down 1 (station_item 2 made) _ refl is)), tt)))
+down_comes_last = ((λ is. absurd (frame_down 1 (station_item 1 made) _ refl is)), ((λ is. refl), ((λ is. absurd (frame_down 1 (station_item 2 made) _ refl is)), tt)))
 
 nothing_behind : EndsWithDown 1 (down_of 1 ∷ station_item 1 made ∷ []) → ⊥
 unfolding on_literals

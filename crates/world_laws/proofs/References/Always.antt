@@ -15,13 +15,13 @@ use Rattle.world_laws.specs.References.Agree.Agrees.{is_unasked}
 use Rattle.world_laws.specs.References.Over.{TakesOctets}
 use Rattle.world_laws.specs.References.Reads.{AreNothing}
 use Rattle.world_laws.specs.References.Taken.{NamesAlwaysAgree, PeersDiffer}
-use Rattle.world_laws.proofs.References.Events.{IsBeside, Keeps, break-keeps, by-beside, does-keeps, keeps-itself, dropped-same, push-keeps}
+use Rattle.world_laws.proofs.References.Events.{IsBeside, Keeps, break_keeps, by_beside, does_keeps, keeps_itself, dropped_same, push_keeps}
 use Rattle.world_laws.proofs.References.FirstTaken.{IsFirst, names-after, peers-after, unheard-after}
 use Rattle.world_laws.proofs.References.Moving.{lived}
-use Rattle.world_laws.proofs.References.Peers.{HaveOwnPeers, own-peers}
-use Rattle.world_laws.proofs.References.Stepping.{Lawful, item-comes, lawful-step, step-keeps}
-use Rattle.world_laws.proofs.Events.{snoc-actors, snoc-steps, world}
-use Rattle.world_laws.proofs.Framing.{all-left, all-right}
+use Rattle.world_laws.proofs.References.Peers.{HaveOwnPeers, own_peers}
+use Rattle.world_laws.proofs.References.Stepping.{Lawful, item-comes, lawful_step, step-keeps}
+use Rattle.world_laws.proofs.Events.{snoc_actors, snoc_steps, world}
+use Rattle.world_laws.proofs.Framing.{all_left, all_right}
 
 -- ---- beside
 
@@ -29,11 +29,11 @@ use Rattle.world_laws.proofs.Framing.{all-left, all-right}
 beside : (w : Actors) → IsBeside w w
 beside w = record { controller_is = refl; switch_is = refl; made_is = refl; inbox_is = refl; outbox_is = refl }
 
-beside-after : (w : Actors) (o : Option Actors) → OfTaken (IsBeside w) o → Keeps w (unwrap_or o w)
-beside-after w o leads = by-beside w (unwrap_or o w) (after-taken (IsBeside w) o w leads (beside w))
+beside_after : (w : Actors) (o : Option Actors) → OfTaken (IsBeside w) o → Keeps w (unwrap_or o w)
+beside_after w o leads = by_beside w (unwrap_or o w) (after-taken (IsBeside w) o w leads (beside w))
 
-beside-takes : (w : Actors) (station : ℕ) → OfTaken (IsBeside w) (after_base_takes w station)
-beside-takes w station = taking-leads (IsBeside w) w station (λ first others up _ mobiles stations.
+beside_takes : (w : Actors) (station : ℕ) → OfTaken (IsBeside w) (after_base_takes w station)
+beside_takes w station = taking-leads (IsBeside w) w station (λ first others up _ mobiles stations.
     record { controller_is = refl; switch_is = refl; made_is = refl; inbox_is = refl; outbox_is = same others (up-right station w up).0 })
   where
     same : (others : List OutboxEntry) → station ≢ SWITCH_LINK → outbox_of (with_outbox station others w) SWITCH_LINK ≡ outbox_of w SWITCH_LINK
@@ -49,44 +49,44 @@ pub record Before (w : Actors) (event : Event) : Type 0 where
   pub octets : TakesOctets w event
 
 -- the switch takes
-takes-keeps : (w : Actors) → NamesAgree w → w.controller.next_number ≤ 2 ^ 24 → Keeps w (unwrap_or (after_switch_takes w) w)
-takes-keeps w agree few = after-taken (Keeps w) (after_switch_takes w) w (switch_takes-leads (Keeps w) w (λ first others up stood.
+takes_keeps : (w : Actors) → NamesAgree w → w.controller.next_number ≤ 2 ^ 24 → Keeps w (unwrap_or (after_switch_takes w) w)
+takes_keeps w agree few = after-taken (Keeps w) (after_switch_takes w) w (switch_takes-leads (Keeps w) w (λ first others up stood.
     let h : IsFirst w first others = record { agree = agree; few = few; up = up; stood = stood } in
-    first-keeps first others h)) (keeps-itself w)
+    first-keeps first others h)) (keeps_itself w)
   where
     first-keeps : (first : OutboxEntry) (others : List OutboxEntry) → IsFirst w first others → Keeps w (switch_took (sccp_in first.out.frame) (with_outbox SWITCH_LINK others w))
     first-keeps first others h = record {
       names = λ agree. names-after w first others h;
       unheard = λ n from_one has unknown. unheard-after w first others h n from_one has unknown;
-      dropped = λ n from_one has closed. dropped-same w (switch_took (sccp_in first.out.frame) (with_outbox SWITCH_LINK others w)) n (same_controller (sccp_in first.out.frame)) has closed;
+      dropped = λ n from_one has closed. dropped_same w (switch_took (sccp_in first.out.frame) (with_outbox SWITCH_LINK others w)) n (same_controller (sccp_in first.out.frame)) has closed;
       peers = λ differ. peers-after w first others h differ;
     } where
       same_controller : (o : Option Sccp) → (switch_took o (with_outbox SWITCH_LINK others w)).controller ≡ w.controller
       same_controller None = refl
       same_controller (Some message) = refl
 
-handle-keeps : (w : Actors) → ((s : Step) → ComesInOctets s → Lawful w.controller s) → (items : List Item) → w.inbox ≡ items → AllByRecursion ComesInOctets (first_taken items) → Keeps w (unwrap_or (handled items w) w)
-handle-keeps w laws [] is own = keeps-itself w
-handle-keeps w laws (item ∷ items) is own =
+handle_keeps : (w : Actors) → ((s : Step) → ComesInOctets s → Lawful w.controller s) → (items : List Item) → w.inbox ≡ items → AllByRecursion ComesInOctets (first_taken items) → Keeps w (unwrap_or (handled items w) w)
+handle_keeps w laws [] is own = keeps_itself w
+handle_keeps w laws (item ∷ items) is own =
     step-keeps w items (target_in w item.source item.what) (steps.Take item) (laws (steps.Take item) own.0)
     (λ n P confirms. (subst (AllByRecursion (ConfirmsBeing P n)) is confirms.waiting).1)
     (λ n P confirms r comes. item-comes P n r w.controller item (subst (AllByRecursion (ConfirmsBeing P n)) is confirms.waiting).0 comes)
 
 pub keeps : (w : Actors) (event : Event) → Before w event → Keeps w (actors_after w event)
 unfolding event_after FromAir
-keeps w (BaseTakes station) h = beside-after w (after_base_takes w station) (beside-takes w station)
-keeps w (BasePush source) h = push-keeps w source
-keeps w Handle h = handle-keeps w h.laws w.inbox refl h.octets
-keeps w SwitchTakes h = takes-keeps w h.agree h.few
-keeps w (SwitchDoes action) h = does-keeps w action
+keeps w (BaseTakes station) h = beside_after w (after_base_takes w station) (beside_takes w station)
+keeps w (BasePush source) h = push_keeps w source
+keeps w Handle h = handle_keeps w h.laws w.inbox refl h.octets
+keeps w SwitchTakes h = takes_keeps w h.agree h.few
+keeps w (SwitchDoes action) h = does_keeps w action
 keeps w (Tick ms) h = step-keeps w w.inbox None (steps.Tick ms) (h.laws (steps.Tick ms) h.octets.0) (λ n P confirms. confirms.waiting) (λ n P confirms r comes. absurd comes)
-keeps w (BaseDown source) h = break-keeps w source
-keeps w event h = beside-after w (event_after w event) (aerial-leads (IsBeside w) w event refl (λ mobiles stations. record { controller_is = refl; switch_is = refl; made_is = refl; inbox_is = refl; outbox_is = refl }))
+keeps w (BaseDown source) h = break_keeps w source
+keeps w event h = beside_after w (event_after w event) (aerial-leads (IsBeside w) w event refl (λ mobiles stations. record { controller_is = refl; switch_is = refl; made_is = refl; inbox_is = refl; outbox_is = refl }))
 
 -- ---- all events
 
-new-agree : (settings : Parameters) → NamesAgree (new_actors settings)
-new-agree settings = record {
+new_agree : (settings : Parameters) → NamesAgree (new_actors settings)
+new_agree settings = record {
   each = λ n from_one. is_unasked (inl from_one) (record {
     none = refl;
     quiet = subst (λ (entries : List OutboxEntry). AreNothing (reads_of n entries)) (sym empty) tt;
@@ -97,35 +97,35 @@ new-agree settings = record {
   empty : outbox_of (new_actors settings) SWITCH_LINK ≡ []
   empty = new_outbox (length settings.cells + 1) SWITCH_LINK
 
-pub before-of : (settings : Parameters) (done : List Event) (w : Actors) (event : Event) → w ≡ world settings done → AreAllowed settings → AllByRecursion ComesInOctets (all_steps (new_actors settings) done) → TakesOctets w event → NamesAgree w → Before w event
-before-of settings done w event is allowed octets own agree =
+pub before_of : (settings : Parameters) (done : List Event) (w : Actors) (event : Event) → w ≡ world settings done → AreAllowed settings → AllByRecursion ComesInOctets (all_steps (new_actors settings) done) → TakesOctets w event → NamesAgree w → Before w event
+before_of settings done w event is allowed octets own agree =
     let lives : w.controller ≡ lived settings done = ap (λ (x : Actors). x.controller) is ∙ LivesByTable-new settings done in
     record {
       agree = agree;
       few = subst (λ (c : Controller). c.next_number ≤ 2 ^ 24) (sym lives) (life_sound settings (all_steps (new_actors settings) done) allowed octets).next;
-      laws = λ s comes. subst (λ (c : Controller). Lawful c s) (sym lives) (lawful-step settings (all_steps (new_actors settings) done) s allowed octets comes);
+      laws = λ s comes. subst (λ (c : Controller). Lawful c s) (sym lives) (lawful_step settings (all_steps (new_actors settings) done) s allowed octets comes);
       octets = own;
     }
 
 abbrev AgreeWithOwnPeers : Actors → Type 0
 AgreeWithOwnPeers w = NamesAgree w × HaveOwnPeers w
 
-agree-through : (settings : Parameters) (done rest : List Event) (w : Actors) → w ≡ world settings done → AreAllowed settings → AllByRecursion ComesInOctets (all_steps (new_actors settings) done) → AllByRecursion ComesInOctets (all_steps w rest) → AgreeWithOwnPeers w → AgreeWithOwnPeers (actors_after_all w rest)
-agree-through settings done [] w is allowed octets later agree = agree
-agree-through settings done (event ∷ rest) w is allowed octets later agree =
-    let own = all-left ComesInOctets (step_at w event) (all_steps (actors_after w event) rest) later in
-    let kept : Keeps w (actors_after w event) = keeps w event (before-of settings done w event is allowed octets own agree.0) in
-    agree-through settings (done ++ event ∷ []) rest (actors_after w event) (ap (λ (x : Actors). actors_after x event) is ∙ sym (snoc-actors (new_actors settings) done event)) allowed
-    (subst (AllByRecursion ComesInOctets) (sym (snoc-steps (new_actors settings) done event)) (AllByRecursion-append ComesInOctets (all_steps (new_actors settings) done) (step_at (world settings done) event) octets
+agree_through : (settings : Parameters) (done rest : List Event) (w : Actors) → w ≡ world settings done → AreAllowed settings → AllByRecursion ComesInOctets (all_steps (new_actors settings) done) → AllByRecursion ComesInOctets (all_steps w rest) → AgreeWithOwnPeers w → AgreeWithOwnPeers (actors_after_all w rest)
+agree_through settings done [] w is allowed octets later agree = agree
+agree_through settings done (event ∷ rest) w is allowed octets later agree =
+    let own = all_left ComesInOctets (step_at w event) (all_steps (actors_after w event) rest) later in
+    let kept : Keeps w (actors_after w event) = keeps w event (before_of settings done w event is allowed octets own agree.0) in
+    agree_through settings (done ++ event ∷ []) rest (actors_after w event) (ap (λ (x : Actors). actors_after x event) is ∙ sym (snoc_actors (new_actors settings) done event)) allowed
+    (subst (AllByRecursion ComesInOctets) (sym (snoc_steps (new_actors settings) done event)) (AllByRecursion-append ComesInOctets (all_steps (new_actors settings) done) (step_at (world settings done) event) octets
     (subst (λ (x : Actors). AllByRecursion ComesInOctets (step_at x event)) is own)))
-    (all-right ComesInOctets (step_at w event) (all_steps (actors_after w event) rest) later)
+    (all_right ComesInOctets (step_at w event) (all_steps (actors_after w event) rest) later)
     (kept.names agree.0, kept.peers agree.1)
 
-agree-new : (settings : Parameters) (events : List Event) → AreAllowed settings → AllByRecursion ComesInOctets (all_steps (new_actors settings) events) → AgreeWithOwnPeers (world settings events)
-agree-new settings events allowed octets = agree-through settings [] events (new_actors settings) refl allowed tt octets (new-agree settings, tt)
+agree_new : (settings : Parameters) (events : List Event) → AreAllowed settings → AllByRecursion ComesInOctets (all_steps (new_actors settings) events) → AgreeWithOwnPeers (world settings events)
+agree_new settings events allowed octets = agree_through settings [] events (new_actors settings) refl allowed tt octets (new_agree settings, tt)
 
-pub NamesAlwaysAgree-new : (settings : Parameters) (events : List Event) → NamesAlwaysAgree settings events
-NamesAlwaysAgree-new settings events allowed octets = (agree-new settings events allowed octets).0
+pub names_always_agree_new : (settings : Parameters) (events : List Event) → NamesAlwaysAgree settings events
+names_always_agree_new settings events allowed octets = (agree_new settings events allowed octets).0
 
-pub PeersDiffer-new : (settings : Parameters) (events : List Event) → PeersDiffer settings events
-PeersDiffer-new settings events allowed octets = own-peers (world settings events) (agree-new settings events allowed octets).1
+pub peers_differ_new : (settings : Parameters) (events : List Event) → PeersDiffer settings events
+peers_differ_new settings events allowed octets = own_peers (world settings events) (agree_new settings events allowed octets).1

@@ -16,12 +16,12 @@ use Rattle.world_laws.specs.References.Agree.{IsUnknown, NamesAgree, Runs, Stand
 use Rattle.world_laws.specs.References.Agree.Agrees.{is_unasked, is_asking, is_unheard, is_known}
 use Rattle.world_laws.specs.References.Reads.{AreNothing, IsNothing, Read, asks, carried, data_read, initial_read, nothing, sccp_read}
 use Rattle.world_laws.specs.References.Reads.{carries as read_carries, clears as read_clears, tells as read_tells, odd as read_odd}
-use Rattle.world_laws.proofs.References.OwnTaking.{heeds-data, own-asks, own-data}
-use Rattle.world_laws.proofs.References.Peers.{Differ, HaveOwnPeers, effect-differs, peers_of}
-use Rattle.world_laws.proofs.References.Places.{stands-find}
-use Rattle.world_laws.proofs.References.Right.{other-carries}
-use Rattle.world_laws.proofs.References.Taking.{After, asked-same, same-unknown, Effect, IsSame, Took, after-took, confirms-after}
-use Rattle.world_laws.proofs.References.Taking.{other-keeps, other-none, other-same, other-stands, same-agrees, took-nothing}
+use Rattle.world_laws.proofs.References.OwnTaking.{heeds_data, own-asks, own-data}
+use Rattle.world_laws.proofs.References.Peers.{Differ, HaveOwnPeers, effect_differs, peers_of}
+use Rattle.world_laws.proofs.References.Places.{stands_find}
+use Rattle.world_laws.proofs.References.Right.{other_carries}
+use Rattle.world_laws.proofs.References.Taking.{After, asked_same, same_unknown, Effect, IsSame, Took, after_took, confirms_after}
+use Rattle.world_laws.proofs.References.Taking.{other_keeps, other-none, other_same, other-stands, same_agrees, took_nothing}
 use Rattle.world_laws.proofs.References.Taking.{took_connections, took_replies}
 use Rattle.world_laws.proofs.References.Taking.Effect.{same}
 
@@ -33,62 +33,62 @@ first-own n first others is = ap (λ (b : Bool). map reads (cond b (first.out �
 pub first-other : (n : ℕ) (first : OutboxEntry) (others : List OutboxEntry) → first.out.conn ≢ n → reads_of n (first ∷ others) ≡ reads_of n others
 first-other n first others differ = ap (λ (b : Bool). map reads (cond b (first.out ∷ outs_for n (map (λ entry. entry.out) others)) (outs_for n (map (λ entry. entry.out) others)))) (ne_eqb first.out.conn n differ)
 
-nothing-or : (r : Read) → IsNothing r ⊎ (IsNothing r → ⊥)
-nothing-or nothing = inl tt
-nothing-or (asks source initial) = inr (λ is. is)
-nothing-or (read_carries d m) = inr (λ is. is)
-nothing-or (read_clears d) = inr (λ is. is)
-nothing-or (read_tells d) = inr (λ is. is)
-nothing-or read_odd = inr (λ is. is)
+nothing_or : (r : Read) → IsNothing r ⊎ (IsNothing r → ⊥)
+nothing_or nothing = inl tt
+nothing_or (asks source initial) = inr (λ is. is)
+nothing_or (read_carries d m) = inr (λ is. is)
+nothing_or (read_clears d) = inr (λ is. is)
+nothing_or (read_tells d) = inr (λ is. is)
+nothing_or read_odd = inr (λ is. is)
 
-asks-tail : (n : ℕ) (r : Read) (rest : List Read) → IsNothing r → AsksOnce n (r ∷ rest) → AsksOnce n rest
-asks-tail n nothing rest is once = once
-asks-tail n (asks source initial) rest is once = absurd is
-asks-tail n (read_carries d m) rest is once = absurd is
-asks-tail n (read_clears d) rest is once = absurd is
-asks-tail n (read_tells d) rest is once = absurd is
-asks-tail n read_odd rest is once = absurd is
+asks_tail : (n : ℕ) (r : Read) (rest : List Read) → IsNothing r → AsksOnce n (r ∷ rest) → AsksOnce n rest
+asks_tail n nothing rest is once = once
+asks_tail n (asks source initial) rest is once = absurd is
+asks_tail n (read_carries d m) rest is once = absurd is
+asks_tail n (read_clears d) rest is once = absurd is
+asks_tail n (read_tells d) rest is once = absurd is
+asks_tail n read_odd rest is once = absurd is
 
-runs-tail : (k : ℕ) (over last : Bool) (r : Read) (rest : List Read) → IsNothing r → Runs k over (r ∷ rest) last → Runs k over rest last
-runs-tail k over last nothing rest is runs = runs.1
-runs-tail k over last (asks source initial) rest is runs = absurd is
-runs-tail k over last (read_carries d m) rest is runs = absurd is
-runs-tail k over last (read_clears d) rest is runs = absurd is
-runs-tail k over last (read_tells d) rest is runs = absurd is
-runs-tail k over last read_odd rest is runs = absurd is
+runs_tail : (k : ℕ) (over last : Bool) (r : Read) (rest : List Read) → IsNothing r → Runs k over (r ∷ rest) last → Runs k over rest last
+runs_tail k over last nothing rest is runs = runs.1
+runs_tail k over last (asks source initial) rest is runs = absurd is
+runs_tail k over last (read_carries d m) rest is runs = absurd is
+runs_tail k over last (read_clears d) rest is runs = absurd is
+runs_tail k over last (read_tells d) rest is runs = absurd is
+runs_tail k over last read_odd rest is runs = absurd is
 
 -- ---- what the switch doesn't heed
 
-data-heeds : (d : ℕ) (q : Option Bssap) → IsNothing (data_read d q) → ⊥
-data-heeds d None is = is
-data-heeds d (Some (Transfer dlci message)) is = is
-data-heeds d (Some (Management bssmap.ClearComplete)) is = is
-data-heeds d (Some (Management (bssmap.CompleteLayer3Information cell initial))) is = is
-data-heeds d (Some (Management (bssmap.ClearRequest cause))) is = is
-data-heeds d (Some (Management (bssmap.AssignmentRequest channel_type))) is = is
-data-heeds d (Some (Management (bssmap.AssignmentComplete rr_cause))) is = is
-data-heeds d (Some (Management (bssmap.AssignmentFailure cause rr_cause))) is = is
-data-heeds d (Some (Management (bssmap.HandoverPerformed cause cell))) is = is
-data-heeds d (Some (Management (bssmap.ClearCommand cause))) is = is
-data-heeds d (Some (Management (bssmap.SapiNReject dlci cause))) is = is
-data-heeds d (Some (Management bssmap.CipherModeCommand)) is = is
-data-heeds d (Some (Management (bssmap.CipherModeReject cause))) is = is
+data_heeds : (d : ℕ) (q : Option Bssap) → IsNothing (data_read d q) → ⊥
+data_heeds d None is = is
+data_heeds d (Some (Transfer dlci message)) is = is
+data_heeds d (Some (Management bssmap.ClearComplete)) is = is
+data_heeds d (Some (Management (bssmap.CompleteLayer3Information cell initial))) is = is
+data_heeds d (Some (Management (bssmap.ClearRequest cause))) is = is
+data_heeds d (Some (Management (bssmap.AssignmentRequest channel_type))) is = is
+data_heeds d (Some (Management (bssmap.AssignmentComplete rr_cause))) is = is
+data_heeds d (Some (Management (bssmap.AssignmentFailure cause rr_cause))) is = is
+data_heeds d (Some (Management (bssmap.HandoverPerformed cause cell))) is = is
+data_heeds d (Some (Management (bssmap.ClearCommand cause))) is = is
+data_heeds d (Some (Management (bssmap.SapiNReject dlci cause))) is = is
+data_heeds d (Some (Management bssmap.CipherModeCommand)) is = is
+data_heeds d (Some (Management (bssmap.CipherModeReject cause))) is = is
 
-initial-heeds : (s : ℕ) (q : Option Bssap) → IsNothing (initial_read s q) → ⊥
-initial-heeds s None is = is
-initial-heeds s (Some (Transfer dlci message)) is = is
-initial-heeds s (Some (Management (bssmap.CompleteLayer3Information cell initial))) is = is
-initial-heeds s (Some (Management _)) is = is
+initial_heeds : (s : ℕ) (q : Option Bssap) → IsNothing (initial_read s q) → ⊥
+initial_heeds s None is = is
+initial_heeds s (Some (Transfer dlci message)) is = is
+initial_heeds s (Some (Management (bssmap.CompleteLayer3Information cell initial))) is = is
+initial_heeds s (Some (Management _)) is = is
 
-nothing-same : (m : ℕ) (cs : List Connection) (o : Option Sccp) → IsNothing (sccp_read o) → (took_connections m cs o ≡ cs) × (took_replies cs o ≡ [])
-nothing-same m cs None is = (refl, refl)
-nothing-same m cs (Some (ConnectionRequest s None)) is = absurd is
-nothing-same m cs (Some (ConnectionRequest s (Some user))) is = absurd (initial-heeds s (message_in user) is)
-nothing-same m cs (Some (DataForm1 d user)) is = absurd (data-heeds d (message_in user) is)
-nothing-same m cs (Some (ConnectionConfirm d s)) is = (refl, refl)
-nothing-same m cs (Some (ConnectionRefused d)) is = (refl, refl)
-nothing-same m cs (Some (Released d s)) is = (refl, refl)
-nothing-same m cs (Some (ReleaseComplete d s)) is = (refl, refl)
+nothing_same : (m : ℕ) (cs : List Connection) (o : Option Sccp) → IsNothing (sccp_read o) → (took_connections m cs o ≡ cs) × (took_replies cs o ≡ [])
+nothing_same m cs None is = (refl, refl)
+nothing_same m cs (Some (ConnectionRequest s None)) is = absurd is
+nothing_same m cs (Some (ConnectionRequest s (Some user))) is = absurd (initial_heeds s (message_in user) is)
+nothing_same m cs (Some (DataForm1 d user)) is = absurd (data_heeds d (message_in user) is)
+nothing_same m cs (Some (ConnectionConfirm d s)) is = (refl, refl)
+nothing_same m cs (Some (ConnectionRefused d)) is = (refl, refl)
+nothing_same m cs (Some (Released d s)) is = (refl, refl)
+nothing_same m cs (Some (ReleaseComplete d s)) is = (refl, refl)
 
 -- ---- one of the connection's
 
@@ -103,7 +103,7 @@ module _ (w v : Actors) (others : List OutboxEntry) (n : ℕ) (three : n < w.con
   unfolding Result Comes
   own-nothing o stood is after agrees =
       let cs : List Connection = w.switch.connections in
-      let both = nothing-same w.switch.modulus cs o is in
+      let both = nothing_same w.switch.modulus cs o is in
       let now : After w v others cs [] = subst (λ (xs : List Sccp). After w v others cs xs) both.1 (subst (λ (xs : List Connection). After w v others xs (took_replies cs o)) both.0 after) in
       let wire : reads_of n (outbox_of v SWITCH_LINK) ≡ reads_of n others = ap (reads_of n) now.rest in
       let kept : IsSame w v n = record {
@@ -111,11 +111,11 @@ module _ (w v : Actors) (others : List OutboxEntry) (n : ℕ) (three : n < w.con
         none = λ none. subst (λ (xs : List Connection). find (is_of_peer n) xs ≡ None) (sym now.conns) none;
         stands = λ place c stands. (c, subst (StandsAt n place c) (sym now.conns) stands, refl);
         quiet = λ quiet. subst AreNothing (sym wire) (subst AreNothing stood quiet).1;
-        once = λ once. subst (AsksOnce n) (sym wire) (asks-tail n (sccp_read o) (reads_of n others) is (subst (AsksOnce n) stood once));
-        runs = λ k over last runs. subst (λ (xs : List Read). Runs k over xs last) (sym wire) (runs-tail k over last (sccp_read o) (reads_of n others) is (subst (λ (xs : List Read). Runs k over xs last) stood runs));
+        once = λ once. subst (AsksOnce n) (sym wire) (asks_tail n (sccp_read o) (reads_of n others) is (subst (AsksOnce n) stood once));
+        runs = λ k over last runs. subst (λ (xs : List Read). Runs k over xs last) (sym wire) (runs_tail k over last (sccp_read o) (reads_of n others) is (subst (λ (xs : List Read). Runs k over xs last) stood runs));
       } in
       subst (λ (xs : List Connection). Took w v n xs (took_replies cs o) (sccp_read o)) (sym both.0)
-      (subst (λ (xs : List Sccp). Took w v n cs xs (sccp_read o)) (sym both.1) (took-nothing n (sccp_read o) now is (λ P confirms. confirms-after P n now confirms tt) kept agrees))
+      (subst (λ (xs : List Sccp). Took w v n cs xs (sccp_read o)) (sym both.1) (took_nothing n (sccp_read o) now is (λ P confirms. confirms_after P n now confirms tt) kept agrees))
 
   own-request : HasAsked w n → IsOnItsWay w n → (s : ℕ) (user : List ℕ) (q : Option Bssap) → message_in user ≡ q → AsksOnce n (initial_read s q ∷ reads_of n others) → Comes (Some (ConnectionRequest s (Some user)))
       → Took w v n (took_connections w.switch.modulus w.switch.connections (Some (ConnectionRequest s (Some user)))) (took_replies w.switch.connections (Some (ConnectionRequest s (Some user)))) (initial_read s q)
@@ -166,7 +166,7 @@ module _ (w v : Actors) (others : List OutboxEntry) (n : ℕ) (three : n < w.con
   unfolding Comes
   own-form past known d user None is heeds runs after = absurd heeds
   own-form past known d user (Some q) is heeds runs after =
-      let heedful = heeds-data (REFERENCE_BASE + (known.place + 1)) d (is_over known.of.stage) q heeds in
+      let heedful = heeds_data (REFERENCE_BASE + (known.place + 1)) d (is_over known.of.stage) q heeds in
       subst (λ (x : ℕ). IsHeeded (data_read x (Some q)) → Runs (REFERENCE_BASE + (known.place + 1)) (over_after (is_over known.of.stage) (data_read x (Some q))) (reads_of n others) known.last
       → After w v others (connections_after w.switch.modulus w.switch.connections (DataForm1 x user)) (replies w.switch.connections (DataForm1 x user))
       → Took w v n (connections_after w.switch.modulus w.switch.connections (DataForm1 x user)) (replies w.switch.connections (DataForm1 x user)) (data_read x (Some q)))
@@ -190,7 +190,7 @@ module _ (w v : Actors) (others : List OutboxEntry) (n : ℕ) (three : n < w.con
   own-agreed o stood heeds after (is_known past known) = own-known past known o heeds (subst (λ (xs : List Read). Runs (REFERENCE_BASE + (known.place + 1)) (is_over known.of.stage) xs known.last) stood known.runs) after
 
   own-took : (o : Option Sccp) → reads_of n (outbox_of w SWITCH_LINK) ≡ sccp_read o ∷ reads_of n others → Comes o → Agrees w n → Result o
-  own-took o stood after agrees = elim (nothing-or (sccp_read o)) [
+  own-took o stood after agrees = elim (nothing_or (sccp_read o)) [
     | inl is ↦ own-nothing o stood is after agrees
     | inr heeds ↦ own-agreed o stood heeds after agrees
   ]
@@ -215,7 +215,7 @@ module _ (w : Actors) (first : OutboxEntry) (others : List OutboxEntry) (h : IsF
   taken_replies = took_replies w.switch.connections (sccp_in first.out.frame)
 
   after : After w v others taken_connections taken_replies
-  after = after-took w others (sccp_in first.out.frame) h.up
+  after = after_took w others (sccp_in first.out.frame) h.up
 
   rights : AllByRecursion (λ entry. IsRight entry.out) (first ∷ others)
   rights = subst (AllByRecursion (λ (entry : OutboxEntry). IsRight entry.out)) h.stood h.agree.right
@@ -245,14 +245,14 @@ module _ (w : Actors) (first : OutboxEntry) (others : List OutboxEntry) (h : IsF
   ] where
     beside : reads first.out ≡ nothing → Effect first.out.conn w.switch.connections taken_connections taken_replies
     beside is =
-        let both = nothing-same w.switch.modulus w.switch.connections (sccp_in first.out.frame) (subst IsNothing (sym is) tt) in
+        let both = nothing_same w.switch.modulus w.switch.connections (sccp_in first.out.frame) (subst IsNothing (sym is) tt) in
         subst (λ (xs : List Connection). Effect first.out.conn w.switch.connections xs taken_replies) (sym both.0) (subst (λ (xs : List Sccp). Effect first.out.conn w.switch.connections w.switch.connections xs) (sym both.1) same)
 
   -- each has a peer of its own
   pub peers-after : HaveOwnPeers w → HaveOwnPeers v
   peers-after differ = subst (λ (xs : List Connection). Differ (peers_of xs)) (sym after.conns) (elim (zero-or first.out.conn) [
-    | inl zero ↦ subst (λ (xs : List Connection). Differ (peers_of xs)) (sym (nothing-same w.switch.modulus w.switch.connections (sccp_in first.out.frame) (subst IsNothing (sym (rights.0.beside zero)) tt)).0) differ
-    | inr from_one ↦ effect-differs first.out.conn w.switch.connections from_one (own-entry first.out.conn from_one refl).effect differ
+    | inl zero ↦ subst (λ (xs : List Connection). Differ (peers_of xs)) (sym (nothing_same w.switch.modulus w.switch.connections (sccp_in first.out.frame) (subst IsNothing (sym (rights.0.beside zero)) tt)).0) differ
+    | inr from_one ↦ effect_differs first.out.conn w.switch.connections from_one (own-entry first.out.conn from_one refl).effect differ
   ])
 
   other-wire : (n : ℕ) → first.out.conn ≢ n → reads_of n others ≡ reads_of n (outbox_of w SWITCH_LINK)
@@ -260,7 +260,7 @@ module _ (w : Actors) (first : OutboxEntry) (others : List OutboxEntry) (h : IsF
 
   other-agrees : (n : ℕ) → 1 ≤ n → first.out.conn ≢ n → Agrees v n
   other-agrees n from_one differ =
-      same-agrees w v n (other-same first.out.conn n differ after effect (other-wire n differ)) (other-keeps first.out.conn n differ after effect) (h.agree.each n from_one)
+      same_agrees w v n (other_same first.out.conn n differ after effect (other-wire n differ)) (other_keeps first.out.conn n differ after effect) (h.agree.each n from_one)
 
   pub names-after : NamesAgree v
   names-after = record {
@@ -282,15 +282,15 @@ module _ (w : Actors) (first : OutboxEntry) (others : List OutboxEntry) (h : IsF
   other-found n differ (is_asking has way) = ap taken_in (other-none w first.out.conn n differ effect way.none) ∙ sym (ap taken_in way.none)
   other-found n differ (is_unheard has unknown) = ap taken_in (other-none w first.out.conn n differ effect unknown.none) ∙ sym (ap taken_in unknown.none)
   other-found n differ (is_known past known) =
-      ap taken_in (stands-find n known.place known.of taken_connections (other-stands w first.out.conn n differ effect known.place known.of known.stands))
-      ∙ sym (ap taken_in (stands-find n known.place known.of w.switch.connections known.stands))
+      ap taken_in (stands_find n known.place known.of taken_connections (other-stands w first.out.conn n differ effect known.place known.of known.stands))
+      ∙ sym (ap taken_in (stands_find n known.place known.of w.switch.connections known.stands))
 
   abbrev Delivers : ℕ → Type 0
   Delivers n = taken_of (switch_took (sccp_in first.out.frame) w) n ≡ taken_of w n ++ carried_for n first.out
 
   other-delivers : (n : ℕ) → 1 ≤ n → first.out.conn ≢ n → Delivers n
   other-delivers n from_one differ =
-      took-taken n (sccp_in first.out.frame) ∙ other-found n differ (h.agree.each n from_one) ∙ sym (append-nil (taken_of w n)) ∙ ap (λ (xs : List (List ℕ)). taken_of w n ++ xs) (sym (other-carries n first.out differ))
+      took-taken n (sccp_in first.out.frame) ∙ other-found n differ (h.agree.each n from_one) ∙ sym (append-nil (taken_of w n)) ∙ ap (λ (xs : List (List ℕ)). taken_of w n ++ xs) (sym (other_carries n first.out differ))
 
   own-delivers : (n : ℕ) → 1 ≤ n → first.out.conn ≡ n → Delivers n ⊎ (HasAsked v n × IsUnknown v n)
   own-delivers n from_one is =
@@ -312,19 +312,19 @@ module _ (w : Actors) (first : OutboxEntry) (others : List OutboxEntry) (h : IsF
   unheard-after n from_one has unknown = elim (cases_Bool (first.out.conn == n)) [
     | inl hit ↦ by (eqb-true first.out.conn n hit)
     | inr miss ↦ (
-      asked-same w v n after.controller_is has,
-      same-unknown w v n (other-same first.out.conn n (eqb-false first.out.conn n miss) after effect (other-wire n (eqb-false first.out.conn n miss))) (other-keeps first.out.conn n (eqb-false first.out.conn n miss) after effect) unknown,
+      asked_same w v n after.controller_is has,
+      same_unknown w v n (other_same first.out.conn n (eqb-false first.out.conn n miss) after effect (other-wire n (eqb-false first.out.conn n miss))) (other_keeps first.out.conn n (eqb-false first.out.conn n miss) after effect) unknown,
     )
   ] where
     by : first.out.conn ≡ n → HasAsked v n × IsUnknown v n
     by is =
         let wire : reads_of n (outbox_of w SWITCH_LINK) ≡ reads first.out ∷ reads_of n others = ap (reads_of n) h.stood ∙ first-own n first others is in
         let quiet = subst AreNothing wire unknown.quiet in
-        let both = nothing-same w.switch.modulus w.switch.connections (sccp_in first.out.frame) quiet.0 in (
-          asked-same w v n after.controller_is has,
+        let both = nothing_same w.switch.modulus w.switch.connections (sccp_in first.out.frame) quiet.0 in (
+          asked_same w v n after.controller_is has,
           record {
             none = subst (λ (xs : List Connection). find (is_of_peer n) xs ≡ None) (sym (after.conns ∙ both.0)) unknown.none;
             quiet = subst (λ (entries : List OutboxEntry). AreNothing (reads_of n entries)) (sym after.rest) quiet.1;
-            unconfirmed = confirms-after Never n after unknown.unconfirmed (subst (AllByRecursion (ConfirmsBy Never n)) (sym both.1) tt);
+            unconfirmed = confirms_after Never n after unknown.unconfirmed (subst (AllByRecursion (ConfirmsBy Never n)) (sym both.1) tt);
           },
         )

@@ -93,14 +93,14 @@ pub record Begins (next number : ℕ) (put : List Message) (before after : Optio
   pub is_early : reach_of after ≡ early
   pub quiet : AreQuiet put
 
-pub acts-go : {number next : ℕ} {up : Bool} {brought : Brought} {before after : Option Connection} {put : List Message} (came : ℕ → Type 0) → ((r : ℕ) → IsBrought brought (inputs.ConnectionConfirm r) → came r) → Acts number next up brought before put after
+pub acts_go : {number next : ℕ} {up : Bool} {brought : Brought} {before after : Option Connection} {put : List Message} (came : ℕ → Type 0) → ((r : ℕ) → IsBrought brought (inputs.ConnectionConfirm r) → came r) → Acts number next up brought before put after
     → Begins next number put before after ⊎ Goes came put (reach_of before) (reach_of after)
-acts-go {before = before} {put = put} came comes (rests silent same none) = inr (subst (λ (o : Option Connection). Goes came put (reach_of before) (reach_of o)) (sym same) (stays (subst AreQuiet (sym silent) tt)))
-acts-go {after = after} {put = put} came comes (ages old s is_time was aged silent same) =
+acts_go {before = before} {put = put} came comes (rests silent same none) = inr (subst (λ (o : Option Connection). Goes came put (reach_of before) (reach_of o)) (sym same) (stays (subst AreQuiet (sym silent) tt)))
+acts_go {after = after} {put = put} came comes (ages old s is_time was aged silent same) =
     inr (subst (λ (o : Option Connection). Goes came put (reach_of o) (reach_of after)) (sym was) (subst (λ (o : Option Connection). Goes came put (reach_in old.state) (reach_of o)) (sym same)
     (subst (λ (state : State). Goes came put (reach_in old.state) (reach_in state)) (sym (same_state old s aged)) (stays (subst AreQuiet (sym silent) tt)))))
-acts-go came comes (opens begins linked channel request delay is_nothing none put_is same) = inl (record { is_next = begins; none = none; is_early = ap reach_of same; quiet = subst AreQuiet (sym put_is) (tt, tt) })
-acts-go {brought = brought} {after = after} {put = put} came comes (goes old s input offer r was aged by fits put_is same) =
+acts_go came comes (opens begins linked channel request delay is_nothing none put_is same) = inl (record { is_next = begins; none = none; is_early = ap reach_of same; quiet = subst AreQuiet (sym put_is) (tt, tt) })
+acts_go {brought = brought} {after = after} {put = put} came comes (goes old s input offer r was aged by fits put_is same) =
     let from : From input r.outs s.state r.next.state = subst (OfRow (λ (q : Row). From input q.outs s.state q.next.state)) fits (named_row s input offer) in
     let one : Goes came r.outs (reach_in s.state) (reach_in r.next.state) = goes-by came input r.outs (λ k is. comes k (subst (IsBrought brought) is by)) s.state r.next.state from in
     let own : Goes came put (reach_in s.state) (reach_in r.next.state) = subst (λ (xs : List Message). Goes came xs (reach_in s.state) (reach_in r.next.state)) (sym put_is) one in

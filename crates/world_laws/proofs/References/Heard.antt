@@ -21,13 +21,13 @@ use Rattle.world_laws.specs.References.Reads.{AreNothing, Read, asks, carried, n
 use Rattle.world_laws.specs.References.Reads.{carries as read_carries, clears as read_clears, tells as read_tells, odd as read_odd}
 use Rattle.world_laws.specs.References.Taken.{DroppedAreUnheard, HasNotAsked, IsEarlyIn, IsUnheardOf, SwitchDeliversOrRefuses}
 use Rattle.world_laws.specs.References.Taken.{UnaskedAreUnheardOf, UnheardStayUnheard}
-use Rattle.world_laws.proofs.References.Always.{Before, NamesAlwaysAgree-new, before-of, keeps}
+use Rattle.world_laws.proofs.References.Always.{Before, names_always_agree_new, before_of, keeps}
 use Rattle.world_laws.proofs.References.FirstTaken.{IsFirst, delivers-or, first-other, first-own, names-after}
-use Rattle.world_laws.proofs.References.Places.{stands-find}
-use Rattle.world_laws.proofs.References.Right.{other-carries}
-use Rattle.world_laws.proofs.References.Stepping.{none-beyond}
+use Rattle.world_laws.proofs.References.Places.{stands_find}
+use Rattle.world_laws.proofs.References.Right.{other_carries}
+use Rattle.world_laws.proofs.References.Stepping.{none_beyond}
 use Rattle.world_laws.proofs.SwitchTook.{waiting_in}
-use Rattle.world_laws.proofs.References.Taking.{nothing-heeded}
+use Rattle.world_laws.proofs.References.Taking.{nothing_heeded}
 use Rattle.world_laws.proofs.Events.{world}
 
 -- ---- what waits for the switch, as it will read it
@@ -37,43 +37,43 @@ waiting-first first others n =
     ap (λ (fs : List Forwarded). map (λ f. f.message) fs) (forwarded-first first.out (map (λ entry. entry.out) others) n)
     ∙ map-append (λ (f : Forwarded). f.message) (forwarded (first.out ∷ []) n) (forwarded (map (λ entry. entry.out) others) n)
 
-own-carries : (n : ℕ) (out : Out) → 1 ≤ n → out.conn ≡ n → IsRight out → IsHeeded (reads out) → carried_for n out ≡ carried (reads out)
-own-carries n out from_one is right heeded = subst (λ (x : ℕ). 1 ≤ x → IsHeeded (reads out) → carried_for x out ≡ carried (reads out)) is right.carries_as_read from_one heeded
+own_carries : (n : ℕ) (out : Out) → 1 ≤ n → out.conn ≡ n → IsRight out → IsHeeded (reads out) → carried_for n out ≡ carried (reads out)
+own_carries n out from_one is right heeded = subst (λ (x : ℕ). 1 ≤ x → IsHeeded (reads out) → carried_for x out ≡ carried (reads out)) is right.carries_as_read from_one heeded
 
-none-waits : (n : ℕ) (entries : List OutboxEntry) → 1 ≤ n → AllByRecursion (λ entry. IsRight entry.out) entries → AreNothing (reads_of n entries) → waiting_in entries n ≡ []
+no_message_waits : (n : ℕ) (entries : List OutboxEntry) → 1 ≤ n → AllByRecursion (λ entry. IsRight entry.out) entries → AreNothing (reads_of n entries) → waiting_in entries n ≡ []
 unfolding forwarded
-none-waits n [] from_one rights quiet = refl
-none-waits n (first ∷ others) from_one rights quiet = waiting-first first others n ∙ by (none-waits n others from_one rights.1) where
+no_message_waits n [] from_one rights quiet = refl
+no_message_waits n (first ∷ others) from_one rights quiet = waiting-first first others n ∙ by (no_message_waits n others from_one rights.1) where
   by : (AreNothing (reads_of n others) → waiting_in others n ≡ []) → carried_for n first.out ++ waiting_in others n ≡ []
   by rest = elim (cases_Bool (first.out.conn == n)) [
     | inl hit ↦
         let is : first.out.conn ≡ n = eqb-true first.out.conn n hit in
         let all = subst AreNothing (first-own n first others is) quiet in
-        let none = nothing-heeded (reads first.out) all.0 in
-        ap (λ (xs : List (List ℕ)). xs ++ waiting_in others n) (own-carries n first.out from_one is rights.0 none.0 ∙ none.1) ∙ rest all.1
+        let none = nothing_heeded (reads first.out) all.0 in
+        ap (λ (xs : List (List ℕ)). xs ++ waiting_in others n) (own_carries n first.out from_one is rights.0 none.0 ∙ none.1) ∙ rest all.1
     | inr miss ↦
-        ap (λ (xs : List (List ℕ)). xs ++ waiting_in others n) (other-carries n first.out (eqb-false first.out.conn n miss)) ∙ rest (subst AreNothing (first-other n first others (eqb-false first.out.conn n miss)) quiet)
+        ap (λ (xs : List (List ℕ)). xs ++ waiting_in others n) (other_carries n first.out (eqb-false first.out.conn n miss)) ∙ rest (subst AreNothing (first-other n first others (eqb-false first.out.conn n miss)) quiet)
   ]
 
 -- CR carries something
-asks-carry : (n : ℕ) (r : Read) (rest : List Read) → AsksOnce n (r ∷ rest) → IsHeeded r × ((carried r ≡ [] → ⊥) ⊎ AsksOnce n rest)
-asks-carry n nothing rest once = (tt, inr once)
-asks-carry n (asks source initial) rest once = (tt, inl (λ is. absurd cc))
-asks-carry n (read_carries d m) rest once = absurd once
-asks-carry n (read_clears d) rest once = absurd once
-asks-carry n (read_tells d) rest once = absurd once
-asks-carry n read_odd rest once = absurd once
+asks_carry : (n : ℕ) (r : Read) (rest : List Read) → AsksOnce n (r ∷ rest) → IsHeeded r × ((carried r ≡ [] → ⊥) ⊎ AsksOnce n rest)
+asks_carry n nothing rest once = (tt, inr once)
+asks_carry n (asks source initial) rest once = (tt, inl (λ is. absurd cc))
+asks_carry n (read_carries d m) rest once = absurd once
+asks_carry n (read_clears d) rest once = absurd once
+asks_carry n (read_tells d) rest once = absurd once
+asks_carry n read_odd rest once = absurd once
 
-asks-waits : (n : ℕ) (entries : List OutboxEntry) → 1 ≤ n → AllByRecursion (λ entry. IsRight entry.out) entries → AsksOnce n (reads_of n entries) → waiting_in entries n ≡ [] → ⊥
-asks-waits n [] from_one rights once none = once
-asks-waits n (first ∷ others) from_one rights once none = by (asks-waits n others from_one rights.1) (Both-empty (carried_for n first.out) (waiting_in others n) (sym (sym (waiting-first first others n) ∙ none))) where
+asks_waits : (n : ℕ) (entries : List OutboxEntry) → 1 ≤ n → AllByRecursion (λ entry. IsRight entry.out) entries → AsksOnce n (reads_of n entries) → waiting_in entries n ≡ [] → ⊥
+asks_waits n [] from_one rights once none = once
+asks_waits n (first ∷ others) from_one rights once none = by (asks_waits n others from_one rights.1) (Both-empty (carried_for n first.out) (waiting_in others n) (sym (sym (waiting-first first others n) ∙ none))) where
   by : (AsksOnce n (reads_of n others) → waiting_in others n ≡ [] → ⊥) → (carried_for n first.out ≡ []) × (waiting_in others n ≡ []) → ⊥
   by rest empty = elim (cases_Bool (first.out.conn == n)) [
     | inl hit ↦
         let is : first.out.conn ≡ n = eqb-true first.out.conn n hit in
-        let one = asks-carry n (reads first.out) (reads_of n others) (subst (AsksOnce n) (first-own n first others is) once) in
+        let one = asks_carry n (reads first.out) (reads_of n others) (subst (AsksOnce n) (first-own n first others is) once) in
         elim one.1 [
-          | inl some ↦ some (sym (own-carries n first.out from_one is rights.0 one.0) ∙ empty.0)
+          | inl some ↦ some (sym (own_carries n first.out from_one is rights.0 one.0) ∙ empty.0)
           | inr later ↦ rest later empty.1
         ]
     | inr miss ↦ rest (subst (AsksOnce n) (first-other n first others (eqb-false first.out.conn n miss)) once) empty.1
@@ -92,9 +92,9 @@ unconfirmed (Some s) asked = by s.state asked where
   by WaitEstablish asked = absurd asked
   by (Live reference stage) asked = absurd asked
 
-early-confirmed : (o : Option Connection) → reach_of o ≡ early → IsUnconfirmed o → ⊥
-early-confirmed None is un = absurd cc
-early-confirmed (Some s) is un = by s.state is un where
+early_confirmed : (o : Option Connection) → reach_of o ≡ early → IsUnconfirmed o → ⊥
+early_confirmed None is un = absurd cc
+early_confirmed (Some s) is un = by s.state is un where
   by : (state : State) → reach_in state ≡ early → IsBeyondAsking state → ⊥
   by WaitActivation is un = un
   by WaitEstablish is un = un
@@ -105,118 +105,118 @@ early-confirmed (Some s) is un = by s.state is un where
   by (Closed Complete) is un = absurd cc
   by Removed is un = absurd cc
 
-unheard-of : (w : Actors) (n : ℕ) → 1 ≤ n → NamesAgree w → IsUnknown w n → IsUnheardOf w n
-unheard-of w n from_one agree unknown = record { none_taken = unknown.none; none_waits = none-waits n (outbox_of w SWITCH_LINK) from_one agree.right unknown.quiet }
+unheard_of : (w : Actors) (n : ℕ) → 1 ≤ n → NamesAgree w → IsUnknown w n → IsUnheardOf w n
+unheard_of w n from_one agree unknown = record { none_taken = unknown.none; none_waits = no_message_waits n (outbox_of w SWITCH_LINK) from_one agree.right unknown.quiet }
 
-to-unheard : (w : Actors) (n : ℕ) → 1 ≤ n → NamesAgree w → HasAsked w n × IsUnknown w n → IsUnheard w n
-to-unheard w n from_one agree has =
-    let of = unheard-of w n from_one agree has.1 in
+to_unheard : (w : Actors) (n : ℕ) → 1 ≤ n → NamesAgree w → HasAsked w n × IsUnknown w n → IsUnheard w n
+to_unheard w n from_one agree has =
+    let of = unheard_of w n from_one agree has.1 in
     record { past = has.0.past; none_taken = of.none_taken; none_waits = of.none_waits; unconfirmed = unconfirmed (connection_of w.controller n) has.0.asked }
 
-from-unheard : (w : Actors) (n : ℕ) → 1 ≤ n → NamesAgree w → IsUnheard w n → HasAsked w n × IsUnknown w n
-from-unheard w n from_one agree unheard = by (agree.each n from_one) where
+from_unheard : (w : Actors) (n : ℕ) → 1 ≤ n → NamesAgree w → IsUnheard w n → HasAsked w n × IsUnknown w n
+from_unheard w n from_one agree unheard = by (agree.each n from_one) where
   beyond : w.controller.next_number ≤ n → n < w.controller.next_number → ⊥
   beyond more less = omega (arith, more, less)
 
   by : Agrees w n → HasAsked w n × IsUnknown w n
   by (is_unasked (inl more) unknown) = absurd (beyond more unheard.past)
-  by (is_unasked (inr has) unknown) = absurd (early-confirmed (connection_of w.controller n) has.1 unheard.unconfirmed)
-  by (is_asking has way) = absurd (asks-waits n (outbox_of w SWITCH_LINK) from_one agree.right way.once unheard.none_waits)
+  by (is_unasked (inr has) unknown) = absurd (early_confirmed (connection_of w.controller n) has.1 unheard.unconfirmed)
+  by (is_asking has way) = absurd (asks_waits n (outbox_of w SWITCH_LINK) from_one agree.right way.once unheard.none_waits)
   by (is_unheard has unknown) = (has, unknown)
-  by (is_known past known) = absurd (none-some known.of (sym unheard.none_taken ∙ (stands-find n known.place known.of w.switch.connections known.stands)))
+  by (is_known past known) = absurd (none-some known.of (sym unheard.none_taken ∙ (stands_find n known.place known.of w.switch.connections known.stands)))
 
 -- ---- the laws
 
-names-of : (settings : Parameters) (events : List Event) → AreAllowed settings → CameInOctets settings events → NamesAgree (world settings events)
-names-of settings events allowed octets = NamesAlwaysAgree-new settings events allowed octets
+names_of : (settings : Parameters) (events : List Event) → AreAllowed settings → CameInOctets settings events → NamesAgree (world settings events)
+names_of settings events allowed octets = names_always_agree_new settings events allowed octets
 
-pub UnheardStayUnheard-new : (settings : Parameters) (events : List Event) (event : Event) → UnheardStayUnheard settings events event
-UnheardStayUnheard-new settings events event n allowed octets own from_one unheard =
+pub unheard_stay_unheard_new : (settings : Parameters) (events : List Event) (event : Event) → UnheardStayUnheard settings events event
+unheard_stay_unheard_new settings events event n allowed octets own from_one unheard =
     let w : Actors = world settings events in
-    let agree : NamesAgree w = names-of settings events allowed octets in
-    let kept = keeps w event (before-of settings events w event refl allowed octets own agree) in
-    let has = from-unheard w n from_one agree unheard in
-    to-unheard (actors_after w event) n from_one (kept.names agree) (kept.unheard n from_one has.0 has.1)
+    let agree : NamesAgree w = names_of settings events allowed octets in
+    let kept = keeps w event (before_of settings events w event refl allowed octets own agree) in
+    let has = from_unheard w n from_one agree unheard in
+    to_unheard (actors_after w event) n from_one (kept.names agree) (kept.unheard n from_one has.0 has.1)
 
-early-in : (state : State) → IsEarlyIn state → reach_in state ≡ early
-early-in WaitActivation is = refl
-early-in WaitEstablish is = refl
-early-in WaitConfirm is = absurd is
-early-in (Live reference stage) is = absurd is
-early-in (Closed clearing) is = absurd is
-early-in Removed is = absurd is
+early_in : (state : State) → IsEarlyIn state → reach_in state ≡ early
+early_in WaitActivation is = refl
+early_in WaitEstablish is = refl
+early_in WaitConfirm is = absurd is
+early_in (Live reference stage) is = absurd is
+early_in (Closed clearing) is = absurd is
+early_in Removed is = absurd is
 
 reach-early : (w : Actors) (n : ℕ) → HasNotAsked w n → reach_of (connection_of w.controller n) ≡ early
-reach-early w n has = ap reach_of has.there ∙ early-in has.own.state has.is_early
+reach-early w n has = ap reach_of has.there ∙ early_in has.own.state has.is_early
 
-early-asked : (a : Reach) → a ≡ early → IsAsked a → ⊥
-early-asked early is asked = asked
-early-asked waits is asked = absurd cc
-early-asked due is asked = absurd cc
-early-asked gone is asked = absurd cc
-early-asked cleared is asked = asked
-early-asked (named k) is asked = asked
+early_asked : (a : Reach) → a ≡ early → IsAsked a → ⊥
+early_asked early is asked = asked
+early_asked waits is asked = absurd cc
+early_asked due is asked = absurd cc
+early_asked gone is asked = absurd cc
+early_asked cleared is asked = asked
+early_asked (named k) is asked = asked
 
 -- one that didn't ask
-not-asked : (w : Actors) (n : ℕ) → Agrees w n → reach_of (connection_of w.controller n) ≡ early → IsUnknown w n
-not-asked w n (is_unasked un unknown) is = unknown
-not-asked w n (is_asking has way) is = absurd (early-asked (reach_of (connection_of w.controller n)) is has.asked)
-not-asked w n (is_unheard has unknown) is = unknown
-not-asked w n (is_known past known) is = absurd (subst (Knows (REFERENCE_BASE + (known.place + 1)) known.last) is known.knows)
+not_asked : (w : Actors) (n : ℕ) → Agrees w n → reach_of (connection_of w.controller n) ≡ early → IsUnknown w n
+not_asked w n (is_unasked un unknown) is = unknown
+not_asked w n (is_asking has way) is = absurd (early_asked (reach_of (connection_of w.controller n)) is has.asked)
+not_asked w n (is_unheard has unknown) is = unknown
+not_asked w n (is_known past known) is = absurd (subst (Knows (REFERENCE_BASE + (known.place + 1)) known.last) is known.knows)
 
-not-there : (w : Actors) (n : ℕ) → Agrees w n → w.controller.next_number ≤ n → IsUnknown w n
-not-there w n (is_unasked un unknown) more = unknown
-not-there w n (is_asking has way) more = absurd (let less = has.past in omega (arith, more, less))
-not-there w n (is_unheard has unknown) more = unknown
-not-there w n (is_known less known) more = absurd (omega (arith, more, less))
+not_there : (w : Actors) (n : ℕ) → Agrees w n → w.controller.next_number ≤ n → IsUnknown w n
+not_there w n (is_unasked un unknown) more = unknown
+not_there w n (is_asking has way) more = absurd (let less = has.past in omega (arith, more, less))
+not_there w n (is_unheard has unknown) more = unknown
+not_there w n (is_known less known) more = absurd (omega (arith, more, less))
 
 -- one that is there
-past-now : (w : Actors) (n : ℕ) → Agrees w n → (w.controller.next_number ≤ n → reach_of (connection_of w.controller n) ≡ gone) → reach_of (connection_of w.controller n) ≡ early → n < w.controller.next_number
-past-now w n (is_unasked (inl more) unknown) none is = absurd (gone-early (sym (none more) ∙ is)) where
+past_now : (w : Actors) (n : ℕ) → Agrees w n → (w.controller.next_number ≤ n → reach_of (connection_of w.controller n) ≡ gone) → reach_of (connection_of w.controller n) ≡ early → n < w.controller.next_number
+past_now w n (is_unasked (inl more) unknown) none is = absurd (gone-early (sym (none more) ∙ is)) where
   gone-early : gone ≡ early → ⊥
   gone-early is = absurd cc
-past-now w n (is_unasked (inr has) unknown) none is = has.0
-past-now w n (is_asking has way) none is = has.past
-past-now w n (is_unheard has unknown) none is = has.past
-past-now w n (is_known past known) none is = past
+past_now w n (is_unasked (inr has) unknown) none is = has.0
+past_now w n (is_asking has way) none is = has.past
+past_now w n (is_unheard has unknown) none is = has.past
+past_now w n (is_known past known) none is = past
 
-pub UnaskedAreUnheardOf-new : (settings : Parameters) (events : List Event) → UnaskedAreUnheardOf settings events
-UnaskedAreUnheardOf-new settings events n allowed octets from_one (inl more) =
+pub unasked_are_unheard_of_new : (settings : Parameters) (events : List Event) → UnaskedAreUnheardOf settings events
+unasked_are_unheard_of_new settings events n allowed octets from_one (inl more) =
     let w : Actors = world settings events in
-    let agree : NamesAgree w = names-of settings events allowed octets in
-    unheard-of w n from_one agree (not-there w n (agree.each n from_one) more)
-UnaskedAreUnheardOf-new settings events n allowed octets from_one (inr has) =
+    let agree : NamesAgree w = names_of settings events allowed octets in
+    unheard_of w n from_one agree (not_there w n (agree.each n from_one) more)
+unasked_are_unheard_of_new settings events n allowed octets from_one (inr has) =
     let w : Actors = world settings events in
-    let agree : NamesAgree w = names-of settings events allowed octets in
-    unheard-of w n from_one agree (not-asked w n (agree.each n from_one) (reach-early w n has))
+    let agree : NamesAgree w = names_of settings events allowed octets in
+    unheard_of w n from_one agree (not_asked w n (agree.each n from_one) (reach-early w n has))
 
-pub DroppedAreUnheard-new : (settings : Parameters) (events : List Event) (event : Event) → DroppedAreUnheard settings events event
-DroppedAreUnheard-new settings events event n allowed octets own from_one has closed =
+pub dropped_are_unheard_new : (settings : Parameters) (events : List Event) (event : Event) → DroppedAreUnheard settings events event
+dropped_are_unheard_new settings events event n allowed octets own from_one has closed =
     let w : Actors = world settings events in
-    let agree : NamesAgree w = names-of settings events allowed octets in
-    let before : Before w event = before-of settings events w event refl allowed octets own agree in
+    let agree : NamesAgree w = names_of settings events allowed octets in
+    let before : Before w event = before_of settings events w event refl allowed octets own agree in
     let kept = keeps w event before in
     let is = reach-early w n has in
-    to-unheard (actors_after w event) n from_one (kept.names agree) (kept.dropped n from_one (record { past = past-now w n (agree.each n from_one) (λ more. ap reach_of (none-beyond w.controller n (before.laws (steps.Tick 0) tt).numbered more)) is; is_early = is; unknown = not-asked w n (agree.each n from_one) is }) closed)
+    to_unheard (actors_after w event) n from_one (kept.names agree) (kept.dropped n from_one (record { past = past_now w n (agree.each n from_one) (λ more. ap reach_of (none_beyond w.controller n (before.laws (steps.Tick 0) tt).numbered more)) is; is_early = is; unknown = not_asked w n (agree.each n from_one) is }) closed)
 
 -- the switch takes
-taken-is : (w : Actors) (first : OutboxEntry) (others : List OutboxEntry) → is_up w SWITCH_LINK ≡ true → outbox_of w SWITCH_LINK ≡ first ∷ others → actors_after w SwitchTakes ≡ switch_took (sccp_in first.out.frame) (with_outbox SWITCH_LINK others w)
+taken_is : (w : Actors) (first : OutboxEntry) (others : List OutboxEntry) → is_up w SWITCH_LINK ≡ true → outbox_of w SWITCH_LINK ≡ first ∷ others → actors_after w SwitchTakes ≡ switch_took (sccp_in first.out.frame) (with_outbox SWITCH_LINK others w)
 unfolding event_after
-taken-is w first others up stood =
+taken_is w first others up stood =
     ap (λ (b : Bool). unwrap_or (if b then switch_took_first (outbox_of w SWITCH_LINK) w else None) w) up ∙ ap (λ (entries : List OutboxEntry). unwrap_or (switch_took_first entries w) w) stood
 
-delivers-first : (w : Actors) (n : ℕ) (entries : List OutboxEntry) → 1 ≤ n → NamesAgree w → w.controller.next_number ≤ 2 ^ 24 → is_up w SWITCH_LINK ≡ true → outbox_of w SWITCH_LINK ≡ entries → DeliversFirst w n entries ⊎ IsUnheard (actors_after w SwitchTakes) n
-delivers-first w n [] from_one agree few up stood = inl tt
-delivers-first w n (first ∷ others) from_one agree few up stood =
+delivers_first : (w : Actors) (n : ℕ) (entries : List OutboxEntry) → 1 ≤ n → NamesAgree w → w.controller.next_number ≤ 2 ^ 24 → is_up w SWITCH_LINK ≡ true → outbox_of w SWITCH_LINK ≡ entries → DeliversFirst w n entries ⊎ IsUnheard (actors_after w SwitchTakes) n
+delivers_first w n [] from_one agree few up stood = inl tt
+delivers_first w n (first ∷ others) from_one agree few up stood =
     let h : IsFirst w first others = record { agree = agree; few = few; up = up; stood = stood } in
     elim (delivers-or w first others h n from_one) [
       | inl all ↦ inl all
-      | inr never ↦ inr (subst (λ (v : Actors). IsUnheard v n) (sym (taken-is w first others up stood)) (to-unheard (switch_took (sccp_in first.out.frame) (with_outbox SWITCH_LINK others w)) n from_one (names-after w first others h) never))
+      | inr never ↦ inr (subst (λ (v : Actors). IsUnheard v n) (sym (taken_is w first others up stood)) (to_unheard (switch_took (sccp_in first.out.frame) (with_outbox SWITCH_LINK others w)) n from_one (names-after w first others h) never))
     ]
 
-pub SwitchDeliversOrRefuses-new : (settings : Parameters) (events : List Event) → SwitchDeliversOrRefuses settings events
-SwitchDeliversOrRefuses-new settings events n allowed octets from_one up =
+pub switch_delivers_or_refuses_new : (settings : Parameters) (events : List Event) → SwitchDeliversOrRefuses settings events
+switch_delivers_or_refuses_new settings events n allowed octets from_one up =
     let w : Actors = world settings events in
-    let agree : NamesAgree w = names-of settings events allowed octets in
-    let h : Before w SwitchTakes = before-of settings events w SwitchTakes refl allowed octets tt agree in
-    delivers-first w n (outbox_of w SWITCH_LINK) from_one agree h.few up refl
+    let agree : NamesAgree w = names_of settings events allowed octets in
+    let h : Before w SwitchTakes = before_of settings events w SwitchTakes refl allowed octets tt agree in
+    delivers_first w n (outbox_of w SWITCH_LINK) from_one agree h.few up refl

@@ -2,7 +2,7 @@
 use Rattle.world_laws.proofs.Prelude.{◌≡◌, List, [], ◌∷◌, ◌++◌, refl, sym, ap, ◌∙◌, Step, Controller, each, new_controller, step}
 use Rattle.world_laws.proofs.Prelude.{Parameters, Event, actors_after, all_steps, step_at, Actors, new_actors, LivesByTable-new}
 use Rattle.controller_model.specs.Life.{life}
-use Rattle.world_laws.proofs.Events.{snoc-actors, snoc-steps, world}
+use Rattle.world_laws.proofs.Events.{snoc_actors, snoc_steps, world}
 
 pub each-append : (c : Controller) (xs ys : List Step) → (each step c (xs ++ ys)).next ≡ (each step (each step c xs).next ys).next
 each-append c [] ys = refl
@@ -19,6 +19,6 @@ lived settings events = (life settings (all_steps (new_actors settings) events))
 pub moves : (settings : Parameters) (events : List Event) (event : Event) →
     (actors_after (world settings events) event).controller ≡ (each step (lived settings events) (step_at (world settings events) event)).next
 moves settings events event =
-    sym (ap (λ (v : Actors). v.controller) (snoc-actors (new_actors settings) events event)) ∙ LivesByTable-new settings (events ++ event ∷ [])
-    ∙ ap (λ (ss : List Step). (life settings ss).next) (snoc-steps (new_actors settings) events event)
+    sym (ap (λ (v : Actors). v.controller) (snoc_actors (new_actors settings) events event)) ∙ LivesByTable-new settings (events ++ event ∷ [])
+    ∙ ap (λ (ss : List Step). (life settings ss).next) (snoc_steps (new_actors settings) events event)
     ∙ life-append settings (all_steps (new_actors settings) events) (step_at (world settings events) event)

@@ -31,14 +31,14 @@ use Rattle.conn_rules.proofs.UplinkSteps.{leave-state}
 
 -- ---- messages
 
-quiet-plain : (k : ℕ) (m : Message) → IsQuiet m → IsPlain k m
-quiet-plain k (Station station message) quiet = tt
-quiet-plain k (ReleaseComplete destination) quiet = tt
-quiet-plain k (Request message) quiet = absurd quiet
-quiet-plain k (Data destination message) quiet = absurd quiet
+quiet_plain : (k : ℕ) (m : Message) → IsQuiet m → IsPlain k m
+quiet_plain k (Station station message) quiet = tt
+quiet_plain k (ReleaseComplete destination) quiet = tt
+quiet_plain k (Request message) quiet = absurd quiet
+quiet_plain k (Data destination message) quiet = absurd quiet
 
-pub are-plain : (k : ℕ) (ms : List Message) → AreQuiet ms → ArePlain k ms
-are-plain k ms quiet = AllByRecursion-so IsQuiet (IsPlain k) (quiet-plain k) ms quiet
+pub are_plain : (k : ℕ) (ms : List Message) → AreQuiet ms → ArePlain k ms
+are_plain k ms quiet = AllByRecursion-so IsQuiet (IsPlain k) (quiet_plain k) ms quiet
 
 all_handed : (k : ℕ) (c : Channel) (sapi : Sapi) (ms : List (List ℕ)) → ArePlain k (map (handing c sapi) ms)
 all_handed k c sapi [] = tt
@@ -120,7 +120,7 @@ abbrev Goes : ℕ → Row → Type 0
 Goes k r = FromNamed k r.outs r.next.state
 
 of_failing : (k : ℕ) (stage : Stage) (s : Connection) (cause : ℕ) → Goes k (failing (Live k stage) s cause)
-of_failing k stage s cause = (refl, (refl, are-plain k (end_outs (Live k stage) s.serving ABNORMAL_RELEASE) (ends (Live k stage) s.serving ABNORMAL_RELEASE)))
+of_failing k stage s cause = (refl, (refl, are_plain k (end_outs (Live k stage) s.serving ABNORMAL_RELEASE) (ends (Live k stage) s.serving ABNORMAL_RELEASE)))
 
 of_removing : (k : ℕ) (state : State) (s : Connection) (cause : ℕ) → Goes k (ending state s cause Removed)
 of_removing k state s cause = ends state s.serving cause

@@ -22,18 +22,18 @@ use Rattle.world_laws.proofs.Events.{world}
 -- ---- nothing is forwarded
 
 -- nothing on any SAPI is nothing at all
-pub none-forwarded : (fs : List Forwarded) → ((sapi : Sapi) → messages_on sapi fs ≡ []) → fs ≡ []
-none-forwarded [] none = refl
-none-forwarded (f ∷ fs) none = absurd (by f.sapi (none f.sapi)) where
+pub none_forwarded : (fs : List Forwarded) → ((sapi : Sapi) → messages_on sapi fs ≡ []) → fs ≡ []
+none_forwarded [] none = refl
+none_forwarded (f ∷ fs) none = absurd (by f.sapi (none f.sapi)) where
   by : (sapi : Sapi) → passed_by sapi (record { sapi = sapi; message = f.message }) ++ messages_on sapi fs ≡ [] → ⊥
   by Zero is = absurd cc
   by Three is = absurd cc
 
-each-empty : (number : ℕ) (outs : List Out) → forwarded outs number ≡ [] → AllByRecursion (λ out. carried_for number out ≡ []) outs
-each-empty number [] none = tt
-each-empty number (out ∷ outs) none =
+each_empty : (number : ℕ) (outs : List Out) → forwarded outs number ≡ [] → AllByRecursion (λ out. carried_for number out ≡ []) outs
+each_empty number [] none = tt
+each_empty number (out ∷ outs) none =
     let both = Both-empty (forwarded (out ∷ []) number) (forwarded outs number) (sym (sym (forwarded-first out outs number) ∙ none)) in
-    (ap (map (λ (f : Forwarded). f.message)) both.0, each-empty number outs both.1)
+    (ap (map (λ (f : Forwarded). f.message)) both.0, each_empty number outs both.1)
 
 -- ---- one step
 
@@ -42,8 +42,8 @@ record IsSilent (number : ℕ) (c : Controller) (s : Step) : Type 0 where
   past : number < (step c s).next.next_number
   closed : IsThere (connection_of (step c s).next number) → ⊥
 
-silent-step : (p : Parameters) (ss : List Step) (s : Step) (number : ℕ) → AreAllowed p → AllByRecursion ComesInOctets ss → ComesInOctets s → 1 ≤ number → number < (life p ss).next.next_number → (IsThere (connection_of (life p ss).next number) → ⊥) → IsSilent number (life p ss).next s
-silent-step p ss s number allowed octets own from_one less over =
+silent_step : (p : Parameters) (ss : List Step) (s : Step) (number : ℕ) → AreAllowed p → AllByRecursion ComesInOctets ss → ComesInOctets s → 1 ≤ number → number < (life p ss).next.next_number → (IsThere (connection_of (life p ss).next number) → ⊥) → IsSilent number (life p ss).next s
+silent_step p ss s number allowed octets own from_one less over =
     let c : Controller = (life p ss).next in
     let fits = life_fits p ss number from_one in
     let does = step_does number c s from_one fits.numbered in
@@ -52,7 +52,7 @@ silent-step p ss s number allowed octets own from_one less over =
     let usual = acts_usual number c.next_number (hears c SWITCH_LINK) (brought_in c number s) (connection_of c number) (connection_of (step c s).next number) does.put does.acts in
     let rises = (step_goes c s).numbers in
     record {
-      none = each-empty number (step c s).outs (none-forwarded (forwarded (step c s).outs number) (λ sapi. forwarded_seen number (step c s).outs does.put from_one does.outs usual (life_sends p ss s allowed octets own) sapi ∙ (silence.over closed).relays sapi));
+      none = each_empty number (step c s).outs (none_forwarded (forwarded (step c s).outs number) (λ sapi. forwarded_seen number (step c s).outs does.put from_one does.outs usual (life_sends p ss s allowed octets own) sapi ∙ (silence.over closed).relays sapi));
       past = omega (arith, less, rises);
       closed = closed;
     }
@@ -62,13 +62,13 @@ IsOverIn number c = (number < c.next_number) × (IsThere (connection_of c number
 
 -- ---- what is put
 
-entries-empty : (number : ℕ) (target : Option Tenure) (outs : List Out) → AllByRecursion (λ out. carried_for number out ≡ []) outs → AllByRecursion (λ (entry : OutboxEntry). carried_for number entry.out ≡ []) (map (entry_of target) outs)
-entries-empty number target [] none = tt
-entries-empty number target (out ∷ outs) none = (ap (carried_for number) (entry-out target out) ∙ none.0, entries-empty number target outs none.1)
+entries_empty : (number : ℕ) (target : Option Tenure) (outs : List Out) → AllByRecursion (λ out. carried_for number out ≡ []) outs → AllByRecursion (λ (entry : OutboxEntry). carried_for number entry.out ≡ []) (map (entry_of target) outs)
+entries_empty number target [] none = tt
+entries_empty number target (out ∷ outs) none = (ap (carried_for number) (entry-out target out) ∙ none.0, entries_empty number target outs none.1)
 
-put-empty : (number : ℕ) (b : Bool) (entries : List OutboxEntry) → AllByRecursion (λ (entry : OutboxEntry). carried_for number entry.out ≡ []) entries → AllByRecursion (λ (entry : OutboxEntry). carried_for number entry.out ≡ []) (if b then to_link SWITCH_LINK entries else [])
-put-empty number true entries none = AllByRecursion-filter (λ (entry : OutboxEntry). carried_for number entry.out ≡ []) (λ entry. entry.out.to == SWITCH_LINK) entries none
-put-empty number false entries none = tt
+put_empty : (number : ℕ) (b : Bool) (entries : List OutboxEntry) → AllByRecursion (λ (entry : OutboxEntry). carried_for number entry.out ≡ []) entries → AllByRecursion (λ (entry : OutboxEntry). carried_for number entry.out ≡ []) (if b then to_link SWITCH_LINK entries else [])
+put_empty number true entries none = AllByRecursion-filter (λ (entry : OutboxEntry). carried_for number entry.out ≡ []) (λ entry. entry.out.to == SWITCH_LINK) entries none
+put_empty number false entries none = tt
 
 -- ---- the event
 
@@ -76,11 +76,11 @@ put-empty number false entries none = tt
 module _ (number : ℕ) (w : Actors) (silent : (s : Step) → ComesInOctets s → IsSilent number w.controller s) where
   put-items : (items : List Item) → AllByRecursion ComesInOctets (first_taken items) → AllByRecursion (λ (entry : OutboxEntry). carried_for number entry.out ≡ []) (outputs_at w items)
   put-items [] own = tt
-  put-items (item ∷ items) own = entries-empty number (target_in w item.source item.what) (take item w.controller).outs (silent (steps.Take item) own.0).none
+  put-items (item ∷ items) own = entries_empty number (target_in w item.source item.what) (take item w.controller).outs (silent (steps.Take item) own.0).none
 
   put-event : (event : Event) → TakesOctets w event → AllByRecursion (λ (entry : OutboxEntry). carried_for number entry.out ≡ []) (outputs w event)
   put-event Handle own = put-items w.inbox own
-  put-event (Tick ms) own = entries-empty number None (tick ms w.controller).outs (silent (steps.Tick ms) own.0).none
+  put-event (Tick ms) own = entries_empty number None (tick ms w.controller).outs (silent (steps.Tick ms) own.0).none
   put-event _ own = tt
 
   stays-items : IsOver w number → (items : List Item) → AllByRecursion ComesInOctets (first_taken items) → (c : Controller) → c ≡ (each step w.controller (first_taken items)).next → IsOverIn number c
@@ -92,12 +92,12 @@ module _ (number : ℕ) (w : Actors) (silent : (s : Step) → ComesInOctets s �
   stays-event over (Tick ms) own c is = let one = silent (steps.Tick ms) own.0 in subst (IsOverIn number) (sym is) (one.past, one.closed)
   stays-event over _ own c is = subst (IsOverIn number) (sym is) (over.past, over.closed)
 
-pub OverPutsNoMore-new : (settings : Parameters) (events : List Event) (event : Event) → OverPutsNoMore settings events event
-OverPutsNoMore-new settings events event number allowed octets own from_one over =
+pub over_puts_no_more_new : (settings : Parameters) (events : List Event) (event : Event) → OverPutsNoMore settings events event
+over_puts_no_more_new settings events event number allowed octets own from_one over =
     let w : Actors = world settings events in
     let lives : w.controller ≡ lived settings events = LivesByTable-new settings events in
     let silent : (s : Step) → ComesInOctets s → IsSilent number w.controller s = λ s comes. subst (λ (c : Controller). IsSilent number c s) (sym lives)
-    (silent-step settings (all_steps (new_actors settings) events) s number allowed octets comes from_one
+    (silent_step settings (all_steps (new_actors settings) events) s number allowed octets comes from_one
     (subst (λ (c : Controller). number < c.next_number) lives over.past) (subst (λ (c : Controller). IsThere (connection_of c number) → ⊥) lives over.closed)) in
     let after : IsOverIn number (actors_after w event).controller = stays-event number w silent over event own (actors_after w event).controller (moves settings events event ∙ ap (λ (c : Controller). (each step c (step_at w event)).next) (sym lives)) in
-    (put-empty number (is_up w SWITCH_LINK) (outputs w event) (put-event number w silent event own), record { past = after.0; closed = after.1 })
+    (put_empty number (is_up w SWITCH_LINK) (outputs w event) (put-event number w silent event own), record { past = after.0; closed = after.1 })

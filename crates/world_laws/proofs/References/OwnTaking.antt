@@ -20,9 +20,9 @@ use Rattle.world_laws.specs.References.Agree.{IsUnknown, Knows, Never, Only, Run
 use Rattle.world_laws.specs.References.Agree.Agrees.{is_unheard, is_known}
 use Rattle.world_laws.specs.References.Naming.{Reach, early, waits, due, named, cleared, gone, reach_of}
 use Rattle.world_laws.specs.References.Reads.{AreNothing, Read, asks, carried, data_read}
-use Rattle.world_laws.proofs.References.Places.{push-own, set-own, stands-find, stands-get, stands-peer, stands-slot}
-use Rattle.world_laws.proofs.References.Runs.{quiet-runs}
-use Rattle.world_laws.proofs.References.Taking.{After, IsNoConfirm, Took, asked-same, confirms-after}
+use Rattle.world_laws.proofs.References.Places.{push_own, set_own, stands_find, stands_get, stands_peer, stands_slot}
+use Rattle.world_laws.proofs.References.Runs.{quiet_runs}
+use Rattle.world_laws.proofs.References.Taking.{After, IsNoConfirm, Took, asked_same, confirms_after}
 use Rattle.world_laws.proofs.References.Taking.Effect.{refuses, opens, changes}
 
 -- ---- CR
@@ -31,27 +31,27 @@ use Rattle.world_laws.proofs.References.Taking.Effect.{refuses, opens, changes}
 abbrev fresh : ℕ → List Connection → ℕ → List ℕ → Connection
 fresh m cs n user = record { peer = n; stage = Open; reception = record { modulus = m; taken = initial_message_of (message_in user) }; number = REFERENCE_BASE + (length cs + 1) }
 
-full-or : (size : ℕ) → nat_le CONNECTION_LIMIT size ≡ false → IsReference (REFERENCE_BASE + (size + 1))
-full-or size miss = let few : size < CONNECTION_LIMIT = grind (arith, miss) in omega (arith, few)
+full_or : (size : ℕ) → nat_le CONNECTION_LIMIT size ≡ false → IsReference (REFERENCE_BASE + (size + 1))
+full_or size miss = let few : size < CONNECTION_LIMIT = grind (arith, miss) in omega (arith, few)
 
-asked-knows : (k : ℕ) (a : Reach) → IsAsked a → Knows k false a
-asked-knows k waits asked = refl
-asked-knows k due asked = refl
-asked-knows k gone asked = tt
-asked-knows k early asked = absurd asked
-asked-knows k (named own) asked = absurd asked
-asked-knows k cleared asked = absurd asked
+asked_knows : (k : ℕ) (a : Reach) → IsAsked a → Knows k false a
+asked_knows k waits asked = refl
+asked_knows k due asked = refl
+asked_knows k gone asked = tt
+asked_knows k early asked = absurd asked
+asked_knows k (named own) asked = absurd asked
+asked_knows k cleared asked = absurd asked
 
-never-only : (k n : ℕ) (message : Sccp) → ConfirmsBy Never n message → ConfirmsBy (Only k) n message
-never-only k n (ConnectionConfirm destination source) never = (never.0, never.1, λ is. absurd (never.2 is))
-never-only k n (ConnectionRequest source user) never = tt
-never-only k n (ConnectionRefused destination) never = tt
-never-only k n (Released destination source) never = tt
-never-only k n (ReleaseComplete destination source) never = tt
-never-only k n (DataForm1 destination user) never = tt
+never_only : (k n : ℕ) (message : Sccp) → ConfirmsBy Never n message → ConfirmsBy (Only k) n message
+never_only k n (ConnectionConfirm destination source) never = (never.0, never.1, λ is. absurd (never.2 is))
+never_only k n (ConnectionRequest source user) never = tt
+never_only k n (ConnectionRefused destination) never = tt
+never_only k n (Released destination source) never = tt
+never_only k n (ReleaseComplete destination source) never = tt
+never_only k n (DataForm1 destination user) never = tt
 
-never-word : (k n : ℕ) (word : Word) → ConfirmsIn Never n word → ConfirmsIn (Only k) n word
-never-word k n (OnConnection destination input) never = by input never where
+never_word : (k n : ℕ) (word : Word) → ConfirmsIn Never n word → ConfirmsIn (Only k) n word
+never_word k n (OnConnection destination input) never = by input never where
   by : (input : Input) → ConfirmsIn Never n (OnConnection destination input) → ConfirmsIn (Only k) n (OnConnection destination input)
   by (inputs.ConnectionConfirm source) never = λ is. absurd (never is)
   by (inputs.ActivationAck at) never = tt
@@ -76,26 +76,26 @@ never-word k n (OnConnection destination input) never = by input never where
   by inputs.DrainExpiry never = tt
   by (inputs.StationDown station) never = tt
   by inputs.SwitchDown never = tt
-never-word k n Nothing never = tt
-never-word k n Ping never = tt
-never-word k n (Asks request delay) never = tt
-never-word k n (OnChannel at input) never = tt
-never-word k n (Reports at number report) never = tt
+never_word k n Nothing never = tt
+never_word k n Ping never = tt
+never_word k n (Asks request delay) never = tt
+never_word k n (OnChannel at input) never = tt
+never_word k n (Reports at number report) never = tt
 
-never-being : (k n : ℕ) (item : Item) → ConfirmsBeing Never n item → ConfirmsBeing (Only k) n item
-never-being k n item never = never-word k n (word_by item.source item.what) never
+never_being : (k n : ℕ) (item : Item) → ConfirmsBeing Never n item → ConfirmsBeing (Only k) n item
+never_being k n item never = never_word k n (word_by item.source item.what) never
 
 module _ (w v : Actors) (others : List OutboxEntry) (n : ℕ) (three : n < 2 ^ 24) (has : HasAsked w n) (none : find (is_of_peer n) w.switch.connections ≡ None) (never : Confirms Never w n) (quiet : AreNothing (reads_of n others)) where
   only : (k : ℕ) → Confirms (Only k) w n
-  only k = record { made = AllByRecursion-so (ConfirmsBy Never n) (ConfirmsBy (Only k) n) (never-only k n) w.switch_made never.made; waiting = AllByRecursion-so (ConfirmsBeing Never n) (ConfirmsBeing (Only k) n) (never-being k n) w.inbox never.waiting }
+  only k = record { made = AllByRecursion-so (ConfirmsBy Never n) (ConfirmsBy (Only k) n) (never_only k n) w.switch_made never.made; waiting = AllByRecursion-so (ConfirmsBeing Never n) (ConfirmsBeing (Only k) n) (never_being k n) w.inbox never.waiting }
 
   refused : After w v others w.switch.connections (ConnectionRefused n ∷ []) → HasAsked v n × IsUnknown v n
   refused after = (
-    asked-same w v n after.controller_is has,
+    asked_same w v n after.controller_is has,
     record {
       none = subst (λ (xs : List Connection). find (is_of_peer n) xs ≡ None) (sym after.conns) none;
       quiet = subst (λ (entries : List OutboxEntry). AreNothing (reads_of n entries)) (sym after.rest) quiet;
-      unconfirmed = confirms-after Never n after never (tt, tt);
+      unconfirmed = confirms_after Never n after never (tt, tt);
     },
   )
 
@@ -104,12 +104,12 @@ module _ (w v : Actors) (others : List OutboxEntry) (n : ℕ) (three : n < 2 ^ 2
     place = length w.switch.connections;
     of = c;
     last = false;
-    stands = subst (StandsAt n (length w.switch.connections) c) (sym after.conns) (push-own n w.switch.connections c none is);
+    stands = subst (StandsAt n (length w.switch.connections) c) (sym after.conns) (push_own n w.switch.connections c none is);
     fits = fits;
     runs = subst (λ (entries : List OutboxEntry). Runs (REFERENCE_BASE + (length w.switch.connections + 1)) (is_over c.stage) (reads_of n entries) false) (sym after.rest)
-        (subst (λ (s : Stage). Runs (REFERENCE_BASE + (length w.switch.connections + 1)) (is_over s) (reads_of n others) false) (sym stage) (quiet-runs (REFERENCE_BASE + (length w.switch.connections + 1)) false (reads_of n others) quiet));
-    confirmed = confirms-after (Only (REFERENCE_BASE + (length w.switch.connections + 1))) n after (only (REFERENCE_BASE + (length w.switch.connections + 1))) ((three, fits, λ own. refl), tt);
-    knows = asked-knows (REFERENCE_BASE + (length w.switch.connections + 1)) (reach_of (controllers v.controller n)) (asked-same w v n after.controller_is has).asked;
+        (subst (λ (s : Stage). Runs (REFERENCE_BASE + (length w.switch.connections + 1)) (is_over s) (reads_of n others) false) (sym stage) (quiet_runs (REFERENCE_BASE + (length w.switch.connections + 1)) false (reads_of n others) quiet));
+    confirmed = confirms_after (Only (REFERENCE_BASE + (length w.switch.connections + 1))) n after (only (REFERENCE_BASE + (length w.switch.connections + 1))) ((three, fits, λ own. refl), tt);
+    knows = asked_knows (REFERENCE_BASE + (length w.switch.connections + 1)) (reach_of (controllers v.controller n)) (asked_same w v n after.controller_is has).asked;
   }
 
   pub own-asks : (user message : List ℕ) (cell : CellIdentifier) → message_in user ≡ Some (Management (bssmap.CompleteLayer3Information cell message))
@@ -117,7 +117,7 @@ module _ (w v : Actors) (others : List OutboxEntry) (n : ℕ) (three : n < 2 ^ 2
       → Took w v n (connections_after w.switch.modulus w.switch.connections (ConnectionRequest n (Some user))) (replies w.switch.connections (ConnectionRequest n (Some user))) (asks n message)
   own-asks user message cell read = by (nat_le CONNECTION_LIMIT (length w.switch.connections)) refl where
     takes : taken_in (find (is_of_peer n) (w.switch.connections ++ fresh w.switch.modulus w.switch.connections n user ∷ [])) ≡ taken_of w n ++ message ∷ []
-    takes = ap taken_in (stands-find n (length w.switch.connections) (fresh w.switch.modulus w.switch.connections n user) (w.switch.connections ++ fresh w.switch.modulus w.switch.connections n user ∷ []) (push-own n w.switch.connections (fresh w.switch.modulus w.switch.connections n user) none refl)) ∙ ap initial_message_of read
+    takes = ap taken_in (stands_find n (length w.switch.connections) (fresh w.switch.modulus w.switch.connections n user) (w.switch.connections ++ fresh w.switch.modulus w.switch.connections n user ∷ []) (push_own n w.switch.connections (fresh w.switch.modulus w.switch.connections n user) none refl)) ∙ ap initial_message_of read
         ∙ sym (ap (λ (o : Option Connection). taken_in o ++ message ∷ []) none)
 
     by : (b : Bool) → nat_le CONNECTION_LIMIT (length w.switch.connections) ≡ b
@@ -127,10 +127,10 @@ module _ (w v : Actors) (others : List OutboxEntry) (n : ℕ) (three : n < 2 ^ 2
         let now = refused after in
         record { effect = refuses; agrees = is_unheard now.0 now.1; delivers = inr now; heeded = tt }
     by false is after =
-        let fits = full-or (length w.switch.connections) is in
+        let fits = full_or (length w.switch.connections) is in
         record {
           effect = opens (fresh w.switch.modulus w.switch.connections n user) refl none three fits;
-          agrees = is_known (asked-same w v n after.controller_is has).past (opened (fresh w.switch.modulus w.switch.connections n user) refl refl fits after);
+          agrees = is_known (asked_same w v n after.controller_is has).past (opened (fresh w.switch.modulus w.switch.connections n user) refl refl fits after);
           delivers = inl takes;
           heeded = tt;
         }
@@ -144,15 +144,15 @@ record Lived (c next : Connection) (r : Read) (o : Option Sccp) : Type 0 where
   stage : is_over next.stage ≡ over_after false r
   none : AllByRecursion IsNoConfirm (option_to_list o)
 
-form-none : (f : Option InterfaceFault) (d : ℕ) (user : List ℕ) → AllByRecursion IsNoConfirm (option_to_list (data_form_by f (DataForm1 d user)))
-form-none None d user = (tt, tt)
-form-none (Some fault) d user = tt
+form_none : (f : Option InterfaceFault) (d : ℕ) (user : List ℕ) → AllByRecursion IsNoConfirm (option_to_list (data_form_by f (DataForm1 d user)))
+form_none None d user = (tt, tt)
+form_none (Some fault) d user = tt
 
 lived : (c : Connection) (d : ℕ) (q : Bssap) → is_over c.stage ≡ false → IsHeeded (data_read d (Some q)) → Lived c (live_connection_after c q) (data_read d (Some q)) (live_reply_of c q)
 lived c d (Transfer dlci message) living heeded = record { peer = refl; takes = refl; stage = living; none = tt }
 lived c d (Management (bssmap.CompleteLayer3Information cell initial)) living heeded = absurd heeded
 lived c d (Management bssmap.ClearComplete) living heeded = record { peer = refl; takes = sym (append-nil c.reception.taken); stage = refl; none = (tt, tt) }
-lived c d (Management (bssmap.ClearRequest cause)) living heeded = record { peer = refl; takes = sym (append-nil c.reception.taken); stage = refl; none = form-none (bssap_write_fault (Management (bssmap.ClearCommand cause))) c.peer (bssap_text (Management (bssmap.ClearCommand cause))) }
+lived c d (Management (bssmap.ClearRequest cause)) living heeded = record { peer = refl; takes = sym (append-nil c.reception.taken); stage = refl; none = form_none (bssap_write_fault (Management (bssmap.ClearCommand cause))) c.peer (bssap_text (Management (bssmap.ClearCommand cause))) }
 lived c d (Management (bssmap.AssignmentRequest channel_type)) living heeded = record { peer = refl; takes = sym (append-nil c.reception.taken); stage = living; none = tt }
 lived c d (Management (bssmap.AssignmentComplete rr_cause)) living heeded = record { peer = refl; takes = sym (append-nil c.reception.taken); stage = living; none = tt }
 lived c d (Management (bssmap.AssignmentFailure cause rr_cause)) living heeded = record { peer = refl; takes = sym (append-nil c.reception.taken); stage = living; none = tt }
@@ -162,29 +162,29 @@ lived c d (Management (bssmap.SapiNReject dlci cause)) living heeded = record { 
 lived c d (Management bssmap.CipherModeCommand) living heeded = record { peer = refl; takes = sym (append-nil c.reception.taken); stage = living; none = tt }
 lived c d (Management (bssmap.CipherModeReject cause)) living heeded = record { peer = refl; takes = sym (append-nil c.reception.taken); stage = living; none = tt }
 
-by-stage : (stage : Stage) (c : Connection) (d : ℕ) (q : Bssap) → is_over stage ≡ false → Lived c (live_connection_after c q) (data_read d (Some q)) (live_reply_of c q) → Lived c (connection_by stage c q) (data_read d (Some q)) (reply_by stage c q)
-by-stage Open c d q living is = is
-by-stage Clearing c d q living is = is
-by-stage Ended c d q living is = absurd (true≢false living)
+by_stage : (stage : Stage) (c : Connection) (d : ℕ) (q : Bssap) → is_over stage ≡ false → Lived c (live_connection_after c q) (data_read d (Some q)) (live_reply_of c q) → Lived c (connection_by stage c q) (data_read d (Some q)) (reply_by stage c q)
+by_stage Open c d q living is = is
+by_stage Clearing c d q living is = is
+by_stage Ended c d q living is = absurd (true≢false living)
 
 pub record IsHeedful (k d : ℕ) (over : Bool) (r : Read) : Type 0 where
   pub living : over ≡ false
   pub to : d ≡ k
   pub heeded : IsHeeded r
 
-pub heeds-data : (k d : ℕ) (over : Bool) (q : Bssap) → Heeds k over (data_read d (Some q)) → IsHeedful k d over (data_read d (Some q))
-heeds-data k d over (Transfer dlci message) heeds = record { living = heeds.0; to = heeds.1; heeded = tt }
-heeds-data k d over (Management (bssmap.CompleteLayer3Information cell initial)) heeds = absurd heeds
-heeds-data k d over (Management bssmap.ClearComplete) heeds = record { living = heeds.0; to = heeds.1; heeded = tt }
-heeds-data k d over (Management (bssmap.ClearRequest cause)) heeds = record { living = heeds.0; to = heeds.1; heeded = tt }
-heeds-data k d over (Management (bssmap.AssignmentRequest channel_type)) heeds = record { living = heeds.0; to = heeds.1; heeded = tt }
-heeds-data k d over (Management (bssmap.AssignmentComplete rr_cause)) heeds = record { living = heeds.0; to = heeds.1; heeded = tt }
-heeds-data k d over (Management (bssmap.AssignmentFailure cause rr_cause)) heeds = record { living = heeds.0; to = heeds.1; heeded = tt }
-heeds-data k d over (Management (bssmap.HandoverPerformed cause cell)) heeds = record { living = heeds.0; to = heeds.1; heeded = tt }
-heeds-data k d over (Management (bssmap.ClearCommand cause)) heeds = record { living = heeds.0; to = heeds.1; heeded = tt }
-heeds-data k d over (Management (bssmap.SapiNReject dlci cause)) heeds = record { living = heeds.0; to = heeds.1; heeded = tt }
-heeds-data k d over (Management bssmap.CipherModeCommand) heeds = record { living = heeds.0; to = heeds.1; heeded = tt }
-heeds-data k d over (Management (bssmap.CipherModeReject cause)) heeds = record { living = heeds.0; to = heeds.1; heeded = tt }
+pub heeds_data : (k d : ℕ) (over : Bool) (q : Bssap) → Heeds k over (data_read d (Some q)) → IsHeedful k d over (data_read d (Some q))
+heeds_data k d over (Transfer dlci message) heeds = record { living = heeds.0; to = heeds.1; heeded = tt }
+heeds_data k d over (Management (bssmap.CompleteLayer3Information cell initial)) heeds = absurd heeds
+heeds_data k d over (Management bssmap.ClearComplete) heeds = record { living = heeds.0; to = heeds.1; heeded = tt }
+heeds_data k d over (Management (bssmap.ClearRequest cause)) heeds = record { living = heeds.0; to = heeds.1; heeded = tt }
+heeds_data k d over (Management (bssmap.AssignmentRequest channel_type)) heeds = record { living = heeds.0; to = heeds.1; heeded = tt }
+heeds_data k d over (Management (bssmap.AssignmentComplete rr_cause)) heeds = record { living = heeds.0; to = heeds.1; heeded = tt }
+heeds_data k d over (Management (bssmap.AssignmentFailure cause rr_cause)) heeds = record { living = heeds.0; to = heeds.1; heeded = tt }
+heeds_data k d over (Management (bssmap.HandoverPerformed cause cell)) heeds = record { living = heeds.0; to = heeds.1; heeded = tt }
+heeds_data k d over (Management (bssmap.ClearCommand cause)) heeds = record { living = heeds.0; to = heeds.1; heeded = tt }
+heeds_data k d over (Management (bssmap.SapiNReject dlci cause)) heeds = record { living = heeds.0; to = heeds.1; heeded = tt }
+heeds_data k d over (Management bssmap.CipherModeCommand) heeds = record { living = heeds.0; to = heeds.1; heeded = tt }
+heeds_data k d over (Management (bssmap.CipherModeReject cause)) heeds = record { living = heeds.0; to = heeds.1; heeded = tt }
 
 module _ (w v : Actors) (others : List OutboxEntry) (n : ℕ) (past : n < w.controller.next_number) (known : IsKnown w n) where
   reference : ℕ
@@ -201,10 +201,10 @@ module _ (w v : Actors) (others : List OutboxEntry) (n : ℕ) (past : n < w.cont
   known-changes : (next : Connection) (r : Read) (o : Option Sccp) → is_over known.of.stage ≡ false → IsHeeded r → Lived known.of next r o → Runs (REFERENCE_BASE + (known.place + 1)) (over_after (is_over known.of.stage) r) (reads_of n others) known.last
       → After w v others (slice_set w.switch.connections known.place next) (option_to_list o) → Took w v n (slice_set w.switch.connections known.place next) (option_to_list o) r
   known-changes next r o living heeded lives runs after =
-      let peer : next.peer ≡ n = lives.peer ∙ stands-peer n known.place known.of w.switch.connections known.stands in
-      let now = set-own n known.place known.of next w.switch.connections known.stands peer in
+      let peer : next.peer ≡ n = lives.peer ∙ stands_peer n known.place known.of w.switch.connections known.stands in
+      let now = set_own n known.place known.of next w.switch.connections known.stands peer in
       record {
-        effect = changes known.place known.of next (option_to_list o) (stands-get n known.place known.of w.switch.connections known.stands) (stands-peer n known.place known.of w.switch.connections known.stands) peer lives.none;
+        effect = changes known.place known.of next (option_to_list o) (stands_get n known.place known.of w.switch.connections known.stands) (stands_peer n known.place known.of w.switch.connections known.stands) peer lives.none;
         agrees = is_known (subst (λ (c : Controller). n < c.next_number) (sym after.controller_is) past) (record {
           place = known.place;
           of = next;
@@ -213,11 +213,11 @@ module _ (w v : Actors) (others : List OutboxEntry) (n : ℕ) (past : n < w.cont
           fits = known.fits;
           runs = subst (λ (entries : List OutboxEntry). Runs (REFERENCE_BASE + (known.place + 1)) (is_over next.stage) (reads_of n entries) known.last) (sym after.rest)
               (subst (λ (b : Bool). Runs (REFERENCE_BASE + (known.place + 1)) b (reads_of n others) known.last) (ap (λ (b : Bool). over_after b r) living ∙ sym lives.stage) runs);
-          confirmed = confirms-after (Only (REFERENCE_BASE + (known.place + 1))) n after known.confirmed (AllByRecursion-so IsNoConfirm (ConfirmsBy (Only (REFERENCE_BASE + (known.place + 1))) n) (confirms-no (Only (REFERENCE_BASE + (known.place + 1)))) (option_to_list o) lives.none);
+          confirmed = confirms_after (Only (REFERENCE_BASE + (known.place + 1))) n after known.confirmed (AllByRecursion-so IsNoConfirm (ConfirmsBy (Only (REFERENCE_BASE + (known.place + 1))) n) (confirms-no (Only (REFERENCE_BASE + (known.place + 1)))) (option_to_list o) lives.none);
           knows = subst (λ (c : Controller). Knows (REFERENCE_BASE + (known.place + 1)) known.last (reach_of (controllers c n))) (sym after.controller_is) known.knows;
         });
-        delivers = inl (ap taken_in (stands-find n known.place next (slice_set w.switch.connections known.place next) now) ∙ lives.takes
-            ∙ sym (ap (λ (x : Option Connection). taken_in x ++ carried r) (stands-find n known.place known.of w.switch.connections known.stands)));
+        delivers = inl (ap taken_in (stands_find n known.place next (slice_set w.switch.connections known.place next) now) ∙ lives.takes
+            ∙ sym (ap (λ (x : Option Connection). taken_in x ++ carried r) (stands_find n known.place known.of w.switch.connections known.stands)));
         heeded = heeded;
       }
 
@@ -228,14 +228,14 @@ module _ (w v : Actors) (others : List OutboxEntry) (n : ℕ) (past : n < w.cont
   own-data user q read living heeded runs after =
       let k : ℕ = REFERENCE_BASE + (known.place + 1) in
       let cs : List Connection = w.switch.connections in
-      let slot : connection_of cs (k - REFERENCE_BASE) ≡ Some known.of = stands-slot n known.place known.of cs known.stands in
+      let slot : connection_of cs (k - REFERENCE_BASE) ≡ Some known.of = stands_slot n known.place known.of cs known.stands in
       let back : k - REFERENCE_BASE - 1 ≡ known.place = omega arith in
       let conns : connections_after w.switch.modulus cs (DataForm1 k user) ≡ slice_set cs known.place (connection_after known.of q) =
       ap (λ (x : Option Connection). connections_by cs (k - REFERENCE_BASE) x (message_in user)) slot ∙ ap (λ (x : Option Bssap). connections_by cs (k - REFERENCE_BASE) (Some known.of) x) read
       ∙ ap (λ (i : ℕ). slice_set cs i (connection_after known.of q)) back in
       let reps : replies cs (DataForm1 k user) ≡ option_to_list (reply_of known.of q) =
       ap (λ (x : Option Connection). replies_by x (message_in user)) slot ∙ ap (λ (x : Option Bssap). replies_by (Some known.of) x) read in
-      let lives : Lived known.of (connection_after known.of q) (data_read k (Some q)) (reply_of known.of q) = by-stage known.of.stage known.of k q living (lived known.of k q living heeded) in
+      let lives : Lived known.of (connection_after known.of q) (data_read k (Some q)) (reply_of known.of q) = by_stage known.of.stage known.of k q living (lived known.of k q living heeded) in
       let now : After w v others (slice_set cs known.place (connection_after known.of q)) (option_to_list (reply_of known.of q)) =
       subst (λ (xs : List Sccp). After w v others (slice_set cs known.place (connection_after known.of q)) xs) reps (subst (λ (xs : List Connection). After w v others xs (replies cs (DataForm1 k user))) conns after) in
       subst (λ (xs : List Connection). Took w v n xs (replies cs (DataForm1 k user)) (data_read k (Some q))) (sym conns)

@@ -7,7 +7,7 @@ use Rattle.msc_end.specs.declared.connection.Connection.{Connection}
 use Rattle.msc_end.specs.Switch.{connection_of}
 use Rattle.world_laws.specs.LineUps.{is_of_peer}
 use Rattle.world_laws.specs.References.Taken.{ArePeers}
-use Rattle.world_laws.proofs.References.Places.{none-first}
+use Rattle.world_laws.proofs.References.Places.{none_first}
 use Rattle.world_laws.proofs.References.Taking.{Effect}
 use Rattle.world_laws.proofs.References.Taking.Effect.{same, refuses, opens, changes}
 
@@ -24,14 +24,14 @@ HaveOwnPeers w = Differ (peers_of w.switch.connections)
 
 -- ---- one more, or one is changed
 
-differ-push : (ns : List ℕ) (n : ℕ) → 1 ≤ n → AllByRecursion (λ m. m ≢ n) ns → Differ ns → Differ (ns ++ n ∷ [])
-differ-push [] n least others differ = (least, tt, tt)
-differ-push (m ∷ ns) n least others differ =
-    (differ.0, AllByRecursion-append (λ x. x ≢ m) ns (n ∷ []) differ.1 ((λ same_number. others.0 (sym same_number)), tt), differ-push ns n least others.1 differ.2)
+differ_push : (ns : List ℕ) (n : ℕ) → 1 ≤ n → AllByRecursion (λ m. m ≢ n) ns → Differ ns → Differ (ns ++ n ∷ [])
+differ_push [] n least others differ = (least, tt, tt)
+differ_push (m ∷ ns) n least others differ =
+    (differ.0, AllByRecursion-append (λ x. x ≢ m) ns (n ∷ []) differ.1 ((λ same_number. others.0 (sym same_number)), tt), differ_push ns n least others.1 differ.2)
 
-none-all : (n : ℕ) (cs : List Connection) → find (is_of_peer n) cs ≡ None → AllByRecursion (λ m. m ≢ n) (peers_of cs)
-none-all n [] none = tt
-none-all n (c ∷ cs) none = let parts = none-first n c cs none in (parts.0, none-all n cs parts.1)
+none_all : (n : ℕ) (cs : List Connection) → find (is_of_peer n) cs ≡ None → AllByRecursion (λ m. m ≢ n) (peers_of cs)
+none_all n [] none = tt
+none_all n (c ∷ cs) none = let parts = none_first n c cs none in (parts.0, none_all n cs parts.1)
 
 set-peers : (cs : List Connection) (i : ℕ) (x own : Connection) → slice_get cs i ≡ Some x → own.peer ≡ x.peer → peers_of (slice_set cs i own) ≡ peers_of cs
 set-peers [] i x own got peer = refl
@@ -39,13 +39,13 @@ set-peers (c ∷ cs) zero x own got peer = ap (λ (n : ℕ). n ∷ peers_of cs) 
 set-peers (c ∷ cs) (suc i) x own got peer = ap (λ (ns : List ℕ). c.peer ∷ ns) (set-peers cs i x own got peer)
 
 -- what the switch does with an entry of a connection
-pub effect-differs : (m : ℕ) (cs : List Connection) {now : List Connection} {reps : List Sccp} → 1 ≤ m → Effect m cs now reps → Differ (peers_of cs) → Differ (peers_of now)
-effect-differs m cs least same differ = differ
-effect-differs m cs least refuses differ = differ
-effect-differs m cs least (opens c is none first second) differ =
+pub effect_differs : (m : ℕ) (cs : List Connection) {now : List Connection} {reps : List Sccp} → 1 ≤ m → Effect m cs now reps → Differ (peers_of cs) → Differ (peers_of now)
+effect_differs m cs least same differ = differ
+effect_differs m cs least refuses differ = differ
+effect_differs m cs least (opens c is none first second) differ =
     subst Differ (sym (map-append (λ (x : Connection). x.peer) cs (c ∷ [])))
-    (subst (λ (n : ℕ). Differ (peers_of cs ++ n ∷ [])) (sym is) (differ-push (peers_of cs) m least (none-all m cs none) differ))
-effect-differs m cs least (changes i x own reps got is peer quiet) differ = subst Differ (sym (set-peers cs i x own got (peer ∙ sym is))) differ
+    (subst (λ (n : ℕ). Differ (peers_of cs ++ n ∷ [])) (sym is) (differ_push (peers_of cs) m least (none_all m cs none) differ))
+effect_differs m cs least (changes i x own reps got is peer quiet) differ = subst Differ (sym (set-peers cs i x own got (peer ∙ sym is))) differ
 
 -- what it does of its own
 pub clear-peers : (cs : List Connection) (number : ℕ) → peers_of (connections_after_clear cs number (connection_of cs number)) ≡ peers_of cs
@@ -60,23 +60,23 @@ clear-peers cs number = by_number (nat_eq number 0) where
 
 -- ---- so each is the first of its peer
 
-all-got : (P : ℕ → Type 0) (cs : List Connection) (i : ℕ) (c : Connection) → slice_get cs i ≡ Some c → AllByRecursion P (peers_of cs) → P c.peer
-all-got P [] i c got all = absurd (let is : None ≡ Some c = got in cc)
-all-got P (x ∷ cs) zero c got all = subst (λ (z : Connection). P z.peer) (same_Some _ _ got) all.0
-all-got P (x ∷ cs) (suc i) c got all = all-got P cs i c got all.1
+all_got : (P : ℕ → Type 0) (cs : List Connection) (i : ℕ) (c : Connection) → slice_get cs i ≡ Some c → AllByRecursion P (peers_of cs) → P c.peer
+all_got P [] i c got all = absurd (let is : None ≡ Some c = got in cc)
+all_got P (x ∷ cs) zero c got all = subst (λ (z : Connection). P z.peer) (same_Some _ _ got) all.0
+all_got P (x ∷ cs) (suc i) c got all = all_got P cs i c got all.1
 
-differ-find : (cs : List Connection) (i : ℕ) (c : Connection) → slice_get cs i ≡ Some c → Differ (peers_of cs) → (1 ≤ c.peer) × (find (is_of_peer c.peer) cs ≡ Some c)
-differ-find [] i c got differ = absurd (let is : None ≡ Some c = got in cc)
-differ-find (x ∷ cs) zero c got differ =
+differ_find : (cs : List Connection) (i : ℕ) (c : Connection) → slice_get cs i ≡ Some c → Differ (peers_of cs) → (1 ≤ c.peer) × (find (is_of_peer c.peer) cs ≡ Some c)
+differ_find [] i c got differ = absurd (let is : None ≡ Some c = got in cc)
+differ_find (x ∷ cs) zero c got differ =
     subst (λ (z : Connection). (1 ≤ z.peer) × (find (is_of_peer z.peer) (x ∷ cs) ≡ Some z)) (same_Some _ _ got)
     (differ.0, ap (λ (b : Bool). cond b (Some x) (find (is_of_peer x.peer) cs)) (eq-eqb x.peer x.peer refl))
-differ-find (x ∷ cs) (suc i) c got differ =
-    let rest = differ-find cs i c got differ.2 in
-    let other : x.peer ≡ c.peer → ⊥ = λ is. all-got (λ m. m ≢ x.peer) cs i c got differ.1 (sym is) in
+differ_find (x ∷ cs) (suc i) c got differ =
+    let rest = differ_find cs i c got differ.2 in
+    let other : x.peer ≡ c.peer → ⊥ = λ is. all_got (λ m. m ≢ x.peer) cs i c got differ.1 (sym is) in
     (rest.0, ap (λ (b : Bool). cond b (Some x) (find (is_of_peer c.peer) cs)) (ne_eqb x.peer c.peer other) ∙ rest.1)
 
-pub own-peers : (w : Actors) → HaveOwnPeers w → ArePeers w
-own-peers w differ number c got = by (nat_eq number 0) got where
+pub own_peers : (w : Actors) → HaveOwnPeers w → ArePeers w
+own_peers w differ number c got = by (nat_eq number 0) got where
   by : (b : Bool) → (if b then None else slice_get w.switch.connections (number - 1)) ≡ Some c → (1 ≤ c.peer) × (find (is_of_peer c.peer) w.switch.connections ≡ Some c)
   by true got = absurd (let is : None ≡ Some c = got in cc)
-  by false got = differ-find w.switch.connections (number - 1) c got differ
+  by false got = differ_find w.switch.connections (number - 1) c got differ

@@ -72,8 +72,8 @@ text-content (Released destination source) = refl
 text-content (ReleaseComplete destination source) = refl
 text-content (DataForm1 destination user) = refl
 
-confirm-read : (d s : ℕ) → IsReference d → IsReference s → sccp_reading (sccp_text (ConnectionConfirm d s)) ≡ Ok (ConnectionConfirm d s)
-confirm-read d s first second =
+confirm_read : (d s : ℕ) → IsReference d → IsReference s → sccp_reading (sccp_text (ConnectionConfirm d s)) ≡ Ok (ConnectionConfirm d s)
+confirm_read d s first second =
     subst (λ (octets : List ℕ). sccp_reading octets ≡ Ok (ConnectionConfirm d s)) (append-nil (sccp_text (ConnectionConfirm d s)))
     (sccp_again (sccp_text (ConnectionConfirm d s) ++ []) (ConnectionConfirm d s) (sccp_written (ConnectionConfirm d s) [] (first, second) refl))
 
@@ -104,7 +104,7 @@ module _ (P : ℕ → Type 0) (n : ℕ) where
   read-other message other = of-other (sccp_reading (sccp_text message)) (λ m is kind. other (sym (content_kind (type_of message) (content_text message) m (sym (text-content message) ∙ is)) ∙ kind))
 
   read-made : (message : Sccp) → ConfirmsBy P n message → ConfirmsIn P n (switch_word (sccp_reading (sccp_text message)))
-  read-made (ConnectionConfirm d s) confirms = subst (λ (r : Result Sccp InterfaceFault). ConfirmsIn P n (switch_word r)) (sym (confirm-read d s confirms.0 confirms.1)) confirms.2
+  read-made (ConnectionConfirm d s) confirms = subst (λ (r : Result Sccp InterfaceFault). ConfirmsIn P n (switch_word r)) (sym (confirm_read d s confirms.0 confirms.1)) confirms.2
   read-made (ConnectionRequest s user) confirms = read-other (ConnectionRequest s user) (λ is. absurd cc)
   read-made (ConnectionRefused d) confirms = read-other (ConnectionRefused d) (λ is. absurd cc)
   read-made (Released d s) confirms = read-other (Released d s) (λ is. absurd cc)

@@ -19,8 +19,8 @@ use Rattle.world_laws.specs.References.Naming.{ArePlain, AreQuiet, IsAsking, IsC
 use Rattle.world_laws.specs.References.Reads.{AreNothing, ArePlainReads, IsNothing, IsPlainRead, Read, asks, carried, clears, data_read}
 use Rattle.world_laws.specs.References.Reads.{initial_read, nothing, sccp_read}
 use Rattle.world_laws.proofs.References.Numbered.{IsOfOne}
-use Rattle.world_laws.proofs.References.Over.{none-forwarded}
-use Rattle.world_laws.proofs.References.Texts.{clear-data, plain-read, released-read, request-read}
+use Rattle.world_laws.proofs.References.Over.{none_forwarded}
+use Rattle.world_laws.proofs.References.Texts.{clear_data, plain_read, released_read, request_read}
 use Rattle.world_laws.proofs.Others.{entry-out}
 use Rattle.world_laws.proofs.OwnTurn.{messages_of}
 
@@ -36,52 +36,52 @@ carried-own n out conn to =
     both = ap (λ (b : Bool). b && (out.to == SWITCH_LINK)) (eq-eqb out.conn n conn) ∙ eq-eqb out.to SWITCH_LINK to
 
 -- and nothing of another
-pub other-carries : (n : ℕ) (out : Out) → out.conn ≢ n → carried_for n out ≡ []
+pub other_carries : (n : ℕ) (out : Out) → out.conn ≢ n → carried_for n out ≡ []
 unfolding forwarded
-other-carries n out differ =
+other_carries n out differ =
     ap (λ (b : Bool). map (λ (f : Forwarded). f.message) (flat_map (λ (o : Out). forwarded_by (sccp_reading o.frame.body)) (cond (b && (out.to == SWITCH_LINK)) (out ∷ []) []))) (ne_eqb out.conn n differ)
 
-initial-carries : (n : ℕ) (b : Bssap) → IsHeeded (initial_read n (Some b)) → messages_of (forwarded_in (Ok b)) ≡ carried (initial_read n (Some b))
+initial_carries : (n : ℕ) (b : Bssap) → IsHeeded (initial_read n (Some b)) → messages_of (forwarded_in (Ok b)) ≡ carried (initial_read n (Some b))
 unfolding messages_of
-initial-carries n (Management (bssmap.CompleteLayer3Information cell initial)) heeded = refl
-initial-carries n (Management _) heeded = absurd heeded
-initial-carries n (Transfer dlci message) heeded = absurd heeded
+initial_carries n (Management (bssmap.CompleteLayer3Information cell initial)) heeded = refl
+initial_carries n (Management _) heeded = absurd heeded
+initial_carries n (Transfer dlci message) heeded = absurd heeded
 
-data-carries : (d : ℕ) (b : Bssap) → IsHeeded (data_read d (Some b)) → messages_of (forwarded_in (Ok b)) ≡ carried (data_read d (Some b))
+data_carries : (d : ℕ) (b : Bssap) → IsHeeded (data_read d (Some b)) → messages_of (forwarded_in (Ok b)) ≡ carried (data_read d (Some b))
 unfolding messages_of
-data-carries d (Transfer dlci message) heeded = refl
-data-carries d (Management (bssmap.CompleteLayer3Information cell initial)) heeded = absurd heeded
-data-carries d (Management bssmap.ClearComplete) heeded = refl
-data-carries d (Management _) heeded = refl
+data_carries d (Transfer dlci message) heeded = refl
+data_carries d (Management (bssmap.CompleteLayer3Information cell initial)) heeded = absurd heeded
+data_carries d (Management bssmap.ClearComplete) heeded = refl
+data_carries d (Management _) heeded = refl
 
-none-relayed : (sapi : Sapi) (station : ℕ) (x : _) → relayed sapi (Station station x ∷ []) ≡ []
-none-relayed Zero station x = refl
-none-relayed Three station x = refl
+none_relayed : (sapi : Sapi) (station : ℕ) (x : _) → relayed sapi (Station station x ∷ []) ≡ []
+none_relayed Zero station x = refl
+none_relayed Three station x = refl
 
-message-carries : (n : ℕ) (m : Message) → 1 ≤ n → IsSent (out_of n m) → IsReadOf n m (out_of n m).frame.body → IsHeeded (reads (out_of n m)) → carried_for n (out_of n m) ≡ carried (reads (out_of n m))
+message_carries : (n : ℕ) (m : Message) → 1 ≤ n → IsSent (out_of n m) → IsReadOf n m (out_of n m).frame.body → IsHeeded (reads (out_of n m)) → carried_for n (out_of n m) ≡ carried (reads (out_of n m))
 unfolding out_of messages_of
-message-carries n (Station station x) from_one sent read heeded =
+message_carries n (Station station x) from_one sent read heeded =
     ap (map (λ (f : Forwarded). f.message))
-    (none-forwarded (forwarded (out_of n (Station station x) ∷ []) n) (λ sapi. forwarded_seen n (out_of n (Station station x) ∷ []) (Station station x ∷ []) from_one (outs_own n (Station station x ∷ [])) (tt, tt) (sent, tt) sapi ∙ none-relayed sapi station x))
-message-carries n (Request b) from_one sent read heeded =
+    (none_forwarded (forwarded (out_of n (Station station x) ∷ []) n) (λ sapi. forwarded_seen n (out_of n (Station station x) ∷ []) (Station station x ∷ []) from_one (outs_own n (Station station x ∷ [])) (tt, tt) (sent, tt) sapi ∙ none_relayed sapi station x))
+message_carries n (Request b) from_one sent read heeded =
     let is : reads (out_of n (Request b)) ≡ initial_read n (Some b) = ap (λ (r : Result Sccp InterfaceFault). sccp_read (result_ok r)) read.1 ∙ ap (λ (r : Result Bssap InterfaceFault). initial_read n (result_ok r)) read.2 in
     carried-own n (out_of n (Request b)) refl refl ∙ ap (λ (r : Result Sccp InterfaceFault). messages_of (forwarded_by r)) read.1 ∙ ap (λ (r : Result Bssap InterfaceFault). messages_of (forwarded_in r)) read.2
-    ∙ initial-carries n b (subst IsHeeded is heeded) ∙ sym (ap carried is)
-message-carries n (Data d b) from_one sent read heeded =
+    ∙ initial_carries n b (subst IsHeeded is heeded) ∙ sym (ap carried is)
+message_carries n (Data d b) from_one sent read heeded =
     let is : reads (out_of n (Data d b)) ≡ data_read d (Some b) = ap (λ (r : Result Sccp InterfaceFault). sccp_read (result_ok r)) read.1 ∙ ap (λ (r : Result Bssap InterfaceFault). data_read d (result_ok r)) read.2 in
     carried-own n (out_of n (Data d b)) refl refl ∙ ap (λ (r : Result Sccp InterfaceFault). messages_of (forwarded_by r)) read.1 ∙ ap (λ (r : Result Bssap InterfaceFault). messages_of (forwarded_in r)) read.2
-    ∙ data-carries d b (subst IsHeeded is heeded) ∙ sym (ap carried is)
-message-carries n (ReleaseComplete d) from_one sent read heeded =
+    ∙ data_carries d b (subst IsHeeded is heeded) ∙ sym (ap carried is)
+message_carries n (ReleaseComplete d) from_one sent read heeded =
     carried-own n (out_of n (ReleaseComplete d)) refl refl ∙ ap (λ (r : Result Sccp InterfaceFault). messages_of (forwarded_by r)) read
     ∙ sym (ap (λ (r : Result Sccp InterfaceFault). carried (sccp_read (result_ok r))) read)
 
 pong-read : (to : ℕ) → reads (pong to) ≡ nothing
 pong-read to = refl
 
-pub right-out : (out : Out) → IsOfOne out → IsSent out → IsRight out
-right-out out one sent = record {
+pub right_out : (out : Out) → IsOfOne out → IsSent out → IsRight out
+right_out out one sent = record {
   carries_as_read = λ from_one heeded. elim sent.is [
-    | inl is ↦ subst (λ (o : Out). IsSent o → IsReadOf out.conn is.message o.frame.body → IsHeeded (reads o) → carried_for out.conn o ≡ carried (reads o)) (sym is.put) (message-carries out.conn is.message from_one) sent is.read heeded
+    | inl is ↦ subst (λ (o : Out). IsSent o → IsReadOf out.conn is.message o.frame.body → IsHeeded (reads o) → carried_for out.conn o ≡ carried (reads o)) (sym is.put) (message_carries out.conn is.message from_one) sent is.read heeded
     | inr pong_is ↦ absurd (none from_one pong_is)
   ];
   beside = λ zero. elim one [
@@ -100,12 +100,12 @@ right-out out one sent = record {
 abbrev pub goes_there : Out → Bool
 goes_there out = out.to == SWITCH_LINK
 
-linked-outs : (target : Option Tenure) (outs : List Out) → map (λ (entry : OutboxEntry). entry.out) (to_link SWITCH_LINK (map (entry_of target) outs)) ≡ filter goes_there outs
-linked-outs target [] = refl
-linked-outs target (out ∷ outs) =
+linked_outs : (target : Option Tenure) (outs : List Out) → map (λ (entry : OutboxEntry). entry.out) (to_link SWITCH_LINK (map (entry_of target) outs)) ≡ filter goes_there outs
+linked_outs target [] = refl
+linked_outs target (out ∷ outs) =
     first (goes_there (entry_of target out).out)
     ∙ ap (λ (o : Out). if goes_there o then o ∷ map (λ (entry : OutboxEntry). entry.out) (to_link SWITCH_LINK (map (entry_of target) outs)) else map (λ (entry : OutboxEntry). entry.out) (to_link SWITCH_LINK (map (entry_of target) outs))) (entry-out target out)
-    ∙ ap (λ (xs : List Out). if goes_there out then out ∷ xs else xs) (linked-outs target outs)
+    ∙ ap (λ (xs : List Out). if goes_there out then out ∷ xs else xs) (linked_outs target outs)
   where
     first : (b : Bool) → map (λ (entry : OutboxEntry). entry.out) (if b then entry_of target out ∷ to_link SWITCH_LINK (map (entry_of target) outs) else to_link SWITCH_LINK (map (entry_of target) outs))
         ≡ (if b then (entry_of target out).out ∷ map (λ (entry : OutboxEntry). entry.out) (to_link SWITCH_LINK (map (entry_of target) outs)) else map (λ (entry : OutboxEntry). entry.out) (to_link SWITCH_LINK (map (entry_of target) outs)))
@@ -122,9 +122,9 @@ filter-swap p q (x ∷ xs) = by (p x) (q x) refl refl (filter-swap p q xs) where
   by false true is_p is_q rest = ap (λ (b : Bool). if b then x ∷ filter p (filter q xs) else filter p (filter q xs)) is_p ∙ rest
   by false false is_p is_q rest = rest
 
-pub own-put : (n : ℕ) (target : Option Tenure) (outs : List Out) (ms : List Message) → outs_for n outs ≡ outs_of n ms → reads_of n (to_link SWITCH_LINK (map (entry_of target) outs)) ≡ map reads (filter goes_there (outs_of n ms))
-own-put n target outs ms are =
-    ap (λ (xs : List Out). map reads (outs_for n xs)) (linked-outs target outs) ∙ ap (map reads) (filter-swap (is_for n) goes_there outs) ∙ ap (λ (xs : List Out). map reads (filter goes_there xs)) are
+pub own_put : (n : ℕ) (target : Option Tenure) (outs : List Out) (ms : List Message) → outs_for n outs ≡ outs_of n ms → reads_of n (to_link SWITCH_LINK (map (entry_of target) outs)) ≡ map reads (filter goes_there (outs_of n ms))
+own_put n target outs ms are =
+    ap (λ (xs : List Out). map reads (outs_for n xs)) (linked_outs target outs) ∙ ap (map reads) (filter-swap (is_for n) goes_there outs) ∙ ap (λ (xs : List Out). map reads (filter goes_there xs)) are
 
 abbrev pub AreTexts : ℕ → List Message → Type 0
 AreTexts n ms = AllByRecursion (λ m. IsText n (out_of n m)) ms
@@ -132,58 +132,58 @@ AreTexts n ms = AllByRecursion (λ m. IsText n (out_of n m)) ms
 abbrev pub said : ℕ → List Message → List Read
 said n ms = map reads (filter goes_there (outs_of n ms))
 
-all-read : (n : ℕ) (P : Read → Type 0) (Q : Message → Type 0) → ((m : Message) → Q m → IsText n (out_of n m) → P (reads (out_of n m))) → (ms : List Message) → AllByRecursion Q ms → AreTexts n ms → AllByRecursion P (said n ms)
-all-read n P Q each [] all texts = tt
-all-read n P Q each (m ∷ ms) all texts = by (goes_there (out_of n m)) (all-read n P Q each ms all.1 texts.1) where
+all_read : (n : ℕ) (P : Read → Type 0) (Q : Message → Type 0) → ((m : Message) → Q m → IsText n (out_of n m) → P (reads (out_of n m))) → (ms : List Message) → AllByRecursion Q ms → AreTexts n ms → AllByRecursion P (said n ms)
+all_read n P Q each [] all texts = tt
+all_read n P Q each (m ∷ ms) all texts = by (goes_there (out_of n m)) (all_read n P Q each ms all.1 texts.1) where
   by : (b : Bool) → AllByRecursion P (said n ms) → AllByRecursion P (map reads (if b then out_of n m ∷ filter goes_there (outs_of n ms) else filter goes_there (outs_of n ms)))
   by true rest = (each m all.0 texts.0, rest)
   by false rest = rest
 
-quiet-out : (n : ℕ) (m : Message) → IsQuiet m → IsText n (out_of n m) → IsNothing (reads (out_of n m))
+quiet_out : (n : ℕ) (m : Message) → IsQuiet m → IsText n (out_of n m) → IsNothing (reads (out_of n m))
 unfolding out_of
-quiet-out n (Station station x) quiet text = tt
-quiet-out n (ReleaseComplete d) quiet text = subst IsNothing (sym (released-read n d text)) tt
-quiet-out n (Request b) quiet text = absurd quiet
-quiet-out n (Data d b) quiet text = absurd quiet
+quiet_out n (Station station x) quiet text = tt
+quiet_out n (ReleaseComplete d) quiet text = subst IsNothing (sym (released_read n d text)) tt
+quiet_out n (Request b) quiet text = absurd quiet
+quiet_out n (Data d b) quiet text = absurd quiet
 
-pub quiet-said : (n : ℕ) (ms : List Message) → AreTexts n ms → AreQuiet ms → AreNothing (said n ms)
-quiet-said n ms texts quiet = all-read n IsNothing IsQuiet (quiet-out n) ms quiet texts
+pub quiet_said : (n : ℕ) (ms : List Message) → AreTexts n ms → AreQuiet ms → AreNothing (said n ms)
+quiet_said n ms texts quiet = all_read n IsNothing IsQuiet (quiet_out n) ms quiet texts
 
-plain-out : (n k : ℕ) → IsReference k → (m : Message) → IsPlain k m → IsText n (out_of n m) → IsPlainRead k (reads (out_of n m))
+plain_out : (n k : ℕ) → IsReference k → (m : Message) → IsPlain k m → IsText n (out_of n m) → IsPlainRead k (reads (out_of n m))
 unfolding out_of
-plain-out n k three (Station station x) plain text = tt
-plain-out n k three (ReleaseComplete d) plain text = subst (IsPlainRead k) (sym (released-read n d text)) tt
-plain-out n k three (Request b) plain text = absurd plain
-plain-out n k three (Data d b) plain text = plain-read n k d b three plain text
+plain_out n k three (Station station x) plain text = tt
+plain_out n k three (ReleaseComplete d) plain text = subst (IsPlainRead k) (sym (released_read n d text)) tt
+plain_out n k three (Request b) plain text = absurd plain
+plain_out n k three (Data d b) plain text = plain_read n k d b three plain text
 
-pub plain-said : (n k : ℕ) (ms : List Message) → IsReference k → AreTexts n ms → ArePlain k ms → ArePlainReads k (said n ms)
-plain-said n k ms three texts plain = all-read n (IsPlainRead k) (IsPlain k) (plain-out n k three) ms plain texts
+pub plain_said : (n k : ℕ) (ms : List Message) → IsReference k → AreTexts n ms → ArePlain k ms → ArePlainReads k (said n ms)
+plain_said n k ms three texts plain = all_read n (IsPlainRead k) (IsPlain k) (plain_out n k three) ms plain texts
 
-pub asking-said : (n : ℕ) (ms : List Message) → AreTexts n ms → IsAsking ms → (message : List ℕ) × (said n ms ≡ asks n message ∷ [])
+pub asking_said : (n : ℕ) (ms : List Message) → AreTexts n ms → IsAsking ms → (message : List ℕ) × (said n ms ≡ asks n message ∷ [])
 unfolding out_of
-asking-said n ms texts asking =
+asking_said n ms texts asking =
     let own : AreTexts n (Request (Management (bssmap.CompleteLayer3Information asking.cell asking.initial)) ∷ []) = subst (AreTexts n) asking.is texts in
-    let read = request-read n asking.cell asking.initial own.0 in
+    let read = request_read n asking.cell asking.initial own.0 in
     (read.0, ap (said n) asking.is ∙ ap (λ (r : Read). r ∷ []) read.1)
 
 said-append : (n : ℕ) (ms more : List Message) → said n (ms ++ more) ≡ said n ms ++ said n more
 said-append n ms more =
     ap (λ (xs : List Out). map reads (filter goes_there xs)) (map-append (out_of n) ms more) ∙ ap (map reads) (filter-append goes_there (outs_of n ms) (outs_of n more)) ∙ map-append reads (filter goes_there (outs_of n ms)) (filter goes_there (outs_of n more))
 
-texts-left : (n : ℕ) (ms more : List Message) → AreTexts n (ms ++ more) → AreTexts n ms
-texts-left n [] more texts = tt
-texts-left n (m ∷ ms) more texts = (texts.0, texts-left n ms more texts.1)
+texts_left : (n : ℕ) (ms more : List Message) → AreTexts n (ms ++ more) → AreTexts n ms
+texts_left n [] more texts = tt
+texts_left n (m ∷ ms) more texts = (texts.0, texts_left n ms more texts.1)
 
-texts-right : (n : ℕ) (ms more : List Message) → AreTexts n (ms ++ more) → AreTexts n more
-texts-right n [] more texts = texts
-texts-right n (m ∷ ms) more texts = texts-right n ms more texts.1
+texts_right : (n : ℕ) (ms more : List Message) → AreTexts n (ms ++ more) → AreTexts n more
+texts_right n [] more texts = texts
+texts_right n (m ∷ ms) more texts = texts_right n ms more texts.1
 
-pub clearing-said : (n k : ℕ) (ms : List Message) → IsReference k → AreTexts n ms → IsClearing k ms → (qs : List Read) × AreNothing qs × (said n ms ≡ qs ++ clears k ∷ [])
+pub clearing_said : (n k : ℕ) (ms : List Message) → IsReference k → AreTexts n ms → IsClearing k ms → (qs : List Read) × AreNothing qs × (said n ms ≡ qs ++ clears k ∷ [])
 unfolding out_of
-clearing-said n k ms three texts clearing =
+clearing_said n k ms three texts clearing =
     let own : AreTexts n (clearing.first ++ clear_complete k ∷ []) = subst (AreTexts n) clearing.is texts in (
       said n clearing.first,
-      quiet-said n clearing.first (texts-left n clearing.first (clear_complete k ∷ []) own) clearing.quiet,
+      quiet_said n clearing.first (texts_left n clearing.first (clear_complete k ∷ []) own) clearing.quiet,
       ap (said n) clearing.is ∙ said-append n clearing.first (clear_complete k ∷ [])
-          ∙ ap (λ (r : Read). said n clearing.first ++ r ∷ []) (clear-data n k three (texts-right n clearing.first (clear_complete k ∷ []) own).0),
+          ∙ ap (λ (r : Read). said n clearing.first ++ r ∷ []) (clear_data n k three (texts_right n clearing.first (clear_complete k ∷ []) own).0),
     )

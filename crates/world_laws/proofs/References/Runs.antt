@@ -15,57 +15,57 @@ use Rattle.world_laws.proofs.References.Goings.{Begins}
 
 -- ---- what is put behind what waits
 
-nothing-more : (xs ys : List Read) → AreNothing xs → AreNothing ys → AreNothing (xs ++ ys)
-nothing-more xs ys first rest = AllByRecursion-append IsNothing xs ys first rest
+nothing_more : (xs ys : List Read) → AreNothing xs → AreNothing ys → AreNothing (xs ++ ys)
+nothing_more xs ys first rest = AllByRecursion-append IsNothing xs ys first rest
 
-asks-more : (n : ℕ) (xs ys : List Read) → AsksOnce n xs → AreNothing ys → AsksOnce n (xs ++ ys)
-asks-more n [] ys once quiet = absurd once
-asks-more n (read_asks source initial ∷ xs) ys once quiet = (once.0, nothing-more xs ys once.1 quiet)
-asks-more n (read_nothing ∷ xs) ys once quiet = asks-more n xs ys once quiet
-asks-more n (read_carries d message ∷ xs) ys once quiet = absurd once
-asks-more n (read_clears d ∷ xs) ys once quiet = absurd once
-asks-more n (read_tells d ∷ xs) ys once quiet = absurd once
-asks-more n (read_odd ∷ xs) ys once quiet = absurd once
+asks_more : (n : ℕ) (xs ys : List Read) → AsksOnce n xs → AreNothing ys → AsksOnce n (xs ++ ys)
+asks_more n [] ys once quiet = absurd once
+asks_more n (read_asks source initial ∷ xs) ys once quiet = (once.0, nothing_more xs ys once.1 quiet)
+asks_more n (read_nothing ∷ xs) ys once quiet = asks_more n xs ys once quiet
+asks_more n (read_carries d message ∷ xs) ys once quiet = absurd once
+asks_more n (read_clears d ∷ xs) ys once quiet = absurd once
+asks_more n (read_tells d ∷ xs) ys once quiet = absurd once
+asks_more n (read_odd ∷ xs) ys once quiet = absurd once
 
-asks-behind : (n : ℕ) (message : List ℕ) (xs : List Read) → AreNothing xs → AsksOnce n (xs ++ read_asks n message ∷ [])
-asks-behind n message [] quiet = (refl, tt)
-asks-behind n message (read_nothing ∷ xs) quiet = asks-behind n message xs quiet.1
-asks-behind n message (read_asks source initial ∷ xs) quiet = absurd quiet.0
-asks-behind n message (read_carries d m ∷ xs) quiet = absurd quiet.0
-asks-behind n message (read_clears d ∷ xs) quiet = absurd quiet.0
-asks-behind n message (read_tells d ∷ xs) quiet = absurd quiet.0
-asks-behind n message (read_odd ∷ xs) quiet = absurd quiet.0
+asks_behind : (n : ℕ) (message : List ℕ) (xs : List Read) → AreNothing xs → AsksOnce n (xs ++ read_asks n message ∷ [])
+asks_behind n message [] quiet = (refl, tt)
+asks_behind n message (read_nothing ∷ xs) quiet = asks_behind n message xs quiet.1
+asks_behind n message (read_asks source initial ∷ xs) quiet = absurd quiet.0
+asks_behind n message (read_carries d m ∷ xs) quiet = absurd quiet.0
+asks_behind n message (read_clears d ∷ xs) quiet = absurd quiet.0
+asks_behind n message (read_tells d ∷ xs) quiet = absurd quiet.0
+asks_behind n message (read_odd ∷ xs) quiet = absurd quiet.0
 
-pub quiet-runs : (k : ℕ) (over : Bool) (ys : List Read) → AreNothing ys → Runs k over ys over
-quiet-runs k over [] quiet = refl
-quiet-runs k over (read_nothing ∷ ys) quiet = (tt, quiet-runs k over ys quiet.1)
-quiet-runs k over (read_asks source initial ∷ ys) quiet = absurd quiet.0
-quiet-runs k over (read_carries d m ∷ ys) quiet = absurd quiet.0
-quiet-runs k over (read_clears d ∷ ys) quiet = absurd quiet.0
-quiet-runs k over (read_tells d ∷ ys) quiet = absurd quiet.0
-quiet-runs k over (read_odd ∷ ys) quiet = absurd quiet.0
+pub quiet_runs : (k : ℕ) (over : Bool) (ys : List Read) → AreNothing ys → Runs k over ys over
+quiet_runs k over [] quiet = refl
+quiet_runs k over (read_nothing ∷ ys) quiet = (tt, quiet_runs k over ys quiet.1)
+quiet_runs k over (read_asks source initial ∷ ys) quiet = absurd quiet.0
+quiet_runs k over (read_carries d m ∷ ys) quiet = absurd quiet.0
+quiet_runs k over (read_clears d ∷ ys) quiet = absurd quiet.0
+quiet_runs k over (read_tells d ∷ ys) quiet = absurd quiet.0
+quiet_runs k over (read_odd ∷ ys) quiet = absurd quiet.0
 
-plain-runs : (k : ℕ) (ys : List Read) → ArePlainReads k ys → Runs k false ys false
-plain-runs k [] plain = refl
-plain-runs k (read_nothing ∷ ys) plain = (tt, plain-runs k ys plain.1)
-plain-runs k (read_asks source initial ∷ ys) plain = absurd plain.0
-plain-runs k (read_carries d m ∷ ys) plain = ((refl, plain.0), plain-runs k ys plain.1)
-plain-runs k (read_tells d ∷ ys) plain = ((refl, plain.0), plain-runs k ys plain.1)
-plain-runs k (read_clears d ∷ ys) plain = absurd plain.0
-plain-runs k (read_odd ∷ ys) plain = absurd plain.0
+plain_runs : (k : ℕ) (ys : List Read) → ArePlainReads k ys → Runs k false ys false
+plain_runs k [] plain = refl
+plain_runs k (read_nothing ∷ ys) plain = (tt, plain_runs k ys plain.1)
+plain_runs k (read_asks source initial ∷ ys) plain = absurd plain.0
+plain_runs k (read_carries d m ∷ ys) plain = ((refl, plain.0), plain_runs k ys plain.1)
+plain_runs k (read_tells d ∷ ys) plain = ((refl, plain.0), plain_runs k ys plain.1)
+plain_runs k (read_clears d ∷ ys) plain = absurd plain.0
+plain_runs k (read_odd ∷ ys) plain = absurd plain.0
 
-clear-runs : (k : ℕ) (qs : List Read) → AreNothing qs → Runs k false (qs ++ read_clears k ∷ []) true
-clear-runs k [] quiet = ((refl, refl), refl)
-clear-runs k (read_nothing ∷ qs) quiet = (tt, clear-runs k qs quiet.1)
-clear-runs k (read_asks source initial ∷ qs) quiet = absurd quiet.0
-clear-runs k (read_carries d m ∷ qs) quiet = absurd quiet.0
-clear-runs k (read_clears d ∷ qs) quiet = absurd quiet.0
-clear-runs k (read_tells d ∷ qs) quiet = absurd quiet.0
-clear-runs k (read_odd ∷ qs) quiet = absurd quiet.0
+clear_runs : (k : ℕ) (qs : List Read) → AreNothing qs → Runs k false (qs ++ read_clears k ∷ []) true
+clear_runs k [] quiet = ((refl, refl), refl)
+clear_runs k (read_nothing ∷ qs) quiet = (tt, clear_runs k qs quiet.1)
+clear_runs k (read_asks source initial ∷ qs) quiet = absurd quiet.0
+clear_runs k (read_carries d m ∷ qs) quiet = absurd quiet.0
+clear_runs k (read_clears d ∷ qs) quiet = absurd quiet.0
+clear_runs k (read_tells d ∷ qs) quiet = absurd quiet.0
+clear_runs k (read_odd ∷ qs) quiet = absurd quiet.0
 
-runs-more : (k : ℕ) (over between last : Bool) (xs ys : List Read) → Runs k over xs between → Runs k between ys last → Runs k over (xs ++ ys) last
-runs-more k over between last [] ys first rest = subst (λ (b : Bool). Runs k b ys last) (sym first) rest
-runs-more k over between last (x ∷ xs) ys first rest = (first.0, runs-more k (over_after over x) between last xs ys first.1 rest)
+runs_more : (k : ℕ) (over between last : Bool) (xs ys : List Read) → Runs k over xs between → Runs k between ys last → Runs k over (xs ++ ys) last
+runs_more k over between last [] ys first rest = subst (λ (b : Bool). Runs k b ys last) (sym first) rest
+runs_more k over between last (x ∷ xs) ys first rest = (first.0, runs_more k (over_after over x) between last xs ys first.1 rest)
 
 -- ---- the connection
 
@@ -86,35 +86,35 @@ pub record Grows (w v : Actors) (n : ℕ) (more : List Read) : Type 0 where
 Keeps : Actors → Actors → ℕ → Type 1
 Keeps w v n = (P : ℕ → Type 0) → Confirms P w n → Confirms P v n
 
-early-named : (k : ℕ) → early ≡ named k → ⊥
-early-named k is = absurd cc
+early_named : (k : ℕ) → early ≡ named k → ⊥
+early_named k is = absurd cc
 
-early-unnamed : (a : Reach) → early ≡ a → IsUnnamed a → ⊥
-early-unnamed a is un = absurd (subst IsUnnamed (sym is) un)
+early_unnamed : (a : Reach) → early ≡ a → IsUnnamed a → ⊥
+early_unnamed a is un = absurd (subst IsUnnamed (sym is) un)
 
-asked-unnamed : (b : Reach) → IsUnnamed b → IsAsked b
-asked-unnamed waits un = tt
-asked-unnamed due un = tt
-asked-unnamed early un = absurd un
-asked-unnamed (named k) un = absurd un
-asked-unnamed cleared un = absurd un
-asked-unnamed gone un = absurd un
+asked_unnamed : (b : Reach) → IsUnnamed b → IsAsked b
+asked_unnamed waits un = tt
+asked_unnamed due un = tt
+asked_unnamed early un = absurd un
+asked_unnamed (named k) un = absurd un
+asked_unnamed cleared un = absurd un
+asked_unnamed gone un = absurd un
 
-knows-unnamed : (k : ℕ) (last : Bool) (a : Reach) → IsUnnamed a → Knows k last a → last ≡ false
-knows-unnamed k last waits un knows = knows
-knows-unnamed k last due un knows = knows
-knows-unnamed k last early un knows = absurd un
-knows-unnamed k last (named own) un knows = absurd un
-knows-unnamed k last cleared un knows = absurd un
-knows-unnamed k last gone un knows = absurd un
+knows_unnamed : (k : ℕ) (last : Bool) (a : Reach) → IsUnnamed a → Knows k last a → last ≡ false
+knows_unnamed k last waits un knows = knows
+knows_unnamed k last due un knows = knows
+knows_unnamed k last early un knows = absurd un
+knows_unnamed k last (named own) un knows = absurd un
+knows_unnamed k last cleared un knows = absurd un
+knows_unnamed k last gone un knows = absurd un
 
-unnamed-knows : (k : ℕ) (last : Bool) (a : Reach) → IsUnnamed a → last ≡ false → Knows k last a
-unnamed-knows k last waits un is = is
-unnamed-knows k last due un is = is
-unnamed-knows k last early un is = absurd un
-unnamed-knows k last (named own) un is = absurd un
-unnamed-knows k last cleared un is = absurd un
-unnamed-knows k last gone un is = absurd un
+unnamed_knows : (k : ℕ) (last : Bool) (a : Reach) → IsUnnamed a → last ≡ false → Knows k last a
+unnamed_knows k last waits un is = is
+unnamed_knows k last due un is = is
+unnamed_knows k last early un is = absurd un
+unnamed_knows k last (named own) un is = absurd un
+unnamed_knows k last cleared un is = absurd un
+unnamed_knows k last gone un is = absurd un
 
 module _ (w v : Actors) (n : ℕ) (put : List Message) (more : List Read) (grows : Grows w v n more) (keeps : (P : ℕ → Type 0) → Confirms P w n → Confirms P v n) (says : Says n put more) where
   none-there : find (is_of_peer n) w.switch.connections ≡ None → find (is_of_peer n) v.switch.connections ≡ None
@@ -123,14 +123,14 @@ module _ (w v : Actors) (n : ℕ) (put : List Message) (more : List Read) (grows
   unknown-more : IsUnknown w n → AreNothing more → IsUnknown v n
   unknown-more unknown quiet = record {
     none = none-there unknown.none;
-    quiet = subst AreNothing (sym grows.all) (nothing-more (reads_of n (outbox_of w SWITCH_LINK)) more unknown.quiet quiet);
+    quiet = subst AreNothing (sym grows.all) (nothing_more (reads_of n (outbox_of w SWITCH_LINK)) more unknown.quiet quiet);
     unconfirmed = keeps Never unknown.unconfirmed;
   }
 
   on-way : IsOnItsWay w n → AreNothing more → IsOnItsWay v n
   on-way way quiet = record {
     none = none-there way.none;
-    once = subst (AsksOnce n) (sym grows.all) (asks-more n (reads_of n (outbox_of w SWITCH_LINK)) more way.once quiet);
+    once = subst (AsksOnce n) (sym grows.all) (asks_more n (reads_of n (outbox_of w SWITCH_LINK)) more way.once quiet);
     unconfirmed = keeps Never way.unconfirmed;
   }
 
@@ -160,7 +160,7 @@ module _ (w v : Actors) (n : ℕ) (put : List Message) (more : List Read) (grows
   asking-now past unknown b is asked (inl none) = is_unheard (has-asked past b is asked) (unknown-more unknown (subst AreNothing (sym none) tt))
   asking-now past unknown b is asked (inr (message, one)) = is_asking (has-asked past b is asked) (record {
     none = none-there unknown.none;
-    once = subst (AsksOnce n) (sym (grows.all ∙ ap (λ (xs : List Read). reads_of n (outbox_of w SWITCH_LINK) ++ xs) one)) (asks-behind n message (reads_of n (outbox_of w SWITCH_LINK)) unknown.quiet);
+    once = subst (AsksOnce n) (sym (grows.all ∙ ap (λ (xs : List Read). reads_of n (outbox_of w SWITCH_LINK) ++ xs) one)) (asks_behind n message (reads_of n (outbox_of w SWITCH_LINK)) unknown.quiet);
     unconfirmed = keeps Never unknown.unconfirmed;
   })
 
@@ -168,16 +168,16 @@ module _ (w v : Actors) (n : ℕ) (put : List Message) (more : List Read) (grows
     goes-early : n < w.controller.next_number → IsUnknown w n → {a b : Reach} → early ≡ a → reach_of (connection_of v.controller n) ≡ b → Goes came put a b → Agrees v n
     goes-early past unknown from to (stays quiet) = is_unasked (inr (past-more past, to ∙ sym from)) (unknown-more unknown (says.quiet quiet))
     goes-early past unknown from to (leaves quiet) = is_unheard (has-asked past gone to tt) (unknown-more unknown (says.quiet quiet))
-    goes-early past unknown {a} from to (fails un_a un_b quiet) = absurd (early-unnamed a from un_a)
+    goes-early past unknown {a} from to (fails un_a un_b quiet) = absurd (early_unnamed a from un_a)
     goes-early past unknown from to (asks asking) = asking-now past unknown waits to tt (says.asking asking)
-    goes-early past unknown {a} from to (confirmed k un_a comes plain) = absurd (early-unnamed a from un_a)
-    goes-early past unknown from to (speaks {reference = k} plain) = absurd (early-named k from)
-    goes-early past unknown from to (clears {reference = k} clearing) = absurd (early-named k from)
+    goes-early past unknown {a} from to (confirmed k un_a comes plain) = absurd (early_unnamed a from un_a)
+    goes-early past unknown from to (speaks {reference = k} plain) = absurd (early_named k from)
+    goes-early past unknown from to (clears {reference = k} clearing) = absurd (early_named k from)
 
     goes-asked : {a b : Reach} → Confirms Never w n → IsAsked a → Goes came put a b → IsAsked b × AreNothing more
     goes-asked un asked (stays quiet) = (asked, says.quiet quiet)
     goes-asked un asked (leaves quiet) = (tt, says.quiet quiet)
-    goes-asked {b = b} un asked (fails un_a un_b quiet) = (asked-unnamed b un_b, says.quiet quiet)
+    goes-asked {b = b} un asked (fails un_a un_b quiet) = (asked_unnamed b un_b, says.quiet quiet)
     goes-asked un asked (asks asking) = absurd asked
     goes-asked un asked (confirmed k un_a comes plain) = absurd (told Never un k comes)
     goes-asked un asked (speaks plain) = absurd asked
@@ -192,7 +192,7 @@ module _ (w v : Actors) (n : ℕ) (put : List Message) (more : List Read) (grows
     plain-on : (known : IsKnown w n) → known.last ≡ false → ArePlainReads (REFERENCE_BASE + (known.place + 1)) more → (r : ℕ) → r ≡ REFERENCE_BASE + (known.place + 1) → RunsOn known (named r)
     plain-on known unclear plain r is = record {
       then_last = false;
-      on = subst (λ (b : Bool). Runs (REFERENCE_BASE + (known.place + 1)) b more false) (sym unclear) (plain-runs (REFERENCE_BASE + (known.place + 1)) more plain);
+      on = subst (λ (b : Bool). Runs (REFERENCE_BASE + (known.place + 1)) b more false) (sym unclear) (plain_runs (REFERENCE_BASE + (known.place + 1)) more plain);
       knows_then = (is, refl);
     }
 
@@ -201,21 +201,21 @@ module _ (w v : Actors) (n : ℕ) (put : List Message) (more : List Read) (grows
     clear-on known unclear (inr (qs, quiet, are)) = record {
       then_last = true;
       on = subst (λ (xs : List Read). Runs (REFERENCE_BASE + (known.place + 1)) known.last xs true) (sym are)
-          (subst (λ (b : Bool). Runs (REFERENCE_BASE + (known.place + 1)) b (qs ++ read_clears (REFERENCE_BASE + (known.place + 1)) ∷ []) true) (sym unclear) (clear-runs (REFERENCE_BASE + (known.place + 1)) qs quiet));
+          (subst (λ (b : Bool). Runs (REFERENCE_BASE + (known.place + 1)) b (qs ++ read_clears (REFERENCE_BASE + (known.place + 1)) ∷ []) true) (sym unclear) (clear_runs (REFERENCE_BASE + (known.place + 1)) qs quiet));
       knows_then = tt;
     }
 
     quiet-on : (known : IsKnown w n) (b : Reach) → Knows (REFERENCE_BASE + (known.place + 1)) known.last b → AreNothing more → RunsOn known b
-    quiet-on known b knows quiet = record { then_last = known.last; on = quiet-runs (REFERENCE_BASE + (known.place + 1)) known.last more quiet; knows_then = knows }
+    quiet-on known b knows quiet = record { then_last = known.last; on = quiet_runs (REFERENCE_BASE + (known.place + 1)) known.last more quiet; knows_then = knows }
 
     goes-known : (known : IsKnown w n) {a b : Reach} → Knows (REFERENCE_BASE + (known.place + 1)) known.last a → Goes came put a b → RunsOn known b
     goes-known known {a} knows (stays quiet) = quiet-on known a knows (says.quiet quiet)
     goes-known known knows (leaves quiet) = quiet-on known gone tt (says.quiet quiet)
-    goes-known known {a} {b} knows (fails un_a un_b quiet) = quiet-on known b (unnamed-knows (REFERENCE_BASE + (known.place + 1)) known.last b un_b (knows-unnamed (REFERENCE_BASE + (known.place + 1)) known.last a un_a knows)) (says.quiet quiet)
+    goes-known known {a} {b} knows (fails un_a un_b quiet) = quiet-on known b (unnamed_knows (REFERENCE_BASE + (known.place + 1)) known.last b un_b (knows_unnamed (REFERENCE_BASE + (known.place + 1)) known.last a un_a knows)) (says.quiet quiet)
     goes-known known knows (asks asking) = absurd knows
     goes-known known {a} knows (confirmed k un_a comes plain) =
         let is : k ≡ REFERENCE_BASE + (known.place + 1) = told (Only (REFERENCE_BASE + (known.place + 1))) known.confirmed k comes in
-        plain-on known (knows-unnamed (REFERENCE_BASE + (known.place + 1)) known.last a un_a knows) (says.plain (REFERENCE_BASE + (known.place + 1)) known.fits (subst (λ (x : ℕ). ArePlain x put) is plain)) k is
+        plain-on known (knows_unnamed (REFERENCE_BASE + (known.place + 1)) known.last a un_a knows) (says.plain (REFERENCE_BASE + (known.place + 1)) known.fits (subst (λ (x : ℕ). ArePlain x put) is plain)) k is
     goes-known known knows (speaks {reference = k} plain) =
         plain-on known knows.1 (says.plain (REFERENCE_BASE + (known.place + 1)) known.fits (subst (λ (x : ℕ). ArePlain x put) knows.0 plain)) k knows.0
     goes-known known knows (clears {reference = k} clearing) =
@@ -229,7 +229,7 @@ module _ (w v : Actors) (n : ℕ) (put : List Message) (more : List Read) (grows
       stands = subst (λ (s : SwitchState). StandsAt n known.place known.of s.connections) (sym grows.same) known.stands;
       fits = known.fits;
       runs = subst (λ (xs : List Read). Runs (REFERENCE_BASE + (known.place + 1)) (is_over known.of.stage) xs on.then_last) (sym grows.all)
-          (runs-more (REFERENCE_BASE + (known.place + 1)) (is_over known.of.stage) known.last on.then_last (reads_of n (outbox_of w SWITCH_LINK)) more known.runs on.on);
+          (runs_more (REFERENCE_BASE + (known.place + 1)) (is_over known.of.stage) known.last on.then_last (reads_of n (outbox_of w SWITCH_LINK)) more known.runs on.on);
       confirmed = keeps (Only (REFERENCE_BASE + (known.place + 1))) known.confirmed;
       knows = subst (Knows (REFERENCE_BASE + (known.place + 1)) on.then_last) (sym to) on.knows_then;
     }
@@ -261,8 +261,8 @@ module _ (w v : Actors) (n : ℕ) (put : List Message) (more : List Read) (grows
     pub early-goes : n < w.controller.next_number → IsUnknown w n → {a b : Reach} → early ≡ a → reach_of (connection_of v.controller n) ≡ b → Goes came put a b → (reach_of (connection_of v.controller n) ≡ early) ⊎ (reach_of (connection_of v.controller n) ≡ waits) ⊎ (HasAsked v n × IsUnknown v n)
     early-goes past unknown from to (stays quiet) = inl (to ∙ sym from)
     early-goes past unknown from to (leaves quiet) = inr (inr (has-asked past gone to tt, unknown-more unknown (says.quiet quiet)))
-    early-goes past unknown {a} from to (fails un_a un_b quiet) = absurd (early-unnamed a from un_a)
+    early-goes past unknown {a} from to (fails un_a un_b quiet) = absurd (early_unnamed a from un_a)
     early-goes past unknown from to (asks asking) = inr (inl to)
-    early-goes past unknown {a} from to (confirmed k un_a comes plain) = absurd (early-unnamed a from un_a)
-    early-goes past unknown from to (speaks {reference = k} plain) = absurd (early-named k from)
-    early-goes past unknown from to (clears {reference = k} clearing) = absurd (early-named k from)
+    early-goes past unknown {a} from to (confirmed k un_a comes plain) = absurd (early_unnamed a from un_a)
+    early-goes past unknown from to (speaks {reference = k} plain) = absurd (early_named k from)
+    early-goes past unknown from to (clears {reference = k} clearing) = absurd (early_named k from)

@@ -23,11 +23,11 @@ use Rattle.world_laws.specs.References.Agree.{Agrees, Confirms, ConfirmsBeing, C
 use Rattle.world_laws.specs.References.Agree.{reads_of}
 use Rattle.world_laws.specs.References.Naming.{Goes, early, waits, gone, reach_in, reach_of}
 use Rattle.world_laws.specs.References.Reads.{AreNothing, ArePlainReads, Read}
-use Rattle.world_laws.proofs.References.Events.{IsEarly, Keeps, early-there}
-use Rattle.world_laws.proofs.References.Goings.{Begins, acts-go}
-use Rattle.world_laws.proofs.References.Numbered.{AreOfOne, outs-of-one}
+use Rattle.world_laws.proofs.References.Events.{IsEarly, Keeps, early_there}
+use Rattle.world_laws.proofs.References.Goings.{Begins, acts_go}
+use Rattle.world_laws.proofs.References.Numbered.{AreOfOne, outs_of_one}
 use Rattle.world_laws.proofs.References.Peers.{Differ, peers_of}
-use Rattle.world_laws.proofs.References.Right.{AreTexts, asking-said, clearing-said, own-put, plain-said, quiet-said, right-out, said}
+use Rattle.world_laws.proofs.References.Right.{AreTexts, asking_said, clearing_said, own_put, plain_said, quiet_said, right_out, said}
 use Rattle.world_laws.proofs.References.Runs.{Grows, Says, begins-agree, early-goes, goes-agree, goes-unheard}
 use Rattle.world_laws.proofs.Others.{entry-out}
 
@@ -70,17 +70,17 @@ module _ (P : ℕ → Type 0) (n r : ℕ) where
 
 -- ---- the controller's numbers
 
-below-more : (m n : ℕ) (xs : List Entry) → m ≤ n → AllByRecursion (IsBelow m) xs → AllByRecursion (IsBelow n) xs
-below-more m n xs less below = AllByRecursion-so (IsBelow m) (IsBelow n) (λ e is. trans e is) xs below where
+below_more : (m n : ℕ) (xs : List Entry) → m ≤ n → AllByRecursion (IsBelow m) xs → AllByRecursion (IsBelow n) xs
+below_more m n xs less below = AllByRecursion-so (IsBelow m) (IsBelow n) (λ e is. trans e is) xs below where
   trans : (e : Entry) → IsBelow m e → IsBelow n e
   trans e is = omega (arith, is, less)
 
-pub none-beyond : (c : Controller) (n : ℕ) → IsNumbered c → c.next_number ≤ n → connection_of c n ≡ None
-none-beyond c n numbered beyond = ap (option_map (λ (e : Entry). e.connection)) (find_below n c.entries (below-more c.next_number n c.entries beyond numbered.below))
+pub none_beyond : (c : Controller) (n : ℕ) → IsNumbered c → c.next_number ≤ n → connection_of c n ≡ None
+none_beyond c n numbered beyond = ap (option_map (λ (e : Entry). e.connection)) (find_below n c.entries (below_more c.next_number n c.entries beyond numbered.below))
 
-pub past-early : (c : Controller) (n : ℕ) → IsNumbered c → reach_of (connection_of c n) ≡ early → n < c.next_number
-past-early c n numbered is = elim (cases_Bool (nat_le c.next_number n)) [
-  | inl hit ↦ absurd (none (sym (ap reach_of (none-beyond c n numbered (below hit))) ∙ is))
+pub past_early : (c : Controller) (n : ℕ) → IsNumbered c → reach_of (connection_of c n) ≡ early → n < c.next_number
+past_early c n numbered is = elim (cases_Bool (nat_le c.next_number n)) [
+  | inl hit ↦ absurd (none (sym (ap reach_of (none_beyond c n numbered (below hit))) ∙ is))
   | inr miss ↦ less miss
 ] where
   none : gone ≡ early → ⊥
@@ -101,8 +101,8 @@ pub record Lawful (c : Controller) (s : Step) : Type 0 where
   pub sent : AllByRecursion IsSent (step c s).outs
   pub rises : c.next_number ≤ (step c s).next.next_number
 
-pub lawful-step : (p : Parameters) (ss : List Step) (s : Step) → AreAllowed p → AllByRecursion ComesInOctets ss → ComesInOctets s → Lawful (life p ss).next s
-lawful-step p ss s allowed octets own =
+pub lawful_step : (p : Parameters) (ss : List Step) (s : Step) → AreAllowed p → AllByRecursion ComesInOctets ss → ComesInOctets s → Lawful (life p ss).next s
+lawful_step p ss s allowed octets own =
     let numbered = (life_fits p ss 1 (omega arith)).numbered in
     record {
       acts = λ n from_one. life_acts p ss s n from_one;
@@ -120,31 +120,31 @@ reads-append n entries more =
     ∙ ap (map reads) (filter-append (is_for n) (map (λ entry. entry.out) entries) (map (λ entry. entry.out) more))
     ∙ map-append reads (outs_for n (map (λ entry. entry.out) entries)) (outs_for n (map (λ entry. entry.out) more))
 
-says-by : (n : ℕ) (put : List Message) (b : Bool) (more : List Read) → AreTexts n put → more ≡ (if b then said n put else []) → Says n put more
-says-by n put true more texts is = record {
-  quiet = λ quiet. subst AreNothing (sym is) (quiet-said n put texts quiet);
-  plain = λ k three plain. subst (ArePlainReads k) (sym is) (plain-said n k put three texts plain);
-  asking = λ asking. let one = asking-said n put texts asking in inr (one.0, is ∙ one.1);
-  clearing = λ k three clearing. let one = clearing-said n k put three texts clearing in inr (one.0, one.1, is ∙ one.2);
+says_by : (n : ℕ) (put : List Message) (b : Bool) (more : List Read) → AreTexts n put → more ≡ (if b then said n put else []) → Says n put more
+says_by n put true more texts is = record {
+  quiet = λ quiet. subst AreNothing (sym is) (quiet_said n put texts quiet);
+  plain = λ k three plain. subst (ArePlainReads k) (sym is) (plain_said n k put three texts plain);
+  asking = λ asking. let one = asking_said n put texts asking in inr (one.0, is ∙ one.1);
+  clearing = λ k three clearing. let one = clearing_said n k put three texts clearing in inr (one.0, one.1, is ∙ one.2);
 }
-says-by n put false more texts is = record {
+says_by n put false more texts is = record {
   quiet = λ quiet. subst AreNothing (sym is) tt;
   plain = λ k three plain. subst (ArePlainReads k) (sym is) tt;
   asking = λ asking. inl is;
   clearing = λ k three clearing. inl is;
 }
 
-rights-of : (target : Option Tenure) (outs : List Out) → AreOfOne outs → AllByRecursion IsSent outs → AllByRecursion (λ (entry : OutboxEntry). IsRight entry.out) (map (entry_of target) outs)
-rights-of target [] one sent = tt
-rights-of target (out ∷ outs) one sent = (subst IsRight (sym (entry-out target out)) (right-out out one.0 sent.0), rights-of target outs one.1 sent.1)
+rights_of : (target : Option Tenure) (outs : List Out) → AreOfOne outs → AllByRecursion IsSent outs → AllByRecursion (λ (entry : OutboxEntry). IsRight entry.out) (map (entry_of target) outs)
+rights_of target [] one sent = tt
+rights_of target (out ∷ outs) one sent = (subst IsRight (sym (entry-out target out)) (right_out out one.0 sent.0), rights_of target outs one.1 sent.1)
 
-put-rights : (b : Bool) (entries : List OutboxEntry) → AllByRecursion (λ (entry : OutboxEntry). IsRight entry.out) entries → AllByRecursion (λ (entry : OutboxEntry). IsRight entry.out) (if b then to_link SWITCH_LINK entries else [])
-put-rights true entries rights = AllByRecursion-filter (λ (entry : OutboxEntry). IsRight entry.out) (λ entry. entry.out.to == SWITCH_LINK) entries rights
-put-rights false entries rights = tt
+put_rights : (b : Bool) (entries : List OutboxEntry) → AllByRecursion (λ (entry : OutboxEntry). IsRight entry.out) entries → AllByRecursion (λ (entry : OutboxEntry). IsRight entry.out) (if b then to_link SWITCH_LINK entries else [])
+put_rights true entries rights = AllByRecursion-filter (λ (entry : OutboxEntry). IsRight entry.out) (λ entry. entry.out.to == SWITCH_LINK) entries rights
+put_rights false entries rights = tt
 
-waits-there : (o : Option Connection) → reach_of o ≡ waits → IsThere o
-waits-there None is = absurd cc
-waits-there (Some s) is = by s.state is where
+waits_there : (o : Option Connection) → reach_of o ≡ waits → IsThere o
+waits_there None is = absurd cc
+waits_there (Some s) is = by s.state is where
   by : (state : State) → reach_in state ≡ waits → IsOpen state
   by WaitActivation is = tt
   by WaitEstablish is = tt
@@ -189,15 +189,15 @@ module _ (w : Actors) (items : List Item) (target : Option Tenure) (s : Step) (l
     says : Says n put (reads_of n more_entries)
     says = by (is_up w SWITCH_LINK) where
       by : (b : Bool) → Says n put (reads_of n (if b then to_link SWITCH_LINK (map (entry_of target) (step w.controller s).outs) else []))
-      by true = says-by n put true (reads_of n (to_link SWITCH_LINK (map (entry_of target) (step w.controller s).outs))) texts (own-put n target (step w.controller s).outs put (laws.acts n from_one).outs)
-      by false = says-by n put false [] texts refl
+      by true = says_by n put true (reads_of n (to_link SWITCH_LINK (map (entry_of target) (step w.controller s).outs))) texts (own_put n target (step w.controller s).outs put (laws.acts n from_one).outs)
+      by false = says_by n put false [] texts refl
 
     grows : Grows w v n (reads_of n more_entries)
     grows = record {
       same = turned.0;
       all = ap (reads_of n) joined ∙ reads-append n (outbox_of w SWITCH_LINK) more_entries;
       numbers = subst (λ (c : Controller). w.controller.next_number ≤ c.next_number) (sym controller_is) laws.rises;
-      there = λ is. subst (λ (c : Controller). n < c.next_number) (sym controller_is) (past-early (step w.controller s).next n laws.then_numbered (subst (λ (c : Controller). reach_of (connection_of c n) ≡ early) controller_is is));
+      there = λ is. subst (λ (c : Controller). n < c.next_number) (sym controller_is) (past_early (step w.controller s).next n laws.then_numbered (subst (λ (c : Controller). reach_of (connection_of c n) ≡ early) controller_is is));
     }
 
     keeps : (P : ℕ → Type 0) → Confirms P w n → Confirms P v n
@@ -211,12 +211,12 @@ module _ (w : Actors) (items : List Item) (target : Option Tenure) (s : Step) (l
 
     went : Begins w.controller.next_number n put (connection_of w.controller n) (connection_of v.controller n) ⊎ Goes came put (reach_of (connection_of w.controller n)) (reach_of (connection_of v.controller n))
     went = subst (λ (c : Controller). Begins w.controller.next_number n put (connection_of w.controller n) (connection_of c n) ⊎ Goes came put (reach_of (connection_of w.controller n)) (reach_of (connection_of c n))) (sym controller_is)
-        (acts-go came (λ r is. is) (laws.acts n from_one).acts)
+        (acts_go came (λ r is. is) (laws.acts n from_one).acts)
 
     step-agrees : Agrees w n → Agrees v n
     step-agrees agrees = elim went [
       | inl begins ↦ begins-agree w v n put (reads_of n more_entries) grows keeps says begins agrees
-      | inr goes ↦ goes-agree w v n put (reads_of n more_entries) grows keeps says came (told n) (λ beyond. ap reach_of (none-beyond w.controller n laws.numbered beyond)) goes agrees
+      | inr goes ↦ goes-agree w v n put (reads_of n more_entries) grows keeps says came (told n) (λ beyond. ap reach_of (none_beyond w.controller n laws.numbered beyond)) goes agrees
     ]
 
     step-unheard : HasAsked w n → IsUnknown w n → HasAsked v n × IsUnknown v n
@@ -231,9 +231,9 @@ module _ (w : Actors) (items : List Item) (target : Option Tenure) (s : Step) (l
     step-dropped has closed = elim went [
       | inl begins ↦ absurd (beyond has.past begins.is_next)
       | inr goes ↦ elim (early-goes w v n put (reads_of n more_entries) grows keeps says came (told n) has.past has.unknown (sym has.is_early) refl goes) [
-        | inl is ↦ absurd (closed (early-there (connection_of v.controller n) is))
+        | inl is ↦ absurd (closed (early_there (connection_of v.controller n) is))
         | inr rest ↦ elim rest [
-          | inl is ↦ absurd (closed (waits-there (connection_of v.controller n) is))
+          | inl is ↦ absurd (closed (waits_there (connection_of v.controller n) is))
           | inr now ↦ now
         ]
       ]
@@ -247,7 +247,7 @@ module _ (w : Actors) (items : List Item) (target : Option Tenure) (s : Step) (l
       each = λ n from_one. step-agrees n from_one (agree.each n from_one);
       right = subst (AllByRecursion (λ (entry : OutboxEntry). IsRight entry.out)) (sym joined)
           (AllByRecursion-append (λ (entry : OutboxEntry). IsRight entry.out) (outbox_of w SWITCH_LINK) more_entries agree.right
-          (put-rights (is_up w SWITCH_LINK) (map (entry_of target) (step w.controller s).outs) (rights-of target (step w.controller s).outs (outs-of-one w.controller s laws.numbered) laws.sent)));
+          (put_rights (is_up w SWITCH_LINK) (map (entry_of target) (step w.controller s).outs) (rights_of target (step w.controller s).outs (outs_of_one w.controller s laws.numbered) laws.sent)));
     };
     unheard = λ n from_one has unknown. step-unheard n from_one has unknown;
     dropped = λ n from_one has closed. step-dropped n from_one has closed;

@@ -14,7 +14,7 @@ use Rattle.world_laws.specs.References.Agree.{IsUnknown, Knows, Never, Only, Run
 use Rattle.world_laws.specs.References.Agree.Agrees.{is_unasked, is_asking, is_unheard, is_known}
 use Rattle.world_laws.specs.References.Naming.{early, reach_of}
 use Rattle.world_laws.specs.References.Reads.{AreNothing, IsNothing, Read, asks, carried, nothing}
-use Rattle.world_laws.proofs.References.Places.{push-none, push-stands, set-none, set-other}
+use Rattle.world_laws.proofs.References.Places.{push_none, push_stands, set-none, set_other}
 
 -- ---- after it
 
@@ -35,15 +35,15 @@ pub record After (w v : Actors) (others : List OutboxEntry) (cs : List Connectio
   pub inbox_is : v.inbox ≡ w.inbox
   pub rest : outbox_of v SWITCH_LINK ≡ others
 
-pub after-took : (w : Actors) (others : List OutboxEntry) (o : Option Sccp) → is_up w SWITCH_LINK ≡ true → After w (switch_took o (with_outbox SWITCH_LINK others w)) others (took_connections w.switch.modulus w.switch.connections o) (took_replies w.switch.connections o)
-after-took w others None up = record {
+pub after_took : (w : Actors) (others : List OutboxEntry) (o : Option Sccp) → is_up w SWITCH_LINK ≡ true → After w (switch_took o (with_outbox SWITCH_LINK others w)) others (took_connections w.switch.modulus w.switch.connections o) (took_replies w.switch.connections o)
+after_took w others None up = record {
   conns = refl;
   made = sym (append-nil w.switch_made);
   controller_is = refl;
   inbox_is = refl;
   rest = ap (λ (link : Link). link.outbox) (changed_link w.links SWITCH_LINK (record (link_of w SWITCH_LINK) { outbox = others }) up);
 }
-after-took w others (Some message) up = record {
+after_took w others (Some message) up = record {
   conns = refl;
   made = refl;
   controller_is = refl;
@@ -64,16 +64,16 @@ pub data Effect (m : ℕ) (cs : List Connection) : List Connection → List Sccp
   opens : (c : Connection) → c.peer ≡ m → find (is_of_peer m) cs ≡ None → IsReference m → IsReference (REFERENCE_BASE + (length cs + 1)) → Effect m cs (cs ++ c ∷ []) (ConnectionConfirm m (REFERENCE_BASE + (length cs + 1)) ∷ [])
   changes : (i : ℕ) (x own : Connection) (reps : List Sccp) → slice_get cs i ≡ Some x → x.peer ≡ m → own.peer ≡ m → AllByRecursion IsNoConfirm reps → Effect m cs (slice_set cs i own) reps
 
-confirms-none : (P : ℕ → Type 0) (n : ℕ) (message : Sccp) → IsNoConfirm message → ConfirmsBy P n message
-confirms-none P n (ConnectionConfirm destination source) none = absurd none
-confirms-none P n (ConnectionRequest source user) none = tt
-confirms-none P n (ConnectionRefused destination) none = tt
-confirms-none P n (Released destination source) none = tt
-confirms-none P n (ReleaseComplete destination source) none = tt
-confirms-none P n (DataForm1 destination user) none = tt
+confirms_none : (P : ℕ → Type 0) (n : ℕ) (message : Sccp) → IsNoConfirm message → ConfirmsBy P n message
+confirms_none P n (ConnectionConfirm destination source) none = absurd none
+confirms_none P n (ConnectionRequest source user) none = tt
+confirms_none P n (ConnectionRefused destination) none = tt
+confirms_none P n (Released destination source) none = tt
+confirms_none P n (ReleaseComplete destination source) none = tt
+confirms_none P n (DataForm1 destination user) none = tt
 
-pub confirms-after : {w v : Actors} {others : List OutboxEntry} {cs : List Connection} {reps : List Sccp} (P : ℕ → Type 0) (n : ℕ) → After w v others cs reps → Confirms P w n → AllByRecursion (ConfirmsBy P n) reps → Confirms P v n
-confirms-after {w} {reps = reps} P n after confirms more = record {
+pub confirms_after : {w v : Actors} {others : List OutboxEntry} {cs : List Connection} {reps : List Sccp} (P : ℕ → Type 0) (n : ℕ) → After w v others cs reps → Confirms P w n → AllByRecursion (ConfirmsBy P n) reps → Confirms P v n
+confirms_after {w} {reps = reps} P n after confirms more = record {
   made = subst (AllByRecursion (ConfirmsBy P n)) (sym after.made) (AllByRecursion-append (ConfirmsBy P n) w.switch_made reps confirms.made more);
   waiting = subst (AllByRecursion (ConfirmsBeing P n)) (sym after.inbox_is) confirms.waiting;
 }
@@ -85,28 +85,28 @@ module _ (w : Actors) (m n : ℕ) (differ : m ≢ n) where
   other-confirms P same = tt
   other-confirms P refuses = (tt, tt)
   other-confirms P (opens c is empty first second) = ((first, second, λ own. absurd (differ own)), tt)
-  other-confirms P (changes i x own reps got is same_peer none) = AllByRecursion-so IsNoConfirm (ConfirmsBy P n) (confirms-none P n) reps none
+  other-confirms P (changes i x own reps got is same_peer none) = AllByRecursion-so IsNoConfirm (ConfirmsBy P n) (confirms_none P n) reps none
 
   pub other-none : {cs : List Connection} {reps : List Sccp} → Effect m w.switch.connections cs reps → find (is_of_peer n) w.switch.connections ≡ None → find (is_of_peer n) cs ≡ None
   other-none same none = none
   other-none refuses none = none
-  other-none (opens c is empty first second) none = push-none n w.switch.connections c (λ own. differ (sym is ∙ own)) none
+  other-none (opens c is empty first second) none = push_none n w.switch.connections c (λ own. differ (sym is ∙ own)) none
   other-none (changes i x own reps got is same_peer quiet) none = set-none n w.switch.connections i own (λ mine. differ (sym same_peer ∙ mine)) none
 
   pub other-stands : {cs : List Connection} {reps : List Sccp} → Effect m w.switch.connections cs reps → (place : ℕ) (c : Connection) → StandsAt n place c w.switch.connections → StandsAt n place c cs
   other-stands same place c stands = stands
   other-stands refuses place c stands = stands
-  other-stands (opens x is empty first second) place c stands = push-stands n place c w.switch.connections x stands
-  other-stands (changes i x own reps got is same_peer quiet) place c stands = set-other n place c w.switch.connections i x own got (λ mine. differ (sym is ∙ mine)) (λ mine. differ (sym same_peer ∙ mine)) stands
+  other-stands (opens x is empty first second) place c stands = push_stands n place c w.switch.connections x stands
+  other-stands (changes i x own reps got is same_peer quiet) place c stands = set_other n place c w.switch.connections i x own got (λ mine. differ (sym is ∙ mine)) (λ mine. differ (sym same_peer ∙ mine)) stands
 
 -- ---- the connection is as it was, but for what is its own
 
-pub asked-same : (w v : Actors) (n : ℕ) → v.controller ≡ w.controller → HasAsked w n → HasAsked v n
-asked-same w v n is has = record { past = subst (λ (c : Controller). n < c.next_number) (sym is) has.past; asked = subst (λ (c : Controller). IsAsked (reach_of (controllers c n))) (sym is) has.asked }
+pub asked_same : (w v : Actors) (n : ℕ) → v.controller ≡ w.controller → HasAsked w n → HasAsked v n
+asked_same w v n is has = record { past = subst (λ (c : Controller). n < c.next_number) (sym is) has.past; asked = subst (λ (c : Controller). IsAsked (reach_of (controllers c n))) (sym is) has.asked }
 
-pub unasked-same : (w v : Actors) (n : ℕ) → v.controller ≡ w.controller → IsUnasked w n → IsUnasked v n
-unasked-same w v n is (inl beyond) = inl (subst (λ (c : Controller). c.next_number ≤ n) (sym is) beyond)
-unasked-same w v n is (inr has) = inr (subst (λ (c : Controller). (n < c.next_number) × (reach_of (controllers c n) ≡ early)) (sym is) has)
+pub unasked_same : (w v : Actors) (n : ℕ) → v.controller ≡ w.controller → IsUnasked w n → IsUnasked v n
+unasked_same w v n is (inl beyond) = inl (subst (λ (c : Controller). c.next_number ≤ n) (sym is) beyond)
+unasked_same w v n is (inr has) = inr (subst (λ (c : Controller). (n < c.next_number) × (reach_of (controllers c n) ≡ early)) (sym is) has)
 
 pub record IsSame (w v : Actors) (n : ℕ) : Type 0 where
   pub controller_is : v.controller ≡ w.controller
@@ -116,15 +116,15 @@ pub record IsSame (w v : Actors) (n : ℕ) : Type 0 where
   pub once : AsksOnce n (reads_of n (outbox_of w SWITCH_LINK)) → AsksOnce n (reads_of n (outbox_of v SWITCH_LINK))
   pub runs : (k : ℕ) (over last : Bool) → Runs k over (reads_of n (outbox_of w SWITCH_LINK)) last → Runs k over (reads_of n (outbox_of v SWITCH_LINK)) last
 
-pub same-unknown : (w v : Actors) (n : ℕ) → IsSame w v n → ((P : ℕ → Type 0) → Confirms P w n → Confirms P v n) → IsUnknown w n → IsUnknown v n
-same-unknown w v n is keeps unknown = record { none = is.none unknown.none; quiet = is.quiet unknown.quiet; unconfirmed = keeps Never unknown.unconfirmed }
+pub same_unknown : (w v : Actors) (n : ℕ) → IsSame w v n → ((P : ℕ → Type 0) → Confirms P w n → Confirms P v n) → IsUnknown w n → IsUnknown v n
+same_unknown w v n is keeps unknown = record { none = is.none unknown.none; quiet = is.quiet unknown.quiet; unconfirmed = keeps Never unknown.unconfirmed }
 
-pub same-agrees : (w v : Actors) (n : ℕ) → IsSame w v n → ((P : ℕ → Type 0) → Confirms P w n → Confirms P v n) → Agrees w n → Agrees v n
-same-agrees w v n is keeps (is_unasked un unknown) = is_unasked (unasked-same w v n is.controller_is un) (same-unknown w v n is keeps unknown)
-same-agrees w v n is keeps (is_asking has way) =
-    is_asking (asked-same w v n is.controller_is has) (record { none = is.none way.none; once = is.once way.once; unconfirmed = keeps Never way.unconfirmed })
-same-agrees w v n is keeps (is_unheard has unknown) = is_unheard (asked-same w v n is.controller_is has) (same-unknown w v n is keeps unknown)
-same-agrees w v n is keeps (is_known past known) =
+pub same_agrees : (w v : Actors) (n : ℕ) → IsSame w v n → ((P : ℕ → Type 0) → Confirms P w n → Confirms P v n) → Agrees w n → Agrees v n
+same_agrees w v n is keeps (is_unasked un unknown) = is_unasked (unasked_same w v n is.controller_is un) (same_unknown w v n is keeps unknown)
+same_agrees w v n is keeps (is_asking has way) =
+    is_asking (asked_same w v n is.controller_is has) (record { none = is.none way.none; once = is.once way.once; unconfirmed = keeps Never way.unconfirmed })
+same_agrees w v n is keeps (is_unheard has unknown) = is_unheard (asked_same w v n is.controller_is has) (same_unknown w v n is keeps unknown)
+same_agrees w v n is keeps (is_known past known) =
     let k : ℕ = REFERENCE_BASE + (known.place + 1) in
     let now = is.stands known.place known.of known.stands in
     is_known (subst (λ (c : Controller). n < c.next_number) (sym is.controller_is) past) (record {
@@ -138,8 +138,8 @@ same-agrees w v n is keeps (is_known past known) =
       knows = subst (λ (c : Controller). Knows k known.last (reach_of (controllers c n))) (sym is.controller_is) known.knows;
     })
 
-pub other-same : {w v : Actors} {others : List OutboxEntry} {cs : List Connection} {reps : List Sccp} (m n : ℕ) → m ≢ n → After w v others cs reps → Effect m w.switch.connections cs reps → reads_of n others ≡ reads_of n (outbox_of w SWITCH_LINK) → IsSame w v n
-other-same {w} {v} m n differ after effect same_reads = record {
+pub other_same : {w v : Actors} {others : List OutboxEntry} {cs : List Connection} {reps : List Sccp} (m n : ℕ) → m ≢ n → After w v others cs reps → Effect m w.switch.connections cs reps → reads_of n others ≡ reads_of n (outbox_of w SWITCH_LINK) → IsSame w v n
+other_same {w} {v} m n differ after effect same_reads = record {
   controller_is = after.controller_is;
   none = λ none. subst (λ (xs : List Connection). find (is_of_peer n) xs ≡ None) (sym after.conns) (other-none w m n differ effect none);
   stands = λ place c stands. (c, subst (StandsAt n place c) (sym after.conns) (other-stands w m n differ effect place c stands), refl);
@@ -150,8 +150,8 @@ other-same {w} {v} m n differ after effect same_reads = record {
   same_wire : reads_of n (outbox_of v SWITCH_LINK) ≡ reads_of n (outbox_of w SWITCH_LINK)
   same_wire = ap (reads_of n) after.rest ∙ same_reads
 
-pub other-keeps : {w v : Actors} {others : List OutboxEntry} {cs : List Connection} {reps : List Sccp} (m n : ℕ) → m ≢ n → After w v others cs reps → Effect m w.switch.connections cs reps → (P : ℕ → Type 0) → Confirms P w n → Confirms P v n
-other-keeps {w} m n differ after effect P confirms = confirms-after P n after confirms (other-confirms w m n differ P effect)
+pub other_keeps : {w v : Actors} {others : List OutboxEntry} {cs : List Connection} {reps : List Sccp} (m n : ℕ) → m ≢ n → After w v others cs reps → Effect m w.switch.connections cs reps → (P : ℕ → Type 0) → Confirms P w n → Confirms P v n
+other_keeps {w} m n differ after effect P confirms = confirms_after P n after confirms (other-confirms w m n differ P effect)
 
 -- ---- its own entry
 
@@ -161,19 +161,19 @@ pub record Took (w v : Actors) (n : ℕ) (cs : List Connection) (reps : List Scc
   pub delivers : (taken_in (find (is_of_peer n) cs) ≡ taken_of w n ++ carried r) ⊎ (HasAsked v n × IsUnknown v n)
   pub heeded : IsHeeded r
 
-pub nothing-heeded : (r : Read) → IsNothing r → IsHeeded r × (carried r ≡ [])
-nothing-heeded nothing is = (tt, refl)
-nothing-heeded (asks source initial) is = absurd is
-nothing-heeded (Read.carries d m) is = absurd is
-nothing-heeded (Read.clears d) is = absurd is
-nothing-heeded (Read.tells d) is = absurd is
-nothing-heeded Read.odd is = absurd is
+pub nothing_heeded : (r : Read) → IsNothing r → IsHeeded r × (carried r ≡ [])
+nothing_heeded nothing is = (tt, refl)
+nothing_heeded (asks source initial) is = absurd is
+nothing_heeded (Read.carries d m) is = absurd is
+nothing_heeded (Read.clears d) is = absurd is
+nothing_heeded (Read.tells d) is = absurd is
+nothing_heeded Read.odd is = absurd is
 
 -- what isn't heeded changes nothing
-pub took-nothing : {w v : Actors} {others : List OutboxEntry} (n : ℕ) (r : Read) → After w v others w.switch.connections [] → IsNothing r → ((P : ℕ → Type 0) → Confirms P w n → Confirms P v n) → IsSame w v n → Agrees w n → Took w v n w.switch.connections [] r
-took-nothing {w} {v} n r after is keeps same_ agrees = record {
+pub took_nothing : {w v : Actors} {others : List OutboxEntry} (n : ℕ) (r : Read) → After w v others w.switch.connections [] → IsNothing r → ((P : ℕ → Type 0) → Confirms P w n → Confirms P v n) → IsSame w v n → Agrees w n → Took w v n w.switch.connections [] r
+took_nothing {w} {v} n r after is keeps same_ agrees = record {
   effect = same;
-  agrees = same-agrees w v n same_ keeps agrees;
-  delivers = inl (sym (append-nil (taken_of w n)) ∙ ap (λ (xs : List (List ℕ)). taken_of w n ++ xs) (sym (nothing-heeded r is).1));
-  heeded = (nothing-heeded r is).0;
+  agrees = same_agrees w v n same_ keeps agrees;
+  delivers = inl (sym (append-nil (taken_of w n)) ∙ ap (λ (xs : List (List ℕ)). taken_of w n ++ xs) (sym (nothing_heeded r is).1));
+  heeded = (nothing_heeded r is).0;
 }

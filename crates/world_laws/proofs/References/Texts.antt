@@ -76,33 +76,33 @@ IsTold bssmap.ClearComplete = ⊥
 IsTold (bssmap.CompleteLayer3Information cell initial) = ⊥
 IsTold _ = Unit {0}
 
-told-octet : (b b' : Bssmap) → IsTold b → bssmap_octet (type_of b) ≡ bssmap_octet (type_of b') → IsTold b'
+told_octet : (b b' : Bssmap) → IsTold b → bssmap_octet (type_of b) ≡ bssmap_octet (type_of b') → IsTold b'
 unfolding IsTold
-told-octet b bssmap.ClearComplete told same = subst IsTold (clear_octet b same) told
-told-octet b (bssmap.CompleteLayer3Information cell initial) told same = let is = initial_octet b same in subst IsTold is.2 told
-told-octet b (bssmap.AssignmentRequest channel_type) told same = tt
-told-octet b (bssmap.AssignmentComplete rr_cause) told same = tt
-told-octet b (bssmap.AssignmentFailure cause rr_cause) told same = tt
-told-octet b (bssmap.HandoverPerformed cause cell) told same = tt
-told-octet b (bssmap.ClearCommand cause) told same = tt
-told-octet b (bssmap.ClearRequest cause) told same = tt
-told-octet b (bssmap.SapiNReject dlci cause) told same = tt
-told-octet b bssmap.CipherModeCommand told same = tt
-told-octet b (bssmap.CipherModeReject cause) told same = tt
+told_octet b bssmap.ClearComplete told same = subst IsTold (clear_octet b same) told
+told_octet b (bssmap.CompleteLayer3Information cell initial) told same = let is = initial_octet b same in subst IsTold is.2 told
+told_octet b (bssmap.AssignmentRequest channel_type) told same = tt
+told_octet b (bssmap.AssignmentComplete rr_cause) told same = tt
+told_octet b (bssmap.AssignmentFailure cause rr_cause) told same = tt
+told_octet b (bssmap.HandoverPerformed cause cell) told same = tt
+told_octet b (bssmap.ClearCommand cause) told same = tt
+told_octet b (bssmap.ClearRequest cause) told same = tt
+told_octet b (bssmap.SapiNReject dlci cause) told same = tt
+told_octet b bssmap.CipherModeCommand told same = tt
+told_octet b (bssmap.CipherModeReject cause) told same = tt
 
-told-read : (k d : ℕ) (b : Bssmap) → IsTold b → d ≡ k → IsPlainRead k (management_read d b)
+told_read : (k d : ℕ) (b : Bssmap) → IsTold b → d ≡ k → IsPlainRead k (management_read d b)
 unfolding IsTold
-told-read k d bssmap.ClearComplete told is = absurd told
-told-read k d (bssmap.CompleteLayer3Information cell initial) told is = absurd told
-told-read k d (bssmap.AssignmentRequest channel_type) told is = is
-told-read k d (bssmap.AssignmentComplete rr_cause) told is = is
-told-read k d (bssmap.AssignmentFailure cause rr_cause) told is = is
-told-read k d (bssmap.HandoverPerformed cause cell) told is = is
-told-read k d (bssmap.ClearCommand cause) told is = is
-told-read k d (bssmap.ClearRequest cause) told is = is
-told-read k d (bssmap.SapiNReject dlci cause) told is = is
-told-read k d bssmap.CipherModeCommand told is = is
-told-read k d (bssmap.CipherModeReject cause) told is = is
+told_read k d bssmap.ClearComplete told is = absurd told
+told_read k d (bssmap.CompleteLayer3Information cell initial) told is = absurd told
+told_read k d (bssmap.AssignmentRequest channel_type) told is = is
+told_read k d (bssmap.AssignmentComplete rr_cause) told is = is
+told_read k d (bssmap.AssignmentFailure cause rr_cause) told is = is
+told_read k d (bssmap.HandoverPerformed cause cell) told is = is
+told_read k d (bssmap.ClearCommand cause) told is = is
+told_read k d (bssmap.ClearRequest cause) told is = is
+told_read k d (bssmap.SapiNReject dlci cause) told is = is
+told_read k d bssmap.CipherModeCommand told is = is
+told_read k d (bssmap.CipherModeReject cause) told is = is
 
 -- ---- one frame
 
@@ -116,12 +116,12 @@ record IsData (octets : List ℕ) (k : ℕ) (b : Bssap) : Type 0 where
   same : bssap_text b ≡ bssap_text other
   reads : sccp_read (result_ok (sccp_reading octets)) ≡ data_read k (Some other)
 
-data-read : (n k : ℕ) (b : Bssap) (m : Message) → IsReference k → out_of n (Data k b) ≡ out_of n m → IsReadOf n m (out_of n (Data k b)).frame.body → IsData (out_of n (Data k b)).frame.body k b
+data_is_read : (n k : ℕ) (b : Bssap) (m : Message) → IsReference k → out_of n (Data k b) ≡ out_of n m → IsReadOf n m (out_of n (Data k b)).frame.body → IsData (out_of n (Data k b)).frame.body k b
 unfolding out_of
-data-read n k b (Station station message) three same read = absurd (eqb-false 0xfd 0 refl (ap (λ (o : Out). o.frame.stream) same))
-data-read n k b (Request message) three same read = absurd (eqb-false 6 1 refl (ap (λ (o : Out). slice_index_or o.frame.body 0 0) same))
-data-read n k b (ReleaseComplete destination) three same read = absurd (eqb-false 6 5 refl (ap (λ (o : Out). slice_index_or o.frame.body 0 0) same))
-data-read n k b (Data d other) three same read =
+data_is_read n k b (Station station message) three same read = absurd (eqb-false 0xfd 0 refl (ap (λ (o : Out). o.frame.stream) same))
+data_is_read n k b (Request message) three same read = absurd (eqb-false 6 1 refl (ap (λ (o : Out). slice_index_or o.frame.body 0 0) same))
+data_is_read n k b (ReleaseComplete destination) three same read = absurd (eqb-false 6 5 refl (ap (λ (o : Out). slice_index_or o.frame.body 0 0) same))
+data_is_read n k b (Data d other) three same read =
     let to : k ≡ d = data_to k d _ read.0 three read.1 in record {
       other = other;
       same = data_user k d b other (ap (λ (o : Out). o.frame.body) same);
@@ -133,34 +133,34 @@ managed : (b : Bssmap) (other : Bssap) → bssap_text (Management b) ≡ bssap_t
 managed b (Management b') same = (b', refl, ap (λ (xs : List ℕ). slice_index_or xs 2 0) same)
 managed b (Transfer dlci message) same = absurd (eqb-false 0 1 refl (ap (λ (xs : List ℕ). slice_index_or xs 0 0) same))
 
-told-data : (n k : ℕ) (b : Bssmap) → IsReference k → IsTold b → IsText n (out_of n (Data k (Management b))) → IsPlainRead k (body_read (out_of n (Data k (Management b))))
-told-data n k b three told text =
-    let form = data-read n k (Management b) text.message three text.put text.read in
+told_data : (n k : ℕ) (b : Bssmap) → IsReference k → IsTold b → IsText n (out_of n (Data k (Management b))) → IsPlainRead k (body_read (out_of n (Data k (Management b))))
+told_data n k b three told text =
+    let form = data_is_read n k (Management b) text.message three text.put text.read in
     let other = managed b form.other form.same in
-    subst (IsPlainRead k) (sym (form.reads ∙ ap (λ (x : Bssap). data_read k (Some x)) other.1)) (told-read k k other.0 (told-octet b other.0 told other.2) refl)
+    subst (IsPlainRead k) (sym (form.reads ∙ ap (λ (x : Bssap). data_read k (Some x)) other.1)) (told_read k k other.0 (told_octet b other.0 told other.2) refl)
 
-carried-data : (n k dlci : ℕ) (message : List ℕ) → IsReference k → IsText n (out_of n (Data k (Transfer dlci message))) → IsPlainRead k (body_read (out_of n (Data k (Transfer dlci message))))
-carried-data n k dlci message three text =
-    let form = data-read n k (Transfer dlci message) text.message three text.put text.read in
+carried_data : (n k dlci : ℕ) (message : List ℕ) → IsReference k → IsText n (out_of n (Data k (Transfer dlci message))) → IsPlainRead k (body_read (out_of n (Data k (Transfer dlci message))))
+carried_data n k dlci message three text =
+    let form = data_is_read n k (Transfer dlci message) text.message three text.put text.read in
     subst (IsPlainRead k) (sym form.reads) (by form.other form.same)
   where
     by : (other : Bssap) → bssap_text (Transfer dlci message) ≡ bssap_text other → IsPlainRead k (data_read k (Some other))
     by (Transfer dlci' message') same = refl
     by (Management b) same = absurd (eqb-false 1 0 refl (ap (λ (xs : List ℕ). slice_index_or xs 0 0) same))
 
-pub clear-data : (n k : ℕ) → IsReference k → IsText n (out_of n (Data k (Management bssmap.ClearComplete))) → body_read (out_of n (Data k (Management bssmap.ClearComplete))) ≡ clears k
-clear-data n k three text =
-    let form = data-read n k (Management bssmap.ClearComplete) text.message three text.put text.read in
+pub clear_data : (n k : ℕ) → IsReference k → IsText n (out_of n (Data k (Management bssmap.ClearComplete))) → body_read (out_of n (Data k (Management bssmap.ClearComplete))) ≡ clears k
+clear_data n k three text =
+    let form = data_is_read n k (Management bssmap.ClearComplete) text.message three text.put text.read in
     let other = managed bssmap.ClearComplete form.other form.same in
     form.reads ∙ ap (λ (x : Bssap). data_read k (Some x)) (other.1 ∙ ap (λ (b : Bssmap). Management b) (clear_octet other.0 (sym other.2)))
 
 -- CR
-initial-request : (n : ℕ) (cell : CellIdentifier) (initial : List ℕ) (m : Message) → out_of n (Request (Management (bssmap.CompleteLayer3Information cell initial))) ≡ out_of n m → (octets : List ℕ) → IsReadOf n m octets → (message : List ℕ) × (sccp_read (result_ok (sccp_reading octets)) ≡ asks n message)
+initial_request : (n : ℕ) (cell : CellIdentifier) (initial : List ℕ) (m : Message) → out_of n (Request (Management (bssmap.CompleteLayer3Information cell initial))) ≡ out_of n m → (octets : List ℕ) → IsReadOf n m octets → (message : List ℕ) × (sccp_read (result_ok (sccp_reading octets)) ≡ asks n message)
 unfolding out_of
-initial-request n cell initial (Station station message) same octets read = absurd (eqb-false 0xfd 0 refl (ap (λ (o : Out). o.frame.stream) same))
-initial-request n cell initial (Data d message) same octets read = absurd (eqb-false 1 6 refl (ap (λ (o : Out). slice_index_or o.frame.body 0 0) same))
-initial-request n cell initial (ReleaseComplete destination) same octets read = absurd (eqb-false 1 5 refl (ap (λ (o : Out). slice_index_or o.frame.body 0 0) same))
-initial-request n cell initial (Request message) same octets read =
+initial_request n cell initial (Station station message) same octets read = absurd (eqb-false 0xfd 0 refl (ap (λ (o : Out). o.frame.stream) same))
+initial_request n cell initial (Data d message) same octets read = absurd (eqb-false 1 6 refl (ap (λ (o : Out). slice_index_or o.frame.body 0 0) same))
+initial_request n cell initial (ReleaseComplete destination) same octets read = absurd (eqb-false 1 5 refl (ap (λ (o : Out). slice_index_or o.frame.body 0 0) same))
+initial_request n cell initial (Request message) same octets read =
     let other = managed (bssmap.CompleteLayer3Information cell initial) message (request_user n n (Management (bssmap.CompleteLayer3Information cell initial)) message (ap (λ (o : Out). o.frame.body) same)) in
     let is = initial_octet other.0 (sym other.2) in (
       is.1,
@@ -168,28 +168,28 @@ initial-request n cell initial (Request message) same octets read =
           ∙ ap (λ (x : Bssap). initial_read n (Some x)) (other.1 ∙ ap (λ (b : Bssmap). Management b) is.2),
     )
 
-pub request-read : (n : ℕ) (cell : CellIdentifier) (initial : List ℕ) → IsText n (out_of n (Request (Management (bssmap.CompleteLayer3Information cell initial)))) → (message : List ℕ) × (body_read (out_of n (Request (Management (bssmap.CompleteLayer3Information cell initial)))) ≡ asks n message)
-request-read n cell initial text = initial-request n cell initial text.message text.put _ text.read
+pub request_read : (n : ℕ) (cell : CellIdentifier) (initial : List ℕ) → IsText n (out_of n (Request (Management (bssmap.CompleteLayer3Information cell initial)))) → (message : List ℕ) × (body_read (out_of n (Request (Management (bssmap.CompleteLayer3Information cell initial)))) ≡ asks n message)
+request_read n cell initial text = initial_request n cell initial text.message text.put _ text.read
 
 -- RLC
-release-read : (n d : ℕ) (m : Message) → out_of n (ReleaseComplete d) ≡ out_of n m → (octets : List ℕ) → IsReadOf n m octets → sccp_read (result_ok (sccp_reading octets)) ≡ nothing
+release_read : (n d : ℕ) (m : Message) → out_of n (ReleaseComplete d) ≡ out_of n m → (octets : List ℕ) → IsReadOf n m octets → sccp_read (result_ok (sccp_reading octets)) ≡ nothing
 unfolding out_of
-release-read n d (Station station message) same octets read = absurd (eqb-false 0xfd 0 refl (ap (λ (o : Out). o.frame.stream) same))
-release-read n d (Request message) same octets read = absurd (eqb-false 5 1 refl (ap (λ (o : Out). slice_index_or o.frame.body 0 0) same))
-release-read n d (Data d' message) same octets read = absurd (eqb-false 5 6 refl (ap (λ (o : Out). slice_index_or o.frame.body 0 0) same))
-release-read n d (ReleaseComplete d') same octets read = ap (λ (r : Result Sccp InterfaceFault). sccp_read (result_ok r)) read
+release_read n d (Station station message) same octets read = absurd (eqb-false 0xfd 0 refl (ap (λ (o : Out). o.frame.stream) same))
+release_read n d (Request message) same octets read = absurd (eqb-false 5 1 refl (ap (λ (o : Out). slice_index_or o.frame.body 0 0) same))
+release_read n d (Data d' message) same octets read = absurd (eqb-false 5 6 refl (ap (λ (o : Out). slice_index_or o.frame.body 0 0) same))
+release_read n d (ReleaseComplete d') same octets read = ap (λ (r : Result Sccp InterfaceFault). sccp_read (result_ok r)) read
 
-pub released-read : (n d : ℕ) → IsText n (out_of n (ReleaseComplete d)) → body_read (out_of n (ReleaseComplete d)) ≡ nothing
-released-read n d text = release-read n d text.message text.put _ text.read
+pub released_read : (n d : ℕ) → IsText n (out_of n (ReleaseComplete d)) → body_read (out_of n (ReleaseComplete d)) ≡ nothing
+released_read n d text = release_read n d text.message text.put _ text.read
 
-pub plain-read : (n k d : ℕ) (b : Bssap) → IsReference k → IsPlain k (Data d b) → IsText n (out_of n (Data d b)) → IsPlainRead k (body_read (out_of n (Data d b)))
+pub plain_read : (n k d : ℕ) (b : Bssap) → IsReference k → IsPlain k (Data d b) → IsText n (out_of n (Data d b)) → IsPlainRead k (body_read (out_of n (Data d b)))
 unfolding IsTold
-plain-read n k d (Transfer dlci message) three plain text =
+plain_read n k d (Transfer dlci message) three plain text =
     let now : IsText n (out_of n (Data k (Transfer dlci message))) = subst (λ (x : ℕ). IsText n (out_of n (Data x (Transfer dlci message)))) plain text in
-    subst (λ (x : ℕ). IsPlainRead k (body_read (out_of n (Data x (Transfer dlci message))))) (sym plain) (carried-data n k dlci message three now)
-plain-read n k d (Management b) three plain text = by b plain text where
+    subst (λ (x : ℕ). IsPlainRead k (body_read (out_of n (Data x (Transfer dlci message))))) (sym plain) (carried_data n k dlci message three now)
+plain_read n k d (Management b) three plain text = by b plain text where
   now : (b : Bssmap) → IsTold b → d ≡ k → IsText n (out_of n (Data d (Management b))) → IsPlainRead k (body_read (out_of n (Data d (Management b))))
-  now b told to text = subst (λ (x : ℕ). IsPlainRead k (body_read (out_of n (Data x (Management b))))) (sym to) (told-data n k b three told (subst (λ (x : ℕ). IsText n (out_of n (Data x (Management b)))) to text))
+  now b told to text = subst (λ (x : ℕ). IsPlainRead k (body_read (out_of n (Data x (Management b))))) (sym to) (told_data n k b three told (subst (λ (x : ℕ). IsText n (out_of n (Data x (Management b)))) to text))
 
   by : (b : Bssmap) → IsPlain k (Data d (Management b)) → IsText n (out_of n (Data d (Management b))) → IsPlainRead k (body_read (out_of n (Data d (Management b))))
   by bssmap.ClearComplete plain text = absurd plain

@@ -14,53 +14,53 @@ use Rattle.world_laws.specs.Acknowledged.{acknowledgements_up, is_release_ack, m
 use Rattle.world_laws.specs.ComingUp.{brings, coming_up}
 use Rattle.world_laws.specs.GoingDown.{going_down, leading_from_air, leading_from_outbox}
 use Rattle.world_laws.proofs.Acknowledged.{coming-read}
-use Rattle.world_laws.proofs.Framing.{all-right}
-use Rattle.world_laws.proofs.OrderTexts.{seen-activation}
+use Rattle.world_laws.proofs.Framing.{all_right}
+use Rattle.world_laws.proofs.OrderTexts.{seen_activation}
 use Rattle.world_laws.specs.Targets.Quiet.{IsSettled, StandWithin, is_ending}
-use Rattle.world_laws.proofs.Targets.FreeQuiet.{alone, hear-free}
-use Rattle.world_laws.proofs.Targets.Settled.{comes-idle}
-use Rattle.world_laws.proofs.Targets.Ways.{WaysStand, behind-end, nothing-before}
-use Rattle.world_laws.proofs.Targets.Within.{none-leads}
-use Rattle.world_laws.proofs.Channels.RoleAcks.{up-first}
+use Rattle.world_laws.proofs.Targets.FreeQuiet.{alone, hear_free}
+use Rattle.world_laws.proofs.Targets.Settled.{comes_idle}
+use Rattle.world_laws.proofs.Targets.Ways.{WaysStand, behind_end, nothing_before}
+use Rattle.world_laws.proofs.Targets.Within.{none_leads}
+use Rattle.world_laws.proofs.Channels.RoleAcks.{up_first}
 
 -- ---- what is activated in a turn was free
 
 abbrev NotActivates : Place → Out → Type 0
 NotActivates at out = (b : Activation) → said_to at out ≡ Some (ChannelActivation b) → b.channel ≡ at.number → ⊥
 
-passes-none : (at : Place) (out : Out) → Passes at.number (said_to at out) → NotActivates at out
-passes-none at out beside b says same = subst (Passes at.number) says beside same
+passes_none : (at : Place) (out : Out) → Passes at.number (said_to at out) → NotActivates at out
+passes_none at out beside b says same = subst (Passes at.number) says beside same
 
-releases-none : (at : Place) (out : Out) → said_to at out ≡ Some (RfChannelRelease at.number) → NotActivates at out
-releases-none at out is b says same = let both : Some (RfChannelRelease at.number) ≡ Some (ChannelActivation b) = sym is ∙ says in absurd cc
+releases_none : (at : Place) (out : Out) → said_to at out ≡ Some (RfChannelRelease at.number) → NotActivates at out
+releases_none at out is b says same = let both : Some (RfChannelRelease at.number) ≡ Some (ChannelActivation b) = sym is ∙ says in absurd cc
 
-runs-none : {at : Place} {state end : ChannelState} {outs : List Out} → Runs at state outs end → AllByRecursion (NotActivates at) outs
-runs-none over = tt
-runs-none {at} (passes {out = out} beside rest) = (passes-none at out beside, runs-none rest)
-runs-none {at} (releases {out = out} says rest) = (releases-none at out says, runs-none rest)
+runs_none : {at : Place} {state end : ChannelState} {outs : List Out} → Runs at state outs end → AllByRecursion (NotActivates at) outs
+runs_none over = tt
+runs_none {at} (passes {out = out} beside rest) = (passes_none at out beside, runs_none rest)
+runs_none {at} (releases {out = out} says rest) = (releases_none at out says, runs_none rest)
 
-goes-none : {at : Place} {state end : ChannelState} {outs : List Out} → Goes at state outs end → (state ≡ Free → ⊥) → AllByRecursion (NotActivates at) outs
-goes-none (runs all) busy = runs-none all
-goes-none {at} (first_passes {out = out} beside rest) busy = (passes-none at out beside, goes-none rest busy)
-goes-none (activates a says same few rest) busy = absurd (busy refl)
+goes_none : {at : Place} {state end : ChannelState} {outs : List Out} → Goes at state outs end → (state ≡ Free → ⊥) → AllByRecursion (NotActivates at) outs
+goes_none (runs all) busy = runs_none all
+goes_none {at} (first_passes {out = out} beside rest) busy = (passes_none at out beside, goes_none rest busy)
+goes_none (activates a says same few rest) busy = absurd (busy refl)
 
-all-unmap : {X Y : Type 0} (P : Y → Type 0) (f : X → Y) (xs : List X) → AllByRecursion P (map f xs) → AllByRecursion (λ x. P (f x)) xs
-all-unmap P f [] all = tt
-all-unmap P f (x ∷ xs) all = (all.0, all-unmap P f xs all.1)
+all_unmap : {X Y : Type 0} (P : Y → Type 0) (f : X → Y) (xs : List X) → AllByRecursion P (map f xs) → AllByRecursion (λ x. P (f x)) xs
+all_unmap P f [] all = tt
+all_unmap P f (x ∷ xs) all = (all.0, all_unmap P f xs all.1)
 
 -- the last of the orders that are put
-last-order : (P : Out → Type 0) (n : ℕ) (outs : List Out) (put firsts : List Message) (m : Message) → AllByRecursion P outs → outs_for n outs ≡ outs_of n put → orders put ≡ firsts ++ m ∷ [] → P (out_of n m)
-last-order P n outs put firsts m all is ordered =
-    (all-right (λ x. P (out_of n x)) firsts (m ∷ []) (subst (AllByRecursion (λ x. P (out_of n x))) ordered (AllByRecursion-filter (λ x. P (out_of n x)) is_order put (all-unmap P (out_of n) put (subst (AllByRecursion P) is (AllByRecursion-filter P (is_for n) outs all)))))).0
+last_order : (P : Out → Type 0) (n : ℕ) (outs : List Out) (put firsts : List Message) (m : Message) → AllByRecursion P outs → outs_for n outs ≡ outs_of n put → orders put ≡ firsts ++ m ∷ [] → P (out_of n m)
+last_order P n outs put firsts m all is ordered =
+    (all_right (λ x. P (out_of n x)) firsts (m ∷ []) (subst (AllByRecursion (λ x. P (out_of n x))) ordered (AllByRecursion-filter (λ x. P (out_of n x)) is_order put (all_unmap P (out_of n) put (subst (AllByRecursion P) is (AllByRecursion-filter P (is_for n) outs all)))))).0
 
-change-seen : (n : ℕ) (change : Change) (c : Channel) → IsSent (out_of n (change_activation change c)) → NotActivates (place_of c) (out_of n (change_activation change c)) → ⊥
-change-seen n Assignment c sent none = let seen = seen-activation n (place_of c) _ sent in none seen.0 seen.1 seen.2
-change-seen n Handover c sent none = let seen = seen-activation n (place_of c) _ sent in none seen.0 seen.1 seen.2
+change_seen : (n : ℕ) (change : Change) (c : Channel) → IsSent (out_of n (change_activation change c)) → NotActivates (place_of c) (out_of n (change_activation change c)) → ⊥
+change_seen n Assignment c sent none = let seen = seen_activation n (place_of c) _ sent in none seen.0 seen.1 seen.2
+change_seen n Handover c sent none = let seen = seen_activation n (place_of c) _ sent in none seen.0 seen.1 seen.2
 
-pub activated-free : (n : ℕ) (change : Change) (c : Channel) (outs : List Out) (put firsts : List Message) (state end : ChannelState) → AllByRecursion IsSent outs → outs_for n outs ≡ outs_of n put → orders put ≡ firsts ++ change_activation change c ∷ [] → Goes (place_of c) state outs end → state ≡ Free
-activated-free n change c outs put firsts state end sent is ordered goes = by state refl where
+pub activated_free : (n : ℕ) (change : Change) (c : Channel) (outs : List Out) (put firsts : List Message) (state end : ChannelState) → AllByRecursion IsSent outs → outs_for n outs ≡ outs_of n put → orders put ≡ firsts ++ change_activation change c ∷ [] → Goes (place_of c) state outs end → state ≡ Free
+activated_free n change c outs put firsts state end sent is ordered goes = by state refl where
   never : (state ≡ Free → ⊥) → ⊥
-  never busy = change-seen n change c (last-order IsSent n outs put firsts (change_activation change c) sent is ordered) (last-order (NotActivates (place_of c)) n outs put firsts (change_activation change c) (goes-none goes busy) is ordered)
+  never busy = change_seen n change c (last_order IsSent n outs put firsts (change_activation change c) sent is ordered) (last_order (NotActivates (place_of c)) n outs put firsts (change_activation change c) (goes_none goes busy) is ordered)
 
   by : (x : ChannelState) → state ≡ x → state ≡ Free
   by Free same = same
@@ -69,12 +69,12 @@ activated-free n change c outs put firsts state end sent is ordered goes = by st
 
 -- ---- a channel that is free, or whose end is on its way
 
-comes-end : (k channel : ℕ) (state : ChannelState) (all rest : List Rsl) → Comes k state all → all ≡ RfChannelReleaseAck channel ∷ rest → rest ≡ []
-comes-end k channel state all rest nothing is = absurd cc
-comes-end k channel state all rest began is = absurd cc
-comes-end k channel state all rest begins is = absurd cc
-comes-end k channel state all rest ends is = sym cc
-comes-end k channel state all rest begins_and_ends is = absurd cc
+comes_end : (k channel : ℕ) (state : ChannelState) (all rest : List Rsl) → Comes k state all → all ≡ RfChannelReleaseAck channel ∷ rest → rest ≡ []
+comes_end k channel state all rest nothing is = absurd cc
+comes_end k channel state all rest began is = absurd cc
+comes_end k channel state all rest begins is = absurd cc
+comes_end k channel state all rest ends is = sym cc
+comes_end k channel state all rest begins_and_ends is = absurd cc
 
 module _ (owner : Tenure → ℕ) (w : Actors) (at : Place) (agrees : Agrees owner w at) (none : is_up w at.station ≡ false → outbox_of w at.station ≡ []) (settled : IsSettled w at) (ways : WaysStand w at) (hearing : hears w.controller at.station ≡ true) where
   abbrev n : ℕ
@@ -93,9 +93,9 @@ module _ (owner : Tenure → ℕ) (w : Actors) (at : Place) (agrees : Agrees own
     by false down = ap (flat_map (leading_from_outbox k)) (none down)
     by true up =
         let way = agrees.way hearing in
-        let all : to_come w at ++ way.lost ≡ acknowledgements_up w at ++ due k (is_active_at w at) (outbox_of w n) = ap (λ (xs : List Rsl). to_come w at ++ xs) (way.all up) ∙ append-nil (to_come w at) ∙ up-first w at in
-        let nothing_due = (comes-idle k (channel_state w.controller at) (to_come w at ++ way.lost) (acknowledgements_up w at) (due k (is_active_at w at) (outbox_of w n)) way.comes all why).0 in
-        none-leads k (outbox_of w n) (subst (λ (b : Bool). due k b (outbox_of w n) ≡ []) idle nothing_due) (subst (λ (b : Bool). StandWithin k b (outbox_of w n)) idle settled.line)
+        let all : to_come w at ++ way.lost ≡ acknowledgements_up w at ++ due k (is_active_at w at) (outbox_of w n) = ap (λ (xs : List Rsl). to_come w at ++ xs) (way.all up) ∙ append-nil (to_come w at) ∙ up_first w at in
+        let nothing_due = (comes_idle k (channel_state w.controller at) (to_come w at ++ way.lost) (acknowledgements_up w at) (due k (is_active_at w at) (outbox_of w n)) way.comes all why).0 in
+        none_leads k (outbox_of w n) (subst (λ (b : Bool). due k b (outbox_of w n) ≡ []) idle nothing_due) (subst (λ (b : Bool). StandWithin k b (outbox_of w n)) idle settled.line)
 
   -- once the controller took what it reads here, and frees the channel by it, if it wasn't free
   module _ (v : Actors) (read : List Rsl) (goes : messages_up w n ≡ read ++ messages_up v n) (heard : List Rsl) (one : IsOne heard) (is_heard : heard ≡ acknowledgements k read) (freed : hear heard (channel_state w.controller at) ≡ Free) where
@@ -103,7 +103,7 @@ module _ (owner : Tenure → ℕ) (w : Actors) (at : Place) (agrees : Agrees own
     Frees = (channel_state w.controller at ≡ Free) ⊎ ((channel : ℕ) × (acknowledgements k read ≡ RfChannelReleaseAck channel ∷ []))
 
     frees : Frees
-    frees = elim (hear-free heard (channel_state w.controller at) freed) [
+    frees = elim (hear_free heard (channel_state w.controller at) freed) [
       | inl was ↦ inl was
       | inr acks ↦ inr (acks.0, sym is_heard ∙ alone heard (RfChannelReleaseAck acks.0) acks.1 one acks.2)
     ]
@@ -122,9 +122,9 @@ module _ (owner : Tenure → ℕ) (w : Actors) (at : Place) (agrees : Agrees own
         let way = agrees.way hearing in
         let rest : List Rsl = acknowledgements k (messages_up v n) ++ (due k (is_active_at w at) (outbox_of w n) ++ way.lost) in
         let all : to_come w at ++ way.lost ≡ RfChannelReleaseAck channel ∷ rest =
-        ap (λ (xs : List Rsl). xs ++ way.lost) (up-first w at ∙ ap (λ (xs : List Rsl). xs ++ due k (is_active_at w at) (outbox_of w n)) (acks-go ∙ ap (λ (xs : List Rsl). xs ++ acknowledgements k (messages_up v n)) is))
+        ap (λ (xs : List Rsl). xs ++ way.lost) (up_first w at ∙ ap (λ (xs : List Rsl). xs ++ due k (is_active_at w at) (outbox_of w n)) (acks-go ∙ ap (λ (xs : List Rsl). xs ++ acknowledgements k (messages_up v n)) is))
         ∙ ap (λ (xs : List Rsl). RfChannelReleaseAck channel ∷ xs) (append_assoc (acknowledgements k (messages_up v n)) (due k (is_active_at w at) (outbox_of w n)) way.lost) in
-        (Both-empty (acknowledgements k (messages_up v n)) (due k (is_active_at w at) (outbox_of w n) ++ way.lost) (sym (comes-end k channel (channel_state w.controller at) (to_come w at ++ way.lost) rest way.comes all))).0
+        (Both-empty (acknowledgements k (messages_up v n)) (due k (is_active_at w at) (outbox_of w n) ++ way.lost) (sym (comes_end k channel (channel_state w.controller at) (to_come w at ++ way.lost) rest way.comes all))).0
 
     pub freed-silent : coming_up v at ≡ []
     freed-silent = coming-read v at ∙ elim frees [
@@ -132,7 +132,7 @@ module _ (owner : Tenure → ℕ) (w : Actors) (at : Place) (agrees : Agrees own
           let empty : flat_map (brings k) read ++ flat_map (brings k) (messages_up v n) ≡ [] = sym (flat_map-append (brings k) read (messages_up v n)) ∙ ap (flat_map (brings k)) (sym goes) ∙ sym (coming-read w at) ∙ settled.silent hearing was in
           (Both-empty (flat_map (brings k) read) (flat_map (brings k) (messages_up v n)) (sym empty)).1
       | inr acks ↦
-          nothing-before k (messages_up v n) []
-          (subst (λ (ms : List Rsl). Tenures k false ms ways.end) (sym (append-nil (messages_up v n))) (behind-end k acks.0 read (messages_up v n) (subst (λ (ms : List Rsl). Tenures k ways.within ms ways.end) goes ways.stand) acks.1))
+          nothing_before k (messages_up v n) []
+          (subst (λ (ms : List Rsl). Tenures k false ms ways.end) (sym (append-nil (messages_up v n))) (behind_end k acks.0 read (messages_up v n) (subst (λ (ms : List Rsl). Tenures k ways.within ms ways.end) goes ways.stand) acks.1))
           (behind-none acks.0 acks.1)
     ]

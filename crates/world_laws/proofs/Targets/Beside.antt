@@ -19,26 +19,26 @@ use Rattle.world_laws.specs.ComingUp.{coming_up, made_of}
 use Rattle.world_laws.specs.LineUps.{commanded_target}
 use Rattle.world_laws.specs.Seated.{IsAlone, IsElsewhere, LinedUp, Sits}
 use Rattle.world_laws.specs.Seated.Sits.{stays, came}
-use Rattle.world_laws.proofs.AirUp.{frame-lent}
-use Rattle.world_laws.proofs.Framing.{all-right}
-use Rattle.world_laws.proofs.Projecting.{active-there, coming-told}
+use Rattle.world_laws.proofs.AirUp.{frame_lent}
+use Rattle.world_laws.proofs.Framing.{all_right}
+use Rattle.world_laws.proofs.Projecting.{active_there, coming-told}
 use Rattle.world_laws.specs.Targets.Fresh.{BeginWith, IsAwaited, IsFreshIn, IsLedBy, IsOnPlace}
-use Rattle.world_laws.proofs.Targets.Comings.{Comes, coming, comes-step, elsewhere-coming, is_frame, is_relays, short-coming}
+use Rattle.world_laws.proofs.Targets.Comings.{Comes, coming, comes_step, elsewhere_coming, is_frame, is_relays, short_coming}
 use Rattle.world_laws.proofs.Targets.Comings.Comes.{begun, same}
-use Rattle.world_laws.proofs.Targets.Downs.{none-down}
-use Rattle.world_laws.proofs.Targets.Givers.{Gives, gives-step, lent-first, still-put}
+use Rattle.world_laws.proofs.Targets.Downs.{none_down}
+use Rattle.world_laws.proofs.Targets.Givers.{Gives, gives-step, lent_first, still-put}
 use Rattle.world_laws.proofs.Targets.Places.{is_place}
 
 -- ---- a frame that the station takes on the channel
 
-there-coming : (w : Actors) (p : Mobile) (at : Place) (frame : List ℕ) → at.station ≢ 0 → is_station_up w at.station ≡ true → is_active_at w at ≡ true → coming at (brought w p at Zero frame) ≡ coming at w ++ frame ∷ []
-there-coming w p at frame at_is up active = by p.opens where
+there_coming : (w : Actors) (p : Mobile) (at : Place) (frame : List ℕ) → at.station ≢ 0 → is_station_up w at.station ≡ true → is_active_at w at ≡ true → coming at (brought w p at Zero frame) ≡ coming at w ++ frame ∷ []
+there_coming w p at frame at_is up active = by p.opens where
   base : BaseState
   base = base_of w at.station
 
   telling : (message : Rsl) → (if at.station == at.station then made_of at.number (message ∷ []) else []) ≡ brings_up frame ∷ [] → coming at (with_base at.station (after_tell base message) w) ≡ coming at w ++ frame ∷ []
   telling message is =
-      ap messages_in (coming-told w w at.station at (after_tell base message) (message ∷ []) at_is up (λ k. refl) refl refl (inl (active-there w at active)) ∙ ap (λ (xs : List Brought). coming_up w at ++ xs) is)
+      ap messages_in (coming-told w w at.station at (after_tell base message) (message ∷ []) at_is up (λ k. refl) refl refl (inl (active_there w at active)) ∙ ap (λ (xs : List Brought). coming_up w at ++ xs) is)
       ∙ messages_in-append (coming_up w at) (brings_up frame ∷ [])
 
   two : (a b : Bool) → a ≡ true → b ≡ true → (if a then (if b then brings_up frame ∷ [] else []) ++ [] else []) ≡ brings_up frame ∷ []
@@ -50,8 +50,8 @@ there-coming w p at frame at_is up active = by p.opens where
   by true = telling (establish_indication at.number Zero (Some frame)) (two (at.station == at.station) (at.number == at.number) (eq-eqb at.station at.station refl) (eq-eqb at.number at.number refl))
   by false = telling (data_indication at.number Zero frame) (two (at.station == at.station) (at.number == at.number) (eq-eqb at.station at.station refl) (eq-eqb at.number at.number refl))
 
-three-zero : (e : MobileState) → (after_frame e Three).zero ≡ e.zero
-three-zero e = by e.stage e.place where
+three_zero : (e : MobileState) → (after_frame e Three).zero ≡ e.zero
+three_zero e = by e.stage e.place where
   by : (stage : Stage) (place : Whereabouts) → (after_frame_at stage place e Three).zero ≡ e.zero
   by New places.OnChannel = refl
   by New places.Moving = refl
@@ -60,17 +60,17 @@ three-zero e = by e.stage e.place where
 
 -- ---- lists
 
-begin-front : (text : List ℕ) (xs ys : List (List ℕ)) → BeginWith text (xs ++ ys) → BeginWith text xs
-begin-front text [] ys first = tt
-begin-front text (x ∷ xs) ys first = first
+begin_front : (text : List ℕ) (xs ys : List (List ℕ)) → BeginWith text (xs ++ ys) → BeginWith text xs
+begin_front text [] ys first = tt
+begin_front text (x ∷ xs) ys first = first
 
-begin-last : (text frame : List ℕ) (xs : List (List ℕ)) → (xs ≡ [] → frame ≡ text) → BeginWith text xs → BeginWith text (xs ++ frame ∷ [])
-begin-last text frame [] is first = is refl
-begin-last text frame (x ∷ xs) is first = first
+begin_last : (text frame : List ℕ) (xs : List (List ℕ)) → (xs ≡ [] → frame ≡ text) → BeginWith text xs → BeginWith text (xs ++ frame ∷ [])
+begin_last text frame [] is first = is refl
+begin_last text frame (x ∷ xs) is first = first
 
-none-last : {X : Type 0} (xs : List X) (x : X) → xs ++ x ∷ [] ≡ [] → ⊥
-none-last [] x is = absurd cc
-none-last (y ∷ xs) x is = absurd cc
+none_last : {X : Type 0} (xs : List X) (x : X) → xs ++ x ∷ [] ≡ [] → ⊥
+none_last [] x is = absurd cc
+none_last (y ∷ xs) x is = absurd cc
 
 -- ---- of one connection
 
@@ -81,7 +81,7 @@ module _ {m : ℕ} (w : Actors) (event : Event) (mobile : ℕ) (p : Mobile) (s :
   -- ---- the target, and where mobiles are
 
   rest-placed : AllByRecursion (λ c. c.station ≢ SWITCH_LINK) (s.serving ∷ target_in s.state)
-  rest-placed = all-right (λ c. c.station ≢ SWITCH_LINK) (undone s.draining) (s.serving ∷ target_in s.state) lined.placed
+  rest-placed = all_right (λ c. c.station ≢ SWITCH_LINK) (undone s.draining) (s.serving ∷ target_in s.state) lined.placed
 
   rest-apart : AllByRecursion (IsApart s.serving) (target_in s.state)
   rest-apart = (apart_behind (undone s.draining) (s.serving ∷ target_in s.state) lined.apart).0
@@ -89,7 +89,7 @@ module _ {m : ℕ} (w : Actors) (event : Event) (mobile : ℕ) (p : Mobile) (s :
   -- another mobile is elsewhere
   other-elsewhere : (c : Channel) → target_in s.state ≡ c ∷ [] → (number : ℕ) (x : Mobile) (tenure : Tenure) (command : Option Command) → number ≢ mobile → mobile_of w number ≡ Some x → x.seat ≡ On tenure command → is_reached w tenure ≡ true → is_place tenure.at (place_of c) ≡ false
   other-elsewhere c is number x tenure command differs acts seat reached =
-      let all : IsElsewhere (s.serving ∷ target_in s.state) tenure.at = all-right (λ d. is_at tenure.at d ≡ false) (undone s.draining) (s.serving ∷ target_in s.state) (alone number x tenure command differs acts seat reached) in
+      let all : IsElsewhere (s.serving ∷ target_in s.state) tenure.at = all_right (λ d. is_at tenure.at d ≡ false) (undone s.draining) (s.serving ∷ target_in s.state) (alone number x tenure command differs acts seat reached) in
       (subst (λ (cs : List Channel). IsElsewhere cs tenure.at) is all.1).0
 
   -- the own one: it sits on the serving channel, or came
@@ -123,13 +123,13 @@ module _ {m : ℕ} (w : Actors) (event : Event) (mobile : ℕ) (p : Mobile) (s :
         ]
 
         by : (sapi : Sapi) (x : Mobile) (tenure : Tenure) (command : Option Command) (frame : List ℕ) → mobile_of w number ≡ Some x → x.seat ≡ On tenure command → is_reached w tenure ≡ true → coming (place_of c) (brought w x tenure.at sapi frame) ≡ coming (place_of c) w
-        by Three x tenure command frame acts seat reached = short-coming (place_of c) w x tenure.at frame
-        by Zero x tenure command frame acts seat reached = elsewhere-coming (place_of c) w x tenure.at frame at_is (reached-station w tenure reached) (away x tenure command acts seat reached)
+        by Three x tenure command frame acts seat reached = short_coming (place_of c) w x tenure.at frame
+        by Zero x tenure command frame acts seat reached = elsewhere_coming (place_of c) w x tenure.at frame at_is (reached-station w tenure reached) (away x tenure command acts seat reached)
 
   silent-prepared : (c : Channel) → target_in s.state ≡ c ∷ [] → commanded_target s.state ≡ None → (e : Event) → e ≡ event → coming (place_of c) w ≡ [] → coming (place_of c) (actors_after w e) ≡ []
   unfolding event_after
   silent-prepared c is idle (AirUp number sapi) now none = frame-prepared c is idle number sapi none
-  silent-prepared c is idle e now none = by (comes-step (place_of c) w e (subst (AllByRecursion (λ d. d.station ≢ SWITCH_LINK)) is rest-placed.1).0 good (ap is_relays now ∙ beside) refl) where
+  silent-prepared c is idle e now none = by (comes_step (place_of c) w e (subst (AllByRecursion (λ d. d.station ≢ SWITCH_LINK)) is rest-placed.1).0 good (ap is_relays now ∙ beside) refl) where
     by : Comes (place_of c) w (actors_after w e) → coming (place_of c) (actors_after w e) ≡ []
     by (same stays_so) = stays_so ∙ none
     by (begun down rest all) = (Both-empty (coming (place_of c) (actors_after w e)) rest (sym none ∙ all)).0
@@ -137,7 +137,7 @@ module _ {m : ℕ} (w : Actors) (event : Event) (mobile : ℕ) (p : Mobile) (s :
   awaited : (c : Channel) → target_in s.state ≡ c ∷ [] → commanded_target s.state ≡ None → IsAwaited w c → IsAwaited v c
   awaited c is idle a = record {
     silent = silent-prepared c is idle event refl a.silent;
-    uncommanded = none-down (place_of c) w event (subst (AllByRecursion (λ d. d.station ≢ SWITCH_LINK)) is rest-placed.1).0 beside a.uncommanded;
+    uncommanded = none_down (place_of c) w event (subst (AllByRecursion (λ d. d.station ≢ SWITCH_LINK)) is rest-placed.1).0 beside a.uncommanded;
   }
 
   -- ---- a target to which the mobile was commanded
@@ -187,14 +187,14 @@ module _ {m : ℕ} (w : Actors) (event : Event) (mobile : ℕ) (p : Mobile) (s :
     -- ---- no frame
 
     quiet-led : is_frame event ≡ false → IsLedBy v q t
-    quiet-led no_frame = by (comes-step at w event at_is good beside no_frame) where
+    quiet-led no_frame = by (comes_step at w event at_is good beside no_frame) where
       by : Comes at w v → IsLedBy v q t
       by (same stays_so) = record {
         first = subst (BeginWith text) (sym stays_so) led.first;
         gives = λ none up. gives-step w mobile p text at found (led.gives (sym stays_so ∙ none) (still-up up)) s.serving t refl refl apart sits event no_frame q found_then;
       }
       by (begun down rest all) = record {
-        first = begin-front text (coming at v) rest (subst (BeginWith text) all led.first);
+        first = begin_front text (coming at v) rest (subst (BeginWith text) all led.first);
         gives = λ none up. absurd (false≢true (sym down ∙ up));
       }
 
@@ -217,12 +217,12 @@ module _ {m : ℕ} (w : Actors) (event : Event) (mobile : ℕ) (p : Mobile) (s :
         let here : tenure.at ≡ at = ap (λ (k : Tenure). k.at) there in
         let up : is_station_up w tenure.at.station ≡ true = (reached-up w tenure reached).0 in
         let all : coming at (brought w x tenure.at Zero frame) ≡ coming at w ++ frame ∷ [] =
-        subst (λ (z : Place). coming z (brought w x tenure.at Zero frame) ≡ coming z w ++ frame ∷ []) here (there-coming w x tenure.at frame (reached-station w tenure reached) up (reached-up w tenure reached).1) in
+        subst (λ (z : Place). coming z (brought w x tenure.at Zero frame) ≡ coming z w ++ frame ∷ []) here (there_coming w x tenure.at frame (reached-station w tenure reached) up (reached-up w tenure reached).1) in
         record {
-          first = subst (BeginWith text) (sym all) (begin-last text frame (coming at w) (λ none. lent-first x.end.zero frame text (frame-lent x.end frame lent).lent
+          first = subst (BeginWith text) (sym all) (begin_last text frame (coming at w) (λ none. lent_first x.end.zero frame text (frame_lent x.end frame lent).lent
               (ap (λ (z : Mobile). first_in (to_be_taken z.end.zero)) own
               ∙ led.gives none (ap (λ (z : Place). is_up w z.station) (sym here) ∙ (up-right tenure.at.station w up).1) (subst (λ (z : Seat). IsOnPlace z at) (sym seat ∙ ap (λ (z : Mobile). z.seat) own) here))) led.first);
-          gives = λ none up_then. absurd (none-last (coming at w) frame (sym all ∙ none));
+          gives = λ none up_then. absurd (none_last (coming at w) frame (sym all ∙ none));
         }
 
     frame-led : (number : ℕ) (sapi : Sapi) (y : Mobile) → mobile_of (unwrap_or (after_air_up w number sapi) w) mobile ≡ Some y → IsLedBy (unwrap_or (after_air_up w number sapi) w) y t
@@ -231,7 +231,7 @@ module _ {m : ℕ} (w : Actors) (event : Event) (mobile : ℕ) (p : Mobile) (s :
       P u = (z : Mobile) → mobile_of u mobile ≡ Some z → IsLedBy u z t
 
       on-serving : (x : Mobile) (tenure : Tenure) (command : Option Command) (frame : List ℕ) → mobile_of w number ≡ Some x → x.seat ≡ On tenure command → is_reached w tenure ≡ true → is_place tenure.at at ≡ false → P (brought w x tenure.at Zero frame)
-      on-serving x tenure command frame acts seat reached away = elsewhere-led number x (record (framed x Zero) { opens = false }) (brought w x tenure.at Zero frame) acts refl refl (elsewhere-coming at w x tenure.at frame at_is (reached-station w tenure reached) away) refl
+      on-serving x tenure command frame acts seat reached away = elsewhere-led number x (record (framed x Zero) { opens = false }) (brought w x tenure.at Zero frame) acts refl refl (elsewhere_coming at w x tenure.at frame at_is (reached-station w tenure reached) away) refl
           (λ own on. absurd (false≢true (sym away ∙ there (subst (λ (z : Seat). IsOnPlace z at) seat on)))) where
             there : tenure.at ≡ at → is_place tenure.at at ≡ true
             there same_place = ap (λ (z : Place). is_place z at) same_place ∙ ap (λ (b : Bool). b && (at.number == at.number)) (eq-eqb at.station at.station refl) ∙ eq-eqb at.number at.number refl
@@ -242,7 +242,7 @@ module _ {m : ℕ} (w : Actors) (event : Event) (mobile : ℕ) (p : Mobile) (s :
 
       by : (sapi : Sapi) (x : Mobile) (tenure : Tenure) (command : Option Command) (frame : List ℕ) → mobile_of w number ≡ Some x → x.seat ≡ On tenure command → frame_in (frame_answer x.end sapi) ≡ Some frame → is_reached w tenure ≡ true → P (brought w x tenure.at sapi frame)
       by Three x tenure command frame acts seat lent reached =
-          elsewhere-led number x (framed x Three) (brought w x tenure.at Three frame) acts refl refl (short-coming at w x tenure.at frame) refl (λ own on. (on, three-zero x.end))
+          elsewhere-led number x (framed x Three) (brought w x tenure.at Three frame) acts refl refl (short_coming at w x tenure.at frame) refl (λ own on. (on, three_zero x.end))
       by Zero x tenure command frame acts seat lent reached = elim (cases_Bool (nat_eq number mobile)) [
         | inr miss ↦ on-serving x tenure command frame acts seat reached (other-elsewhere t.channel is number x tenure command (eqb-false number mobile miss) acts seat reached)
         | inl hit ↦

@@ -23,9 +23,9 @@ use Rattle.world_laws.specs.ComingUp.{brings, brings_in, coming_up, made_of, of_
 use Rattle.world_laws.proofs.Acknowledged.{coming-read}
 use Rattle.world_laws.proofs.Projecting.{coming-same, made-append}
 use Rattle.world_laws.proofs.Quiet.{coming-with_spot}
-use Rattle.world_laws.proofs.Targets.Calm.{first-and-behind}
-use Rattle.world_laws.proofs.Targets.Places.{base-cases, is_place}
-use Rattle.world_laws.proofs.Targets.Ways.{goes-read}
+use Rattle.world_laws.proofs.Targets.Calm.{first_and_behind}
+use Rattle.world_laws.proofs.Targets.Places.{base_cases, is_place}
+use Rattle.world_laws.proofs.Targets.Ways.{goes_read}
 use Rattle.world_model.proofs.Footprints.Tells.{answers, brings as brings_frame, detects, establishes, links, opens_with, reports, requires}
 
 -- the messages on their way up
@@ -34,8 +34,8 @@ coming at w = messages_in (coming_up w at)
 
 -- ---- an end makes messages
 
-pub made-coming : (at : Place) (m : ℕ) (base : BaseState) (ms : List Rsl) (u : Actors) → base.messages ≡ (base_of u m).messages ++ ms → messages_in (made_of at.number ms) ≡ [] → coming at (with_base m base u) ≡ coming at u
-made-coming at m base ms u made none = elim (base-cases u m at.station base) [
+pub made_coming : (at : Place) (m : ℕ) (base : BaseState) (ms : List Rsl) (u : Actors) → base.messages ≡ (base_of u m).messages ++ ms → messages_in (made_of at.number ms) ≡ [] → coming at (with_base m base u) ≡ coming at u
+made_coming at m base ms u made none = elim (base_cases u m at.station base) [
   | inr same ↦ ap messages_in (coming-same u (with_base m base u) at refl same)
   | inl here ↦
       let inbox : List Brought = flat_map (brings_in at) u.inbox in
@@ -49,21 +49,21 @@ made-coming at m base ms u made none = elim (base-cases u m at.station base) [
       ∙ append-nil (messages_in (inbox ++ old))
 ]
 
-told-coming : (at : Place) (m : ℕ) (message : Rsl) (u : Actors) → messages_in (made_of at.number (message ∷ [])) ≡ [] → coming at (with_base m (after_tell (base_of u m) message) u) ≡ coming at u
-told-coming at m message u none = made-coming at m (after_tell (base_of u m) message) (message ∷ []) u refl none
+told_coming : (at : Place) (m : ℕ) (message : Rsl) (u : Actors) → messages_in (made_of at.number (message ∷ [])) ≡ [] → coming at (with_base m (after_tell (base_of u m) message) u) ≡ coming at u
+told_coming at m message u none = made_coming at m (after_tell (base_of u m) message) (message ∷ []) u refl none
 
 spot-coming : (at p : Place) (spot : Spot) (u : Actors) → coming at (with_spot p spot u) ≡ coming at u
 spot-coming at p spot u = ap messages_in (coming-with_spot u p spot at)
 
 -- which messages bring none
-established-none : (k channel : ℕ) (sapi : Sapi) → messages_in (made_of k (establish_indication channel sapi None ∷ [])) ≡ []
-established-none k channel sapi = by (channel == k) where
+established_none : (k channel : ℕ) (sapi : Sapi) → messages_in (made_of k (establish_indication channel sapi None ∷ [])) ≡ []
+established_none k channel sapi = by (channel == k) where
   by : (b : Bool) → messages_in ((if b then [] else []) ++ []) ≡ []
   by true = refl
   by false = refl
 
-ended-none : (k channel : ℕ) → messages_in (made_of k (RfChannelReleaseAck channel ∷ [])) ≡ []
-ended-none k channel = by (channel == k) where
+ended_none : (k channel : ℕ) → messages_in (made_of k (RfChannelReleaseAck channel ∷ [])) ≡ []
+ended_none k channel = by (channel == k) where
   by : (b : Bool) → messages_in ((if b then ends_up ∷ [] else []) ++ []) ≡ []
   by true = refl
   by false = refl
@@ -74,42 +74,42 @@ answer-none k channel false = refl
 
 -- ---- a frame that the station takes elsewhere, or of SAPI 3
 
-short-none : (k channel : ℕ) (frame : List ℕ) → messages_in (made_of k (data_indication channel Three frame ∷ [])) ≡ []
-short-none k channel frame = by (nat_le FIRST_SDCCH channel) (channel == k) where
+short_none : (k channel : ℕ) (frame : List ℕ) → messages_in (made_of k (data_indication channel Three frame ∷ [])) ≡ []
+short_none k channel frame = by (nat_le FIRST_SDCCH channel) (channel == k) where
   by : (a b : Bool) → messages_in ((if b then of_main (sapi_of (if a then MAIN_LINK_SAPI_3 else SACCH_SAPI_3)) frame else []) ++ []) ≡ []
   by true true = refl
   by true false = refl
   by false true = refl
   by false false = refl
 
-shorts-none : (k channel : ℕ) (frame : List ℕ) → messages_in (made_of k (establish_indication channel Three None ∷ data_indication channel Three frame ∷ [])) ≡ []
-shorts-none k channel frame = by (nat_le FIRST_SDCCH channel) (channel == k) where
+shorts_none : (k channel : ℕ) (frame : List ℕ) → messages_in (made_of k (establish_indication channel Three None ∷ data_indication channel Three frame ∷ [])) ≡ []
+shorts_none k channel frame = by (nat_le FIRST_SDCCH channel) (channel == k) where
   by : (a b : Bool) → messages_in ((if b then [] else []) ++ ((if b then of_main (sapi_of (if a then MAIN_LINK_SAPI_3 else SACCH_SAPI_3)) frame else []) ++ [])) ≡ []
   by true true = refl
   by true false = refl
   by false true = refl
   by false false = refl
 
-pub short-coming : (at : Place) (w : Actors) (p : Mobile) (here : Place) (frame : List ℕ) → coming at (brought w p here Three frame) ≡ coming at w
-short-coming at w p here frame =
+pub short_coming : (at : Place) (w : Actors) (p : Mobile) (here : Place) (frame : List ℕ) → coming at (brought w p here Three frame) ≡ coming at w
+short_coming at w p here frame =
     spot-coming at here (record (spot_at w here) { sapi_three_up = true }) (with_base here.station (short_message_brought (base_of w here.station) here.number (spot_at w here).sapi_three_up frame) w) ∙ by (spot_at w here).sapi_three_up where
       by : (b : Bool) → coming at (with_base here.station (short_message_brought (base_of w here.station) here.number b frame) w) ≡ coming at w
-      by true = told-coming at here.station (data_indication here.number Three frame) w (short-none at.number here.number frame)
+      by true = told_coming at here.station (data_indication here.number Three frame) w (short_none at.number here.number frame)
       by false =
-          made-coming at here.station (short_message_brought (base_of w here.station) here.number false frame) (establish_indication here.number Three None ∷ data_indication here.number Three frame ∷ []) w
-          (append_assoc (base_of w here.station).messages (establish_indication here.number Three None ∷ []) (data_indication here.number Three frame ∷ [])) (shorts-none at.number here.number frame)
+          made_coming at here.station (short_message_brought (base_of w here.station) here.number false frame) (establish_indication here.number Three None ∷ data_indication here.number Three frame ∷ []) w
+          (append_assoc (base_of w here.station).messages (establish_indication here.number Three None ∷ []) (data_indication here.number Three frame ∷ [])) (shorts_none at.number here.number frame)
 
-other-none : (k channel : ℕ) (message : Rsl) (xs : List Brought) → (channel == k) ≡ false → messages_in ((if channel == k then xs else []) ++ []) ≡ []
-other-none k channel message xs other = ap (λ (b : Bool). messages_in ((if b then xs else []) ++ [])) other
+other_none : (k channel : ℕ) (message : Rsl) (xs : List Brought) → (channel == k) ≡ false → messages_in ((if channel == k then xs else []) ++ []) ≡ []
+other_none k channel message xs other = ap (λ (b : Bool). messages_in ((if b then xs else []) ++ [])) other
 
-pub elsewhere-coming : (at : Place) (w : Actors) (p : Mobile) (here : Place) (frame : List ℕ) → at.station ≢ 0 → here.station ≢ 0 → is_place here at ≡ false → coming at (brought w p here Zero frame) ≡ coming at w
-elsewhere-coming at w p here frame at_is here_is other = elim (cases_Bool (nat_eq here.station at.station)) [
+pub elsewhere_coming : (at : Place) (w : Actors) (p : Mobile) (here : Place) (frame : List ℕ) → at.station ≢ 0 → here.station ≢ 0 → is_place here at ≡ false → coming at (brought w p here Zero frame) ≡ coming at w
+elsewhere_coming at w p here frame at_is here_is other = elim (cases_Bool (nat_eq here.station at.station)) [
   | inr station ↦ ap messages_in (coming-same w (with_base here.station (signalling_brought (base_of w here.station) here.number p.opens frame) w) at refl (base-elsewhere w at.station here.station _ at_is here_is (λ same. eqb-false here.station at.station station (sym same))))
   | inl station ↦ by p.opens (sym (ap (λ (b : Bool). b && nat_eq here.number at.number) station) ∙ other)
 ] where
   by : (b : Bool) → nat_eq here.number at.number ≡ false → coming at (with_base here.station (signalling_brought (base_of w here.station) here.number b frame) w) ≡ coming at w
-  by true channel = told-coming at here.station (establish_indication here.number Zero (Some frame)) w (other-none at.number here.number (establish_indication here.number Zero (Some frame)) (brings_up frame ∷ []) channel)
-  by false channel = told-coming at here.station (data_indication here.number Zero frame) w (other-none at.number here.number (data_indication here.number Zero frame) (brings_up frame ∷ []) channel)
+  by true channel = told_coming at here.station (establish_indication here.number Zero (Some frame)) w (other_none at.number here.number (establish_indication here.number Zero (Some frame)) (brings_up frame ∷ []) channel)
+  by false channel = told_coming at here.station (data_indication here.number Zero frame) w (other_none at.number here.number (data_indication here.number Zero frame) (brings_up frame ∷ []) channel)
 
 -- ---- pushes and breaks
 
@@ -118,25 +118,25 @@ pub data Comes (at : Place) (w v : Actors) : Type 0 where
   same : coming at v ≡ coming at w → Comes at w v
   begun : is_up v at.station ≡ false → (rest : List (List ℕ)) → coming at w ≡ coming at v ++ rest → Comes at w v
 
-up-same : (at : Place) (w v : Actors) → messages_up w at.station ≡ messages_up v at.station → Comes at w v
-up-same at w v is = same (ap messages_in (coming-read v at ∙ ap (flat_map (brings at.number)) (sym is) ∙ sym (coming-read w at)))
+up_same : (at : Place) (w v : Actors) → messages_up w at.station ≡ messages_up v at.station → Comes at w v
+up_same at w v is = same (ap messages_in (coming-read v at ∙ ap (flat_map (brings at.number)) (sym is) ∙ sym (coming-read w at)))
 
 -- what stands in the inbox then
 inbox-then : (n : ℕ) (w : Actors) (event : Event) → n ≢ 0 → Good w → popped w event ≡ [] → flat_map (read_of n) (actors_after w event).inbox ≡ flat_map (read_of n) w.inbox ++ given n w event
-inbox-then n w event n_is good none = sym (goes-read n w event n_is good ∙ ap (λ (items : List _). flat_map (read_of n) items ++ flat_map (read_of n) (actors_after w event).inbox) none)
+inbox-then n w event n_is good none = sym (goes_read n w event n_is good ∙ ap (λ (items : List _). flat_map (read_of n) items ++ flat_map (read_of n) (actors_after w event).inbox) none)
 
-plain-coming : (at : Place) (w : Actors) (event : Event) → at.station ≢ 0 → Good w → popped w event ≡ [] → Plain at.station w event (actors_after w event) → Comes at w (actors_after w event)
-plain-coming at w event at_is good none (as_before base nothing) =
+plain_coming : (at : Place) (w : Actors) (event : Event) → at.station ≢ 0 → Good w → popped w event ≡ [] → Plain at.station w event (actors_after w event) → Comes at w (actors_after w event)
+plain_coming at w event at_is good none (as_before base nothing) =
     let v : Actors = actors_after w event in
-    up-same at w v (sym (ap (λ (ms : List Rsl). ms ++ (base_of v at.station).messages) (inbox-then at.station w event at_is good none ∙ ap (λ (ms : List Rsl). flat_map (read_of at.station) w.inbox ++ ms) nothing ∙ append-nil (flat_map (read_of at.station) w.inbox))
+    up_same at w v (sym (ap (λ (ms : List Rsl). ms ++ (base_of v at.station).messages) (inbox-then at.station w event at_is good none ∙ ap (λ (ms : List Rsl). flat_map (read_of at.station) w.inbox ++ ms) nothing ∙ append-nil (flat_map (read_of at.station) w.inbox))
     ∙ ap (λ (b : BaseState). flat_map (read_of at.station) w.inbox ++ b.messages) base))
-plain-coming at w event at_is good none (next message first base gave) =
+plain_coming at w event at_is good none (next message first base gave) =
     let v : Actors = actors_after w event in
-    up-same at w v (ap (λ (ms : List Rsl). flat_map (read_of at.station) w.inbox ++ ms) (first-and-behind (base_of w at.station).messages message first ∙ ap (λ (b : BaseState). message ∷ b.messages) (sym base))
+    up_same at w v (ap (λ (ms : List Rsl). flat_map (read_of at.station) w.inbox ++ ms) (first_and_behind (base_of w at.station).messages message first ∙ ap (λ (b : BaseState). message ∷ b.messages) (sym base))
     ∙ sym (append_assoc (flat_map (read_of at.station) w.inbox) (message ∷ []) (base_of v at.station).messages)
     ∙ ap (λ (ms : List Rsl). flat_map (read_of at.station) w.inbox ++ ms ++ (base_of v at.station).messages) (sym gave)
     ∙ ap (λ (ms : List Rsl). ms ++ (base_of v at.station).messages) (sym (inbox-then at.station w event at_is good none)))
-plain-coming at w event at_is good none (ends_now down left nothing) =
+plain_coming at w event at_is good none (ends_now down left nothing) =
     let v : Actors = actors_after w event in
     let inbox : List Rsl = flat_map (read_of at.station) w.inbox in
     let made : List Rsl = (base_of w at.station).messages in
@@ -160,38 +160,38 @@ is_frame _ = false
 stays : (at : Place) (w : Actors) (o : Option Actors) → OfTaken (λ v. coming at v ≡ coming at w) o → Comes at w (unwrap_or o w)
 stays at w o leads = same (after-taken (λ v. coming at v ≡ coming at w) o w leads refl)
 
-tells-none : {w : Actors} {event : Event} {n : ℕ} {message : Rsl} (k : ℕ) → is_frame event ≡ false → Tells w event n message → messages_in (made_of k (message ∷ [])) ≡ []
-tells-none k b (requires number station initial accepts) = refl
-tells-none k b (opens_with number p tenure frame lent) = absurd cc
-tells-none k b (brings_frame number sapi p tenure frame lent) = absurd cc
-tells-none k b (links number p tenure frame lent) = absurd cc
-tells-none k b (detects number tenure reached) = refl
-tells-none k b (establishes tenure reached) = established-none k tenure.at.number Zero
-tells-none k b (answers station l answer taken) = answer-none k l.channel answer
-tells-none k b (reports number report tenure reached long) = refl
+tells_none : {w : Actors} {event : Event} {n : ℕ} {message : Rsl} (k : ℕ) → is_frame event ≡ false → Tells w event n message → messages_in (made_of k (message ∷ [])) ≡ []
+tells_none k b (requires number station initial accepts) = refl
+tells_none k b (opens_with number p tenure frame lent) = absurd cc
+tells_none k b (brings_frame number sapi p tenure frame lent) = absurd cc
+tells_none k b (links number p tenure frame lent) = absurd cc
+tells_none k b (detects number tenure reached) = refl
+tells_none k b (establishes tenure reached) = established_none k tenure.at.number Zero
+tells_none k b (answers station l answer taken) = answer-none k l.channel answer
+tells_none k b (reports number report tenure reached long) = refl
 
-air-comes : (at : Place) (w : Actors) (event : Event) → is_on_air event ≡ true → is_frame event ≡ false → Comes at w (actors_after w event)
-air-comes at w event on b = same (air-after (λ v. coming at v ≡ coming at w) w event on (record {
+air_comes : (at : Place) (w : Actors) (event : Event) → is_on_air event ≡ true → is_frame event ≡ false → Comes at w (actors_after w event)
+air_comes at w event on b = same (air-after (λ v. coming at v ≡ coming at w) w event on (record {
   puts = λ u number p q _ _ _ is. is;
   joins = λ number initial accepts _ is. is;
-  tells = λ u n message _ how is. told-coming at n message u (tells-none at.number b how) ∙ is;
+  tells = λ u n message _ how is. told_coming at n message u (tells_none at.number b how) ∙ is;
   spots = λ u p spot _ _ is. spot-coming at p spot u ∙ is;
   pops = λ station others _ is. is;
   activates = λ u s a _ _ is.
       let base : BaseState = after_activate (base_of u s) a.channel in
-      spot-coming at (place_at s a.channel) _ (with_base s base u) ∙ made-coming at s base (activation_ack a.channel ∷ []) u refl refl ∙ is;
+      spot-coming at (place_at s a.channel) _ (with_base s base u) ∙ made_coming at s base (activation_ack a.channel ∷ []) u refl refl ∙ is;
   releases = λ u s channel _ is.
       let base : BaseState = after_release (base_of u s) channel in
-      spot-coming at (place_at s channel) _ (with_base s base u) ∙ made-coming at s base (RfChannelReleaseAck channel ∷ []) u refl (ended-none at.number channel) ∙ is;
+      spot-coming at (place_at s channel) _ (with_base s base u) ∙ made_coming at s base (RfChannelReleaseAck channel ∷ []) u refl (ended_none at.number channel) ∙ is;
 }) refl)
 
-pub comes-step : (at : Place) (w : Actors) (event : Event) → at.station ≢ 0 → Good w → is_relays event ≡ false → is_frame event ≡ false → Comes at w (actors_after w event)
+pub comes_step : (at : Place) (w : Actors) (event : Event) → at.station ≢ 0 → Good w → is_relays event ≡ false → is_frame event ≡ false → Comes at w (actors_after w event)
 unfolding event_after
-comes-step at w (BasePush source) at_is good a b = plain-coming at w (BasePush source) at_is good refl (pushing at.station source w at_is)
-comes-step at w Handle at_is good a b = absurd (true≢false a)
-comes-step at w SwitchTakes at_is good a b =
+comes_step at w (BasePush source) at_is good a b = plain_coming at w (BasePush source) at_is good refl (pushing at.station source w at_is)
+comes_step at w Handle at_is good a b = absurd (true≢false a)
+comes_step at w SwitchTakes at_is good a b =
     stays at w (after_switch_takes w) (switch_takes-leads (λ v. coming at v ≡ coming at w) w (λ first others _ _. switch_took-leads (λ v. coming at v ≡ coming at w) (with_outbox SWITCH_LINK others w) (sccp_in first.out.frame) refl (λ nexts made. refl)))
-comes-step at w (SwitchDoes action) at_is good a b = stays at w (after_switch_does w action) (does-leads (λ v. coming at v ≡ coming at w) w action (λ nexts made. refl))
-comes-step at w (Tick ms) at_is good a b = absurd (true≢false a)
-comes-step at w (BaseDown source) at_is good a b = plain-coming at w (BaseDown source) at_is good refl (breaking at.station source w at_is)
-comes-step at w event at_is good a b = air-comes at w event refl b
+comes_step at w (SwitchDoes action) at_is good a b = stays at w (after_switch_does w action) (does-leads (λ v. coming at v ≡ coming at w) w action (λ nexts made. refl))
+comes_step at w (Tick ms) at_is good a b = absurd (true≢false a)
+comes_step at w (BaseDown source) at_is good a b = plain_coming at w (BaseDown source) at_is good refl (breaking at.station source w at_is)
+comes_step at w event at_is good a b = air_comes at w event refl b

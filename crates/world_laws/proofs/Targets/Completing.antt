@@ -18,16 +18,16 @@ use Rattle.world_model.proofs.Worlds.{on_literals}
 use Rattle.world_laws.specs.Acknowledged.{messages_up, read_of}
 use Rattle.world_laws.specs.ComingUp.{brings, brings_if, brings_in, of_establishment, of_main}
 use Rattle.world_laws.specs.Lives.{initial_by, initials_up}
-use Rattle.world_laws.proofs.OrderHeard.{read-known, word-known}
+use Rattle.world_laws.proofs.OrderHeard.{read_known, word-known}
 use Rattle.world_laws.specs.Targets.Fresh.{BeginWith}
 use Rattle.world_laws.proofs.Targets.RoleGoes.{role}
 
 -- ---- what COMPLETE says
 
-complete-word : (at : Place) (change : Change) → (cause : RrCause) × (data_word (is_dtap (complete change)) at (Some Zero) (complete change) ≡ OnChannel at (inputs.Complete at change cause))
+complete_word : (at : Place) (change : Change) → (cause : RrCause) × (data_word (is_dtap (complete change)) at (Some Zero) (complete change) ≡ OnChannel at (inputs.Complete at change cause))
 unfolding on_literals
-complete-word at Assignment = (record { 0 = NORMAL_EVENT }, refl)
-complete-word at Handover = (record { 0 = NORMAL_EVENT }, refl)
+complete_word at Assignment = (record { 0 = NORMAL_EVENT }, refl)
+complete_word at Handover = (record { 0 = NORMAL_EVENT }, refl)
 
 same-changes : (change : Change) → same_change change change ≡ true
 same-changes Assignment = refl
@@ -43,32 +43,32 @@ hits t =
 data Brings-data (k : ℕ) (m : Rsl) : Type 0 where
   as_data : (d : DataMessage) → m ≡ rsl.DataIndication d → d.channel ≡ k → sapi_of d.link ≡ Some Zero → messages_in (brings k m) ≡ d.l3 ∷ [] → Brings-data k m
 
-main-zero : (o : Option Sapi) (l3 : List ℕ) → (messages_in (of_main o l3) ≡ [] → ⊥) → o ≡ Some Zero
-main-zero (Some Zero) l3 some = refl
-main-zero (Some Three) l3 some = absurd (some refl)
-main-zero None l3 some = absurd (some refl)
+main_zero : (o : Option Sapi) (l3 : List ℕ) → (messages_in (of_main o l3) ≡ [] → ⊥) → o ≡ Some Zero
+main_zero (Some Zero) l3 some = refl
+main_zero (Some Three) l3 some = absurd (some refl)
+main_zero None l3 some = absurd (some refl)
 
-brings-data : (k : ℕ) (m : Rsl) → initial_by k m ≡ [] → (messages_in (brings k m) ≡ [] → ⊥) → Brings-data k m
-brings-data k (rsl.EstablishIndication e) none some = absurd (some (by (e.channel == k) none)) where
+brings_data : (k : ℕ) (m : Rsl) → initial_by k m ≡ [] → (messages_in (brings k m) ≡ [] → ⊥) → Brings-data k m
+brings_data k (rsl.EstablishIndication e) none some = absurd (some (by (e.channel == k) none)) where
   by : (b : Bool) → (if b then messages_in (of_establishment (sapi_of e.link) e.l3) else []) ≡ [] → messages_in (if b then of_establishment (sapi_of e.link) e.l3 else []) ≡ []
   by true is = is
   by false is = refl
-brings-data k (rsl.DataIndication d) none some = by (d.channel == k) refl some where
+brings_data k (rsl.DataIndication d) none some = by (d.channel == k) refl some where
   by : (b : Bool) → (d.channel == k) ≡ b → (messages_in (if b then of_main (sapi_of d.link) d.l3 else []) ≡ [] → ⊥) → Brings-data k (rsl.DataIndication d)
   by false miss more = absurd (more refl)
   by true hit more =
-      let zero : sapi_of d.link ≡ Some Zero = main-zero (sapi_of d.link) d.l3 more in
+      let zero : sapi_of d.link ≡ Some Zero = main_zero (sapi_of d.link) d.l3 more in
       as_data d refl (eqb-true d.channel k hit) zero (ap (λ (b : Bool). messages_in (if b then of_main (sapi_of d.link) d.l3 else [])) hit ∙ ap (λ (o : Option Sapi). messages_in (of_main o d.l3)) zero)
-brings-data k (rsl.RfChannelReleaseAck channel) none some = absurd (some (by (channel == k))) where
+brings_data k (rsl.RfChannelReleaseAck channel) none some = absurd (some (by (channel == k))) where
   by : (b : Bool) → messages_in (if b then ends_up ∷ [] else []) ≡ []
   by true = refl
   by false = refl
-brings-data k _ none some = absurd (some refl)
+brings_data k _ none some = absurd (some refl)
 
 -- ---- the first item of the inbox
 
-begin-here : (text x : List ℕ) (xs ys rest : List (List ℕ)) → xs ≡ x ∷ [] → ys ≡ xs ++ rest → BeginWith text ys → x ≡ text
-begin-here text x xs ys rest one all first = subst (BeginWith text) (all ∙ ap (λ (zs : List (List ℕ)). zs ++ rest) one) first
+begin_here : (text x : List ℕ) (xs ys rest : List (List ℕ)) → xs ≡ x ∷ [] → ys ≡ xs ++ rest → BeginWith text ys → x ≡ text
+begin_here text x xs ys rest one all first = subst (BeginWith text) (all ∙ ap (λ (zs : List (List ℕ)). zs ++ rest) one) first
 
 module _ (w : Actors) (source : ℕ) (frame : Frame) (items : List Item) (stands : w.inbox ≡ record { source = source; what = whats.Frame frame } ∷ items) (known : IsKnownItem (record { source = source; what = whats.Frame frame })) (t : Target) (n : ℕ) (station_is : t.channel.station ≢ SWITCH_LINK)
     (used : channel_state w.controller (place_of t.channel) ≡ InUse n) (hearing : hears w.controller t.channel.station ≡ true) (none : initials_up w (place_of t.channel) ≡ []) (coming rest : List (List ℕ)) (all : coming ≡ messages_in (brings_in (place_of t.channel) (record { source = source; what = whats.Frame frame })) ++ rest) (first : BeginWith (complete t.change) coming) where
@@ -89,13 +89,13 @@ module _ (w : Actors) (source : ℕ) (frame : Frame) (items : List Item) (stands
 
   says-data : (m : Rsl) → source ≡ at.station → rsl_in frame ≡ Some m → messages_in (brings at.number m) ≡ messages_in (brings_in at (record { source = source; what = whats.Frame frame })) → Brings-data at.number m → Says
   says-data m here says same (as_data d is on zero one) =
-      let l3 : d.l3 ≡ complete t.change = begin-here (complete t.change) d.l3 (messages_in (brings_in at (record { source = source; what = whats.Frame frame }))) coming rest (sym same ∙ one) all first in
+      let l3 : d.l3 ≡ complete t.change = begin_here (complete t.change) d.l3 (messages_in (brings_in at (record { source = source; what = whats.Frame frame }))) coming rest (sym same ∙ one) all first in
       let other : source ≢ SWITCH_LINK = (λ switch. station_is (sym here ∙ switch)) in
       let made = known.station other in
       let word : word_of source frame ≡ rsl_word source (rsl.DataIndication d) =
-      ap (word_of source) made.1 ∙ word-known source made.0 other made.2 ∙ ap (rsl_word source) (same_Some _ _ (sym (ap rsl_in made.1 ∙ read-known made.0 made.2) ∙ says ∙ ap (λ (x : Rsl). Some x) is)) in
+      ap (word_of source) made.1 ∙ word-known source made.0 other made.2 ∙ ap (rsl_word source) (same_Some _ _ (sym (ap rsl_in made.1 ∙ read_known made.0 made.2) ∙ says ∙ ap (λ (x : Rsl). Some x) is)) in
       let place : place_at source d.channel ≡ at = ap (λ (k : ℕ). place_at k d.channel) here ∙ ap (place_at at.station) on in
-      let complete_is = complete-word at t.change in
+      let complete_is = complete_word at t.change in
       let told : word_of source frame ≡ OnChannel at (inputs.Complete at t.change complete_is.0) =
       word ∙ ap (λ (o : Option Sapi). data_word (is_dtap d.l3) (place_at source d.channel) o d.l3) zero ∙ ap (λ (p : Place). data_word (is_dtap d.l3) p (Some Zero) d.l3) place ∙ ap (λ (x : List ℕ). data_word (is_dtap x) at (Some Zero) x) l3 ∙ complete_is.1 in (
         complete_is.0,
@@ -112,7 +112,7 @@ module _ (w : Actors) (source : ℕ) (frame : Frame) (items : List Item) (stands
     inner (Some m) says here =
         let same : messages_in (brings at.number m) ≡ messages_in (brings_in at (record { source = source; what = whats.Frame frame })) =
         sym (ap (λ (b : Bool). messages_in (if b then brings_if at.number (rsl_in frame) else [])) here ∙ ap (λ (o : Option Rsl). messages_in (brings_if at.number o)) says) in
-        says-data m (eqb-true source at.station here) says same (brings-data at.number m (no-initial m (eqb-true source at.station here) says) (λ nothing_comes. some (sym same ∙ nothing_comes)))
+        says-data m (eqb-true source at.station here) says same (brings_data at.number m (no-initial m (eqb-true source at.station here) says) (λ nothing_comes. some (sym same ∙ nothing_comes)))
 
     by : (b : Bool) → (source == at.station) ≡ b → Says
     by true here = inner (rsl_in frame) refl here

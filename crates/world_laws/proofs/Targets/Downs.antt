@@ -8,7 +8,7 @@ use Rattle.world_laws.proofs.Prelude.{outbox-step, OutboxStep, breaks, spot-with
 use Rattle.world_model.proofs.Outboxes.Step.{goes}
 use Rattle.world_laws.specs.GoingDown.{going_down, leading, leading_by, leading_from_air, leading_from_outbox}
 use Rattle.world_laws.proofs.Targets.Comings.{is_relays}
-use Rattle.world_laws.proofs.Targets.Places.{is_place, same-place, spot-apart, spot-here}
+use Rattle.world_laws.proofs.Targets.Places.{is_place, same_place, spot-apart, spot_here}
 use Rattle.world_model.proofs.Footprints.Respots.{airs, asks_up, counts, goes_down, is_left, short_up}
 
 -- ---- the air
@@ -16,15 +16,15 @@ use Rattle.world_model.proofs.Footprints.Respots.{airs, asks_up, counts, goes_do
 abbrev pub NoAir : Place → Actors → Type 0
 NoAir at w = flat_map leading_from_air (spot_at w at).air ≡ []
 
-noair-based : (at : Place) (m : ℕ) (base : BaseState) (u : Actors) → NoAir at u → NoAir at (with_base m base u)
-noair-based at m base u none = ap (λ (s : Spot). flat_map leading_from_air s.air) (spot-with_base m base u at) ∙ none
+noair_based : (at : Place) (m : ℕ) (base : BaseState) (u : Actors) → NoAir at u → NoAir at (with_base m base u)
+noair_based at m base u none = ap (λ (s : Spot). flat_map leading_from_air s.air) (spot-with_base m base u at) ∙ none
 
-noair-spotted : (at p : Place) (spot : Spot) (u : Actors) → at.station ≢ 0 → p.station ≢ 0 → (at ≡ p → flat_map leading_from_air spot.air ≡ []) → NoAir at u → NoAir at (with_spot p spot u)
-noair-spotted at p spot u at_is p_is here none = elim (cases_Bool (is_place at p)) [
+noair_spotted : (at p : Place) (spot : Spot) (u : Actors) → at.station ≢ 0 → p.station ≢ 0 → (at ≡ p → flat_map leading_from_air spot.air ≡ []) → NoAir at u → NoAir at (with_spot p spot u)
+noair_spotted at p spot u at_is p_is here none = elim (cases_Bool (is_place at p)) [
   | inr miss ↦ ap (λ (s : Spot). flat_map leading_from_air s.air) (spot-apart u p at spot p_is at_is miss) ∙ none
   | inl hit ↦
-      let is : at ≡ p = same-place at p hit in
-      subst (λ (q : Place). NoAir q (with_spot p spot u)) (sym is) (elim (spot-here u p spot) [
+      let is : at ≡ p = same_place at p hit in
+      subst (λ (q : Place). NoAir q (with_spot p spot u)) (sym is) (elim (spot_here u p spot) [
         | inl now ↦ ap (λ (s : Spot). flat_map leading_from_air s.air) now ∙ here is
         | inr nowhere ↦ ap (λ (s : Spot). flat_map leading_from_air s.air) nowhere
       ])
@@ -32,20 +32,20 @@ noair-spotted at p spot u at_is p_is here none = elim (cases_Bool (is_place at p
 
 -- ---- each event
 
-behind-none : (first : AirMessage) (others : List AirMessage) → flat_map leading_from_air (first ∷ others) ≡ [] → flat_map leading_from_air others ≡ []
-behind-none first others none = (Both-empty (leading_from_air first) (flat_map leading_from_air others) (sym none)).1
+behind_none : (first : AirMessage) (others : List AirMessage) → flat_map leading_from_air (first ∷ others) ≡ [] → flat_map leading_from_air others ≡ []
+behind_none first others none = (Both-empty (leading_from_air first) (flat_map leading_from_air others) (sym none)).1
 
 first-none : (k : ℕ) (entries : List OutboxEntry) (first : OutboxEntry) (others : List OutboxEntry) → entries ≡ first ∷ others → flat_map (leading_from_outbox k) entries ≡ [] → leading_by k first.target (rsl_in first.out.frame) ≡ []
 first-none k entries first others is none = (Both-empty (leading_from_outbox k first) (flat_map (leading_from_outbox k) others) (sym (ap (flat_map (leading_from_outbox k)) (sym is) ∙ none))).0
 
 -- the entry that is taken leads nowhere on the channel
-respot-none : {w u : Actors} {event : Event} {p : Place} {spot : Spot} (at : Place) → flat_map (leading_from_outbox at.number) (outbox_of w at.station) ≡ [] → NoAir p u → at ≡ p → Respots w u event p spot → flat_map leading_from_air spot.air ≡ []
-respot-none at outbox none is (short_up number tenure reached) = none
-respot-none at outbox none is (goes_down tenure first others reached stood) = behind-none first others (ap (flat_map leading_from_air) (sym stood) ∙ none)
-respot-none at outbox none is (is_left number tenure reached) = refl
-respot-none at outbox none is (counts number report tenure reached) = none
-respot-none at outbox none is (asks_up station l answer taken) = none
-respot-none {w} {u} at outbox none is (airs station d taken active) =
+respot_none : {w u : Actors} {event : Event} {p : Place} {spot : Spot} (at : Place) → flat_map (leading_from_outbox at.number) (outbox_of w at.station) ≡ [] → NoAir p u → at ≡ p → Respots w u event p spot → flat_map leading_from_air spot.air ≡ []
+respot_none at outbox none is (short_up number tenure reached) = none
+respot_none at outbox none is (goes_down tenure first others reached stood) = behind_none first others (ap (flat_map leading_from_air) (sym stood) ∙ none)
+respot_none at outbox none is (is_left number tenure reached) = refl
+respot_none at outbox none is (counts number report tenure reached) = none
+respot_none at outbox none is (asks_up station l answer taken) = none
+respot_none {w} {u} at outbox none is (airs station d taken active) =
     let target : Option Tenure = taken.first.target in
     flat_map-append leading_from_air (spot_at u (place_at station d.channel)).air (record { message = d.l3; target = target } ∷ [])
     ∙ ap (λ (xs : List AirMessage). xs ++ (leading d.l3 target ++ [])) none
@@ -54,47 +54,47 @@ respot-none {w} {u} at outbox none is (airs station d taken active) =
     ∙ ap (leading_by at.number target) (sym taken.is)
     ∙ first-none at.number (outbox_of w at.station) taken.first taken.others (ap (λ (q : Place). outbox_of w q.station) is ∙ taken.stood) outbox
 
-noair-step : (at : Place) (w : Actors) (event : Event) → at.station ≢ 0 → flat_map (leading_from_outbox at.number) (outbox_of w at.station) ≡ [] → NoAir at w → NoAir at (actors_after w event)
-noair-step at w event at_is outbox = event-keeps (NoAir at) w event (record {
+noair_step : (at : Place) (w : Actors) (event : Event) → at.station ≢ 0 → flat_map (leading_from_outbox at.number) (outbox_of w at.station) ≡ [] → NoAir at w → NoAir at (actors_after w event)
+noair_step at w event at_is outbox = event-keeps (NoAir at) w event (record {
   puts = λ u number p q _ _ _ none. none;
   joins = λ number initial accepts _ none. none;
-  tells = λ u n message _ _ none. noair-based at n _ u none;
-  spots = λ u p spot p_is how none. noair-spotted at p spot u at_is p_is (λ is. respot-none at outbox (subst (λ (q : Place). NoAir q u) is none) is how) none;
+  tells = λ u n message _ _ none. noair_based at n _ u none;
+  spots = λ u p spot p_is how none. noair_spotted at p spot u at_is p_is (λ is. respot_none at outbox (subst (λ (q : Place). NoAir q u) is none) is how) none;
   pops = λ station others _ none. none;
   activates = λ u s a taken _ none. emptied u s a.channel _ _ (up-right s w taken.up).0 refl none;
   releases = λ u s channel taken none. emptied u s channel _ _ (up-right s w taken.up).0 refl none;
 }) (record {
   rest = λ u inbox controller switch made links none. none;
-  next = λ source message _ none. noair-based at source _ w none;
-  down = λ source _ _ none. noair-based at source _ w none;
+  next = λ source message _ none. noair_based at source _ w none;
+  down = λ source _ _ none. noair_based at source _ w none;
 }) where
   emptied : (u : Actors) (s channel : ℕ) (base : BaseState) (spot : Spot) → s ≢ 0 → spot.air ≡ [] → NoAir at u → NoAir at (with_spot (place_at s channel) spot (with_base s base u))
   emptied u s channel base spot s_is air none =
-      noair-spotted at (place_at s channel) spot (with_base s base u) at_is s_is (λ _. ap (flat_map leading_from_air) air) (noair-based at s base u none)
+      noair_spotted at (place_at s channel) spot (with_base s base u) at_is s_is (λ _. ap (flat_map leading_from_air) air) (noair_based at s base u none)
 
 -- ---- the outbox
 
-no-outputs : (w : Actors) (e : Event) → is_relays e ≡ false → outputs w e ≡ []
-no-outputs w Handle is = absurd cc
-no-outputs w (Tick ms) is = absurd cc
-no-outputs w _ is = refl
+no_outputs : (w : Actors) (e : Event) → is_relays e ≡ false → outputs w e ≡ []
+no_outputs w Handle is = absurd cc
+no_outputs w (Tick ms) is = absurd cc
+no_outputs w _ is = refl
 
-no-puts : (n : ℕ) (w : Actors) (event : Event) → is_relays event ≡ false → put n w event ≡ []
-no-puts n w event other = by (is_up w n) where
+no_puts : (n : ℕ) (w : Actors) (event : Event) → is_relays event ≡ false → put n w event ≡ []
+no_puts n w event other = by (is_up w n) where
   by : (b : Bool) → (if b then to_link n (outputs w event) else []) ≡ []
-  by true = ap (to_link n) (no-outputs w event other)
+  by true = ap (to_link n) (no_outputs w event other)
   by false = refl
 
-none-behind : (k : ℕ) (xs ys : List OutboxEntry) → flat_map (leading_from_outbox k) (xs ++ ys) ≡ [] → flat_map (leading_from_outbox k) ys ≡ []
-none-behind k xs ys none = (Both-empty (flat_map (leading_from_outbox k) xs) (flat_map (leading_from_outbox k) ys) (sym (sym (flat_map-append (leading_from_outbox k) xs ys) ∙ none))).1
+none_behind : (k : ℕ) (xs ys : List OutboxEntry) → flat_map (leading_from_outbox k) (xs ++ ys) ≡ [] → flat_map (leading_from_outbox k) ys ≡ []
+none_behind k xs ys none = (Both-empty (flat_map (leading_from_outbox k) xs) (flat_map (leading_from_outbox k) ys) (sym (sym (flat_map-append (leading_from_outbox k) xs ys) ∙ none))).1
 
-pub none-down : (at : Place) (w : Actors) (event : Event) → at.station ≢ 0 → is_relays event ≡ false → going_down w at ≡ [] → going_down (actors_after w event) at ≡ []
-none-down at w event at_is other none =
+pub none_down : (at : Place) (w : Actors) (event : Event) → at.station ≢ 0 → is_relays event ≡ false → going_down w at ≡ [] → going_down (actors_after w event) at ≡ []
+none_down at w event at_is other none =
     let v : Actors = actors_after w event in
     let parts = Both-empty (flat_map leading_from_air (spot_at w at).air) (flat_map (leading_from_outbox at.number) (outbox_of w at.station)) (sym none) in
-    ap (λ (xs : List AirMessage). xs ++ flat_map (leading_from_outbox at.number) (outbox_of v at.station)) (noair-step at w event at_is parts.1 parts.0) ∙ by (outbox-step at.station w event) parts.1 where
+    ap (λ (xs : List AirMessage). xs ++ flat_map (leading_from_outbox at.number) (outbox_of v at.station)) (noair_step at w event at_is parts.1 parts.0) ∙ by (outbox-step at.station w event) parts.1 where
       by : OutboxStep at.station w event (actors_after w event) → flat_map (leading_from_outbox at.number) (outbox_of w at.station) ≡ [] → flat_map (leading_from_outbox at.number) (outbox_of (actors_after w event) at.station) ≡ []
       by (goes up all) empty =
-          none-behind at.number (taken at.station w event) (outbox_of (actors_after w event) at.station)
-          (ap (flat_map (leading_from_outbox at.number)) (sym all ∙ ap (λ (es : List OutboxEntry). outbox_of w at.station ++ es) (no-puts at.station w event other) ∙ append-nil (outbox_of w at.station)) ∙ empty)
+          none_behind at.number (taken at.station w event) (outbox_of (actors_after w event) at.station)
+          (ap (flat_map (leading_from_outbox at.number)) (sym all ∙ ap (λ (es : List OutboxEntry). outbox_of w at.station ++ es) (no_puts at.station w event other) ∙ append-nil (outbox_of w at.station)) ∙ empty)
       by (breaks broken unput nobody) empty = ap (λ (l : Link). flat_map (leading_from_outbox at.number) l.outbox) broken

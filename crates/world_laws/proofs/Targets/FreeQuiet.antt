@@ -27,23 +27,23 @@ use Rattle.world_laws.specs.GoingDown.{leading, leading_by, leading_from_air, le
 use Rattle.world_laws.specs.LineUp.Places.{messages_in}
 use Rattle.world_laws.proofs.Acknowledged.{coming-read}
 use Rattle.world_laws.proofs.OrderServes.{Lawful, LeadsOwn}
-use Rattle.world_laws.proofs.OwnerRun.{item-leads, lawful-life, life-settings, serves-event, snoc-steps}
+use Rattle.world_laws.proofs.OwnerRun.{item-leads, lawful_life, life-settings, serves_event, snoc_steps}
 use Rattle.world_laws.specs.Targets.Quiet.{ChannelsAreSettled, FreeChannelsAreQuiet, IsQuiet, IsSettled, StandWithin}
-use Rattle.world_laws.proofs.Targets.AckOne.{IsOneOut, one-item}
-use Rattle.world_laws.proofs.Targets.Air.{IdleAir, IdleAir-new, idle-step}
-use Rattle.world_laws.proofs.Targets.Settled.{Frees, comes-free, settled-after}
-use Rattle.world_laws.proofs.Targets.Ways.{WaysStand, WaysStand-new, heard-read, initials-none}
-use Rattle.world_laws.proofs.Targets.Within.{none-leads, within-none}
-use Rattle.world_laws.proofs.Channels.RoleAcks.{up-first}
-use Rattle.world_laws.proofs.Events.{snoc-actors, world}
-use Rattle.world_laws.proofs.Framing.{all-left, all-right}
+use Rattle.world_laws.proofs.Targets.AckOne.{IsOneOut, one_item}
+use Rattle.world_laws.proofs.Targets.Air.{IdleAir, idle_air_new, idle_step}
+use Rattle.world_laws.proofs.Targets.Settled.{Frees, comes_free, settled-after}
+use Rattle.world_laws.proofs.Targets.Ways.{WaysStand, ways_stand_new, heard_read, initials_none}
+use Rattle.world_laws.proofs.Targets.Within.{none_leads, within_none}
+use Rattle.world_laws.proofs.Channels.RoleAcks.{up_first}
+use Rattle.world_laws.proofs.Events.{snoc_actors, world}
+use Rattle.world_laws.proofs.Framing.{all_left, all_right}
 
 -- ---- so a free channel is quiet
 
-pub quiet-of : (owner : Tenure → ℕ) (w : Actors) (at : Place) → Agrees owner w at → (is_up w at.station ≡ false → outbox_of w at.station ≡ []) → IsSettled w at → hears w.controller at.station ≡ true → channel_state w.controller at ≡ Free → IsQuiet w at
-quiet-of owner w at agrees none settled hearing free = record {
+pub quiet_of : (owner : Tenure → ℕ) (w : Actors) (at : Place) → Agrees owner w at → (is_up w at.station ≡ false → outbox_of w at.station ≡ []) → IsSettled w at → hears w.controller at.station ≡ true → channel_state w.controller at ≡ Free → IsQuiet w at
+quiet_of owner w at agrees none settled hearing free = record {
   nothing_comes = ap messages_in silent;
-  none_opens = initials-none at.number (messages_up w at.station) (sym (coming-read w at) ∙ silent);
+  none_opens = initials_none at.number (messages_up w at.station) (sym (coming-read w at) ∙ silent);
   none_commanded = ap (λ (air : List AirMessage). flat_map leading_from_air air ++ flat_map (leading_from_outbox at.number) (outbox_of w at.station)) (settled.air idle) ∙ by (is_up w at.station) refl;
 } where
   silent : coming_up w at ≡ []
@@ -55,32 +55,32 @@ quiet-of owner w at agrees none settled hearing free = record {
   nothing_due : due at.number (is_active_at w at) (outbox_of w at.station) ≡ []
   nothing_due =
       let way = agrees.way hearing in
-      let empty = comes-free at.number (channel_state w.controller at) (to_come w at ++ way.lost) way.comes free in
-      (Both-empty (acknowledgements_up w at) (due at.number (is_active_at w at) (outbox_of w at.station)) (sym (sym (up-first w at) ∙ (Both-empty (to_come w at) way.lost (sym empty)).0))).1
+      let empty = comes_free at.number (channel_state w.controller at) (to_come w at ++ way.lost) way.comes free in
+      (Both-empty (acknowledgements_up w at) (due at.number (is_active_at w at) (outbox_of w at.station)) (sym (sym (up_first w at) ∙ (Both-empty (to_come w at) way.lost (sym empty)).0))).1
 
   by : (b : Bool) → is_up w at.station ≡ b → flat_map (leading_from_outbox at.number) (outbox_of w at.station) ≡ []
   by false down = ap (flat_map (leading_from_outbox at.number)) (none down)
-  by true up = none-leads at.number (outbox_of w at.station) (subst (λ (b : Bool). due at.number b (outbox_of w at.station) ≡ []) idle nothing_due) (subst (λ (b : Bool). StandWithin at.number b (outbox_of w at.station)) idle settled.line)
+  by true up = none_leads at.number (outbox_of w at.station) (subst (λ (b : Bool). due at.number b (outbox_of w at.station) ≡ []) idle nothing_due) (subst (λ (b : Bool). StandWithin at.number b (outbox_of w at.station)) idle settled.line)
 
 -- ---- what is put
 
-pub leads-none : (k : ℕ) (o : Option Rsl) → leading_by k None o ≡ []
-leads-none k (Some (DataRequest d)) = by (d.channel == k) where
+pub leads_none : (k : ℕ) (o : Option Rsl) → leading_by k None o ≡ []
+leads_none k (Some (DataRequest d)) = by (d.channel == k) where
   by : (b : Bool) → (if b then [] else []) ≡ (let xs : List AirMessage = [] in xs)
   by true = refl
   by false = refl
-leads-none k None = refl
-leads-none k (Some _) = refl
+leads_none k None = refl
+leads_none k (Some _) = refl
 
-none-led : (k n : ℕ) (outs : List Out) → AllByRecursion (λ x. leading_from_outbox k x ≡ []) (to_link n (map (entry_of None) outs))
-none-led k n [] = tt
-none-led k n (out ∷ outs) = by (out.to == n) (none-led k n outs) where
+none_led : (k n : ℕ) (outs : List Out) → AllByRecursion (λ x. leading_from_outbox k x ≡ []) (to_link n (map (entry_of None) outs))
+none_led k n [] = tt
+none_led k n (out ∷ outs) = by (out.to == n) (none_led k n outs) where
   by : (b : Bool) → AllByRecursion (λ x. leading_from_outbox k x ≡ []) (to_link n (map (entry_of None) outs)) → AllByRecursion (λ x. leading_from_outbox k x ≡ []) (cond b (entry_of None out ∷ to_link n (map (entry_of None) outs)) (to_link n (map (entry_of None) outs)))
-  by true rest = (leads-none k (rsl_in out.frame), rest)
+  by true rest = (leads_none k (rsl_in out.frame), rest)
   by false rest = rest
 
-one-within : (k n : ℕ) (tenure : Tenure) (out : Out) (active : Bool) → ((d : DataMessage) → (out.to == n) ≡ true → rsl_in out.frame ≡ Some (DataRequest d) → d.channel ≡ k → active ≡ true) → StandWithin k active (to_link n (map (entry_of (Some tenure)) (out ∷ [])))
-one-within k n tenure out active h = by (out.to == n) refl where
+one_within : (k n : ℕ) (tenure : Tenure) (out : Out) (active : Bool) → ((d : DataMessage) → (out.to == n) ≡ true → rsl_in out.frame ≡ Some (DataRequest d) → d.channel ≡ k → active ≡ true) → StandWithin k active (to_link n (map (entry_of (Some tenure)) (out ∷ [])))
+one_within k n tenure out active h = by (out.to == n) refl where
   target : Option Tenure
   target = if commands (rsl_in out.frame) then Some tenure else None
 
@@ -96,59 +96,59 @@ one-within k n tenure out active h = by (out.to == n) refl where
   by true to = ((λ idle. leads (rsl_in out.frame) refl to idle), tt)
   by false to = tt
 
-puts-one : (owner : Tenure → ℕ) (w : Actors) (at : Place) (target : Option Tenure) (outs : List Out) → Agrees owner w at → hears w.controller at.station ≡ true → is_up w at.station ≡ true → (target ≡ None) ⊎ IsOneOut outs → AllByRecursion (LeadsOwn owner w at target) outs → StandWithin at.number (active_behind w at) (entries_to at target outs)
-puts-one owner w at None outs agrees hearing up one leads = within-none at.number (active_behind w at) (entries_to at None outs) (none-led at.number at.station outs)
-puts-one owner w at (Some tenure) outs agrees hearing up (inl none) leads = absurd cc
-puts-one owner w at (Some tenure) outs agrees hearing up (inr (inl empty)) leads = subst (λ (os : List Out). StandWithin at.number (active_behind w at) (entries_to at (Some tenure) os)) (sym empty) tt
-puts-one owner w at (Some tenure) outs agrees hearing up (inr (inr (out, is))) leads =
+puts_one : (owner : Tenure → ℕ) (w : Actors) (at : Place) (target : Option Tenure) (outs : List Out) → Agrees owner w at → hears w.controller at.station ≡ true → is_up w at.station ≡ true → (target ≡ None) ⊎ IsOneOut outs → AllByRecursion (LeadsOwn owner w at target) outs → StandWithin at.number (active_behind w at) (entries_to at target outs)
+puts_one owner w at None outs agrees hearing up one leads = within_none at.number (active_behind w at) (entries_to at None outs) (none_led at.number at.station outs)
+puts_one owner w at (Some tenure) outs agrees hearing up (inl none) leads = absurd cc
+puts_one owner w at (Some tenure) outs agrees hearing up (inr (inl empty)) leads = subst (λ (os : List Out). StandWithin at.number (active_behind w at) (entries_to at (Some tenure) os)) (sym empty) tt
+puts_one owner w at (Some tenure) outs agrees hearing up (inr (inr (out, is))) leads =
     let own = (subst (AllByRecursion (LeadsOwn owner w at (Some tenure))) is leads).0 in
     subst (λ (os : List Out). StandWithin at.number (active_behind w at) (entries_to at (Some tenure) os)) (sym is)
-    (one-within at.number at.station tenure out (active_behind w at)
+    (one_within at.number at.station tenure out (active_behind w at)
     (λ d to says same.
     let used = own tenure refl d (ap (λ (b : Bool). if b then rsl_in out.frame else None) to ∙ says) same in
     (agrees.way hearing).active up ∙ ap is_in_use used.1))
 
 -- ---- a turn frees a channel that it heard to be released
 
-pub runs-free : {at : Place} {state end : ChannelState} {outs : List Out} → Runs at state outs end → end ≡ Free → state ≡ Free
-runs-free over is = is
-runs-free (passes beside rest) is = runs-free rest is
-runs-free (releases says rest) is = absurd (other (runs-free rest is)) where
+pub runs_free : {at : Place} {state end : ChannelState} {outs : List Out} → Runs at state outs end → end ≡ Free → state ≡ Free
+runs_free over is = is
+runs_free (passes beside rest) is = runs_free rest is
+runs_free (releases says rest) is = absurd (other (runs_free rest is)) where
   other : {m : ℕ} → Releasing m ≡ Free → ⊥
   other same = absurd cc
 
-pub goes-free : {at : Place} {state end : ChannelState} {outs : List Out} → Goes at state outs end → end ≡ Free → state ≡ Free
-goes-free (runs all) is = runs-free all is
-goes-free (first_passes beside rest) is = goes-free rest is
-goes-free (activates a says same few rest) is = refl
+pub goes_free : {at : Place} {state end : ChannelState} {outs : List Out} → Goes at state outs end → end ≡ Free → state ≡ Free
+goes_free (runs all) is = runs_free all is
+goes_free (first_passes beside rest) is = goes_free rest is
+goes_free (activates a says same few rest) is = refl
 
-pub hear-free : (heard : List Rsl) (state : ChannelState) → hear heard state ≡ Free → (state ≡ Free) ⊎ ((channel : ℕ) × (rest : List Rsl) × (heard ≡ RfChannelReleaseAck channel ∷ rest))
-hear-free [] state is = inl is
-hear-free (RfChannelReleaseAck channel ∷ rest) state is = inr (channel, rest, refl)
-hear-free (_ ∷ rest) state is = inl is
+pub hear_free : (heard : List Rsl) (state : ChannelState) → hear heard state ≡ Free → (state ≡ Free) ⊎ ((channel : ℕ) × (rest : List Rsl) × (heard ≡ RfChannelReleaseAck channel ∷ rest))
+hear_free [] state is = inl is
+hear_free (RfChannelReleaseAck channel ∷ rest) state is = inr (channel, rest, refl)
+hear_free (_ ∷ rest) state is = inl is
 
 pub alone : (heard : List Rsl) (m : Rsl) (rest : List Rsl) → IsOne heard → heard ≡ m ∷ rest → heard ≡ m ∷ []
 alone heard m rest (inl none) is = absurd (let both : [] ≡ m ∷ rest = sym none ∙ is in cc)
 alone heard m rest (inr (x, one)) is = one ∙ ap (λ (y : Rsl). y ∷ []) (let both : x ∷ [] ≡ m ∷ rest = sym one ∙ is in cc)
 
-frees-by : (owner : Tenure → ℕ) (w : Actors) (event : Event) (at : Place) (target : Option Tenure) (t : Turn) (heard : List Rsl) → (actors_after w event).controller ≡ t.next → Serves owner w at target t heard → IsOne heard → heard ≡ acknowledgements at.number (flat_map (read_of at.station) (popped w event)) → Frees w event at
-frees-by owner w event at target t heard is serves one read = record {
+frees_by : (owner : Tenure → ℕ) (w : Actors) (event : Event) (at : Place) (target : Option Tenure) (t : Turn) (heard : List Rsl) → (actors_after w event).controller ≡ t.next → Serves owner w at target t heard → IsOne heard → heard ≡ acknowledgements at.number (flat_map (read_of at.station) (popped w event)) → Frees w event at
+frees_by owner w event at target t heard is serves one read = record {
   hearing = λ hearing. serves.hearing (ap (λ (c : Controller). hears c at.station) (sym is) ∙ hearing);
-  freed = λ hearing free. elim (hear-free heard (channel_state w.controller at) (goes-free (serves.goes (ap (λ (c : Controller). hears c at.station) (sym is) ∙ hearing)) (ap (λ (c : Controller). channel_state c at) (sym is) ∙ free))) [
+  freed = λ hearing free. elim (hear_free heard (channel_state w.controller at) (goes_free (serves.goes (ap (λ (c : Controller). hears c at.station) (sym is) ∙ hearing)) (ap (λ (c : Controller). channel_state c at) (sym is) ∙ free))) [
     | inl was ↦ inl was
     | inr acks ↦ inr (acks.0, sym read ∙ alone heard (RfChannelReleaseAck acks.0) acks.1 one acks.2)
   ];
 }
 
 -- where the controller rests
-frees-rests : (w : Actors) (event : Event) (at : Place) → Rests at w event → Frees w event at
-frees-rests w event at rests = record {
+frees_rests : (w : Actors) (event : Event) (at : Place) → Rests at w event → Frees w event at
+frees_rests w event at rests = record {
   hearing = λ hearing. ap (λ (c : Controller). hears c at.station) (sym rests.controller) ∙ hearing;
   freed = λ hearing free. inl (ap (λ (c : Controller). channel_state c at) (sym rests.controller) ∙ free);
 }
 
-puts-rests : (w : Actors) (event : Event) (at : Place) → outputs w event ≡ [] → StandWithin at.number (active_behind w at) (put at.station w event)
-puts-rests w event at none = by (is_up w at.station) where
+puts_rests : (w : Actors) (event : Event) (at : Place) → outputs w event ≡ [] → StandWithin at.number (active_behind w at) (put at.station w event)
+puts_rests w event at none = by (is_up w at.station) where
   by : (b : Bool) → StandWithin at.number (active_behind w at) (if b then to_link at.station (outputs w event) else [])
   by true = subst (λ (es : List OutboxEntry). StandWithin at.number (active_behind w at) (to_link at.station es)) (sym none) tt
   by false = tt
@@ -167,8 +167,8 @@ record Works (w : Actors) (event : Event) (at : Place) : Type 0 where
   puts : StandWithin at.number (active_behind w at) (put at.station w event)
   frees : Frees w event at
 
-works-rests : (w : Actors) (event : Event) (at : Place) → Rests at w event → Works w event at
-works-rests w event at rests = record { puts = puts-rests w event at rests.outputs; frees = frees-rests w event at rests }
+works_rests : (w : Actors) (event : Event) (at : Place) → Rests at w event → Works w event at
+works_rests w event at rests = record { puts = puts_rests w event at rests.outputs; frees = frees_rests w event at rests }
 
 module _ (settings : Parameters) (owner : Tenure → ℕ) (done : List Event) (w : Actors) (is : w ≡ world settings done) (allowed : AreAllowed settings) (octets : AllByRecursion ComesInOctets (all_steps (new_actors settings) done)) where
   lives : w.controller ≡ (life settings (all_steps (new_actors settings) done)).next
@@ -184,7 +184,7 @@ module _ (settings : Parameters) (owner : Tenure → ℕ) (done : List Event) (w
     by [] empty =
         let same : actors_after w Handle ≡ w = ap (λ (items : List Item). unwrap_or (handled items w) w) empty in
         record {
-          puts = puts-rests w Handle at (ap (λ (items : List Item). elim items [ [] ↦ [] | first ∷ others ↦ map (entry_of (target_in w first.source first.what)) (take first w.controller).outs ]) empty);
+          puts = puts_rests w Handle at (ap (λ (items : List Item). elim items [ [] ↦ [] | first ∷ others ↦ map (entry_of (target_in w first.source first.what)) (take first w.controller).outs ]) empty);
           frees = record {
             hearing = λ hearing. ap (λ (u : Actors). hears u.controller n) (sym same) ∙ hearing;
             freed = λ hearing free. inl (ap (λ (u : Actors). channel_state u.controller at) (sym same) ∙ free);
@@ -204,14 +204,14 @@ module _ (settings : Parameters) (owner : Tenure → ℕ) (done : List Event) (w
       serving = serves item items stands at least most
 
       frees : Frees w Handle at
-      frees = frees-by owner w Handle at target t (heard_of at item) (ap (λ (u : Actors). u.controller) same ∙ (handle-turned w at item items stands).controller) serving (handle-turned w at item items stands).one
-          (heard-read at item ∙ ap (λ (all : List Item). acknowledgements at.number (flat_map (read_of n) (first_here all))) (sym stands)) where
+      frees = frees_by owner w Handle at target t (heard_of at item) (ap (λ (u : Actors). u.controller) same ∙ (handle-turned w at item items stands).controller) serving (handle-turned w at item items stands).one
+          (heard_read at item ∙ ap (λ (all : List Item). acknowledgements at.number (flat_map (read_of n) (first_here all))) (sym stands)) where
             first_here : List Item → List Item
             first_here [] = []
             first_here (x ∷ xs) = x ∷ []
 
       laws : Lawful w.controller (Take item)
-      laws = subst (λ (c : Controller). Lawful c (Take item)) (sym lives) (lawful-life settings (all_steps (new_actors settings) done) (Take item) allowed octets (subst (λ (xs : List Item). AllByRecursion ComesInOctets (first_taken xs)) stands own).0)
+      laws = subst (λ (c : Controller). Lawful c (Take item)) (sym lives) (lawful_life settings (all_steps (new_actors settings) done) (Take item) allowed octets (subst (λ (xs : List Item). AllByRecursion ComesInOctets (first_taken xs)) stands own).0)
 
       known : IsKnownItem item
       known = (subst (AllByRecursion IsKnownItem) stands (subst (λ (x : Actors). AllByRecursion IsKnownItem x.inbox) (sym is) (known-inbox settings done))).0
@@ -222,7 +222,7 @@ module _ (settings : Parameters) (owner : Tenure → ℕ) (done : List Event) (w
         by-link false hearing down h = tt
         by-link true false up deaf = subst (StandWithin at.number (active_behind w at)) (sym (serving.silent deaf)) tt
         by-link true true up hearing =
-            puts-one owner w at target t.outs (agree at least most) (serving.hearing hearing) up (one-item w item.source item.what known)
+            puts_one owner w at target t.outs (agree at least most) (serving.hearing hearing) up (one_item w item.source item.what known)
             (item-leads settings owner w agree (ap (λ (c : Controller). c.settings) lives ∙ life-settings settings (all_steps (new_actors settings) done)) laws.ready at item.source item.what items least most stands known (serving.hearing hearing) up laws.sent)
 
       puts : StandWithin at.number (active_behind w at) (put n w Handle)
@@ -235,10 +235,10 @@ module _ (settings : Parameters) (owner : Tenure → ℕ) (done : List Event) (w
   unfolding ServesAt event_after
   works-tick ms serves at least most = record {
     puts = by (is_up w at.station);
-    frees = frees-by owner w (events.Tick ms) at None (tick ms w.controller) [] (tick-controller) (serves at least most) (inl refl) refl;
+    frees = frees_by owner w (events.Tick ms) at None (tick ms w.controller) [] (tick-controller) (serves at least most) (inl refl) refl;
   } where
     by : (b : Bool) → StandWithin at.number (active_behind w at) (if b then to_link at.station (map (entry_of None) (tick ms w.controller).outs) else [])
-    by true = within-none at.number (active_behind w at) _ (none-led at.number at.station (tick ms w.controller).outs)
+    by true = within_none at.number (active_behind w at) _ (none_led at.number at.station (tick ms w.controller).outs)
     by false = tt
 
     tick-controller : (actors_after w (events.Tick ms)).controller ≡ (tick ms w.controller).next
@@ -246,16 +246,16 @@ module _ (settings : Parameters) (owner : Tenure → ℕ) (done : List Event) (w
 
   works-event : (event : Event) (later : List Event) → AllByRecursion ComesInOctets (step_at w event) → Right settings owner w (event ∷ later) → (at : Place) → 1 ≤ at.station → at.station ≤ length settings.cells → Works w event at
   works-event event later own right at least most = kinds (λ (e : Event). AllByRecursion ComesInOctets (step_at w e) → ServesAt settings owner w e → Works w e at)
-      (λ e beside _ _. works-rests w e at (beside-rests at w e beside (there-of settings owner w (event ∷ later) at right least most)))
+      (λ e beside _ _. works_rests w e at (beside-rests at w e beside (there-of settings owner w (event ∷ later) at right least most)))
       (λ octets_now serves. works-handle right.agree octets_now serves at least most)
       (λ ms _ serves. works-tick ms serves at least most)
-      (λ station _ _. works-rests w (BaseTakes station) at (takes-rests owner at w station (there-of settings owner w (event ∷ later) at right least most) right.spots (right.agree at least most)))
-      event own (serves-event settings owner done w event is allowed octets own right.agree)
+      (λ station _ _. works_rests w (BaseTakes station) at (takes-rests owner at w station (there-of settings owner w (event ∷ later) at right least most) right.spots (right.agree at least most)))
+      event own (serves_event settings owner done w event is allowed octets own right.agree)
 
   keeps-step : (event : Event) (later : List Event) → AllByRecursion ComesInOctets (step_at w event) → Keeps settings owner w (event ∷ later) → Keeps settings owner (actors_after w event) later
   keeps-step event later own keeps =
-      let right : Right settings owner (actors_after w event) later = right-step settings owner w event later (serves-event settings owner done w event is allowed octets own keeps.right.agree) keeps.right in
-      let air : IdleAir (actors_after w event) = idle-step w event keeps.air in
+      let right : Right settings owner (actors_after w event) later = right-step settings owner w event later (serves_event settings owner done w event is allowed octets own keeps.right.agree) keeps.right in
+      let air : IdleAir (actors_after w event) = idle_step w event keeps.air in
       record {
         right = right;
         air = air;
@@ -268,8 +268,8 @@ module _ (settings : Parameters) (owner : Tenure → ℕ) (done : List Event) (w
               none = there.none;
               good = keeps.right.good;
               agrees = right.agree at least most;
-              before = subst (λ (u : Actors). WaysStand u at) (sym is) (WaysStand-new settings done at there.station);
-              after = subst (λ (u : Actors). WaysStand u at) (snoc-actors (new_actors settings) done event ∙ ap (λ (u : Actors). actors_after u event) (sym is)) (WaysStand-new settings (done ++ event ∷ []) at there.station);
+              before = subst (λ (u : Actors). WaysStand u at) (sym is) (ways_stand_new settings done at there.station);
+              after = subst (λ (u : Actors). WaysStand u at) (snoc_actors (new_actors settings) done event ∙ ap (λ (u : Actors). actors_after u event) (sym is)) (ways_stand_new settings (done ++ event ∷ []) at there.station);
               puts = works.puts;
               air = air;
               frees = works.frees;
@@ -278,18 +278,18 @@ module _ (settings : Parameters) (owner : Tenure → ℕ) (done : List Event) (w
 
 -- ---- all events
 
-keeps-through : (settings : Parameters) (owner : Tenure → ℕ) (done rest : List Event) (w : Actors) → w ≡ world settings done → AreAllowed settings → AllByRecursion ComesInOctets (all_steps (new_actors settings) done) → AllByRecursion ComesInOctets (all_steps w rest) → Keeps settings owner w rest → Keeps settings owner (actors_after_all w rest) []
-keeps-through settings owner done [] w is allowed octets later keeps = keeps
-keeps-through settings owner done (event ∷ rest) w is allowed octets later keeps =
-    let own = all-left ComesInOctets (step_at w event) (all_steps (actors_after w event) rest) later in
-    keeps-through settings owner (done ++ event ∷ []) rest (actors_after w event) (ap (λ (x : Actors). actors_after x event) is ∙ sym (snoc-actors (new_actors settings) done event)) allowed
-    (snoc-steps ComesInOctets (new_actors settings) done event octets (subst (λ (x : Actors). AllByRecursion ComesInOctets (step_at x event)) is own))
-    (all-right ComesInOctets (step_at w event) (all_steps (actors_after w event) rest) later)
+keeps_through : (settings : Parameters) (owner : Tenure → ℕ) (done rest : List Event) (w : Actors) → w ≡ world settings done → AreAllowed settings → AllByRecursion ComesInOctets (all_steps (new_actors settings) done) → AllByRecursion ComesInOctets (all_steps w rest) → Keeps settings owner w rest → Keeps settings owner (actors_after_all w rest) []
+keeps_through settings owner done [] w is allowed octets later keeps = keeps
+keeps_through settings owner done (event ∷ rest) w is allowed octets later keeps =
+    let own = all_left ComesInOctets (step_at w event) (all_steps (actors_after w event) rest) later in
+    keeps_through settings owner (done ++ event ∷ []) rest (actors_after w event) (ap (λ (x : Actors). actors_after x event) is ∙ sym (snoc_actors (new_actors settings) done event)) allowed
+    (snoc_steps ComesInOctets (new_actors settings) done event octets (subst (λ (x : Actors). AllByRecursion ComesInOctets (step_at x event)) is own))
+    (all_right ComesInOctets (step_at w event) (all_steps (actors_after w event) rest) later)
     (keeps-step settings owner done w is allowed octets event rest own keeps)
 
-keeps-new : (settings : Parameters) (events : List Event) → Keeps settings (owner_in (new_actors settings) events) (new_actors settings) events
+keeps_new : (settings : Parameters) (events : List Event) → Keeps settings (owner_in (new_actors settings) events) (new_actors settings) events
 unfolding Follows
-keeps-new settings events =
+keeps_new settings events =
     let w : Actors = new_actors settings in
     record {
       right = record {
@@ -301,28 +301,28 @@ keeps-new settings events =
         beyond = λ link less. new-down (length settings.cells + 1) link (omega (arith, less));
         follows = λ t least most up later. refl;
       };
-      air = IdleAir-new settings;
+      air = idle_air_new settings;
       settled = λ at least most.
           let base : base_of w at.station ≡ new_base (new_ends settings.cells 1 (at.station - 1)).0 = (new_ends settings.cells 1 (at.station - 1)).1 in
           record {
             line = subst (StandWithin at.number (is_active_at w at)) (sym (new_outbox (length settings.cells + 1) at.station)) tt;
-            air = λ idle. IdleAir-new settings at (λ none. absurd (omega (arith, none, least))) idle;
+            air = λ idle. idle_air_new settings at (λ none. absurd (omega (arith, none, least))) idle;
             idle = λ _ _. ap (λ (b : BaseState). is_active b.active at.number) base;
             silent = λ _ _. ap (λ (b : BaseState). flat_map (brings at.number) b.messages) base;
           };
     }
 
 -- in every run
-pub keeps-run : (settings : Parameters) (events : List Event) → AreAllowed settings → AllByRecursion ComesInOctets (all_steps (new_actors settings) events) → Keeps settings (owner_in (new_actors settings) events) (world settings events) []
-keeps-run settings events allowed octets = keeps-through settings (owner_in (new_actors settings) events) [] events (new_actors settings) refl allowed tt octets (keeps-new settings events)
+pub keeps_run : (settings : Parameters) (events : List Event) → AreAllowed settings → AllByRecursion ComesInOctets (all_steps (new_actors settings) events) → Keeps settings (owner_in (new_actors settings) events) (world settings events) []
+keeps_run settings events allowed octets = keeps_through settings (owner_in (new_actors settings) events) [] events (new_actors settings) refl allowed tt octets (keeps_new settings events)
 
-pub FreeChannelsAreQuiet-new : (settings : Parameters) (events : List Event) → FreeChannelsAreQuiet settings events
-FreeChannelsAreQuiet-new settings events at allowed octets least most free hearing =
-    let keeps = keeps-run settings events allowed octets in
-    quiet-of (owner_in (new_actors settings) events) (world settings events) at (keeps.right.agree at least most) (keeps.right.none at.station) (keeps.settled at least most) hearing free
+pub free_channels_are_quiet_new : (settings : Parameters) (events : List Event) → FreeChannelsAreQuiet settings events
+free_channels_are_quiet_new settings events at allowed octets least most free hearing =
+    let keeps = keeps_run settings events allowed octets in
+    quiet_of (owner_in (new_actors settings) events) (world settings events) at (keeps.right.agree at least most) (keeps.right.none at.station) (keeps.settled at least most) hearing free
 
-pub ChannelsAreSettled-new : (settings : Parameters) (events : List Event) → ChannelsAreSettled settings events
-ChannelsAreSettled-new settings events at allowed octets least most = (keeps-run settings events allowed octets).settled at least most
+pub channels_are_settled_new : (settings : Parameters) (events : List Event) → ChannelsAreSettled settings events
+channels_are_settled_new settings events at allowed octets least most = (keeps_run settings events allowed octets).settled at least most
 
 -- ---- what is known of a channel of a run
 
@@ -331,7 +331,7 @@ pub record Known (settings : Parameters) (events : List Event) (at : Place) : Ty
   pub none : is_up (world settings events) at.station ≡ false → outbox_of (world settings events) at.station ≡ []
   pub settled : IsSettled (world settings events) at
 
-pub known-new : (settings : Parameters) (events : List Event) (at : Place) → AreAllowed settings → AllByRecursion ComesInOctets (all_steps (new_actors settings) events) → 1 ≤ at.station → at.station ≤ length settings.cells → Known settings events at
-known-new settings events at allowed octets least most =
-    let keeps = keeps-run settings events allowed octets in
+pub known_new : (settings : Parameters) (events : List Event) (at : Place) → AreAllowed settings → AllByRecursion ComesInOctets (all_steps (new_actors settings) events) → 1 ≤ at.station → at.station ≤ length settings.cells → Known settings events at
+known_new settings events at allowed octets least most =
+    let keeps = keeps_run settings events allowed octets in
     record { agrees = keeps.right.agree at least most; none = keeps.right.none at.station; settled = keeps.settled at least most }

@@ -19,16 +19,16 @@ use Rattle.world_laws.specs.LineUps.{commanded_target}
 use Rattle.world_laws.specs.OthersFrame.{IsHad}
 use Rattle.world_laws.specs.Seated.{LinedUp, Sits}
 use Rattle.world_laws.specs.Seated.Sits.{stays}
-use Rattle.world_laws.proofs.Framing.{all-right}
-use Rattle.world_laws.proofs.OrderServes.{Lawful, use-free}
+use Rattle.world_laws.proofs.Framing.{all_right}
+use Rattle.world_laws.proofs.OrderServes.{Lawful, use_free}
 use Rattle.world_laws.specs.Targets.Fresh.{BeginWith, IsAwaited, IsFreshIn, IsLedBy, IsOnPlace}
 use Rattle.world_laws.specs.Targets.Quiet.{IsSettled}
 use Rattle.world_laws.proofs.Targets.AckServes.{LeadsOn, ServesOn, entries-none}
-use Rattle.world_laws.proofs.Targets.Begun.{activated-free, freed-down, freed-silent}
-use Rattle.world_laws.proofs.Targets.RoleGoes.{IsComplete, RoleGoes, acts-role, role}
+use Rattle.world_laws.proofs.Targets.Begun.{activated_free, freed-down, freed-silent}
+use Rattle.world_laws.proofs.Targets.RoleGoes.{IsComplete, RoleGoes, acts_role, role}
 use Rattle.world_laws.proofs.Targets.RoleGoes.RoleGoes.{keeps, commanded, idle, begins}
 use Rattle.world_laws.proofs.Targets.Ways.{WaysStand}
-use Rattle.world_laws.proofs.OwnerRun.{within-settings, not-zero}
+use Rattle.world_laws.proofs.OwnerRun.{within_settings, not_zero}
 
 -- ---- by the role of the target
 
@@ -40,33 +40,33 @@ abbrev FreshRole : Actors → Mobile → Option TargetRole → Type 0
 FreshRole w p None = Unit {0}
 FreshRole w p (Some t) = FreshBy w p t.target t.is_commanded
 
-to-role : (w : Actors) (p : Mobile) (state : State) → IsFreshIn w p state → FreshRole w p (target_role state)
-to-role w p (Live reference (Preparing target)) fresh = fresh
-to-role w p (Live reference (Changing target)) fresh = fresh
-to-role w p (Live reference Active) fresh = tt
-to-role w p (Live reference Draining) fresh = tt
-to-role w p _ fresh = tt
+to_role : (w : Actors) (p : Mobile) (state : State) → IsFreshIn w p state → FreshRole w p (target_role state)
+to_role w p (Live reference (Preparing target)) fresh = fresh
+to_role w p (Live reference (Changing target)) fresh = fresh
+to_role w p (Live reference Active) fresh = tt
+to_role w p (Live reference Draining) fresh = tt
+to_role w p _ fresh = tt
 
-of-role : (w : Actors) (p : Mobile) (state : State) → FreshRole w p (target_role state) → IsFreshIn w p state
-of-role w p (Live reference (Preparing target)) fresh = fresh
-of-role w p (Live reference (Changing target)) fresh = fresh
-of-role w p (Live reference Active) fresh = tt
-of-role w p (Live reference Draining) fresh = tt
-of-role w p _ fresh = tt
+of_role : (w : Actors) (p : Mobile) (state : State) → FreshRole w p (target_role state) → IsFreshIn w p state
+of_role w p (Live reference (Preparing target)) fresh = fresh
+of_role w p (Live reference (Changing target)) fresh = fresh
+of_role w p (Live reference Active) fresh = tt
+of_role w p (Live reference Draining) fresh = tt
+of_role w p _ fresh = tt
 
-pub role-channel : (state : State) (t : Target) (b : Bool) → target_role state ≡ Some (role t b) → target_in state ≡ t.channel ∷ []
-role-channel (Live reference (Preparing target)) t b is = ap (λ (x : TargetRole). x.target.channel ∷ []) (same_Some _ _ is)
-role-channel (Live reference (Changing target)) t b is = ap (λ (x : TargetRole). x.target.channel ∷ []) (same_Some _ _ is)
-role-channel (Live reference Active) t b is = absurd cc
-role-channel (Live reference Draining) t b is = absurd cc
-role-channel _ t b is = absurd cc
+pub role_channel : (state : State) (t : Target) (b : Bool) → target_role state ≡ Some (role t b) → target_in state ≡ t.channel ∷ []
+role_channel (Live reference (Preparing target)) t b is = ap (λ (x : TargetRole). x.target.channel ∷ []) (same_Some _ _ is)
+role_channel (Live reference (Changing target)) t b is = ap (λ (x : TargetRole). x.target.channel ∷ []) (same_Some _ _ is)
+role_channel (Live reference Active) t b is = absurd cc
+role_channel (Live reference Draining) t b is = absurd cc
+role_channel _ t b is = absurd cc
 
-role-prepared : (state : State) (t : Target) → target_role state ≡ Some (role t false) → commanded_target state ≡ None
-role-prepared (Live reference (Preparing target)) t is = refl
-role-prepared (Live reference (Changing target)) t is = absurd (let b : true ≡ false = ap (λ (x : TargetRole). x.is_commanded) (same_Some _ _ is) in cc)
-role-prepared (Live reference Active) t is = absurd cc
-role-prepared (Live reference Draining) t is = absurd cc
-role-prepared _ t is = absurd cc
+role_prepared : (state : State) (t : Target) → target_role state ≡ Some (role t false) → commanded_target state ≡ None
+role_prepared (Live reference (Preparing target)) t is = refl
+role_prepared (Live reference (Changing target)) t is = absurd (let b : true ≡ false = ap (λ (x : TargetRole). x.is_commanded) (same_Some _ _ is) in cc)
+role_prepared (Live reference Active) t is = absurd cc
+role_prepared (Live reference Draining) t is = absurd cc
+role_prepared _ t is = absurd cc
 
 -- ---- a turn in the world
 
@@ -90,8 +90,8 @@ pub record Before (owner : Tenure → ℕ) (w : Actors) (st : Step) (target : Op
 
 -- ---- of one connection
 
-pub owns-of : (c : Controller) (number : ℕ) (x : Connection) → Ready c → connection_of c number ≡ Some x → IsOpen x.state → Owns c.channels c.links number (roles_of x)
-owns-of c number x ready there is_open = subst (OwnsOpen c.channels c.links number) there (ready.holds.each number) is_open
+pub owns_of : (c : Controller) (number : ℕ) (x : Connection) → Ready c → connection_of c number ≡ Some x → IsOpen x.state → Owns c.channels c.links number (roles_of x)
+owns_of c number x ready there is_open = subst (OwnsOpen c.channels c.links number) there (ready.holds.each number) is_open
 
 module _ {m : ℕ} (settings : Parameters) (owner : Tenure → ℕ) (w v : Actors) (st : Step) (target : Option Tenure) (heard : Place → List Rsl) (items : Place → List Items) (read : ℕ → List Rsl) (turn : TurnOf w v st target heard items read) (before : (at : Place) → 1 ≤ at.station → at.station ≤ length settings.cells → Before owner w st target heard at) (laws : Lawful w.controller st) (ready_then : Ready v.controller) (used_then : AreUsed v.controller) (same_settings : v.controller.settings ≡ settings)
     (mobile : ℕ) (p : Mobile) (s s2 : Connection) (found : mobile_of w mobile ≡ Some p) (lined : LinedUp m w p s) (had : IsHad w s) (had_then : IsHad v s2) (number : s2.number ≡ s.number) (stands : Stands s) (acts : ActsOn s.number w.controller st) (fresh : IsFreshIn w p s.state)
@@ -106,10 +106,10 @@ module _ {m : ℕ} (settings : Parameters) (owner : Tenure → ℕ) (w v : Actor
   same-mobile = same_Some _ _ (sym found_then ∙ ap (λ (ms : List Mobile). find (has_number mobile) ms) turn.mobiles ∙ found)
 
   owns : Owns w.controller.channels w.controller.links n (roles_of s)
-  owns = owns-of w.controller n s laws.ready had.there had.is_open
+  owns = owns_of w.controller n s laws.ready had.there had.is_open
 
   owns_then : Owns v.controller.channels v.controller.links n (roles_of s2)
-  owns_then = owns-of v.controller n s2 ready_then there_then had_then.is_open
+  owns_then = owns_of v.controller n s2 ready_then there_then had_then.is_open
 
   -- what is on its way down then
   downs : (at : Place) → going_down v at ≡ going_down w at ++ flat_map (leading_from_outbox at.number) (turn.turned at).entries
@@ -139,7 +139,7 @@ module _ {m : ℕ} (settings : Parameters) (owner : Tenure → ℕ) (w v : Actor
   nobody-serves : (at : Place) → channel_state w.controller at ≡ InUse n → place_of s.serving ≢ at → ServesOn at w.controller → ⊥
   nobody-serves at used apart x =
       let there : connection_of w.controller x.number ≡ Some x.entry.connection = ap (option_map (λ (e : Entry). e.connection)) x.there in
-      let theirs : channel_state w.controller at ≡ InUse x.number = ap (state_in w.controller.channels) (sym x.serves) ∙ (owns-of w.controller x.number x.entry.connection laws.ready there x.is_open).using.0 in
+      let theirs : channel_state w.controller at ≡ InUse x.number = ap (state_in w.controller.channels) (sym x.serves) ∙ (owns_of w.controller x.number x.entry.connection laws.ready there x.is_open).using.0 in
       let same : n ≡ x.number = (let both : InUse n ≡ InUse x.number = sym used ∙ theirs in cc) in
       apart (ap (λ (y : Connection). place_of y.serving) (same_Some _ _ (sym had.there ∙ ap (connection_of w.controller) same ∙ there)) ∙ x.serves)
 
@@ -165,7 +165,7 @@ module _ {m : ℕ} (settings : Parameters) (owner : Tenure → ℕ) (w v : Actor
     uncommanded =
         downs (place_of t.channel)
         ∙ ap (λ (xs : List AirMessage). xs ++ flat_map (leading_from_outbox t.channel.number) (turn.turned (place_of t.channel)).entries) a.uncommanded
-        ∙ none-led (place_of t.channel) (nobody-serves (place_of t.channel) (target-used t false is) (serving-apart t.channel (role-channel s.state t false is)));
+        ∙ none-led (place_of t.channel) (nobody-serves (place_of t.channel) (target-used t false is) (serving-apart t.channel (role_channel s.state t false is)));
   }
 
   -- ---- the mobile is commanded to it, and isn't there
@@ -179,7 +179,7 @@ module _ {m : ℕ} (settings : Parameters) (owner : Tenure → ℕ) (w v : Actor
   commanded-then : (t : Target) → target_role s.state ≡ Some (role t false) → IsAwaited w t.channel → IsLedBy v q t
   commanded-then t is a = record {
     first = subst (BeginWith (complete t.change)) (sym (silent-then (place_of t.channel) a.silent)) tt;
-    gives = λ none up on. absurd (not-there p.seat t.channel (serving-apart t.channel (role-channel s.state t false is)) (subst (λ (o : Option Target). Sits w s.serving o p.seat) (role-prepared s.state t is) lined.sits)
+    gives = λ none up on. absurd (not-there p.seat t.channel (serving-apart t.channel (role_channel s.state t false is)) (subst (λ (o : Option Target). Sits w s.serving o p.seat) (role_prepared s.state t is) lined.sits)
         (subst (λ (x : Mobile). IsOnPlace x.seat (place_of t.channel)) same-mobile on));
   }
 
@@ -219,10 +219,10 @@ module _ {m : ℕ} (settings : Parameters) (owner : Tenure → ℕ) (w v : Actor
     busy free = free≢use n (sym free ∙ used)
 
     least : 1 ≤ at.station
-    least = not-zero at.station (λ zero. busy (ap (λ (k : ℕ). channel_state v.controller (record { station = k; number = at.number })) zero ∙ used_then.switch at.number))
+    least = not_zero at.station (λ zero. busy (ap (λ (k : ℕ). channel_state v.controller (record { station = k; number = at.number })) zero ∙ used_then.switch at.number))
 
     most : at.station ≤ length settings.cells
-    most = within-settings settings v.controller at same_settings ready_then busy
+    most = within_settings settings v.controller at same_settings ready_then busy
 
     b : Before owner w st target heard at
     b = before at least most
@@ -230,18 +230,18 @@ module _ {m : ℕ} (settings : Parameters) (owner : Tenure → ℕ) (w v : Actor
     heard_then : hears (step w.controller st).next at.station ≡ true
     heard_then = ap (λ (c : Controller). hears c at.station) (sym turn.next)
         ∙ (subst (λ (o : Option TargetRole). AllByRecursion (λ c. is_link_up v.controller.links c.station ≡ true) (target_channels o)) is
-        (all-right (λ c. is_link_up v.controller.links c.station ≡ true) (undone s2.draining) (s2.serving ∷ target_channels (target_role s2.state)) owns_then.linked).1).0
+        (all_right (λ c. is_link_up v.controller.links c.station ≡ true) (undone s2.draining) (s2.serving ∷ target_channels (target_role s2.state)) owns_then.linked).1).0
 
     heard_before : hears w.controller at.station ≡ true
     heard_before = b.serves.hearing heard_then
 
     freed : hear (heard at) (channel_state w.controller at) ≡ Free
-    freed = activated-free n t.change t.channel (step w.controller st).outs acts.put firsts (hear (heard at) (channel_state w.controller at)) (channel_state (step w.controller st).next at) laws.sent acts.outs ordered (b.serves.goes heard_then)
+    freed = activated_free n t.change t.channel (step w.controller st).outs acts.put firsts (hear (heard at) (channel_state w.controller at)) (channel_state (step w.controller st).next at) laws.sent acts.outs ordered (b.serves.goes heard_then)
 
     nobody : ServesOn at w.controller → ⊥
     nobody x =
         let there : connection_of w.controller x.number ≡ Some x.entry.connection = ap (option_map (λ (e : Entry). e.connection)) x.there in
-        use-free (heard at) (channel_state w.controller at) x.number (ap (state_in w.controller.channels) (sym x.serves) ∙ (owns-of w.controller x.number x.entry.connection laws.ready there x.is_open).using.0) freed
+        use_free (heard at) (channel_state w.controller at) x.number (ap (state_in w.controller.channels) (sym x.serves) ∙ (owns_of w.controller x.number x.entry.connection laws.ready there x.is_open).using.0) freed
 
   -- ---- so it stays fresh
 
@@ -256,6 +256,6 @@ module _ {m : ℕ} (settings : Parameters) (owner : Tenure → ℕ) (w v : Actor
     by false miss a = subst (FreshBy v q t.target) (sym miss) (awaited-then t.target (is ∙ ap (λ (b : Bool). Some (role t.target b)) miss) a)
 
   pub turn-fresh : IsFreshIn v q s2.state
-  turn-fresh = of-role v q s2.state (fresh-then (target_role s.state) refl (to-role w p s.state fresh)
-      (acts-role n w.controller.next_number (hears w.controller SWITCH_LINK) (brought_in w.controller n st) (connection_of w.controller n) acts.put (connection_of (step w.controller st).next n) s s2 acts.acts had.there
+  turn-fresh = of_role v q s2.state (fresh-then (target_role s.state) refl (to_role w p s.state fresh)
+      (acts_role n w.controller.next_number (hears w.controller SWITCH_LINK) (brought_in w.controller n st) (connection_of w.controller n) acts.put (connection_of (step w.controller st).next n) s s2 acts.acts had.there
       (ap (λ (c : Controller). connection_of c n) (sym turn.next) ∙ there_then) stands had.is_open had_then.is_open))

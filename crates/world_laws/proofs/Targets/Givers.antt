@@ -34,15 +34,15 @@ first-behind : {X : Type 0} (xs ys : List X) (x : X) → first_in xs ≡ Some x 
 first-behind [] ys x is = absurd cc
 first-behind (y ∷ xs) ys x is = is
 
-waiting-first : (link : DataLinkState) (message text : List ℕ) → first_in (to_be_taken link) ≡ Some text → first_in (to_be_taken (waits link message)) ≡ Some text
-waiting-first link message text is =
+waiting_first : (link : DataLinkState) (message text : List ℕ) → first_in (to_be_taken link) ≡ Some text → first_in (to_be_taken (waits link message)) ≡ Some text
+waiting_first link message text is =
     ap first_in (sym (append_assoc (option_to_list (offered_message link.air)) link.waiting (message ∷ []))) ∙ first-behind (to_be_taken link) (message ∷ []) text is
 
-queued-first : (e : MobileState) (sapi : Sapi) (message text : List ℕ) → first_in (to_be_taken e.zero) ≡ Some text → first_in (to_be_taken (after_queue e sapi message).zero) ≡ Some text
-queued-first e sapi message text is = by (is_flow_message message) sapi where
+queued_first : (e : MobileState) (sapi : Sapi) (message text : List ℕ) → first_in (to_be_taken e.zero) ≡ Some text → first_in (to_be_taken (after_queue e sapi message).zero) ≡ Some text
+queued_first e sapi message text is = by (is_flow_message message) sapi where
   by : (b : Bool) (sapi : Sapi) → first_in (to_be_taken (if b then after_number e message else with_link e sapi (waits (link_of e sapi) message)).zero) ≡ Some text
-  by true sapi = waiting-first e.zero (with_number (length e.sent % e.modulus) message) text is
-  by false Zero = waiting-first e.zero message text is
+  by true sapi = waiting_first e.zero (with_number (length e.sent % e.modulus) message) text is
+  by false Zero = waiting_first e.zero message text is
   by false Three = is
 
 acked-first : (e : MobileState) (sapi : Sapi) (text : List ℕ) → first_in (to_be_taken e.zero) ≡ Some text → first_in (to_be_taken (after_acked e sapi).zero) ≡ Some text
@@ -59,8 +59,8 @@ acked-first e sapi text is = by e.place sapi where
   by places.Moving Three = is
 
 -- what the station takes is what comes first
-pub lent-first : (link : DataLinkState) (frame text : List ℕ) → lent_message link ≡ Some frame → first_in (to_be_taken link) ≡ Some text → frame ≡ text
-lent-first link frame text lent first = by link.waiting link.air lent first where
+pub lent_first : (link : DataLinkState) (frame text : List ℕ) → lent_message link ≡ Some frame → first_in (to_be_taken link) ≡ Some text → frame ≡ text
+lent_first link frame text lent first = by link.waiting link.air lent first where
   by : (waiting : List (List ℕ)) (air : Air) → offered_message (after_load_from waiting air).air ≡ Some frame → first_in (option_to_list (offered_message air) ++ waiting) ≡ Some text → frame ≡ text
   by (x ∷ xs) Empty a b = same (sym a ∙ b) where
     same : {c d : List ℕ} → Some c ≡ Some d → c ≡ d
@@ -78,8 +78,8 @@ lent-first link frame text lent first = by link.waiting link.air lent first wher
 -- ---- what it hears
 
 -- it stays on its channel, or goes
-hearing-on : (p : Mobile) (a : AirMessage) (at : Place) → IsOnPlace (hearing p a).seat at → IsOnPlace p.seat at
-hearing-on p a at = by_kind (is_dtap a.message) where
+hearing_on : (p : Mobile) (a : AirMessage) (at : Place) → IsOnPlace (hearing p a).seat at → IsOnPlace p.seat at
+hearing_on p a at = by_kind (is_dtap a.message) where
   by_seat : (change : Change) (target : Tenure) (seat : Seat) → p.seat ≡ seat → IsOnPlace (remembering p change target seat).seat at → IsOnPlace seat at
   by_seat change target Asking is on = subst (λ (x : Seat). IsOnPlace x at) is on
   by_seat change target (On tenure command) is on = on
@@ -162,12 +162,12 @@ module _ (w : Actors) (mobile : ℕ) (p : Mobile) (text : List ℕ) (at : Place)
       by Gone same sat = absurd cc
 
     still-gives : {number : ℕ} {event : Event} {x q : Mobile} → x ≡ p → is_frame event ≡ false → Becomes w number event x q → Gives text at q
-    still-gives own b (queues sapi message x may) = λ on. queued-first x.end sapi message text (subst (Gives text at) (sym own) gives on)
+    still-gives own b (queues sapi message x may) = λ on. queued_first x.end sapi message text (subst (Gives text at) (sym own) gives on)
     still-gives own b (opens x tenure frame lent) = absurd cc
     still-gives own b (lends x tenure frame lent) = absurd cc
     still-gives own b (is_acked sapi x) = λ on. acked-first x.end sapi text (subst (Gives text at) (sym own) gives on)
     still-gives own b (hears x tenure command first others seat reached stood) = λ on.
-        ap (λ (e : MobileState). first_in (to_be_taken e.zero)) (hearing-end x first) ∙ subst (Gives text at) (sym own) gives (hearing-on x first at on)
+        ap (λ (e : MobileState). first_in (to_be_taken e.zero)) (hearing-end x first) ∙ subst (Gives text at) (sym own) gives (hearing_on x first at on)
     still-gives own b (misses x) = subst (Gives text at) (sym own) gives
     still-gives own b (leaves x tenure command seat reached) = λ on. absurd on
     still-gives own b (arrives x from command seat reached) = λ on.

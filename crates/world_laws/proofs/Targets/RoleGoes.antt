@@ -10,7 +10,7 @@ use Rattle.conn_rules.specs.declared.input.Input.TheVariants as inputs
 use Rattle.conn_rules.specs.Roles.{commanded as commanded_role}
 use Rattle.dtap_codec.specs.declared.rr.RrCause.{RrCause}
 use Rattle.controller_model.specs.LifeLaws.Acts.Brought.{comes, passes}
-use Rattle.world_laws.proofs.Channels.BegunRun.{kept-some}
+use Rattle.world_laws.proofs.Channels.BegunRun.{kept_some}
 
 abbrev pub role : Target → Bool → TargetRole
 role t is_commanded = record { target = t; is_commanded = is_commanded }
@@ -26,39 +26,39 @@ pub data RoleGoes (s s2 : Connection) (brought : Brought) (put : List Message) :
   begins : (t : Target) (firsts : List Message) → target_role s2.state ≡ Some (role t false) → orders put ≡ firsts ++ change_activation t.change t.channel ∷ [] → RoleGoes s s2 brought put
 
 -- COMPLETE ends the change
-complete-step : (at : Place) (change : Change) (cause : RrCause) (roles : Roles) → is_target_at at roles.target && changes_by change roles.target ≡ true → step_by (inputs.Complete at change cause) roles ≡ completes
-complete-step at change cause roles hit = ap (λ (b : Bool). if b then completes else stays) hit
+complete_step : (at : Place) (change : Change) (cause : RrCause) (roles : Roles) → is_target_at at roles.target && changes_by change roles.target ≡ true → step_by (inputs.Complete at change cause) roles ≡ completes
+complete_step at change cause roles hit = ap (λ (b : Bool). if b then completes else stays) hit
 
 -- the mobile is commanded to a target that was prepared
-not-true : (b : Bool) → not b ≡ true → b ≡ false
-not-true false is = refl
-not-true true is = absurd cc
+not_true : (b : Bool) → not b ≡ true → b ≡ false
+not_true false is = refl
+not_true true is = absurd cc
 
-commands-of : (input : Input) (roles : Roles) → step_by input roles ≡ commands → (t : Target) × (roles.target ≡ Some (role t false))
-commands-of (inputs.ActivationAck at) roles is = by roles.target refl is where
+commands_of : (input : Input) (roles : Roles) → step_by input roles ≡ commands → (t : Target) × (roles.target ≡ Some (role t false))
+commands_of (inputs.ActivationAck at) roles is = by roles.target refl is where
   by : (o : Option TargetRole) → roles.target ≡ o → (if awaits_at at o then commands else stays) ≡ commands → (t : Target) × (roles.target ≡ Some (role t false))
   by None target same = absurd cc
   by (Some t) target same = (t.target, target ∙ ap (λ (b : Bool). Some (role t.target b)) (inner (awaits_at at (Some t)) refl same)) where
     inner : (b : Bool) → awaits_at at (Some t) ≡ b → (if b then commands else stays) ≡ commands → t.is_commanded ≡ false
-    inner true waits hit = not-true t.is_commanded (and_parts (not t.is_commanded) _ waits).0
+    inner true waits hit = not_true t.is_commanded (and_parts (not t.is_commanded) _ waits).0
     inner false waits hit = absurd cc
-commands-of (inputs.ActivationNack at) roles is = by (awaits_at at roles.target) is where
+commands_of (inputs.ActivationNack at) roles is = by (awaits_at at roles.target) is where
   by : (b : Bool) → (if b then goes_back else stays) ≡ commands → (t : Target) × (roles.target ≡ Some (role t false))
   by true same = absurd cc
   by false same = absurd cc
-commands-of (inputs.Complete at change cause) roles is = by (is_target_at at roles.target && changes_by change roles.target) is where
+commands_of (inputs.Complete at change cause) roles is = by (is_target_at at roles.target && changes_by change roles.target) is where
   by : (b : Bool) → (if b then completes else stays) ≡ commands → (t : Target) × (roles.target ≡ Some (role t false))
   by true same = absurd cc
   by false same = absurd cc
-commands-of (inputs.Failure at change cause) roles is = by _ is where
+commands_of (inputs.Failure at change cause) roles is = by _ is where
   by : (b : Bool) → (if b then goes_back else stays) ≡ commands → (t : Target) × (roles.target ≡ Some (role t false))
   by true same = absurd cc
   by false same = absurd cc
-commands-of (inputs.ReleaseAck at) roles is = by (drain_at at roles.draining) is where
+commands_of (inputs.ReleaseAck at) roles is = by (drain_at at roles.draining) is where
   by : (o : Option ℕ) → leaves_at o ≡ commands → (t : Target) × (roles.target ≡ Some (role t false))
   by (Some place) same = absurd cc
   by None same = absurd cc
-commands-of _ roles is = absurd cc
+commands_of _ roles is = absurd cc
 
 completed-none : (o : Option TargetRole) (roles : Roles) → roles.target ≡ o → (completed o roles).target ≡ None
 completed-none (Some t) roles is = refl
@@ -66,8 +66,8 @@ completed-none None roles is = is
 
 -- ---- a row
 
-row-goes : (s x s2 : Connection) (input : Input) (brought : Brought) (offer : Option Channel) (r : Row) (put : List Message) → roles_of x ≡ roles_of s → r.next ≡ s2 → IsBrought brought input → put ≡ r.outs → GoesOn (step_by input (roles_of x)) (roles_of x) x.down input offer r → RoleGoes s s2 brought put
-row-goes s x s2 input brought offer r put same next brought_is put_is on = by on.begun on.roles on.ordered where
+row_goes : (s x s2 : Connection) (input : Input) (brought : Brought) (offer : Option Channel) (r : Row) (put : List Message) → roles_of x ≡ roles_of s → r.next ≡ s2 → IsBrought brought input → put ≡ r.outs → GoesOn (step_by input (roles_of x)) (roles_of x) x.down input offer r → RoleGoes s s2 brought put
+row_goes s x s2 input brought offer r put same next brought_is put_is on = by on.begun on.roles on.ordered where
   old : (roles_of x).target ≡ target_role s.state
   old = ap (λ (roles : Roles). roles.target) same
 
@@ -78,13 +78,13 @@ row-goes s x s2 input brought offer r put same next brought_is put_is on = by on
   no-complete : (step : RoleStep) → step_by input (roles_of x) ≡ step → (completes ≡ step → ⊥) → IsComplete brought (target_role s.state) → ⊥
   no-complete step is other (at, change, cause, came, hit) =
       let says : input ≡ inputs.Complete at change cause = subst (λ (b : Brought). IsBrought b input) came brought_is in
-      other (sym (complete-step at change cause (roles_of x) (ap (λ (o : Option TargetRole). is_target_at at o && changes_by change o) old ∙ hit)) ∙ ap (λ (i : Input). step_by i (roles_of x)) (sym says) ∙ is)
+      other (sym (complete_step at change cause (roles_of x) (ap (λ (o : Option TargetRole). is_target_at at o && changes_by change o) old ∙ hit)) ∙ ap (λ (i : Input). step_by i (roles_of x)) (sym says) ∙ is)
 
   by-step : (step : RoleStep) → step_by input (roles_of x) ≡ step → roles_of r.next ≡ after_step step (roles_of x) → RoleGoes s s2 brought put
   by-step stays is roles = keeps (now (roles_of x) roles ∙ old) (no-complete stays is (λ e. absurd cc))
   by-step (leaves place) is roles = keeps (now (after_step (leaves place) (roles_of x)) roles ∙ old) (no-complete (leaves place) is (λ e. absurd cc))
   by-step commands is roles =
-      let waits = commands-of input (roles_of x) is in
+      let waits = commands_of input (roles_of x) is in
       commanded waits.0 (sym old ∙ waits.1) (now (after_step commands (roles_of x)) roles ∙ ap commanded_role waits.1)
   by-step completes is roles = idle (now (after_step completes (roles_of x)) roles ∙ completed-none (roles_of x).target (roles_of x) refl)
   by-step goes_back is roles = idle (now (after_step goes_back (roles_of x)) roles)
@@ -95,26 +95,26 @@ row-goes s x s2 input brought offer r put same next brought_is put_is on = by on
 
 -- ---- a step
 
-pub acts-role : (number next : ℕ) (up : Bool) (brought : Brought) (before : Option Connection) (put : List Message) (after : Option Connection) (s s2 : Connection) → Acts number next up brought before put after → before ≡ Some s → after ≡ Some s2 → Stands s → IsOpen s.state → IsOpen s2.state → RoleGoes s s2 brought put
-acts-role number next up brought before put after s s2 (rests nothing same fits) was is stands is_open open_then = keeps (ap (λ (y : Connection). target_role y.state) (same_Some _ _ (sym is ∙ same ∙ was))) none where
+pub acts_role : (number next : ℕ) (up : Bool) (brought : Brought) (before : Option Connection) (put : List Message) (after : Option Connection) (s s2 : Connection) → Acts number next up brought before put after → before ≡ Some s → after ≡ Some s2 → Stands s → IsOpen s.state → IsOpen s2.state → RoleGoes s s2 brought put
+acts_role number next up brought before put after s s2 (rests nothing same fits) was is stands is_open open_then = keeps (ap (λ (y : Connection). target_role y.state) (same_Some _ _ (sym is ∙ same ∙ was))) none where
   none : IsComplete brought (target_role s.state) → ⊥
   none (at, change, cause, came, hit) =
       let misses = subst (λ (o : Option Connection). FitsNone (comes (inputs.Complete at change cause)) o) was (subst (λ (b : Brought). FitsNone b before) came fits) in
       let stays_so : step_by (inputs.Complete at change cause) (roles_of s) ≡ stays = subst (ChangesRolesBy s (inputs.Complete at change cause) misses.0) misses.1 (ChangesRoles-row s (inputs.Complete at change cause) misses.0 stands) in
-      let both : completes ≡ stays = sym (complete-step at change cause (roles_of s) hit) ∙ stays_so in
+      let both : completes ≡ stays = sym (complete_step at change cause (roles_of s) hit) ∙ stays_so in
       absurd cc
-acts-role number next up brought before put after s s2 (ages old x passing had aged nothing now) was is stands is_open open_then =
+acts_role number next up brought before put after s s2 (ages old x passing had aged nothing now) was is stands is_open open_then =
     keeps (ap (λ (y : Connection). target_role y.state) (same_Some _ _ (sym is ∙ now)) ∙ ap target_role (aged_holds (λ y. y.state ≡ old.state) (λ ms y h. h) old x aged refl) ∙ ap (λ (y : Connection). target_role y.state) (same_Some _ _ (sym had ∙ was))) none where
       none : IsComplete brought (target_role s.state) → ⊥
       none (at, change, cause, came, hit) = let both : comes (inputs.Complete at change cause) ≡ passes = sym came ∙ passing in absurd cc
-acts-role number next up brought before put after s s2 (opens here link channel request delay nothing none said now) was is stands is_open open_then = absurd (let both : None ≡ Some s = sym none ∙ was in cc)
-acts-role number next up brought before put after s s2 (goes old x input offer r had aged came fits said now) was is stands is_open open_then =
+acts_role number next up brought before put after s s2 (opens here link channel request delay nothing none said now) was is stands is_open open_then = absurd (let both : None ≡ Some s = sym none ∙ was in cc)
+acts_role number next up brought before put after s s2 (goes old x input offer r had aged came fits said now) was is stands is_open open_then =
     by (changes_of x input offer r (aged_holds Stands pass_stands old x aged (subst Stands (sym own) stands)) fits) where
       own : old ≡ s
       own = same_Some _ _ (sym had ∙ was)
 
       ended : r.next ≡ s2
-      ended = kept-some r.next.state r.next s2 (sym now ∙ is)
+      ended = kept_some r.next.state r.next s2 (sym now ∙ is)
 
       same_state : x.state ≡ s.state
       same_state = aged_holds (λ y. y.state ≡ old.state) (λ ms y h. h) old x aged refl ∙ ap (λ (y : Connection). y.state) own
@@ -123,6 +123,6 @@ acts-role number next up brought before put after s s2 (goes old x input offer r
       same_roles = aged_holds (λ y. roles_of y ≡ roles_of old) (λ ms y h. h) old x aged refl ∙ ap roles_of own
 
       by : ChangesRoles x input offer r → RoleGoes s s2 brought put
-      by (goes_on open_x open_r on) = row-goes s x s2 input brought offer r put same_roles ended came said on
+      by (goes_on open_x open_r on) = row_goes s x s2 input brought offer r put same_roles ended came said on
       by (ends open_x closed e) = absurd (closed (subst (λ (y : Connection). IsOpen y.state) (sym ended) open_then))
       by (had_ended closed then_closed nothing) = absurd (closed (subst IsOpen (sym same_state) is_open))

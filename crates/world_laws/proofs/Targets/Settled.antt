@@ -14,37 +14,37 @@ use Rattle.world_laws.specs.ComingUp.{brings, coming_up}
 use Rattle.world_laws.proofs.Acknowledged.{coming-read}
 use Rattle.world_laws.specs.Targets.Quiet.{IsSettled, StandWithin, is_ending}
 use Rattle.world_laws.proofs.Targets.Air.{IdleAir}
-use Rattle.world_laws.proofs.Targets.Calm.{down-active}
-use Rattle.world_laws.proofs.Targets.Ways.{WaysStand, any-middle, behind-end, nothing-before, still-within, ways-down}
-use Rattle.world_laws.proofs.Targets.Within.{still-all, within-append, within-behind}
-use Rattle.world_laws.proofs.Channels.RoleAcks.{up-first}
+use Rattle.world_laws.proofs.Targets.Calm.{down_active}
+use Rattle.world_laws.proofs.Targets.Ways.{WaysStand, any-middle, behind_end, nothing_before, still_within, ways_down}
+use Rattle.world_laws.proofs.Targets.Within.{still_all, within_append, within_behind}
+use Rattle.world_laws.proofs.Channels.RoleAcks.{up_first}
 
 -- ---- what comes of a channel that is free, or whose end is on its way
 
 -- behind it nothing is due, and the channel isn't in use
-pub comes-idle : (k : ℕ) (state : ChannelState) (all xs ys : List Rsl) → Comes k state all → all ≡ xs ++ ys → (state ≡ Free) ⊎ (list_any is_release_ack xs ≡ true) → (ys ≡ []) × (is_in_use state ≡ false)
-comes-idle k Free all xs ys nothing is why = ((Both-empty xs ys is).1, refl)
-comes-idle k (InUse number) all xs ys comes is (inl free) = absurd cc
-comes-idle k (InUse number) all [] ys comes is (inr any) = absurd cc
-comes-idle k (InUse number) all (x ∷ xs) ys began is (inr any) = absurd cc
-comes-idle k (InUse number) all (x ∷ xs) ys begins is (inr any) = absurd (none xs any first (Both-empty xs ys cc).0) where
+pub comes_idle : (k : ℕ) (state : ChannelState) (all xs ys : List Rsl) → Comes k state all → all ≡ xs ++ ys → (state ≡ Free) ⊎ (list_any is_release_ack xs ≡ true) → (ys ≡ []) × (is_in_use state ≡ false)
+comes_idle k Free all xs ys nothing is why = ((Both-empty xs ys is).1, refl)
+comes_idle k (InUse number) all xs ys comes is (inl free) = absurd cc
+comes_idle k (InUse number) all [] ys comes is (inr any) = absurd cc
+comes_idle k (InUse number) all (x ∷ xs) ys began is (inr any) = absurd cc
+comes_idle k (InUse number) all (x ∷ xs) ys begins is (inr any) = absurd (none xs any first (Both-empty xs ys cc).0) where
   first : activation_ack k ≡ x
   first = cc
 
   none : (zs : List Rsl) → is_release_ack x || list_any is_release_ack zs ≡ true → activation_ack k ≡ x → zs ≡ [] → ⊥
   none zs any is_ack empty = absurd (false≢true (sym (ap (list_any is_release_ack) empty) ∙ ap (λ (m : Rsl). is_release_ack m || list_any is_release_ack zs) is_ack ∙ any))
-comes-idle k (Releasing number) all xs ys comes is (inl free) = absurd cc
-comes-idle k (Releasing number) all [] ys comes is (inr any) = absurd cc
-comes-idle k (Releasing number) all (x ∷ xs) ys ends is (inr any) = ((Both-empty xs ys cc).1, refl)
-comes-idle k (Releasing number) all (x ∷ []) ys begins_and_ends is (inr any) = absurd (false≢true (ap (λ (m : Rsl). is_release_ack m || false) first ∙ any)) where
+comes_idle k (Releasing number) all xs ys comes is (inl free) = absurd cc
+comes_idle k (Releasing number) all [] ys comes is (inr any) = absurd cc
+comes_idle k (Releasing number) all (x ∷ xs) ys ends is (inr any) = ((Both-empty xs ys cc).1, refl)
+comes_idle k (Releasing number) all (x ∷ []) ys begins_and_ends is (inr any) = absurd (false≢true (ap (λ (m : Rsl). is_release_ack m || false) first ∙ any)) where
   first : activation_ack k ≡ x
   first = cc
-comes-idle k (Releasing number) all (x ∷ y ∷ xs) ys begins_and_ends is (inr any) = ((Both-empty xs ys cc).1, refl)
+comes_idle k (Releasing number) all (x ∷ y ∷ xs) ys begins_and_ends is (inr any) = ((Both-empty xs ys cc).1, refl)
 
-pub comes-free : (k : ℕ) (state : ChannelState) (all : List Rsl) → Comes k state all → state ≡ Free → all ≡ []
-comes-free k Free all nothing is = refl
-comes-free k (InUse number) all comes is = absurd cc
-comes-free k (Releasing number) all comes is = absurd cc
+pub comes_free : (k : ℕ) (state : ChannelState) (all : List Rsl) → Comes k state all → state ≡ Free → all ≡ []
+comes_free k Free all nothing is = refl
+comes_free k (InUse number) all comes is = absurd cc
+comes_free k (Releasing number) all comes is = absurd cc
 
 -- ---- what an event is to a channel
 
@@ -81,7 +81,7 @@ module _ (owner : Tenure → ℕ) (w : Actors) (event : Event) (at : Place) (a :
   line-by : OutboxStep n w event v → PipeStep n k w event v → StandWithin k (is_active_at v at) (outbox_of v n)
   line-by (goes up all) (flows acks active) =
       subst (λ (b : Bool). StandWithin k b (outbox_of v n)) (sym active)
-      (within-behind k (is_active_at w at) (taken n w event) (outbox_of v n) (subst (StandWithin k (is_active_at w at)) all (within-append k (is_active_at w at) (outbox_of w n) (put n w event) settled.line a.puts)))
+      (within_behind k (is_active_at w at) (taken n w event) (outbox_of v n) (subst (StandWithin k (is_active_at w at)) all (within_append k (is_active_at w at) (outbox_of w n) (put n w event) settled.line a.puts)))
   line-by (breaks broken unput nobody) pipe = subst (λ (l : Link). StandWithin k (is_active_at v at) l.outbox) (sym broken) tt
   line-by (goes up all) (stops down left dropped ungiven nobody) = subst (StandWithin k (is_active_at v at)) (sym dropped) tt
 
@@ -93,22 +93,22 @@ module _ (owner : Tenure → ℕ) (w : Actors) (event : Event) (at : Place) (a :
   idle-up : hears v.controller n ≡ true → is_up v n ≡ true → (channel_state v.controller at ≡ Free) ⊎ (is_ending v at ≡ true) → is_active_at v at ≡ false
   idle-up hearing up why =
       let way = a.agrees.way hearing in
-      let all : to_come v at ++ way.lost ≡ acknowledgements_up v at ++ due k (is_active_at v at) (outbox_of v n) = ap (λ (xs : List Rsl). to_come v at ++ xs) (way.all up) ∙ append-nil (to_come v at) ∙ up-first v at in
-      let both = comes-idle k (channel_state v.controller at) (to_come v at ++ way.lost) (acknowledgements_up v at) (due k (is_active_at v at) (outbox_of v n)) way.comes all why in
-      sym (still-all k (is_active_at v at) (outbox_of v n) both.0) ∙ way.active up ∙ both.1
+      let all : to_come v at ++ way.lost ≡ acknowledgements_up v at ++ due k (is_active_at v at) (outbox_of v n) = ap (λ (xs : List Rsl). to_come v at ++ xs) (way.all up) ∙ append-nil (to_come v at) ∙ up_first v at in
+      let both = comes_idle k (channel_state v.controller at) (to_come v at ++ way.lost) (acknowledgements_up v at) (due k (is_active_at v at) (outbox_of v n)) way.comes all why in
+      sym (still_all k (is_active_at v at) (outbox_of v n) both.0) ∙ way.active up ∙ both.1
 
   -- no acknowledgement comes of a free channel
   none-acks : hears v.controller n ≡ true → channel_state v.controller at ≡ Free → acknowledgements k (messages_up v n) ≡ []
   none-acks hearing free =
       let way = a.agrees.way hearing in
-      let none : to_come v at ++ way.lost ≡ [] = comes-free k (channel_state v.controller at) (to_come v at ++ way.lost) way.comes free in
-      (Both-empty (acknowledgements_up v at) (due k (is_active_at v at) (outbox_of v n)) (sym (sym (up-first v at) ∙ (Both-empty (to_come v at) way.lost (sym none)).0))).0
+      let none : to_come v at ++ way.lost ≡ [] = comes_free k (channel_state v.controller at) (to_come v at ++ way.lost) way.comes free in
+      (Both-empty (acknowledgements_up v at) (due k (is_active_at v at) (outbox_of v n)) (sym (sym (up_first v at) ∙ (Both-empty (to_come v at) way.lost (sym none)).0))).0
 
   silent-up : hears v.controller n ≡ true → is_up v n ≡ true → channel_state v.controller at ≡ Free → coming_up v at ≡ []
   silent-up hearing up free =
       let none = none-acks hearing free in
-      let outside : a.after.within ≡ false = still-within k (messages_up v n) a.after.stand none ∙ a.after.now up ∙ idle-up hearing up (inl free) in
-      coming-read v at ∙ nothing-before k (messages_up v n) [] (subst (λ (ms : List Rsl). Tenures k false ms a.after.end) (sym (append-nil (messages_up v n))) (subst (λ (b : Bool). Tenures k b (messages_up v n) a.after.end) outside a.after.stand)) none
+      let outside : a.after.within ≡ false = still_within k (messages_up v n) a.after.stand none ∙ a.after.now up ∙ idle-up hearing up (inl free) in
+      coming-read v at ∙ nothing_before k (messages_up v n) [] (subst (λ (ms : List Rsl). Tenures k false ms a.after.end) (sym (append-nil (messages_up v n))) (subst (λ (b : Bool). Tenures k b (messages_up v n) a.after.end) outside a.after.stand)) none
 
   -- ---- once it is down
 
@@ -117,7 +117,7 @@ module _ (owner : Tenure → ℕ) (w : Actors) (event : Event) (at : Place) (a :
     read = flat_map (read_of n) (popped w event)
 
     gone : (rest : List Rsl) × (messages_up w n ≡ read ++ (messages_up v n ++ rest))
-    gone = ways-down n w event a.least a.good down
+    gone = ways_down n w event a.least a.good down
 
     acks-go : acknowledgements_up w at ≡ acknowledgements k read ++ (acknowledgements_up v at ++ acknowledgements k gone.0)
     acks-go =
@@ -132,7 +132,7 @@ module _ (owner : Tenure → ℕ) (w : Actors) (event : Event) (at : Place) (a :
 
     idle-down : hears v.controller n ≡ true → (channel_state v.controller at ≡ Free) ⊎ (is_ending v at ≡ true) → is_active_at v at ≡ false
     idle-down hearing why =
-        ap (λ (active : List ℕ). is_active active k) (down-active n w event a.least down)
+        ap (λ (active : List ℕ). is_active active k) (down_active n w event a.least down)
         ∙ settled.idle (a.frees.hearing hearing) (elim why [
           | inr ending ↦ inr (still-ending ending)
           | inl free ↦ elim (a.frees.freed hearing free) [
@@ -153,7 +153,7 @@ module _ (owner : Tenure → ℕ) (w : Actors) (event : Event) (at : Place) (a :
           let behind = (Both-empty (flat_map (brings k) read) (flat_map (brings k) (messages_up v n) ++ flat_map (brings k) gone.0) (sym none ∙ brings-go)).1 in
           (Both-empty (flat_map (brings k) (messages_up v n)) (flat_map (brings k) gone.0) (sym behind)).0
       | inr acks ↦
-          nothing-before k (messages_up v n) gone.0 (behind-end k acks.0 read (messages_up v n ++ gone.0) (subst (λ (ms : List Rsl). Tenures k a.before.within ms a.before.end) gone.1 a.before.stand) acks.1) (none-acks hearing free)
+          nothing_before k (messages_up v n) gone.0 (behind_end k acks.0 read (messages_up v n ++ gone.0) (subst (λ (ms : List Rsl). Tenures k a.before.within ms a.before.end) gone.1 a.before.stand) acks.1) (none-acks hearing free)
     ]
 
   pub settled-after : IsSettled v at

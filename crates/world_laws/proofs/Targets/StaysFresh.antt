@@ -27,29 +27,29 @@ use Rattle.world_laws.specs.LineUps.{commanded_target}
 use Rattle.world_laws.specs.Lives.{IsLed, Lives, TargetIsFresh, initials_up}
 use Rattle.world_laws.specs.OthersFrame.{CameInOctets, IsHad}
 use Rattle.world_laws.specs.Seated.{IsAlone, commanded_channels}
-use Rattle.world_laws.proofs.Framing.{all-right, all-left}
+use Rattle.world_laws.proofs.Framing.{all_right, all_left}
 use Rattle.world_laws.proofs.OrderServes.{Lawful}
-use Rattle.world_laws.proofs.OwnHandle.{first-coming, handled_by}
-use Rattle.world_laws.proofs.OwnerRun.{lawful-life, life-settings, serves-event}
-use Rattle.world_laws.proofs.Standing.{ConnectionsStand-new}
+use Rattle.world_laws.proofs.OwnHandle.{first_coming, handled_by}
+use Rattle.world_laws.proofs.OwnerRun.{lawful_life, life-settings, serves_event}
+use Rattle.world_laws.proofs.Standing.{connections_stand_new}
 use Rattle.world_laws.specs.Targets.Fresh.{BeginWith, FreshTells, IsFreshIn, IsLedBy, TargetsStayFresh}
-use Rattle.world_laws.proofs.Targets.AckServes.{ack-item}
+use Rattle.world_laws.proofs.Targets.AckServes.{ack_item}
 use Rattle.world_laws.proofs.Targets.Beside.{beside-fresh}
 use Rattle.world_laws.proofs.Targets.Comings.{is_relays}
 use Rattle.world_laws.proofs.Targets.Completing.{hits, says-complete}
-use Rattle.world_laws.proofs.Targets.FreeQuiet.{Keeps, keeps-run}
-use Rattle.world_laws.proofs.Targets.FreshTurn.{Before, TurnOf, owns-of, role-channel, turn-fresh}
+use Rattle.world_laws.proofs.Targets.FreeQuiet.{Keeps, keeps_run}
+use Rattle.world_laws.proofs.Targets.FreshTurn.{Before, TurnOf, owns_of, role_channel, turn-fresh}
 use Rattle.world_laws.proofs.Targets.RoleGoes.{IsComplete, role}
-use Rattle.world_laws.proofs.Targets.Ways.{WaysStand-new, said-read}
-use Rattle.world_laws.proofs.Events.{snoc-actors, snoc-steps, world}
+use Rattle.world_laws.proofs.Targets.Ways.{ways_stand_new, said-read}
+use Rattle.world_laws.proofs.Events.{snoc_actors, snoc_steps, world}
 
 -- ---- a run, and an event more
 
-same-controller : (w : Actors) (event : Event) → is_relays event ≡ false → (actors_after w event).controller ≡ w.controller
-same-controller w Handle is = absurd cc
-same-controller w (Tick ms) is = absurd cc
-same-controller w (BaseTakes station) is = kept-controller w station
-same-controller w e is = (beside-step w e refl).controller
+same_controller : (w : Actors) (event : Event) → is_relays event ≡ false → (actors_after w event).controller ≡ w.controller
+same_controller w Handle is = absurd cc
+same_controller w (Tick ms) is = absurd cc
+same_controller w (BaseTakes station) is = kept-controller w station
+same_controller w e is = (beside-step w e refl).controller
 
 module _ (settings : Parameters) (events : List Event) (event : Event) (mobile : ℕ) (s s2 : Connection) (q : Mobile) (allowed : AreAllowed settings) (octets_all : CameInOctets settings (events ++ event ∷ [])) (lives : Lives (modulus_in settings) (world settings events) mobile s) (alone : IsAlone (world settings events) mobile s)
     (fresh : IsFreshIn (world settings events) lives.lined.one s.state) (number : s2.number ≡ s.number) (had_then : IsHad (actors_after (world settings events) event) s2) (found_then : mobile_of (actors_after (world settings events) event) mobile ≡ Some q) where
@@ -66,22 +66,22 @@ module _ (settings : Parameters) (events : List Event) (event : Event) (mobile :
   p = lives.lined.one
 
   all_octets : AllByRecursion ComesInOctets (all_steps (new_actors settings) events ++ step_at w event)
-  all_octets = subst (AllByRecursion ComesInOctets) (snoc-steps (new_actors settings) events event) octets_all
+  all_octets = subst (AllByRecursion ComesInOctets) (snoc_steps (new_actors settings) events event) octets_all
 
   octets : AllByRecursion ComesInOctets (all_steps (new_actors settings) events)
-  octets = all-left ComesInOctets (all_steps (new_actors settings) events) (step_at w event) all_octets
+  octets = all_left ComesInOctets (all_steps (new_actors settings) events) (step_at w event) all_octets
 
   own_octets : AllByRecursion ComesInOctets (step_at w event)
-  own_octets = all-right ComesInOctets (all_steps (new_actors settings) events) (step_at w event) all_octets
+  own_octets = all_right ComesInOctets (all_steps (new_actors settings) events) (step_at w event) all_octets
 
   keeps : Keeps settings owner w []
-  keeps = keeps-run settings events allowed octets
+  keeps = keeps_run settings events allowed octets
 
   -- ---- the controller does nothing
 
   beside : is_relays event ≡ false → IsFreshIn v q s2.state
   beside other =
-      let same : s2 ≡ s = same_Some _ _ (sym had_then.there ∙ ap (λ (c : Controller). connection_of c s2.number) (same-controller w event other) ∙ ap (connection_of w.controller) number ∙ lives.had.there) in
+      let same : s2 ≡ s = same_Some _ _ (sym had_then.there ∙ ap (λ (c : Controller). connection_of c s2.number) (same_controller w event other) ∙ ap (connection_of w.controller) number ∙ lives.had.there) in
       subst (λ (x : Connection). IsFreshIn v q x.state) (sym same)
       (beside-fresh w event mobile p s lives.lined.found lives.lined.lined alone keeps.right.good other q found_then s.state refl fresh)
 
@@ -91,7 +91,7 @@ module _ (settings : Parameters) (events : List Event) (event : Event) (mobile :
   by_life = LivesByTable-new settings events
 
   life_then : v.controller ≡ (life settings (all_steps (new_actors settings) (events ++ event ∷ []))).next
-  life_then = ap (λ (x : Actors). x.controller) (sym (snoc-actors (new_actors settings) events event)) ∙ LivesByTable-new settings (events ++ event ∷ [])
+  life_then = ap (λ (x : Actors). x.controller) (sym (snoc_actors (new_actors settings) events event)) ∙ LivesByTable-new settings (events ++ event ∷ [])
 
   ready_then : Ready v.controller
   ready_then = subst Ready (sym life_then) (life_ready settings (all_steps (new_actors settings) (events ++ event ∷ [])) allowed)
@@ -106,17 +106,17 @@ module _ (settings : Parameters) (events : List Event) (event : Event) (mobile :
   acts_on st = subst (λ (c : Controller). ActsOn s.number c st) (sym by_life) (life_acts settings (all_steps (new_actors settings) events) st s.number lives.had.from_one)
 
   laws_on : (st : Step) → ComesInOctets st → Lawful w.controller st
-  laws_on st own = subst (λ (c : Controller). Lawful c st) (sym by_life) (lawful-life settings (all_steps (new_actors settings) events) st allowed octets own)
+  laws_on st own = subst (λ (c : Controller). Lawful c st) (sym by_life) (lawful_life settings (all_steps (new_actors settings) events) st allowed octets own)
 
   stands : Stands s
-  stands = ConnectionsStand-new settings events s.number s lives.had.there
+  stands = connections_stand_new settings events s.number s lives.had.there
 
   before-of : (st : Step) (target : Option Tenure) (heard : Place → List Rsl) → ((at : Place) → 1 ≤ at.station → at.station ≤ length settings.cells → Serves owner w at target (step w.controller st) (heard at)) → (at : Place) → 1 ≤ at.station → at.station ≤ length settings.cells → Before owner w st target heard at
   before-of st target heard serves at least most = record {
     agrees = keeps.right.agree at least most;
     none = keeps.right.none at.station;
     settled = keeps.settled at least most;
-    ways = WaysStand-new settings events at (λ zero. absurd (omega (arith, zero, least)));
+    ways = ways_stand_new settings events at (λ zero. absurd (omega (arith, zero, least)));
     serves = serves at least most;
   }
 
@@ -125,12 +125,12 @@ module _ (settings : Parameters) (events : List Event) (event : Event) (mobile :
   target-facts : (t : Target) → target_role s.state ≡ Some (role t true) → (t.channel.station ≢ SWITCH_LINK) × (channel_state w.controller (place_of t.channel) ≡ InUse s.number) × (hears w.controller t.channel.station ≡ true) × (initials_up w (place_of t.channel) ≡ [])
   target-facts t is =
       let ready_w : Ready w.controller = subst Ready (sym by_life) (life_ready settings (all_steps (new_actors settings) events) allowed) in
-      let owns : Owns w.controller.channels w.controller.links s.number (roles_of s) = owns-of w.controller s.number s ready_w lives.had.there lives.had.is_open in
-      let channel : target_in s.state ≡ t.channel ∷ [] = role-channel s.state t true is in (
-        (subst (AllByRecursion (λ c. c.station ≢ SWITCH_LINK)) channel (all-right (λ c. c.station ≢ SWITCH_LINK) (undone s.draining) (s.serving ∷ target_in s.state) lives.lined.lined.placed).1).0,
+      let owns : Owns w.controller.channels w.controller.links s.number (roles_of s) = owns_of w.controller s.number s ready_w lives.had.there lives.had.is_open in
+      let channel : target_in s.state ≡ t.channel ∷ [] = role_channel s.state t true is in (
+        (subst (AllByRecursion (λ c. c.station ≢ SWITCH_LINK)) channel (all_right (λ c. c.station ≢ SWITCH_LINK) (undone s.draining) (s.serving ∷ target_in s.state) lives.lined.lined.placed).1).0,
         (subst (λ (o : Option TargetRole). AllByRecursion (λ c. state_in w.controller.channels (place_of c) ≡ InUse s.number) (target_channels o)) is owns.using.1).0,
-        (subst (λ (o : Option TargetRole). AllByRecursion (λ c. is_link_up w.controller.links c.station ≡ true) (target_channels o)) is (all-right (λ c. is_link_up w.controller.links c.station ≡ true) (undone s.draining) (s.serving ∷ target_channels (target_role s.state)) owns.linked).1).0,
-        (subst (AllByRecursion (λ c. initials_up w (place_of c) ≡ [])) channel (all-right (λ c. initials_up w (place_of c) ≡ []) (undone s.draining) (s.serving ∷ target_in s.state) lives.opened.none_comes).1).0,
+        (subst (λ (o : Option TargetRole). AllByRecursion (λ c. is_link_up w.controller.links c.station ≡ true) (target_channels o)) is (all_right (λ c. is_link_up w.controller.links c.station ≡ true) (undone s.draining) (s.serving ∷ target_channels (target_role s.state)) owns.linked).1).0,
+        (subst (AllByRecursion (λ c. initials_up w (place_of c) ≡ [])) channel (all_right (λ c. initials_up w (place_of c) ≡ []) (undone s.draining) (s.serving ∷ target_in s.state) lives.opened.none_comes).1).0,
       )
 
   module _ (source : ℕ) (what : What) (items : List Item) (stood : w.inbox ≡ record { source = source; what = what } ∷ items) where
@@ -150,13 +150,13 @@ module _ (settings : Parameters) (events : List Event) (event : Event) (mobile :
       mobiles = turn-leads (λ u. u.mobiles ≡ w.mobiles) (tenure_in w source what) (take item w.controller) (record w { inbox = items }) (λ links. refl);
       turned = λ at. handle-turned w at item items stood;
       spots = λ at. turn-leads (λ u. spot_at u at ≡ spot_at w at) (tenure_in w source what) (take item w.controller) (record w { inbox = items }) (λ links. refl);
-      comes = λ at. first-coming w item items at stood;
+      comes = λ at. first_coming w item items at stood;
       ways = λ n.
           ap (λ (xs : List Item). flat_map (read_of n) xs ++ (base_of w n).messages) stood
           ∙ append_assoc (read_of n item) (flat_map (read_of n) items) (base_of w n).messages
           ∙ turn-leads (λ u. read_of n item ++ messages_up (record w { inbox = items }) n ≡ read_of n item ++ messages_up u n) (tenure_in w source what) (take item w.controller) (record w { inbox = items }) (λ links. refl);
       heard_is = λ at. ap (acknowledgements at.number) (said-read at.station item);
-      leads = λ at. elim (ack-item at w source what known) [
+      leads = λ at. elim (ack_item at w source what known) [
         | inl none ↦ inl none
         | inr all ↦ inr (all laws.sent)
       ];
@@ -168,7 +168,7 @@ module _ (settings : Parameters) (events : List Event) (event : Event) (mobile :
       by whats.Down same = absurd (some (ap (λ (x : What). messages_in (brings_in (place_of t.channel) (record { source = source; what = x }))) same))
       by (whats.Frame frame) same =
           let says = says-complete w source frame items (stood ∙ ap (λ (x : What). record { source = source; what = x } ∷ items) same) (subst (λ (x : What). IsKnownItem (record { source = source; what = x })) same known) t s.number (target-facts t is).0 (target-facts t is).1 (target-facts t is).2 (target-facts t is).3 (messages_in (coming_up w (place_of t.channel))) (messages_in (coming_up then (place_of t.channel)))
-          (ap messages_in (first-coming w item items (place_of t.channel) stood) ∙ messages_in-append (brings_in (place_of t.channel) item) (coming_up then (place_of t.channel)) ∙ ap (λ (x : What). messages_in (brings_in (place_of t.channel) (record { source = source; what = x })) ++ messages_in (coming_up then (place_of t.channel))) same)
+          (ap messages_in (first_coming w item items (place_of t.channel) stood) ∙ messages_in-append (brings_in (place_of t.channel) item) (coming_up then (place_of t.channel)) ∙ ap (λ (x : What). messages_in (brings_in (place_of t.channel) (record { source = source; what = x })) ++ messages_in (coming_up then (place_of t.channel))) same)
           led.first (λ none. some (ap (λ (x : What). messages_in (brings_in (place_of t.channel) (record { source = source; what = x }))) same ∙ none)) in
           (place_of t.channel, t.change, says.0, ap (λ (x : What). brought_in w.controller s.number (Take (record { source = source; what = x }))) same ∙ says.1, subst (λ (o : Option TargetRole). is_target_at (place_of t.channel) o && changes_by t.change o ≡ true) (sym is) (hits t))
 
@@ -188,7 +188,7 @@ module _ (settings : Parameters) (events : List Event) (event : Event) (mobile :
     now = ap (actors_after w) is
 
     serving : ServesAt settings owner w Handle
-    serving = serves-event settings owner events w Handle refl allowed octets (subst (λ (e : Event). AllByRecursion ComesInOctets (step_at w e)) is own_octets) keeps.right.agree
+    serving = serves_event settings owner events w Handle refl allowed octets (subst (λ (e : Event). AllByRecursion ComesInOctets (step_at w e)) is own_octets) keeps.right.agree
 
     by : (items : List Item) → w.inbox ≡ items → IsFreshIn v q s2.state
     by [] empty =
@@ -208,7 +208,7 @@ module _ (settings : Parameters) (events : List Event) (event : Event) (mobile :
       let same : v ≡ then = ap (actors_after w) is in
       let own : ComesInOctets (steps.Tick ms) = tt in
       let laws = laws_on (steps.Tick ms) own in
-      let serving : ServesAt settings owner w (Tick ms) = serves-event settings owner events w (Tick ms) refl allowed octets (subst (λ (e : Event). AllByRecursion ComesInOctets (step_at w e)) is own_octets) keeps.right.agree in
+      let serving : ServesAt settings owner w (Tick ms) = serves_event settings owner events w (Tick ms) refl allowed octets (subst (λ (e : Event). AllByRecursion ComesInOctets (step_at w e)) is own_octets) keeps.right.agree in
       let turn : TurnOf w then (steps.Tick ms) None (λ at. []) (λ at. []) (λ n. []) = record {
         next = (tick-turned w (place_at 0 0) ms).controller;
         mobiles = turn-leads (λ u. u.mobiles ≡ w.mobiles) None (tick ms w.controller) w (λ links. refl);
@@ -229,21 +229,21 @@ module _ (settings : Parameters) (events : List Event) (event : Event) (mobile :
   stays-fresh (Tick ms) is = tick-fresh ms is
   stays-fresh e is = beside (ap is_relays is)
 
-pub TargetsStayFresh-new : (settings : Parameters) (events : List Event) (event : Event) → TargetsStayFresh settings events event
-TargetsStayFresh-new settings events event mobile s s2 q allowed octets lives alone fresh number had found = stays-fresh settings events event mobile s s2 q allowed octets lives alone fresh number had found event refl
+pub targets_stay_fresh_new : (settings : Parameters) (events : List Event) (event : Event) → TargetsStayFresh settings events event
+targets_stay_fresh_new settings events event mobile s s2 q allowed octets lives alone fresh number had found = stays-fresh settings events event mobile s s2 q allowed octets lives alone fresh number had found event refl
 
 -- ---- so the target is fresh
 
-led-of : (text : List ℕ) (items : List Brings) → is_control text ≡ true → BeginWith text (messages_in items) → IsLed items
-led-of text items control first = by (messages_in items) refl first where
+led_of : (text : List ℕ) (items : List Brings) → is_control text ≡ true → BeginWith text (messages_in items) → IsLed items
+led_of text items control first = by (messages_in items) refl first where
   by : (xs : List (List ℕ)) → messages_in items ≡ xs → BeginWith text xs → (messages_in items ≡ []) ⊎ (1 ≤ controls_of (messages_in items))
   by [] is began = inl is
   by (x ∷ xs) is began = inr (subst (λ (k : ℕ). 1 ≤ k) (sym (ap controls_of is ∙ counted)) (omega arith)) where
     counted : controls_of (x ∷ xs) ≡ suc (controls_of xs)
     counted = ap (λ (b : Bool). length (cond b (x ∷ filter is_control xs) (filter is_control xs))) (ap is_control began ∙ control)
 
-pub FreshTells-new : (w : Actors) (p : Mobile) (s : Connection) → FreshTells w p s
-FreshTells-new w p s fresh = by s.state refl fresh where
+pub fresh_tells_new : (w : Actors) (p : Mobile) (s : Connection) → FreshTells w p s
+fresh_tells_new w p s fresh = by s.state refl fresh where
   tells : (cs ds : List Channel) → awaited_in s.state ≡ cs → commanded_channels (commanded_target s.state) ≡ ds → AllByRecursion (λ c. messages_in (coming_up w (place_of c)) ≡ []) cs → AllByRecursion (λ c. going_down w (place_of c) ≡ []) cs → AllByRecursion (λ c. IsLed (coming_up w (place_of c))) ds → TargetIsFresh w s
   tells cs ds awaits commands silent uncommanded led = record {
     silent = subst (AllByRecursion (λ c. messages_in (coming_up w (place_of c)) ≡ [])) (sym awaits) silent;
@@ -253,7 +253,7 @@ FreshTells-new w p s fresh = by s.state refl fresh where
 
   by : (state : State) → s.state ≡ state → IsFreshIn w p state → TargetIsFresh w s
   by (Live reference (Preparing target)) is a = tells (target.channel ∷ []) [] (ap awaited_in is) (ap (λ (x : State). commanded_channels (commanded_target x)) is) (a.silent, tt) (a.uncommanded, tt) tt
-  by (Live reference (Changing target)) is led = tells [] (target.channel ∷ []) (ap awaited_in is) (ap (λ (x : State). commanded_channels (commanded_target x)) is) tt tt (led-of (complete target.change) (coming_up w (place_of target.channel)) (control-complete target.change) led.first, tt)
+  by (Live reference (Changing target)) is led = tells [] (target.channel ∷ []) (ap awaited_in is) (ap (λ (x : State). commanded_channels (commanded_target x)) is) tt tt (led_of (complete target.change) (coming_up w (place_of target.channel)) (control-complete target.change) led.first, tt)
   by (Live reference Active) is so = tells [] [] (ap awaited_in is) (ap (λ (x : State). commanded_channels (commanded_target x)) is) tt tt tt
   by (Live reference Draining) is so = tells [] [] (ap awaited_in is) (ap (λ (x : State). commanded_channels (commanded_target x)) is) tt tt tt
   by _ is so = tells [] [] (ap awaited_in is) (ap (λ (x : State). commanded_channels (commanded_target x)) is) tt tt tt

@@ -18,8 +18,8 @@ use Rattle.link_model.proofs.Tenures.{Tenures-given}
 use Rattle.world_laws.specs.Acknowledged.{is_release_ack, messages_up, read_by, read_of}
 use Rattle.world_laws.specs.ComingUp.{brings, of_establishment}
 use Rattle.world_laws.specs.Lives.{initial_by}
-use Rattle.world_laws.proofs.Acknowledged.{apart-brings, behind, bound, given-read, pushed-read, unbound, brought-unbound}
-use Rattle.world_laws.proofs.Targets.Calm.{down-made}
+use Rattle.world_laws.proofs.Acknowledged.{apart_brings, behind, bound, given-read, pushed-read, unbound, brought_unbound}
+use Rattle.world_laws.proofs.Targets.Calm.{down_made}
 use Rattle.world_laws.proofs.Events.{world}
 
 -- ---- read, in the one way and the other
@@ -33,17 +33,17 @@ said-read station item = by item.what where
     nothing true = refl
     nothing false = refl
 
-all-said-read : (station : ℕ) (items : List Item) → flat_map (said station) items ≡ flat_map (read_of station) items
-all-said-read station [] = refl
-all-said-read station (item ∷ items) = ap (λ (ms : List Rsl). ms ++ flat_map (said station) items) (said-read station item) ∙ ap (λ (ms : List Rsl). read_of station item ++ ms) (all-said-read station items)
+all_said_read : (station : ℕ) (items : List Item) → flat_map (said station) items ≡ flat_map (read_of station) items
+all_said_read station [] = refl
+all_said_read station (item ∷ items) = ap (λ (ms : List Rsl). ms ++ flat_map (said station) items) (said-read station item) ∙ ap (λ (ms : List Rsl). read_of station item ++ ms) (all_said_read station items)
 
-pub heard-read : (at : Place) (item : Item) → acknowledgements at.number (said at.station item) ≡ acknowledgements at.number (flat_map (read_of at.station) (item ∷ []))
-heard-read at item = ap (acknowledgements at.number) (said-read at.station item ∙ sym (append-nil (read_of at.station item)))
+pub heard_read : (at : Place) (item : Item) → acknowledgements at.number (said at.station item) ≡ acknowledgements at.number (flat_map (read_of at.station) (item ∷ []))
+heard_read at item = ap (acknowledgements at.number) (said-read at.station item ∙ sym (append-nil (read_of at.station item)))
 
 -- ---- an event
 
-pub goes-read : (n : ℕ) (w : Actors) (event : Event) → n ≢ 0 → Good w → flat_map (read_of n) w.inbox ++ given n w event ≡ flat_map (read_of n) (popped w event) ++ flat_map (read_of n) (actors_after w event).inbox
-goes-read n w event n_is good =
+pub goes_read : (n : ℕ) (w : Actors) (event : Event) → n ≢ 0 → Good w → flat_map (read_of n) w.inbox ++ given n w event ≡ flat_map (read_of n) (popped w event) ++ flat_map (read_of n) (actors_after w event).inbox
+goes_read n w event n_is good =
     ap (λ (ms : List Rsl). flat_map (read_of n) w.inbox ++ ms) (sym (pushed-read n w event n_is good))
     ∙ sym (flat_map-append (read_of n) w.inbox (pushed w event))
     ∙ ap (flat_map (read_of n)) (inbox-goes w event)
@@ -51,10 +51,10 @@ goes-read n w event n_is good =
 
 -- of a station whose link is down then, what the controller takes was on its way, and then what is
 -- on its way still
-pub ways-down : (n : ℕ) (w : Actors) (event : Event) → n ≢ 0 → Good w → is_up (actors_after w event) n ≡ false → (rest : List Rsl) × (messages_up w n ≡ flat_map (read_of n) (popped w event) ++ (messages_up (actors_after w event) n ++ rest))
-ways-down n w event n_is good down =
+pub ways_down : (n : ℕ) (w : Actors) (event : Event) → n ≢ 0 → Good w → is_up (actors_after w event) n ≡ false → (rest : List Rsl) × (messages_up w n ≡ flat_map (read_of n) (popped w event) ++ (messages_up (actors_after w event) n ++ rest))
+ways_down n w event n_is good down =
     let v : Actors = actors_after w event in
-    let made = down-made n w event n_is down in
+    let made = down_made n w event n_is down in
     let a : List Rsl = flat_map (read_of n) w.inbox in
     let b : List Rsl = flat_map (read_of n) v.inbox in
     let p : List Rsl = flat_map (read_of n) (popped w event) in
@@ -62,7 +62,7 @@ ways-down n w event n_is good down =
       made.0,
       ap (λ (xs : List Rsl). a ++ xs) made.1
           ∙ sym (append_assoc a (given n w event) (ms ++ made.0))
-          ∙ ap (λ (xs : List Rsl). xs ++ (ms ++ made.0)) (goes-read n w event n_is good)
+          ∙ ap (λ (xs : List Rsl). xs ++ (ms ++ made.0)) (goes_read n w event n_is good)
           ∙ append_assoc p b (ms ++ made.0)
           ∙ ap (λ (xs : List Rsl). p ++ xs) (sym (append_assoc b ms made.0)),
     )
@@ -70,35 +70,35 @@ ways-down n w event n_is good down =
 -- ---- tenures
 
 -- outside a tenure nothing comes before the next ACTIVATION ACK
-pub nothing-before : {end : Bool} (k : ℕ) (ms rest : List Rsl) → Tenures k false (ms ++ rest) end → acknowledgements k ms ≡ [] → flat_map (brings k) ms ≡ []
-nothing-before k [] rest t none = refl
-nothing-before k (m ∷ ms) rest (begins t) none = absurd (let some : m ∷ acknowledgements k ms ≡ [] = sym (bound k m ms (eq-eqb k k refl)) ∙ none in cc)
-nothing-before k (m ∷ ms) rest (ends t) none = absurd (let some : m ∷ acknowledgements k ms ≡ [] = sym (bound k m ms (eq-eqb k k refl)) ∙ none in cc)
-nothing-before k (m ∷ ms) rest (apart not_brought not_bound t) none =
-    ap (λ (xs : List Brought). xs ++ flat_map (brings k) ms) (apart-brings k m not_brought not_bound) ∙ nothing-before k ms rest t (sym (unbound k m ms not_bound) ∙ none)
+pub nothing_before : {end : Bool} (k : ℕ) (ms rest : List Rsl) → Tenures k false (ms ++ rest) end → acknowledgements k ms ≡ [] → flat_map (brings k) ms ≡ []
+nothing_before k [] rest t none = refl
+nothing_before k (m ∷ ms) rest (begins t) none = absurd (let some : m ∷ acknowledgements k ms ≡ [] = sym (bound k m ms (eq-eqb k k refl)) ∙ none in cc)
+nothing_before k (m ∷ ms) rest (ends t) none = absurd (let some : m ∷ acknowledgements k ms ≡ [] = sym (bound k m ms (eq-eqb k k refl)) ∙ none in cc)
+nothing_before k (m ∷ ms) rest (apart not_brought not_bound t) none =
+    ap (λ (xs : List Brought). xs ++ flat_map (brings k) ms) (apart_brings k m not_brought not_bound) ∙ nothing_before k ms rest t (sym (unbound k m ms not_bound) ∙ none)
 
 -- without acknowledgements it stays within or outside
-pub still-within : {within end : Bool} (k : ℕ) (ms : List Rsl) → Tenures k within ms end → acknowledgements k ms ≡ [] → within ≡ end
-still-within k [] (over within) none = refl
-still-within k (m ∷ ms) (begins t) none = absurd (let some : m ∷ acknowledgements k ms ≡ [] = sym (bound k m ms (eq-eqb k k refl)) ∙ none in cc)
-still-within k (m ∷ ms) (ends t) none = absurd (let some : m ∷ acknowledgements k ms ≡ [] = sym (bound k m ms (eq-eqb k k refl)) ∙ none in cc)
-still-within k (m ∷ ms) (tenure_brings is t) none = still-within k ms t (sym (unbound k m ms (brought-unbound k m is)) ∙ none)
-still-within k (m ∷ ms) (apart not_brought not_bound t) none = still-within k ms t (sym (unbound k m ms not_bound) ∙ none)
+pub still_within : {within end : Bool} (k : ℕ) (ms : List Rsl) → Tenures k within ms end → acknowledgements k ms ≡ [] → within ≡ end
+still_within k [] (over within) none = refl
+still_within k (m ∷ ms) (begins t) none = absurd (let some : m ∷ acknowledgements k ms ≡ [] = sym (bound k m ms (eq-eqb k k refl)) ∙ none in cc)
+still_within k (m ∷ ms) (ends t) none = absurd (let some : m ∷ acknowledgements k ms ≡ [] = sym (bound k m ms (eq-eqb k k refl)) ∙ none in cc)
+still_within k (m ∷ ms) (tenure_brings is t) none = still_within k ms t (sym (unbound k m ms (brought_unbound k m is)) ∙ none)
+still_within k (m ∷ ms) (apart not_brought not_bound t) none = still_within k ms t (sym (unbound k m ms not_bound) ∙ none)
 
 -- outside without acknowledgements it stays outside
-stays-outside : {end : Bool} (k : ℕ) (ms rest : List Rsl) → Tenures k false (ms ++ rest) end → acknowledgements k ms ≡ [] → Tenures k false rest end
-stays-outside k [] rest t none = t
-stays-outside k (m ∷ ms) rest (begins t) none = absurd (let some : m ∷ acknowledgements k ms ≡ [] = sym (bound k m ms (eq-eqb k k refl)) ∙ none in cc)
-stays-outside k (m ∷ ms) rest (ends t) none = absurd (let some : m ∷ acknowledgements k ms ≡ [] = sym (bound k m ms (eq-eqb k k refl)) ∙ none in cc)
-stays-outside k (m ∷ ms) rest (apart not_brought not_bound t) none = stays-outside k ms rest t (sym (unbound k m ms not_bound) ∙ none)
+stays_outside : {end : Bool} (k : ℕ) (ms rest : List Rsl) → Tenures k false (ms ++ rest) end → acknowledgements k ms ≡ [] → Tenures k false rest end
+stays_outside k [] rest t none = t
+stays_outside k (m ∷ ms) rest (begins t) none = absurd (let some : m ∷ acknowledgements k ms ≡ [] = sym (bound k m ms (eq-eqb k k refl)) ∙ none in cc)
+stays_outside k (m ∷ ms) rest (ends t) none = absurd (let some : m ∷ acknowledgements k ms ≡ [] = sym (bound k m ms (eq-eqb k k refl)) ∙ none in cc)
+stays_outside k (m ∷ ms) rest (apart not_brought not_bound t) none = stays_outside k ms rest t (sym (unbound k m ms not_bound) ∙ none)
 
 -- behind the RF CHANNEL RELEASE ACK it is outside
-pub behind-end : {within end : Bool} (k channel : ℕ) (ms rest : List Rsl) → Tenures k within (ms ++ rest) end → acknowledgements k ms ≡ rsl.RfChannelReleaseAck channel ∷ [] → Tenures k false rest end
-behind-end k channel [] rest t is = absurd cc
-behind-end k channel (m ∷ ms) rest (begins t) is = absurd (let other : m ∷ acknowledgements k ms ≡ rsl.RfChannelReleaseAck channel ∷ [] = sym (bound k m ms (eq-eqb k k refl)) ∙ is in cc)
-behind-end k channel (m ∷ ms) rest (ends t) is = stays-outside k ms rest t (let both : m ∷ acknowledgements k ms ≡ rsl.RfChannelReleaseAck channel ∷ [] = sym (bound k m ms (eq-eqb k k refl)) ∙ is in cc)
-behind-end k channel (m ∷ ms) rest (tenure_brings here t) is = behind-end k channel ms rest t (sym (unbound k m ms (brought-unbound k m here)) ∙ is)
-behind-end k channel (m ∷ ms) rest (apart not_brought not_bound t) is = behind-end k channel ms rest t (sym (unbound k m ms not_bound) ∙ is)
+pub behind_end : {within end : Bool} (k channel : ℕ) (ms rest : List Rsl) → Tenures k within (ms ++ rest) end → acknowledgements k ms ≡ rsl.RfChannelReleaseAck channel ∷ [] → Tenures k false rest end
+behind_end k channel [] rest t is = absurd cc
+behind_end k channel (m ∷ ms) rest (begins t) is = absurd (let other : m ∷ acknowledgements k ms ≡ rsl.RfChannelReleaseAck channel ∷ [] = sym (bound k m ms (eq-eqb k k refl)) ∙ is in cc)
+behind_end k channel (m ∷ ms) rest (ends t) is = stays_outside k ms rest t (let both : m ∷ acknowledgements k ms ≡ rsl.RfChannelReleaseAck channel ∷ [] = sym (bound k m ms (eq-eqb k k refl)) ∙ is in cc)
+behind_end k channel (m ∷ ms) rest (tenure_brings here t) is = behind_end k channel ms rest t (sym (unbound k m ms (brought_unbound k m here)) ∙ is)
+behind_end k channel (m ∷ ms) rest (apart not_brought not_bound t) is = behind_end k channel ms rest t (sym (unbound k m ms not_bound) ∙ is)
 
 -- ---- in every run
 
@@ -110,8 +110,8 @@ pub record WaysStand (w : Actors) (at : Place) : Type 0 where
   pub stand : Tenures at.number within (messages_up w at.station) end
   pub now : is_up w at.station ≡ true → end ≡ is_active_at w at
 
-pub WaysStand-new : (settings : Parameters) (events : List Event) (at : Place) → at.station ≢ 0 → WaysStand (world settings events) at
-WaysStand-new settings events at at_is = by (kept-all at.station [] (new_actors settings) events at_is (works ends_at.0 [] ends_at.1 refl)) where
+pub ways_stand_new : (settings : Parameters) (events : List Event) (at : Place) → at.station ≢ 0 → WaysStand (world settings events) at
+ways_stand_new settings events at at_is = by (kept-all at.station [] (new_actors settings) events at_is (works ends_at.0 [] ends_at.1 refl)) where
   ends_at : (station : ℕ) × (base_of (new_actors settings) at.station ≡ new_base station)
   ends_at = new_ends settings.cells 1 (at.station - 1)
 
@@ -168,8 +168,8 @@ initial-none k (rsl.EstablishIndication e) none = by (e.channel == k) none where
   by false is = refl
 initial-none k _ none = refl
 
-pub initials-none : (k : ℕ) (ms : List Rsl) → flat_map (brings k) ms ≡ [] → flat_map (initial_by k) ms ≡ []
-initials-none k [] none = refl
-initials-none k (m ∷ ms) none =
+pub initials_none : (k : ℕ) (ms : List Rsl) → flat_map (brings k) ms ≡ [] → flat_map (initial_by k) ms ≡ []
+initials_none k [] none = refl
+initials_none k (m ∷ ms) none =
     let parts = Both-empty (brings k m) (flat_map (brings k) ms) (sym none) in
-    ap (λ (xs : List (List ℕ)). xs ++ flat_map (initial_by k) ms) (initial-none k m parts.0) ∙ initials-none k ms parts.1
+    ap (λ (xs : List (List ℕ)). xs ++ flat_map (initial_by k) ms) (initial-none k m parts.0) ∙ initials_none k ms parts.1

@@ -4,7 +4,7 @@ use Rattle.dtap_codec.specs.declared.report.Report.{Report}
 use Rattle.ho_decision.specs.declared.decision.Choice.{Choice}
 use Rattle.ho_decision.specs.Settings.{Settings}
 use Rattle.ho_decision.specs.Decision.{Chooses}
-use Rattle.ho_decision.proofs.Choice.{Wants, chosen, Wants-keeps, Wants-offered}
+use Rattle.ho_decision.proofs.Choice.{Wants, chosen, wants_keeps, wants_offered}
 use Rattle.ho_decision.proofs.decision.best.Goals as goal
 use Rattle.ho_decision.proofs.decision.best.Goals.{then-number-settings, else-number-settings}
 
@@ -21,11 +21,11 @@ loop-place-preserved c =
           let other : place + 1 ≢ s.serving = λ e. w.if-number-settings.true (e ∙ sym serving) in
           subst P
           (sym (w.choice-is ∙ w.offer.ensures))
-          (Wants-offered s reports place (place + 1) w.level_at.result choice other refl w.level_at.ensures c.loop-place.invariant)
+          (wants_offered s reports place (place + 1) w.level_at.result choice other refl w.level_at.ensures c.loop-place.invariant)
       | else-number-settings w ↦
           subst P
           (sym w.choice-is)
-          (Wants-keeps s reports place choice.decision choice.wanted (λ other. absurd (other (w.if-number-settings.false ∙ serving))) c.loop-place.invariant)
+          (wants_keeps s reports place choice.decision choice.wanted (λ other. absurd (other (w.if-number-settings.false ∙ serving))) c.loop-place.invariant)
     ]
 
 pub returns : goal.returns

@@ -1,5 +1,5 @@
-use Rattle.mobile_end.proofs.GoingOnByCalls.{GoesOn-calls}
+use Rattle.mobile_end.proofs.GoingOnByCalls.{goes_on_calls}
 use Rattle.mobile_end.proofs.laws.link_goes_on.Goals as goal
 
 pub returns : goal.returns
-returns c m calls = GoesOn-calls m calls
+returns c m calls = goes_on_calls m calls

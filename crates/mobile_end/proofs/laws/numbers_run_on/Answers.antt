@@ -1,5 +1,5 @@
-use Rattle.mobile_end.proofs.GoingOnByCalls.{Rise-calls}
+use Rattle.mobile_end.proofs.GoingOnByCalls.{rise_calls}
 use Rattle.mobile_end.proofs.laws.numbers_run_on.Goals as goal
 
 pub returns : goal.returns
-returns c m calls = Rise-calls m calls
+returns c m calls = rise_calls m calls

@@ -1,5 +1,5 @@
-use Rattle.world_laws.proofs.Access.Begins.{ConnectionsBeginForTheirMobile-new}
+use Rattle.world_laws.proofs.Access.Begins.{connections_begin_for_their_mobile_new}
 use Rattle.world_laws.proofs.access_laws.connections_begin_for_their_mobile.Goals as goal
 
 pub returns : goal.returns
-returns c = ConnectionsBeginForTheirMobile-new
+returns c = connections_begin_for_their_mobile_new

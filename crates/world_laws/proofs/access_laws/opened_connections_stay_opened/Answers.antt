@@ -1,5 +1,5 @@
-use Rattle.world_laws.proofs.Access.Opened.{OpenedStayOpened-new}
+use Rattle.world_laws.proofs.Access.Opened.{opened_stay_opened_new}
 use Rattle.world_laws.proofs.access_laws.opened_connections_stay_opened.Goals as goal
 
 pub returns : goal.returns
-returns c = OpenedStayOpened-new
+returns c = opened_stay_opened_new

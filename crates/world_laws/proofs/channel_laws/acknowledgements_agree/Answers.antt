@@ -1,5 +1,5 @@
-use Rattle.world_laws.proofs.Channels.RoleAcks.{AcknowledgementsAgree-new}
+use Rattle.world_laws.proofs.Channels.RoleAcks.{acknowledgements_agree_new}
 use Rattle.world_laws.proofs.channel_laws.acknowledgements_agree.Goals as goal
 
 pub returns : goal.returns
-returns c = AcknowledgementsAgree-new
+returns c = acknowledgements_agree_new

@@ -1,5 +1,5 @@
-use Rattle.world_laws.proofs.Channels.RoleAcks.{OldChannelsEnd-new}
+use Rattle.world_laws.proofs.Channels.RoleAcks.{old_channels_end_new}
 use Rattle.world_laws.proofs.channel_laws.old_channels_end.Goals as goal
 
 pub returns : goal.returns
-returns c = OldChannelsEnd-new
+returns c = old_channels_end_new

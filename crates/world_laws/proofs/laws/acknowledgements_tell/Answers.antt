@@ -1,8 +1,8 @@
-use Rattle.world_laws.proofs.Acknowledged.{AllAcksTell-new, AcksFlow-new}
+use Rattle.world_laws.proofs.Acknowledged.{all_acks_tell_new, acks_flow_new}
 use Rattle.world_laws.proofs.laws.acknowledgements_tell.Goals as goal
 
 pub returns-clause-ends : goal.returns-clause-ends
-returns-clause-ends c = AllAcksTell-new
+returns-clause-ends c = all_acks_tell_new
 
 pub returns-clause-flow : goal.returns-clause-flow
-returns-clause-flow c = AcksFlow-new
+returns-clause-flow c = acks_flow_new

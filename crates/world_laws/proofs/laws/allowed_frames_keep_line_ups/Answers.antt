@@ -1,5 +1,5 @@
-use Rattle.world_laws.proofs.PutAsRead.{AllowedFramesKeepLineUps-new}
+use Rattle.world_laws.proofs.PutAsRead.{allowed_frames_keep_line_ups_new}
 use Rattle.world_laws.proofs.laws.allowed_frames_keep_line_ups.Goals as goal
 
 pub returns : goal.returns
-returns c = AllowedFramesKeepLineUps-new
+returns c = allowed_frames_keep_line_ups_new

@@ -1,11 +1,11 @@
-use Rattle.world_laws.proofs.Ending.{EndedAreInOrder-new, EndedStayInOrder-new, LineUpsMayEnd-new}
+use Rattle.world_laws.proofs.Ending.{ended_are_in_order_new, ended_stay_in_order_new, line_ups_may_end_new}
 use Rattle.world_laws.proofs.laws.ended_connections_stay_in_order.Goals as goal
 
 pub returns-clause-ends : goal.returns-clause-ends
-returns-clause-ends c = LineUpsMayEnd-new
+returns-clause-ends c = line_ups_may_end_new
 
 pub returns-clause-stays : goal.returns-clause-stays
-returns-clause-stays c = EndedStayInOrder-new
+returns-clause-stays c = ended_stay_in_order_new
 
 pub returns-clause-accepted : goal.returns-clause-accepted
-returns-clause-accepted c = EndedAreInOrder-new
+returns-clause-accepted c = ended_are_in_order_new

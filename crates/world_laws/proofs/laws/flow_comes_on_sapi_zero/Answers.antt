@@ -1,5 +1,5 @@
-use Rattle.world_laws.proofs.SapiThreeHeld.{FlowComesOnSapiZero-new}
+use Rattle.world_laws.proofs.SapiThreeHeld.{flow_comes_on_sapi_zero_new}
 use Rattle.world_laws.proofs.laws.flow_comes_on_sapi_zero.Goals as goal
 
 pub returns : goal.returns
-returns c = FlowComesOnSapiZero-new
+returns c = flow_comes_on_sapi_zero_new

@@ -1,5 +1,5 @@
-use Rattle.world_laws.proofs.OwnFrameLaw.{FrameIsHandled-new}
+use Rattle.world_laws.proofs.OwnFrameLaw.{frame_is_handled_new}
 use Rattle.world_laws.proofs.laws.frames_are_handled.Goals as goal
 
 pub returns : goal.returns
-returns c = FrameIsHandled-new
+returns c = frame_is_handled_new

@@ -1,5 +1,5 @@
-use Rattle.world_laws.proofs.PutAsRead.{FramesArePutAsRead-new}
+use Rattle.world_laws.proofs.PutAsRead.{frames_are_put_as_read_new}
 use Rattle.world_laws.proofs.laws.frames_are_put_as_read.Goals as goal
 
 pub returns : goal.returns
-returns c = FramesArePutAsRead-new
+returns c = frames_are_put_as_read_new

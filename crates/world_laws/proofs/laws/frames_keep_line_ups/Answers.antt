@@ -1,5 +1,5 @@
-use Rattle.world_laws.proofs.Handled.{FramesKeepLineUps-new}
+use Rattle.world_laws.proofs.Handled.{frames_keep_line_ups_new}
 use Rattle.world_laws.proofs.laws.frames_keep_line_ups.Goals as goal
 
 pub returns : goal.returns
-returns c = FramesKeepLineUps-new
+returns c = frames_keep_line_ups_new

@@ -1,5 +1,5 @@
-use Rattle.world_laws.proofs.InOrder.{LineUpsAreInOrder-new}
+use Rattle.world_laws.proofs.InOrder.{line_ups_are_in_order_new}
 use Rattle.world_laws.proofs.laws.line_ups_are_in_order.Goals as goal
 
 pub returns : goal.returns
-returns c = LineUpsAreInOrder-new
+returns c = line_ups_are_in_order_new

@@ -1,5 +1,5 @@
-use Rattle.world_laws.proofs.BesideRelay.{MobilesKeepLineUps-new}
+use Rattle.world_laws.proofs.BesideRelay.{mobiles_keep_line_ups_new}
 use Rattle.world_laws.proofs.laws.mobiles_keep_line_ups.Goals as goal
 
 pub returns : goal.returns
-returns c = MobilesKeepLineUps-new
+returns c = mobiles_keep_line_ups_new

@@ -1,5 +1,5 @@
-use Rattle.world_laws.proofs.TurnsSteps.{OrdersTakeTurns-new}
+use Rattle.world_laws.proofs.TurnsSteps.{orders_take_turns_new}
 use Rattle.world_laws.proofs.laws.orders_take_turns.Goals as goal
 
 pub returns : goal.returns
-returns c = OrdersTakeTurns-new
+returns c = orders_take_turns_new

@@ -1,5 +1,5 @@
-use Rattle.world_laws.proofs.Refusals.{NoneRefuse-new}
+use Rattle.world_laws.proofs.Refusals.{none_refuse_new}
 use Rattle.world_laws.proofs.laws.stations_refuse_nothing.Goals as goal
 
 pub returns : goal.returns
-returns c = NoneRefuse-new
+returns c = none_refuse_new

@@ -1,11 +1,11 @@
-use Rattle.world_laws.proofs.OwnerRun.{MobilesSitOnTheirs-new, OneSendsEach-new, TenuresAreOwned-new}
+use Rattle.world_laws.proofs.OwnerRun.{mobiles_sit_on_theirs_new, one_sends_each_new, tenures_are_owned_new}
 use Rattle.world_laws.proofs.laws.tenures_are_mobiles.Goals as goal
 
 pub returns-clause-takes : goal.returns-clause-takes
-returns-clause-takes c = TenuresAreOwned-new
+returns-clause-takes c = tenures_are_owned_new
 
 pub returns-clause-seats : goal.returns-clause-seats
-returns-clause-seats c = MobilesSitOnTheirs-new
+returns-clause-seats c = mobiles_sit_on_theirs_new
 
 pub returns-clause-senders : goal.returns-clause-senders
-returns-clause-senders c = OneSendsEach-new
+returns-clause-senders c = one_sends_each_new

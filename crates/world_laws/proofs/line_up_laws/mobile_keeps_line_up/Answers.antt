@@ -1,5 +1,5 @@
-use Rattle.world_laws.proofs.LineUp.Moving.{Alive-mobile}
+use Rattle.world_laws.proofs.LineUp.Moving.{alive_mobile}
 use Rattle.world_laws.proofs.line_up_laws.mobile_keeps_line_up.Goals as goal
 
 pub returns : goal.returns
-returns c m before after step alive = Alive-mobile step alive
+returns c m before after step alive = alive_mobile step alive

@@ -1,5 +1,5 @@
-use Rattle.world_laws.proofs.LineUp.Relaying.{Alive-relay}
+use Rattle.world_laws.proofs.LineUp.Relaying.{alive_relay}
 use Rattle.world_laws.proofs.line_up_laws.relaying_keeps_line_up.Goals as goal
 
 pub returns : goal.returns
-returns c m before after step alive = Alive-relay step alive
+returns c m before after step alive = alive_relay step alive

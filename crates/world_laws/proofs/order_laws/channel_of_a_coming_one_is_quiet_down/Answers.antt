@@ -1,12 +1,12 @@
-use Rattle.world_laws.proofs.Order.Begun.{ChannelsBeginQuiet-new}
-use Rattle.world_laws.proofs.Order.Down.{ChannelsStayQuiet-new, QuietLetsNoneGo-new}
+use Rattle.world_laws.proofs.Order.Begun.{channels_begin_quiet_new}
+use Rattle.world_laws.proofs.Order.Down.{channels_stay_quiet_new, quiet_lets_none_go_new}
 use Rattle.world_laws.proofs.order_laws.channel_of_a_coming_one_is_quiet_down.Goals as goal
 
 pub returns-clause-begins : goal.returns-clause-begins
-returns-clause-begins c = ChannelsBeginQuiet-new
+returns-clause-begins c = channels_begin_quiet_new
 
 pub returns-clause-stays : goal.returns-clause-stays
-returns-clause-stays c = ChannelsStayQuiet-new
+returns-clause-stays c = channels_stay_quiet_new
 
 pub returns-clause-none_go : goal.returns-clause-none_go
-returns-clause-none_go c = QuietLetsNoneGo-new
+returns-clause-none_go c = quiet_lets_none_go_new

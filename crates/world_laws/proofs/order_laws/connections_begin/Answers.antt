@@ -1,5 +1,5 @@
-use Rattle.world_laws.proofs.Order.Beginning.{ConnectionsBegin-new}
+use Rattle.world_laws.proofs.Order.Beginning.{connections_begin_new}
 use Rattle.world_laws.proofs.order_laws.connections_begin.Goals as goal
 
 pub returns : goal.returns
-returns c = ConnectionsBegin-new
+returns c = connections_begin_new

@@ -1,5 +1,5 @@
-use Rattle.world_laws.proofs.Order.Following.{CutNumbersStay-new}
+use Rattle.world_laws.proofs.Order.Following.{cut_numbers_stay_new}
 use Rattle.world_laws.proofs.order_laws.cut_numbers_stay.Goals as goal
 
 pub returns : goal.returns
-returns c = CutNumbersStay-new
+returns c = cut_numbers_stay_new

@@ -1,5 +1,5 @@
-use Rattle.world_laws.proofs.Order.OctetMakers.{StationsGiveOctets-new}
+use Rattle.world_laws.proofs.Order.OctetMakers.{stations_give_octets_new}
 use Rattle.world_laws.proofs.order_laws.stations_give_octets.Goals as goal
 
 pub returns : goal.returns
-returns c = StationsGiveOctets-new
+returns c = stations_give_octets_new

@@ -1,5 +1,5 @@
-use Rattle.world_laws.proofs.Order.Modulus.{switch-modulus}
+use Rattle.world_laws.proofs.Order.Modulus.{switch_modulus}
 use Rattle.world_laws.proofs.order_laws.switch_is_of_modulus.Goals as goal
 
 pub returns : goal.returns
-returns c = switch-modulus
+returns c = switch_modulus

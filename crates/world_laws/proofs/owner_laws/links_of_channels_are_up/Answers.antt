@@ -1,5 +1,5 @@
-use Rattle.world_laws.proofs.Owners.LinkEnds.{LinksOfChannelsAreUp-new}
+use Rattle.world_laws.proofs.Owners.LinkEnds.{links_of_channels_are_up_new}
 use Rattle.world_laws.proofs.owner_laws.links_of_channels_are_up.Goals as goal
 
 pub returns : goal.returns
-returns c = LinksOfChannelsAreUp-new
+returns c = links_of_channels_are_up_new

@@ -1,5 +1,5 @@
-use Rattle.world_laws.proofs.References.Heard.{SwitchDeliversOrRefuses-new}
+use Rattle.world_laws.proofs.References.Heard.{switch_delivers_or_refuses_new}
 use Rattle.world_laws.proofs.reference_laws.switch_delivers_or_refuses.Goals as goal
 
 pub returns : goal.returns
-returns c = SwitchDeliversOrRefuses-new
+returns c = switch_delivers_or_refuses_new

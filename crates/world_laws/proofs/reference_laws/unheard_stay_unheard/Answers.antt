@@ -1,5 +1,5 @@
-use Rattle.world_laws.proofs.References.Heard.{UnheardStayUnheard-new}
+use Rattle.world_laws.proofs.References.Heard.{unheard_stay_unheard_new}
 use Rattle.world_laws.proofs.reference_laws.unheard_stay_unheard.Goals as goal
 
 pub returns : goal.returns
-returns c = UnheardStayUnheard-new
+returns c = unheard_stay_unheard_new

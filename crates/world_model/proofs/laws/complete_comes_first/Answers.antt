@@ -1,5 +1,5 @@
-use Rattle.world_model.proofs.Completing.{CompleteComesFirst-new}
+use Rattle.world_model.proofs.Completing.{complete_comes_first_new}
 use Rattle.world_model.proofs.laws.complete_comes_first.Goals as goal
 
 pub returns : goal.returns
-returns c = CompleteComesFirst-new
+returns c = complete_comes_first_new

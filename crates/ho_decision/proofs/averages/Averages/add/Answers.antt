@@ -5,7 +5,7 @@ use Rattle.dtap_codec.specs.declared.report.Report.{Report}
 use Rattle.ho_decision.specs.declared.settings.TheConstants.{MAX_WINDOW}
 use Rattle.ho_decision.specs.Average.{last}
 use Rattle.ho_decision.specs.Sums.{AreSums}
-use Rattle.ho_decision.proofs.Window.{AreOf-same, AreSums-last}
+use Rattle.ho_decision.proofs.Window.{are_of_same, are_sums_last}
 use Rattle.ho_decision.proofs.averages.Averages.add.Goals as goal
 
 pub invariant_of-self : goal.invariant_of-self
@@ -16,6 +16,6 @@ invariant_of-self c =
     let P : List Report → Type 0 = λ rs. AreSums rs c.add.new.self in (
       ap (λ (b : Buffer Report). b.capacity) c.push_back.ensures.items ∙ full,
       c.self.invariant.1,
-      AreOf-same c.self.inside.settings.value c.self.inside.sums c.add.new.self c.self.invariant.2 c.add.ensures.of,
-      subst P (sym kept) (AreSums-last all c.add.new.self c.add.ensures.sums),
+      are_of_same c.self.inside.settings.value c.self.inside.sums c.add.new.self c.self.invariant.2 c.add.ensures.of,
+      subst P (sym kept) (are_sums_last all c.add.new.self c.add.ensures.sums),
     )

@@ -5,7 +5,7 @@ use Rattle.std.proofs.lemmas.List.Sums.{sum_by_push}
 use Rattle.dtap_codec.specs.declared.report.Report.{Report}
 use Rattle.ho_decision.specs.Average.{last}
 use Rattle.ho_decision.specs.Measure.{value_of}
-use Rattle.ho_decision.proofs.Window.{length-last, last-more, sum_by-last-le}
+use Rattle.ho_decision.proofs.Window.{length-last, last-more, sum_by_last_le}
 use Rattle.ho_decision.proofs.running.RunningSum.add.Goals as goal
 
 pub overflow_add-self : goal.overflow_add-self
@@ -14,7 +14,7 @@ overflow_add-self c =
     let w = c.args.self.now.of.window in
     let xs : List Report = c.args.reports.now.items in
     let few : length (last (w - 1) xs) ≤ 9 = omega (arith, length-last (w - 1) xs, c.requires.window.1) in
-    let left : sum_by f (last (w - 1) xs) ≤ length (last (w - 1) xs) * 255 = sum_by-last-le f (w - 1) xs c.requires.octets in
+    let left : sum_by f (last (w - 1) xs) ≤ length (last (w - 1) xs) * 255 = sum_by_last_le f (w - 1) xs c.requires.octets in
     omega (arith, few, left, c.requires.total, c.leaving-leaving.ensures)
 
 pub returns : goal.returns

@@ -4,7 +4,7 @@ use Rattle.std.proofs.Math.Nat.{div-le_of_le-mul}
 use Rattle.dtap_codec.specs.declared.report.Report.{Report}
 use Rattle.ho_decision.specs.Average.{last}
 use Rattle.ho_decision.specs.Measure.{value_of}
-use Rattle.ho_decision.proofs.Window.{length-last, sum_by-last-le}
+use Rattle.ho_decision.proofs.Window.{length-last, sum_by_last_le}
 use Rattle.ho_decision.proofs.running.RunningSum.average.Goals as goal
 
 pub overflow_cast-result : goal.overflow_cast-result
@@ -15,7 +15,7 @@ overflow_cast-result c =
     let total = c.args.self.now.total in
     let count = c.min-count.result in
     let all : count ≡ length (last w xs) = omega (arith, length-last w xs) in
-    let bound : total ≤ length (last w xs) * 255 = omega (arith, c.requires.sum.total, sum_by-last-le f w xs c.requires.sum.octets) in
+    let bound : total ≤ length (last w xs) * 255 = omega (arith, c.requires.sum.total, sum_by_last_le f w xs c.requires.sum.octets) in
     let within : total ≤ count * 255 = omega (arith, all, bound) in
     omega (arith, div-le_of_le-mul count within)
 

@@ -2,7 +2,7 @@ use Rattle.std.proofs.Common.{◌≡◌, ℕ, Some, [], ◌∷◌, ◌++◌, sym
 use Rattle.dtap_codec.specs.Number.{count_of, number_in, without_number}
 use Rattle.nsd_filter.specs.AcceptedList.{delivery_by}
 use Rattle.nsd_filter.specs.Reception.{ReceptionState}
-use Rattle.nsd_filter.proofs.Keeping.{IsKept-numbered}
+use Rattle.nsd_filter.proofs.Keeping.{is_kept_numbered}
 use Rattle.nsd_filter.proofs.reception.Reception.take_numbered.Goals as goal
 
 pub invariant_of-self-2 : goal.invariant_of-self-2
@@ -12,4 +12,4 @@ invariant_of-self-2 c =
     let number : number_in (count_of inside.modulus) c.args.message ≡ Some c.args.number = subst (λ (m : ℕ). number_in m c.args.message ≡ Some c.args.number) modulus c.requires in
     let taken : c.push_reserved.new.self.items ≡ inside.taken.items ++ c.args.message ∷ [] = search rules in
     let given : c.give_up.new.accepted.items ≡ inside.accepted.items ++ delivery_by c.judge-verdict.result (without_number c.args.message) = search rules in
-    rw (taken, given) (IsKept-numbered (count_of inside.modulus) inside.filter c.judge-verdict.new.self inside.taken.items inside.accepted.items inside.unnumbered.items c.args.message c.args.number c.judge-verdict.result number c.self.invariant c.judge-verdict.ensures.verdict c.judge-verdict.ensures.after c.judge-verdict.ensures.modulus)
+    rw (taken, given) (is_kept_numbered (count_of inside.modulus) inside.filter c.judge-verdict.new.self inside.taken.items inside.accepted.items inside.unnumbered.items c.args.message c.args.number c.judge-verdict.result number c.self.invariant c.judge-verdict.ensures.verdict c.judge-verdict.ensures.after c.judge-verdict.ensures.modulus)
