@@ -73,7 +73,7 @@ stays_there (Live reference stage) s is_open = refl
 stays_there (Closed clearing) s is_open = absurd is_open
 stays_there Removed s is_open = absurd is_open
 
-acts_pass : (number next : ℕ) (up : Bool) (brought : Brought) (before after : Option Connection) (put : List Message) (at : Place) → Acts number next up brought before put after → IsFine before → UsesElsewhere at before → UsesElsewhere at after → AllByRecursion (Avoids at) put
+pub acts_pass : (number next : ℕ) (up : Bool) (brought : Brought) (before after : Option Connection) (put : List Message) (at : Place) → Acts number next up brought before put after → IsFine before → UsesElsewhere at before → UsesElsewhere at after → AllByRecursion (Avoids at) put
 acts_pass number next up brought before after put at (rests silent same none) fine was now = subst (AllByRecursion (Avoids at)) (sym silent) tt
 acts_pass number next up brought before after put at (ages old s is_time is aged silent same) fine was now = subst (AllByRecursion (Avoids at)) (sym silent) tt
 acts_pass number next up brought before after put at (opens begins linked channel request delay is_nothing none put_is same) fine was now =
@@ -115,7 +115,7 @@ unused_handed at uses (Request message) none used = tt
 unused_handed at uses (Data destination message) none used = tt
 unused_handed at uses (ReleaseComplete destination) none used = tt
 
-unused_put : (at : Place) (uses : Using) (ms : List Message) → uses at ≡ false → ArePutOn uses ms → AllByRecursion (Avoids at) ms → AllByRecursion (IsNotOn at) ms
+pub unused_put : (at : Place) (uses : Using) (ms : List Message) → uses at ≡ false → ArePutOn uses ms → AllByRecursion (Avoids at) ms → AllByRecursion (IsNotOn at) ms
 unused_put at uses [] none put avoids = tt
 unused_put at uses (m ∷ ms) none put avoids = (unused_handed at uses m none put.0, unused_put at (used_after uses m) ms (still_unused at uses m none avoids.0) put.1 avoids.1)
 
@@ -123,7 +123,7 @@ none_there : (at : Place) (cs : List Channel) → AllByRecursion (λ (c : Channe
 none_there at [] away = refl
 none_there at (c ∷ cs) away = ap (λ (b : Bool). b || list_any (λ (d : Channel). is_at at d) cs) (not_same at (place_of c) away.0) ∙ none_there at cs away.1
 
-unused_by : (at : Place) (o : Option Connection) → UsesElsewhere at o → used_by o at ≡ false
+pub unused_by : (at : Place) (o : Option Connection) → UsesElsewhere at o → used_by o at ≡ false
 unused_by at None away = refl
 unused_by at (Some s) away = by s.state away
   where
